@@ -1,0 +1,3 @@
+mod Below
+pub mod FileMapLemmas
+pub mod TreeMaps

@@ -1,0 +1,9 @@
+use Rattle.std.proofs.Common.{◌==◌, rules}
+use Rattle.std.proofs.lemmas.Iterator.Splits.{YieldsList-from_slice_split}
+use Rattle.std.proofs.lemmas.Iterator.Search.{all_from_yields_List}
+use Rattle.eden_ids.specs.Paths.{is_component}
+use Rattle.eden_ids.proofs.path.has_names_alone.Goals as goal
+
+pub returns : goal.returns
+returns c = all_from_yields_List is_component _ _ _ c.all.ensures.ran (YieldsList-from_slice_split _ (λ b. b == 47) c.args.bytes.now
+    c.split.ensures.rest c.split.ensures.done c.split.ensures.closure (λ x b q k. search rules)) (λ x b q k. search rules)

@@ -1,0 +1,39 @@
+ghost use Rattle.std.specs.Prelude.{◌≡◌, IfOk};
+
+use crate::memory::NoMemory;
+use crate::sequence::Sequence;
+
+/// What stands at a path. Git's tree entries have one mode for each: 100644, 100755 and 120000.
+#[derive(Clone, Copy, Debug, PartialEq, Eq)]
+pub enum Kind {
+    /// A file.
+    Plain,
+    /// A file that may be run.
+    Exec,
+    /// A symbolic link, whose bytes are its target.
+    Link,
+}
+
+/// A file: its kind and its bytes.
+#[derive(Clone, Debug, PartialEq, Drop)]
+pub struct Content {
+    /// What the file is.
+    pub kind: Kind,
+    /// What it holds; for a link, its target.
+    pub bytes: Sequence<u8>,
+}
+
+impl Content {
+    /// The most bytes that a file may hold: 8 MiB.
+    pub const LIMIT: usize = 8_388_608;
+
+    /// A file that is equal to this one. `NoMemory` comes where a growth was refused.
+    pub fn copy(&self) -> Result<Content, NoMemory>
+        ensures { IfOk result (λ content. content ≡ self.now) }
+    {
+        match self.clone() {
+            Ok(content) => Ok(content),
+            Err(_) => Err(NoMemory),
+        }
+    }
+}

@@ -1,0 +1,92 @@
+ghost use Rattle.std.specs.Prelude.{◌≡◌, IfOk, OnOk, OnErr};
+ghost use Rattle.std.specs.Option.{option_copied};
+ghost use Rattle.std.specs.FinMap as fin;
+ghost use Rattle.eden_ids.specs.FileMaps.{file_at, no_files, has_file_above, has_file_below};
+
+use crate::content::Content;
+use crate::memory::NoMemory;
+use crate::path::Path;
+use std::alloc::Global;
+use std::collections::BTreeMap;
+use std::marker::Model;
+
+/// What a working copy or a commit holds: paths, each with a file, in byte order of the paths.
+///
+/// It holds any paths. That no two of them clash is up to those who put them in.
+#[derive(Drop)]
+pub struct Files {
+    entries: BTreeMap<Path, Content>,
+}
+
+impl Model for Files {
+    ghost use Rattle.std.specs.Coded.{coded_list, coded_ℕ};
+    ghost use Rattle.std.specs.FinMap as fin;
+    ghost use Rattle.eden_ids.specs.contracts.content.Content as content;
+    ghost use Rattle.eden_ids.specs.FileMaps.{FileMap};
+
+    ghost Value = { FileMap };
+
+    ghost coded = { fin.code (coded_list coded_ℕ) content.the_row.coded };
+
+    ghost view = { λ f. fin.from_entries f.entries.entries };
+}
+
+impl Files {
+    /// A map of no file. It takes no memory.
+    pub fn new(alloc: Global) -> Self
+        ensures { result ≡ no_files }
+    {
+        Files {
+            entries: BTreeMap::new(alloc),
+        }
+    }
+
+    /// The file at a path, if there is one. This takes no memory.
+    pub fn get(&self, path: &Path) -> Option<&Content>
+        ensures { option_copied result ≡ file_at self.now path.now }
+    {
+        self.entries.get(path)
+    }
+
+    /// Puts a file at a path, in place of the one that stands there. `NoMemory` changes nothing.
+    pub fn insert(&mut self, path: Path, content: Content) -> Result<(), NoMemory>
+        ensures ok { OnOk result (self.new ≡ fin.insert self.old path content) }
+        ensures err { OnErr result (self.new ≡ self.old) }
+    {
+        match self.entries.insert(path, content) {
+            Ok(_) => Ok(()),
+            Err(_) => Err(NoMemory),
+        }
+    }
+
+    /// Takes the file at a path away, if there is one. This takes no memory.
+    pub fn remove(&mut self, path: &Path)
+        ensures { self.new ≡ fin.remove self.old path.now }
+    {
+        let _ = self.entries.remove(path);
+    }
+
+    /// Whether a file stands at a proper prefix of the path's components. The time grows with the map.
+    pub fn has_file_above(&self, path: &Path) -> bool
+        ensures { result ≡ has_file_above self.now path.now }
+    {
+        self.entries.keys().any(|top| path.is_below(top))
+    }
+
+    /// Whether files stand below the path. The time grows with the map.
+    pub fn has_file_below(&self, path: &Path) -> bool
+        ensures { result ≡ has_file_below self.now path.now }
+    {
+        self.entries.keys().any(|p| p.is_below(path))
+    }
+
+    /// A map that is equal to this one. `NoMemory` comes where a growth was refused.
+    pub fn copy(&self) -> Result<Files, NoMemory>
+        ensures { IfOk result (λ files. files ≡ self.now) }
+    {
+        match self.entries.clone() {
+            Ok(entries) => Ok(Files { entries }),
+            Err(_) => Err(NoMemory),
+        }
+    }
+}

@@ -1,0 +1,20 @@
+//! The ids, paths, contents and file maps that every other crate speaks of.
+#![tactic(auto)]
+
+pub use crate::content::{Content, Kind};
+pub use crate::files::Files;
+pub use crate::id::Id;
+pub use crate::laws::{file_map_law, path_set_law};
+pub use crate::memory::NoMemory;
+pub use crate::path::{Path, PathFault};
+pub use crate::sequence::Sequence;
+
+mod content;
+mod files;
+mod id;
+mod laws;
+mod memory;
+mod path;
+mod sequence;
+#[cfg(test)]
+mod tests;

@@ -1,0 +1,6 @@
+use thiserror::Error;
+
+/// Memory ran out: a growth was refused. The call changed nothing.
+#[derive(Clone, Copy, Debug, PartialEq, Eq, Error)]
+#[error("out of memory")]
+pub struct NoMemory;

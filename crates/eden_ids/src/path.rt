@@ -1,0 +1,215 @@
+ghost use Rattle.std.specs.Prelude.{◌≡◌, ◌≢◌, ℕ, None, Some, IfOk, IfErr, not, nat_eq, length};
+ghost use Rattle.std.specs.List.{list_all};
+ghost use Rattle.std.specs.Ordering.{nat_cmp, as_partial_cmp};
+ghost use Rattle.std.specs.Cmp.Lexicographic.{pointwise, slice_cmp};
+ghost use Rattle.std.specs.Cmp.{partial_order_from_own_ties};
+ghost use Rattle.std.specs.Cmp.Rules.{comparing, hashing};
+ghost use Rattle.std.proofs.Common.{rules};
+ghost use Rattle.eden_ids.specs.Paths.{components, is_component, path_fault, lies_below, clashes};
+
+use crate::memory::NoMemory;
+use std::alloc::{AllocError, Global};
+use std::cmp::Ordering;
+use std::fmt;
+use std::hash::{Hash, Hasher};
+use std::marker::Model;
+use thiserror::Error;
+
+/// Why bytes are no path. The first cause in this order is told.
+#[derive(Clone, Copy, Debug, PartialEq, Eq, Error)]
+pub enum PathFault {
+    /// There is no byte.
+    #[error("Empty")]
+    Empty,
+    /// There are more than 1,024 bytes.
+    #[error("TooLong")]
+    TooLong,
+    /// A component is empty, longer than 255 bytes, `.` or `..`, or holds a NUL byte.
+    #[error("BadComponent")]
+    BadComponent,
+    /// There are more than 64 components.
+    #[error("TooDeep")]
+    TooDeep,
+    /// A growth was refused.
+    #[error("NoMemory")]
+    NoMemory,
+}
+
+/// A path in a working copy: 1 to 64 components, joined by `/`, of 1,024 bytes at the most.
+///
+/// A component has 1 to 255 bytes, is neither `.` nor `..`, and holds no NUL byte. Any other byte may stand in a path: it
+/// needs not be text. Paths are compared, ordered and hashed as their bytes.
+#[derive(Drop)]
+pub struct Path {
+    bytes: Vec<u8>,
+}
+
+impl Model for Path {
+    ghost use Rattle.std.specs.Prelude.{ℕ, List};
+    ghost use Rattle.eden_ids.specs.Paths.{IsPath};
+
+    ghost Value = { List ℕ };
+
+    ghost view = { λ p. p.bytes.items };
+
+    ghost invariant = { λ p. IsPath p.bytes.items };
+}
+
+/// Whether the bytes may stand between two slashes.
+fn is_name(name: &[u8]) -> bool
+    ensures { result ≡ is_component name.now }
+{
+    !name.is_empty()
+        && name.len() <= 255
+        && name != b".".as_slice()
+        && name != b"..".as_slice()
+        && !name.contains(&0)
+}
+
+fn has_names_alone(bytes: &[u8]) -> bool
+    ensures { result ≡ list_all is_component (components bytes.now) }
+{
+    bytes.split(|b| *b == b'/').all(is_name)
+}
+
+fn count_of_names(bytes: &[u8]) -> usize
+    ensures { result ≡ length (components bytes.now) }
+{
+    bytes.split(|b| *b == b'/').count()
+}
+
+fn fault_of(bytes: &[u8]) -> Option<PathFault>
+    ensures { result ≡ path_fault bytes.now }
+{
+    if bytes.is_empty() {
+        Some(PathFault::Empty)
+    } else if bytes.len() > 1024 {
+        Some(PathFault::TooLong)
+    } else if !has_names_alone(bytes) {
+        Some(PathFault::BadComponent)
+    } else if count_of_names(bytes) > 64 {
+        Some(PathFault::TooDeep)
+    } else {
+        None
+    }
+}
+
+impl Path {
+    /// Reads a path, and keeps its bytes.
+    ///
+    /// Refused, in this order, as `Empty`, `TooLong`, `BadComponent` or `TooDeep`; `NoMemory` may stand in place of any
+    /// answer where a growth was refused.
+    pub fn parse(alloc: Global, bytes: &[u8]) -> Result<Path, PathFault>
+        ensures accepts { IfOk result (λ _. path_fault bytes.now ≡ None) }
+        ensures keeps { IfOk result (λ path. path ≡ bytes.now) }
+        ensures refuses { IfErr result (λ fault. fault ≢ PathFault.NoMemory → path_fault bytes.now ≡ Some fault) }
+    {
+        if let Some(fault) = fault_of(bytes) {
+            return Err(fault);
+        }
+        match bytes.to_vec(alloc) {
+            Ok(bytes) => Ok(Path { bytes }),
+            Err(_) => Err(PathFault::NoMemory),
+        }
+    }
+
+    /// The path's bytes. This takes no memory.
+    pub fn as_bytes(&self) -> &[u8]
+        ensures bytes { result.now ≡ self.now }
+        ensures legal { path_fault self.now ≡ None }
+    {
+        self.bytes.as_slice()
+    }
+
+    /// Whether this path stands below the other, as a file stands below a directory: it begins with the other and a slash.
+    #[tactic(auto, using(crate::proofs::Below::below_in_steps))]
+    pub fn is_below(&self, top: &Path) -> bool
+        ensures { result ≡ lies_below self.now top.now }
+    {
+        let bytes = self.as_bytes();
+        let top = top.as_bytes();
+        bytes.starts_with(top) && bytes[top.len()..].starts_with(b"/".as_slice())
+    }
+
+    /// Whether no tree can hold both paths, since one of them stands below the other.
+    pub fn clashes(&self, other: &Path) -> bool
+        ensures { result ≡ clashes self.now other.now }
+    {
+        self.is_below(other) || other.is_below(self)
+    }
+
+    /// A path that is equal to this one. `NoMemory` comes where a growth was refused.
+    pub fn copy(&self) -> Result<Path, NoMemory>
+        ensures { IfOk result (λ path. path ≡ self.now) }
+    {
+        match self.clone() {
+            Ok(path) => Ok(path),
+            Err(_) => Err(NoMemory),
+        }
+    }
+}
+
+impl Clone for Path {
+    ghost is_clone = { λ x y. y ≡ x };
+
+    fn clone(&self) -> Result<Self, AllocError> {
+        let bytes = self.bytes.clone()?;
+        Ok(Path { bytes })
+    }
+}
+
+impl PartialEq for Path {
+    ghost eq = { pointwise nat_eq };
+
+    ghost laws = { Prim.search (comparing, rules) };
+
+    fn eq(&self, other: &Path) -> bool {
+        self.as_bytes() == other.as_bytes()
+    }
+}
+
+impl Eq for Path {
+    ghost laws = { Prim.search (comparing, rules) };
+}
+
+impl PartialOrd for Path {
+    ghost partial_cmp = { as_partial_cmp (slice_cmp nat_cmp) };
+
+    ghost laws = { partial_order_from_own_ties (Prim.search (comparing, rules)) (Prim.search (comparing, rules)) };
+
+    fn partial_cmp(&self, other: &Path) -> Option<Ordering> {
+        Some(self.cmp(other))
+    }
+}
+
+impl Ord for Path {
+    ghost cmp = { slice_cmp nat_cmp };
+
+    ghost total = { Prim.search (comparing, rules) };
+
+    ghost matches_partial_cmp = { Prim.search (comparing, rules) };
+
+    ghost matches_eq = { Prim.search (comparing, rules) };
+
+    fn cmp(&self, other: &Path) -> Ordering {
+        self.as_bytes().cmp(other.as_bytes())
+    }
+}
+
+impl Hash for Path {
+    ghost use Rattle.std.specs.Hash as fed;
+
+    ghost hash_input = { fed.slice fed.u8 };
+
+    fn hash<H: Hasher>(&self, state: &mut H) {
+        self.as_bytes().hash(state);
+    }
+
+    ghost respects_eq = { Prim.search (hashing, rules) };
+}
+
+impl fmt::Debug for Path {
+    fn fmt<W: fmt::Write>(&self, f: &mut fmt::Formatter<W>) -> fmt::Result {
+        self.bytes.fmt(f)
+    }
+}

@@ -1,0 +1,131 @@
+use crate::{Content, Files, Id, Kind, Path, PathFault, Sequence};
+use std::alloc::Global;
+use std::test::Fail;
+
+/// `count` copies of a byte.
+fn bytes_of(alloc: Global, byte: u8, count: usize) -> Result<Vec<u8>, Fail> {
+    Ok(vec![in alloc; byte; count]?)
+}
+
+/// `count` components `a`.
+fn deep(alloc: Global, count: usize) -> Result<Vec<u8>, Fail> {
+    let mut bytes = Vec::new(alloc);
+    for i in 0..count {
+        if i > 0 {
+            bytes.push(b'/')?;
+        }
+        bytes.push(b'a')?;
+    }
+    Ok(bytes)
+}
+
+fn fault_of(alloc: Global, bytes: &[u8]) -> Option<PathFault> {
+    match Path::parse(alloc, bytes) {
+        Ok(_) => None,
+        Err(fault) => Some(fault),
+    }
+}
+
+#[test]
+fn path_refusals(rt: HostRuntime) -> Result<(), Fail> {
+    let alloc = rt.alloc();
+    assert_eq!(rt; fault_of(alloc, b"".as_slice()), Some(PathFault::Empty));
+    let long = bytes_of(alloc, b'a', 1025)?;
+    assert_eq!(rt; fault_of(alloc, long.as_slice()), Some(PathFault::TooLong));
+    let wide = bytes_of(alloc, b'a', 256)?;
+    assert_eq!(rt;
+        fault_of(alloc, wide.as_slice()),
+        Some(PathFault::BadComponent)
+    );
+    for text in ["a//b", "/a", "..", ".", "a/", "a/./b", "../a", "a\0b"] {
+        assert_eq!(rt;
+            fault_of(alloc, text.as_bytes()),
+            Some(PathFault::BadComponent),
+            "at {text}"
+        );
+    }
+    assert_eq!(rt;
+        fault_of(alloc, deep(alloc, 65)?.as_slice()),
+        Some(PathFault::TooDeep)
+    );
+    Ok(())
+}
+
+#[test]
+fn paths_keep_their_bytes(rt: HostRuntime) -> Result<(), Fail> {
+    let alloc = rt.alloc();
+    let wide = bytes_of(alloc, b'a', 255)?;
+    let deepest = deep(alloc, 64)?;
+    for bytes in [
+        b"a".as_slice(),
+        b"...".as_slice(),
+        b"\xff\n /.h".as_slice(),
+        wide.as_slice(),
+        deepest.as_slice(),
+    ] {
+        let path = Path::parse(alloc, bytes)?;
+        assert!(rt; path.as_bytes() == bytes);
+        assert!(rt; path.copy()? == path);
+    }
+    Ok(())
+}
+
+#[test]
+fn clashing_paths(rt: HostRuntime) -> Result<(), Fail> {
+    let alloc = rt.alloc();
+    for (p, q, below, clash) in [
+        ("a/b", "a", true, true),
+        ("a", "a/b", false, true),
+        ("a", "a", false, false),
+        ("ab", "a", false, false),
+        ("a.b", "a", false, false),
+        ("a/b/c", "a", true, true),
+    ] {
+        let p = Path::parse(alloc, p.as_bytes())?;
+        let q = Path::parse(alloc, q.as_bytes())?;
+        assert_eq!(rt; p.is_below(&q), below);
+        assert_eq!(rt; p.clashes(&q), clash);
+    }
+    Ok(())
+}
+
+fn plain(alloc: Global, text: &str) -> Result<Content, Fail> {
+    let bytes = Sequence::from_vec(text.as_bytes().to_vec(alloc)?);
+    Ok(Content {
+        kind: Kind::Plain,
+        bytes,
+    })
+}
+
+#[test]
+fn files_change_one_path_at_a_time(rt: HostRuntime) -> Result<(), Fail> {
+    let alloc = rt.alloc();
+    let mut files = Files::new(alloc);
+    let a = Path::parse(alloc, b"a".as_slice())?;
+    let below = Path::parse(alloc, b"a/b".as_slice())?;
+    files.insert(below.copy()?, plain(alloc, "x")?)?;
+    assert!(rt; files.has_file_below(&a));
+    assert!(rt; !files.has_file_above(&a));
+    assert!(rt; !files.has_file_above(&below));
+    let copy = files.copy()?;
+    files.remove(&below);
+    assert!(rt; files.get(&below).is_none());
+    assert!(rt; !files.has_file_below(&a));
+    assert!(rt; copy.get(&below) == Some(&plain(alloc, "x")?));
+    files.insert(a, plain(alloc, "y")?)?;
+    assert!(rt; files.has_file_above(&below));
+    Ok(())
+}
+
+#[test]
+fn contents_are_copied_whole(rt: HostRuntime) -> Result<(), Fail> {
+    let content = plain(rt.alloc(), "hello")?;
+    let copy = content.copy()?;
+    assert!(rt; copy == content);
+    assert_eq!(rt; copy.bytes.len(), 5);
+    assert!(rt; !copy.bytes.is_empty());
+    assert!(rt; copy.bytes.into_vec().as_slice() == b"hello".as_slice());
+    assert!(rt; Sequence::<u8>::new(rt.alloc()).is_empty());
+    assert!(rt; Id::ZERO == Id([0; 20]));
+    Ok(())
+}
