@@ -1,0 +1,4 @@
+pub mod Account
+pub mod Breaks
+pub mod Cuts
+pub mod Endings
