@@ -1,0 +1,5 @@
+use Rattle.eden_script.proofs.NumberLemmas.{number_of-decimal}
+use Rattle.eden_script.proofs.laws.number_law.Goals as goal
+
+pub returns : goal.returns
+returns c = number_of-decimal
