@@ -1,0 +1,9 @@
+pub mod Worlds
+pub mod Outcome
+pub mod Named
+pub mod Legal
+pub mod Changes
+pub mod Status
+pub mod Marks
+pub mod Touches
+pub mod ScriptText

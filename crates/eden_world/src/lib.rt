@@ -1,0 +1,25 @@
+//! What a mount means: its rows and events, what each change does, what has changed since a position, and the plain, slow
+//! program that computes it.
+//!
+//! The definitions stand in `specs/`, one to a file, and every other crate proves its code against them.
+#![tactic(auto)]
+
+pub use crate::answer::{Answer, SinceFault};
+pub use crate::change::{Change, ChangeFault};
+pub use crate::command::Command;
+pub use crate::mark::{Mark, Marked};
+pub use crate::position::Position;
+pub use crate::row::{Event, Row};
+pub use crate::touches::{FileTouch, Touch, Touches};
+pub use crate::world::World;
+
+mod answer;
+mod change;
+mod command;
+mod mark;
+mod position;
+mod row;
+#[cfg(test)]
+mod tests;
+mod touches;
+mod world;

@@ -1,0 +1,12 @@
+use eden_ids::Id;
+
+/// A point in the history of a mount, as EdenFS's JournalPosition: a client keeps one, and asks what changed since.
+#[derive(Clone, Copy, Debug, PartialEq, Eq, Hash)]
+pub struct Position {
+    /// Which life of which mount. No generation serves two.
+    pub generation: u64,
+    /// How many rows the generation had by then; its first row is number 1.
+    pub sequence: u64,
+    /// The commit that was checked out. It is shown, and decides nothing.
+    pub root: Id,
+}

@@ -1,0 +1,123 @@
+ghost use Rattle.std.specs.Prelude.{◌≡◌, IfOk, OnOk, OnErr, Some};
+ghost use Rattle.eden_world.specs.Marks.{mark_by};
+
+use crate::mark::{Mark, Marked};
+use eden_ids::{NoMemory, Path, Sequence};
+use std::alloc::Global;
+use std::collections::BTreeMap;
+use std::marker::Model;
+
+/// Whether a file was at a path before the first of some changes, and after the last.
+#[derive(Clone, Copy, Debug, PartialEq, Eq)]
+pub struct Touch {
+    /// A file was there before the first.
+    pub before: bool,
+    /// A file is there after the last.
+    pub after: bool,
+}
+
+impl Touch {
+    /// What became of the path.
+    pub fn mark(self) -> Mark
+        ensures { result ≡ mark_by self.before self.after }
+    {
+        match (self.before, self.after) {
+            (false, true) => Mark::Created,
+            (true, false) => Mark::Removed,
+            _ => Mark::Changed,
+        }
+    }
+}
+
+/// One change of files: its path, and whether a file was there before it and after it.
+#[derive(Drop)]
+pub struct FileTouch {
+    /// The path.
+    pub path: Path,
+    /// A file was there before.
+    pub before: bool,
+    /// A file is there after.
+    pub after: bool,
+}
+
+/// What changes of files did to the paths that they name, told in the order in which they were made.
+///
+/// From it comes the answer to what changed since a position: each path once, ascending, with its mark.
+#[derive(Drop)]
+pub struct Touches {
+    paths: BTreeMap<Path, Touch>,
+}
+
+impl Model for Touches {
+    ghost use Rattle.std.specs.Coded.{coded_list, coded_ℕ};
+    ghost use Rattle.std.specs.FinMap as fin;
+    ghost use Rattle.eden_world.specs.contracts.touches.Touch as touch;
+    ghost use Rattle.eden_world.specs.Touches.{TouchMap};
+
+    ghost Value = { TouchMap };
+
+    ghost coded = { fin.code (coded_list coded_ℕ) touch.the_row.coded };
+
+    ghost view = { λ t. fin.from_entries t.paths.entries };
+}
+
+impl Touches {
+    ghost use Rattle.std.specs.FinMap as fin;
+    ghost use Rattle.eden_world.specs.Touches.{untouched, touched, marked_of, first_before};
+
+    /// No change. It takes no memory.
+    pub fn new(alloc: Global) -> Self
+        ensures { result ≡ untouched }
+    {
+        Touches {
+            paths: BTreeMap::new(alloc),
+        }
+    }
+
+    /// Whether a file was at the path before its first change, where the next one finds this.
+    fn first_before(&self, path: &Path, before: bool) -> bool
+        ensures { result ≡ first_before (fin.get self.now path.now) before }
+    {
+        match self.paths.get(path) {
+            Some(touch) => touch.before,
+            None => before,
+        }
+    }
+
+    fn put(&mut self, path: Path, touch: Touch) -> Result<(), NoMemory>
+        ensures ok { OnOk result (self.new ≡ fin.insert self.old path touch) }
+        ensures err { OnErr result (self.new ≡ self.old) }
+    {
+        match self.paths.insert(path, touch) {
+            Ok(_) => {}
+            Err(_) => return Err(NoMemory),
+        }
+        Ok(())
+    }
+
+    /// Notes a change at a path, the latest so far. `NoMemory` changes nothing.
+    pub fn touch(&mut self, touch: &FileTouch) -> Result<(), NoMemory>
+        ensures ok { OnOk result (self.new ≡ touched self.old touch.now.path touch.now.before touch.now.after) }
+        ensures err { OnErr result (self.new ≡ self.old) }
+    {
+        let before = self.first_before(&touch.path, touch.before);
+        let after = touch.after;
+        self.put(touch.path.copy()?, Touch { before, after })
+    }
+
+    /// The paths, ascending, each with what became of it.
+    pub fn marked(&self, alloc: Global) -> Result<Sequence<Marked>, NoMemory>
+        ensures { IfOk result (λ marked. marked ≡ marked_of self.now) }
+    {
+        let mut marked = Vec::new(alloc);
+        for (path, touch) in self.paths.iter() {
+            let mark = touch.mark();
+            let path = path.copy()?;
+            match marked.push(Marked { mark, path }) {
+                Ok(()) => {}
+                Err(_) => return Err(NoMemory),
+            }
+        }
+        Ok(Sequence::from_vec(marked))
+    }
+}
