@@ -1,0 +1,2 @@
+mod LineAnswers
+mod PlainSteps

@@ -1,0 +1,7 @@
+use Rattle.std.proofs.Common.{◌≡◌, ◌++◌, take}
+use Rattle.std.specs.List.{flat_map}
+use Rattle.eden_world.specs.ScriptText.{marked_text}
+use Rattle.eden_edend.proofs.texts.push_all_marked.Given as goal
+
+abbrev pub invariant-loop-one : goal.invariant-loop-one
+invariant-loop-one l = l.text.items ≡ l.initial.text.items ++ flat_map marked_text (take l.one-index l.marked)

@@ -1,0 +1,4 @@
+pub mod Asked
+pub mod StandsFor
+pub mod Told
+pub mod SessionScript
