@@ -249,6 +249,39 @@ fn bad_lines(rt: HostRuntime) {
     }
 }
 
+/// Writes `count` copies of a byte, with a slash between each `every` of them.
+fn push_path(text: &mut Vec<u8>, count: usize, every: usize) -> Result<(), Fail> {
+    let mut run: usize = 0;
+    for _ in 0..count {
+        if run >= every {
+            text.push(b'/')?;
+            run = 0;
+        }
+        text.push(b'a')?;
+        run = run.saturating_add(1);
+    }
+    Ok(())
+}
+
+#[test]
+fn path_refusals(rt: HostRuntime) -> Result<(), Fail> {
+    let alloc = rt.alloc();
+    for (count, every, text) in [
+        (1025, 255, "refused TooLong\n"),
+        (256, 256, "refused BadComponent\n"),
+        (65, 1, "refused TooDeep\n"),
+        (64, 1, "refused NoEntry\n"),
+        (255, 255, "refused NoEntry\n"),
+    ] {
+        let mut script = b"mount empty 7 1\nremove ".to_vec(alloc)?;
+        push_path(&mut script, count, every)?;
+        let (printed, ended) = told(alloc, script.as_slice());
+        assert_eq!(rt; ended, Ok(2));
+        assert!(rt; printed.as_slice() == format!(in alloc; "at 7 1 empty\n{text}")?.as_bytes());
+    }
+    Ok(())
+}
+
 /// A line of this many bytes that writes a file.
 fn long_write(alloc: Global, length: usize) -> Result<Vec<u8>, Fail> {
     let mut line = b"write a plain ".to_vec(alloc)?;
