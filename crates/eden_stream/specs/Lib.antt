@@ -1,8 +1,14 @@
 pub mod Answers
 pub mod Counts
 pub mod Echo
+pub mod EchoFrames
 pub mod EchoLaws
 pub mod Ends
+pub mod FrameAnswers
+pub mod FrameEnds
+pub mod FrameLaws
+pub mod FrameSteps
+pub mod Frames
 pub mod Lines
 pub mod Scripts
 pub mod Steps

@@ -82,6 +82,15 @@ impl Held {
         self.searched = self.start;
     }
 
+    /// Lets the first `count` bytes go.
+    pub(crate) fn drop_first(&mut self, count: usize)
+        requires { count ≤ length self.old }
+        ensures { self.new ≡ drop count self.old }
+    {
+        self.start += count;
+        self.searched = self.start;
+    }
+
     /// Keeps the first byte alone.
     pub(crate) fn keep_first(&mut self)
         requires some { 0 < length self.old }

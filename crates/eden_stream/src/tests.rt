@@ -3,6 +3,8 @@ ghost use Rattle.std.specs.Prelude.{◌≡◌, ℕ, List, Option};
 ghost use Rattle.eden_stream.specs.Echo.{echo};
 ghost use Rattle.eden_stream.specs.EchoLaws.{prints_as_echo};
 
+mod frames;
+
 use super::{Answered, Counted, Faults, LineMachine, RunFault, run_lines};
 use std::alloc::Global;
 use std::io;
