@@ -1,0 +1,8 @@
+//! Filters: which paths a client wants to hear of.
+#![tactic(auto)]
+
+pub use crate::filter::{Filter, FilterFault};
+
+mod filter;
+#[cfg(test)]
+mod tests;
