@@ -3,7 +3,10 @@ pub mod Outcome
 pub mod Named
 pub mod Legal
 pub mod Changes
+pub mod Spells
 pub mod Status
 pub mod Marks
 pub mod Touches
 pub mod ScriptText
+pub mod Runs
+pub mod Replies

@@ -7,18 +7,25 @@
 pub use crate::answer::{Answer, SinceFault};
 pub use crate::change::{Change, ChangeFault};
 pub use crate::command::Command;
+pub use crate::laws::{floor_law, runs_law};
 pub use crate::mark::{Mark, Marked};
+pub use crate::message::{Cause, Query, Reply, Request};
 pub use crate::position::Position;
 pub use crate::row::{Event, Row};
+pub use crate::spelling_law::{frames_law, one_message_law, one_spelling_law};
 pub use crate::touches::{FileTouch, Touch, Touches};
 pub use crate::world::World;
 
 mod answer;
 mod change;
 mod command;
+mod laws;
 mod mark;
+mod message;
 mod position;
+mod reply;
 mod row;
+mod spelling_law;
 #[cfg(test)]
 mod tests;
 mod touches;

@@ -1,4 +1,8 @@
-use crate::{Answer, Change, ChangeFault, FileTouch, Mark, Marked, Position, Touches, World};
+use crate::{
+    Answer, Cause, Change, ChangeFault, FileTouch, Mark, Marked, Position, Query, Reply, Request,
+    Touches, World, floor_law, runs_law,
+};
+use eden_globs::Filter;
 use eden_ids::{Id, Kind, Path, Sequence};
 use std::alloc::Global;
 use std::test::Fail;
@@ -105,6 +109,110 @@ fn marks_of_touches(rt: HostRuntime) -> Result<(), Fail> {
             path: path(alloc, at)?,
         };
         assert!(rt; marked.copy()? == wanted);
+    }
+    Ok(())
+}
+
+const QUERY: Query = Query {
+    mirror: 1,
+    life: 2,
+    number: 3,
+};
+
+fn poll(alloc: Global, generation: u64, sequence: u64) -> Result<Request, Fail> {
+    Ok(Request::Poll {
+        query: QUERY,
+        since: Position {
+            generation,
+            sequence,
+            root: Id::ZERO,
+        },
+        filter: Filter::parse(alloc, &[])?,
+    })
+}
+
+fn refused(cause: Cause) -> Reply {
+    Reply::Refused {
+        query: QUERY,
+        cause,
+    }
+}
+
+fn changes(alloc: Global, sequence: u64, marks: &[(&str, Mark)]) -> Result<Reply, Fail> {
+    let mut marked = Vec::new(alloc);
+    for (at, mark) in marks {
+        let path = path(alloc, at)?;
+        marked.push(Marked { mark: *mark, path })?;
+    }
+    Ok(Reply::ChangesAre {
+        query: QUERY,
+        target: Position {
+            generation: 7,
+            sequence,
+            root: Id::ZERO,
+        },
+        marked: Sequence::from_vec(marked),
+    })
+}
+
+#[test]
+fn refused_positions(rt: HostRuntime) -> Result<(), Fail> {
+    let alloc = rt.alloc();
+    runs_law();
+    floor_law();
+    let world = World::empty(alloc, 7, 1000);
+    assert_eq!(rt; world.floor(), 1);
+    for (generation, sequence, cause) in [
+        (7, 0, Cause::Truncated(1)),
+        (7, 2, Cause::Ahead(1)),
+        (8, 9, Cause::Stale(7)),
+    ] {
+        assert!(rt; world.reply(alloc, &poll(alloc, generation, sequence)?)? == refused(cause));
+    }
+    Ok(())
+}
+
+#[test]
+fn small_limit(rt: HostRuntime) -> Result<(), Fail> {
+    let alloc = rt.alloc();
+    let mut world = World::empty(alloc, 7, 200);
+    for at in ["a", "b", "c", "d"] {
+        let _ = world.apply(&write(alloc, at, "x")?)?;
+    }
+    let three = [
+        ("b", Mark::Created),
+        ("c", Mark::Created),
+        ("d", Mark::Created),
+    ];
+    assert!(rt; world.reply(alloc, &poll(alloc, 7, 1)?)? == refused(Cause::Truncated(2)));
+    assert!(rt; world.reply(alloc, &poll(alloc, 7, 2)?)? == changes(alloc, 5, &three)?);
+    Ok(())
+}
+
+#[test]
+fn no_limit_at_all(rt: HostRuntime) -> Result<(), Fail> {
+    let alloc = rt.alloc();
+    let mut world = World::empty(alloc, 7, 0);
+    let _ = world.apply(&write(alloc, "a", "x")?)?;
+    assert!(rt; world.reply(alloc, &poll(alloc, 7, 2)?)? == changes(alloc, 2, &[])?);
+    assert!(rt; world.reply(alloc, &poll(alloc, 7, 1)?)? == refused(Cause::Truncated(2)));
+    Ok(())
+}
+
+#[test]
+fn merged_writes(rt: HostRuntime) -> Result<(), Fail> {
+    let alloc = rt.alloc();
+    // The first write is a run of its own, and the others are one: 130 pays for both.
+    for limit in [1000, 130] {
+        let mut world = World::empty(alloc, 7, limit);
+        for text in ["1", "2", "3"] {
+            let _ = world.apply(&write(alloc, "a", text)?)?;
+        }
+        for (since, mark) in [(1, Mark::Created), (2, Mark::Changed), (3, Mark::Changed)] {
+            let expected = changes(alloc, 4, &[("a", mark)])?;
+            assert!(rt; world.reply(alloc, &poll(alloc, 7, since)?)? == expected);
+        }
+        assert!(rt; world.reply(alloc, &poll(alloc, 7, 4)?)? == changes(alloc, 4, &[])?);
     }
     Ok(())
 }
