@@ -1,0 +1,7 @@
+mod Loops
+mod Numbers
+mod FieldLaws
+mod BodyLaws
+mod Filters
+mod Lists
+mod ReplyFits

@@ -1,0 +1,29 @@
+-- What a world answers to the body of a frame.
+use Rattle.std.specs.Prelude.{ℕ, List, Result, Ok, Err}
+use Rattle.eden_query.specs.declared.fault.DecodeFault.{DecodeFault}
+use Rattle.eden_query.specs.declared.fault.DecodeFault.TheVariants as decode
+use Rattle.eden_query.specs.Reading.{read_request}
+use Rattle.eden_stream.specs.declared.server.FrameFault.{FrameFault}
+use Rattle.eden_stream.specs.declared.server.FrameFault.TheVariants as frame
+use Rattle.eden_world.specs.declared.message.Request.{Request}
+use Rattle.eden_world.specs.Worlds.{WorldState}
+use Rattle.eden_world.specs.Replies.{reply_of}
+use Rattle.eden_world.specs.Spells as spells
+
+-- a body's fault is its frame's; no body is read as a want of memory
+abbrev pub frame_fault : DecodeFault → FrameFault
+frame_fault decode.CutShort = frame.CutShort
+frame_fault decode.TooLarge = frame.TooLarge
+frame_fault decode.BadTag = frame.BadTag
+frame_fault decode.BadField = frame.BadField
+frame_fault decode.Trailing = frame.Trailing
+frame_fault decode.Version = frame.Version
+frame_fault decode.NoMemory = frame.CutShort
+
+abbrev pub answered : WorldState → Result Request DecodeFault → Result (List ℕ) FrameFault
+answered world (Ok request) = Ok (spells.frame (spells.reply_bytes (reply_of world request)))
+answered world (Err fault) = Err (frame_fault fault)
+
+-- the frame of the right reply to the request that the body spells, or the first fault of a body that spells none
+abbrev pub answer_to : WorldState → List ℕ → Result (List ℕ) FrameFault
+answer_to world body = answered world (read_request body)

@@ -1,0 +1,23 @@
+//! The bytes of requests and replies, and a service over them: each message has one spelling, each body that spells one is
+//! read, and a world is served over any reader and writer.
+#![tactic(auto)]
+
+pub use crate::decoding::{decode_reply, decode_request};
+pub use crate::encoding::{encode_reply, encode_request};
+pub use crate::fault::{DecodeFault, EncodeFault};
+pub use crate::laws::{reply_law, request_law};
+pub use crate::limit::BODY_LIMIT;
+pub use crate::serving::serve;
+pub use eden_stream::{FrameFault, ServeFault};
+
+mod decoding;
+mod encoding;
+mod fault;
+mod fields;
+mod laws;
+mod limit;
+mod serving;
+#[cfg(test)]
+mod serving_tests;
+#[cfg(test)]
+mod tests;

@@ -1,0 +1,308 @@
+//! Frames of polls and what a world replies, in whatever pieces they come.
+
+use crate::{FrameFault, ServeFault, serve};
+use eden_ids::{Kind, Path, Sequence};
+use eden_stream::Counted;
+use eden_world::{Change, World};
+use std::alloc::Global;
+use std::io;
+use std::io::Read;
+use std::test::Fail;
+
+/// Three times the number 1.
+const Q: [u8; 24] = [
+    0, 0, 0, 0, 0, 0, 0, 1, 0, 0, 0, 0, 0, 0, 0, 1, 0, 0, 0, 0, 0, 0, 0, 1,
+];
+
+/// A root of the empty commit.
+const ROOT: [u8; 20] = [0; 20];
+
+fn joined(alloc: Global, parts: &[&[u8]]) -> Result<Vec<u8>, Fail> {
+    let mut bytes = Vec::new(alloc);
+    for part in parts {
+        bytes.extend_from_slice(part)?;
+    }
+    Ok(bytes)
+}
+
+/// A poll since a position of these last bytes of its generation and its sequence.
+fn poll(alloc: Global, generation: u8, sequence: u8) -> Result<Vec<u8>, Fail> {
+    let place = [
+        0, 0, 0, 0, 0, 0, 0, generation, 0, 0, 0, 0, 0, 0, 0, sequence,
+    ];
+    joined(alloc, &[&[0, 0, 0, 0x3f, 1, 2], &Q, &place, &ROOT, &[0]])
+}
+
+/// The reply that tells no change up to the first row of generation 7.
+fn no_changes(alloc: Global) -> Result<Vec<u8>, Fail> {
+    let place = [0, 0, 0, 0, 0, 0, 0, 7, 0, 0, 0, 0, 0, 0, 0, 1];
+    joined(
+        alloc,
+        &[&[0, 0, 0, 0x42, 1, 0x82], &Q, &place, &ROOT, &[0, 0, 0, 0]],
+    )
+}
+
+/// A refusal for this cause, with a number below 256.
+fn refusal(alloc: Global, cause: u8, number: u8) -> Result<Vec<u8>, Fail> {
+    joined(
+        alloc,
+        &[
+            &[0, 0, 0, 0x23, 1, 0x84],
+            &Q,
+            &[cause, 0, 0, 0, 0, 0, 0, 0, number],
+        ],
+    )
+}
+
+/// Gives at most `most` bytes a read, and none beyond `cut` in the read that comes to it.
+#[derive(Drop)]
+struct Pieces<'a> {
+    bytes: &'a [u8],
+    at: usize,
+    most: usize,
+    cut: usize,
+}
+
+impl<'a> Read for Pieces<'a> {
+    fn read(&mut self, buf: &mut [u8]) -> io::Result<usize> {
+        if self.at >= self.bytes.len() {
+            return Ok(0);
+        }
+        let mut end = self.bytes.len().min(self.at.saturating_add(self.most));
+        if self.at < self.cut {
+            end = end.min(self.cut);
+        }
+        let left = &self.bytes[self.at..end.max(self.at)];
+        let taken = left.len().min(buf.len());
+        buf[..taken].copy_from_slice(&left[..taken]);
+        self.at += taken;
+        Ok(taken)
+    }
+}
+
+/// Gives the same bytes for ever, one a read.
+#[derive(Drop)]
+struct Endless<'a> {
+    bytes: &'a [u8],
+    at: usize,
+}
+
+impl<'a> Read for Endless<'a> {
+    fn read(&mut self, buf: &mut [u8]) -> io::Result<usize> {
+        if self.at >= self.bytes.len() {
+            self.at = 0;
+        }
+        if self.at >= self.bytes.len() || buf.is_empty() {
+            return Ok(0);
+        }
+        buf[0] = self.bytes[self.at];
+        self.at += 1;
+        Ok(1)
+    }
+}
+
+/// What an opened world writes to these bytes, and how the serving ends.
+fn served(
+    alloc: Global,
+    bytes: &[u8],
+    most: usize,
+    cut: usize,
+) -> (Vec<u8>, Result<u64, ServeFault>) {
+    let mut world = World::empty(alloc, 7, 1000);
+    let at = 0;
+    let mut pieces = Pieces {
+        bytes,
+        at,
+        most,
+        cut,
+    };
+    let mut written = Vec::new(alloc);
+    let mut reader = Counted::new(&mut pieces);
+    let mut writer = Counted::new(&mut written);
+    let ended = serve(alloc, &mut reader, &mut writer, &mut world);
+    (written, ended)
+}
+
+fn stops(number: u64, fault: FrameFault) -> Result<u64, ServeFault> {
+    Err(ServeFault::Frame { number, fault })
+}
+
+#[test]
+fn poll_frames(rt: HostRuntime) -> Result<(), Fail> {
+    let alloc = rt.alloc();
+    let one = poll(alloc, 7, 1)?;
+    let mut trailing = joined(alloc, &[&one, &[0]])?;
+    if let Some(length) = trailing.get_mut(3) {
+        *length = 0x40;
+    }
+    let two = joined(alloc, &[&one, &one])?;
+    let cut_short = joined(alloc, &[&one, &[0, 0, 0]])?;
+    let past_fault = joined(alloc, &[&[0, 0, 0, 0], &one])?;
+    let reply = no_changes(alloc)?;
+    let replies = joined(alloc, &[&reply, &reply])?;
+    assert_eq!(rt; replies.len(), 140);
+    let nothing = Vec::new(alloc);
+    let ahead = poll(alloc, 7, 2)?;
+    let truncated = poll(alloc, 7, 0)?;
+    let stale = poll(alloc, 8, 9)?;
+    for (frames, text, end) in [
+        (&one, &reply, Ok(1)),
+        (&trailing, &nothing, stops(1, FrameFault::Trailing)),
+        (&two, &replies, Ok(2)),
+        (&cut_short, &reply, stops(2, FrameFault::CutShort)),
+        (&past_fault, &nothing, stops(1, FrameFault::CutShort)),
+        (
+            &joined(alloc, &[&[0, 0, 0, 0]])?,
+            &nothing,
+            stops(1, FrameFault::CutShort),
+        ),
+        (
+            &joined(alloc, &[&[1, 0, 0, 1]])?,
+            &nothing,
+            stops(1, FrameFault::TooLarge),
+        ),
+        (
+            &joined(alloc, &[&[0, 0, 0]])?,
+            &nothing,
+            stops(1, FrameFault::CutShort),
+        ),
+        (&joined(alloc, &[])?, &nothing, Ok(0)),
+        (&ahead, &refusal(alloc, 2, 1)?, Ok(1)),
+        (&truncated, &refusal(alloc, 3, 1)?, Ok(1)),
+        (&stale, &refusal(alloc, 1, 7)?, Ok(1)),
+    ] {
+        let mut ways = vec![in alloc; (usize::MAX, usize::MAX), (1, usize::MAX)]?;
+        for cut in 0..frames.len() {
+            ways.push((usize::MAX, cut))?;
+        }
+        for &(most, cut) in &ways {
+            let (written, ended) = served(alloc, frames.as_slice(), most, cut);
+            assert!(rt;
+                written.as_slice() == text.as_slice(),
+                "at most {most}, cut at {cut}"
+            );
+            assert!(rt; ended == end, "at most {most}, cut at {cut}");
+        }
+    }
+    Ok(())
+}
+
+#[test]
+fn frames_cut_short(rt: HostRuntime) -> Result<(), Fail> {
+    let alloc = rt.alloc();
+    let one = poll(alloc, 7, 1)?;
+    for left in 1..one.len() {
+        let (written, ended) = served(alloc, &one[..left], usize::MAX, usize::MAX);
+        assert!(rt; written.is_empty(), "{left} bytes");
+        assert!(rt; ended == stops(1, FrameFault::CutShort), "{left} bytes");
+    }
+    Ok(())
+}
+
+#[test]
+fn reads_spent(rt: HostRuntime) -> Result<(), Fail> {
+    let alloc = rt.alloc();
+    let one = poll(alloc, 7, 1)?;
+    let mut endless = Endless {
+        bytes: one.as_slice(),
+        at: 0,
+    };
+    let mut world = World::empty(alloc, 7, 1000);
+    let mut written = Vec::new(alloc);
+    let mut reader = Counted::new(&mut endless);
+    let mut writer = Counted::new(&mut written);
+    let ended = serve(alloc, &mut reader, &mut writer, &mut world);
+    assert_eq!(rt; ended, Err(ServeFault::TurnsSpent));
+    assert_eq!(rt; written.len(), 14_925 * 70);
+    Ok(())
+}
+
+/// What the plain reading says of a poll in which the byte at a place has another value: the bytes written, or the fault.
+fn expected(
+    alloc: Global,
+    place: usize,
+    value: u8,
+    reply: &[u8],
+) -> Result<Result<Vec<u8>, FrameFault>, Fail> {
+    let mut changed = reply.to_vec(alloc)?;
+    Ok(match place {
+        // The length: above the limit, or another one than the body has.
+        0 => Err(FrameFault::TooLarge),
+        1..=3 => Err(FrameFault::CutShort),
+        4 => Err(FrameFault::Version),
+        5 => Err(FrameFault::BadTag),
+        // The query is the reply's.
+        6..=29 => {
+            if let Some(byte) = changed.get_mut(place) {
+                *byte = value;
+            }
+            Ok(changed)
+        }
+        30..=37 => Ok(refusal(alloc, 1, 7)?),
+        45 if value == 0 => Ok(refusal(alloc, 3, 1)?),
+        38..=45 => Ok(refusal(alloc, 2, 1)?),
+        // The root decides nothing.
+        46..=65 => Ok(changed),
+        // The number of patterns, of which none is there.
+        _ if value > 32 => Err(FrameFault::BadField),
+        _ => Err(FrameFault::CutShort),
+    })
+}
+
+#[test]
+fn single_byte_changes(rt: HostRuntime) -> Result<(), Fail> {
+    let alloc = rt.alloc();
+    let one = poll(alloc, 7, 1)?;
+    let reply = no_changes(alloc)?;
+    for (place, byte) in one.iter().enumerate() {
+        for value in 0..=u8::MAX {
+            if value == *byte {
+                continue;
+            }
+            let mut frame = one.clone()?;
+            if let Some(changed) = frame.get_mut(place) {
+                *changed = value;
+            }
+            let (written, ended) = served(alloc, frame.as_slice(), usize::MAX, usize::MAX);
+            match expected(alloc, place, value, reply.as_slice())? {
+                Ok(text) => {
+                    assert!(rt; written.as_slice() == text.as_slice(), "{value} at {place}");
+                    assert!(rt; ended == Ok(1), "{value} at {place}");
+                }
+                Err(fault) => {
+                    assert!(rt; written.is_empty(), "{value} at {place}");
+                    assert!(rt; ended == stops(1, fault), "{value} at {place}");
+                }
+            }
+        }
+    }
+    Ok(())
+}
+
+#[test]
+fn small_limit(rt: HostRuntime) -> Result<(), Fail> {
+    let alloc = rt.alloc();
+    let mut world = World::empty(alloc, 7, 200);
+    for at in [b"a", b"b", b"c", b"d"] {
+        let change = Change::Write {
+            path: Path::parse(alloc, at.as_slice())?,
+            kind: Kind::Plain,
+            bytes: Sequence::from_vec(b"1".to_vec(alloc)?),
+        };
+        let _ = world.apply(&change)?;
+    }
+    let frames = joined(alloc, &[&poll(alloc, 7, 1)?, &poll(alloc, 7, 2)?])?;
+    let head = [0, 0, 0, 0x4e, 1, 0x82];
+    let place = [0, 0, 0, 0, 0, 0, 0, 7, 0, 0, 0, 0, 0, 0, 0, 5];
+    let marked = [0, 0, 0, 3, 1, 0, 1, b'b', 1, 0, 1, b'c', 1, 0, 1, b'd'];
+    let replies = joined(
+        alloc,
+        &[&refusal(alloc, 3, 2)?, &head, &Q, &place, &ROOT, &marked],
+    )?;
+    let mut written = Vec::new(alloc);
+    let mut reader = Counted::new(frames.as_slice());
+    let mut writer = Counted::new(&mut written);
+    assert_eq!(rt; serve(alloc, &mut reader, &mut writer, &mut world), Ok(2));
+    assert!(rt; written.as_slice() == replies.as_slice());
+    Ok(())
+}
