@@ -1,2 +1,4 @@
 pub mod Paths
 pub mod FileMaps
+pub mod Hex
+pub mod Naming

@@ -3,17 +3,23 @@
 
 pub use crate::content::{Content, Kind};
 pub use crate::files::Files;
+pub use crate::hex_text::{HexFault, hex_law, hex_text_law};
 pub use crate::id::Id;
 pub use crate::laws::{file_map_law, path_set_law};
 pub use crate::memory::NoMemory;
+pub use crate::naming::{GitNaming, Naming};
 pub use crate::path::{Path, PathFault};
 pub use crate::sequence::Sequence;
 
 mod content;
 mod files;
+mod hex_text;
 mod id;
+#[cfg(test)]
+mod id_tests;
 mod laws;
 mod memory;
+mod naming;
 mod path;
 mod sequence;
 #[cfg(test)]

@@ -1,0 +1,41 @@
+ghost use Rattle.std.specs.Prelude.{◌≡◌};
+ghost use Rattle.eden_ids.specs.Naming.{object_text};
+ghost use Rattle.sha1.specs.Sha1.{sha1};
+
+use crate::id::Id;
+use itoa::Buffer;
+use sha1::Sha1;
+
+/// A rule that gives each object its id, from the word for its kind (`blob`, `tree` or `commit`) and its payload.
+///
+/// The id is a function of these two alone: two calls with the same bytes answer the same id.
+pub trait Naming {
+    ghost use Rattle.std.specs.Prelude.{ℕ, List};
+    ghost use Rattle.eden_ids.specs.declared.id.Id.{Id};
+
+    ghost id: { List ℕ → List ℕ → Id };
+
+    /// The id of an object. This takes no memory.
+    fn id_of(&self, word: &[u8], payload: &[u8]) -> Id
+        ensures { result ≡ id word.now payload.now };
+}
+
+/// Git's naming: the SHA-1 of the kind's word, a space, the payload's length in decimal, a NUL byte and the payload.
+///
+/// The rule is that of Git's object format (`git help hash-object`), for repositories whose object format is SHA-1.
+#[derive(Clone, Copy, Debug, PartialEq, Eq)]
+pub struct GitNaming;
+
+impl Naming for GitNaming {
+    ghost id = { λ word payload. record { 0 = sha1 (object_text word payload) } };
+
+    fn id_of(&self, word: &[u8], payload: &[u8]) -> Id {
+        let mut hasher = Sha1::new();
+        hasher.update(word);
+        hasher.update(b" ".as_slice());
+        hasher.update(Buffer::new().format(payload.len()).as_bytes());
+        hasher.update(b"\0".as_slice());
+        hasher.update(payload);
+        Id(hasher.finalize())
+    }
+}
