@@ -1,0 +1,41 @@
+-- What every store keeps: one object an id, and each object names earlier ones of the right kinds, so that every tree has a meaning.
+use Rattle.std.specs.Prelude.{◌≡◌, ℕ, ◌≤◌, true, List, [], ◌∷◌, map, Option, Some, None}
+use Rattle.std.specs.Ordering.{nat_cmp}
+use Rattle.std.specs.Cmp.Lexicographic.{slice_cmp}
+use Rattle.std.specs.List.{AllByRecursion}
+use Rattle.std.specs.List.Sorted.{IsStrictlySortedBy}
+use Rattle.eden_ids.specs.declared.id.Id.{Id}
+use Rattle.eden_objects.specs.declared.word.Word.{Word}
+use Rattle.eden_objects.specs.declared.word.Word.TheVariants.{Blob, Tree, Commit}
+use Rattle.eden_objects.specs.Objects.{Held, find, word_text}
+use Rattle.eden_objects.specs.Trees.{Entry, entries_of, entries_depth, entries_reach, is_name, key, tree_depth, tree_reach}
+use Rattle.eden_objects.specs.Commits.{tree_named}
+use Rattle.eden_objects.specs.Puts.{word_wanted}
+
+-- the id is that of an object of this kind
+abbrev pub IsHeld : List Held → Word → Id → Type 0
+IsHeld held word id = (h : Held) × (find id held ≡ Some h) × (h.word ≡ word)
+
+abbrev pub HasTree : List Held → Id → Type 0
+HasTree held id = IsHeld held Tree id
+
+-- entries that a tree may have: their keys ascend, their names are names, what they name is there, and no path is too long
+abbrev pub IsTree : List Held → List Entry → Type 0
+IsTree earlier es = AllByRecursion (λ e. IsHeld earlier (word_wanted e.kind) e.id) es
+    × IsStrictlySortedBy (slice_cmp nat_cmp) (map key es)
+    × AllByRecursion (λ e. is_name e.name ≡ true) es
+    × (entries_depth (tree_depth earlier) es ≤ 64) × (entries_reach (tree_reach earlier) es ≤ 1024)
+
+abbrev pub IsSound : Word → List ℕ → List Held → Type 0
+IsSound Blob payload earlier = Unit {0}
+IsSound Tree payload earlier = IsTree earlier (entries_of payload)
+IsSound Commit payload earlier = (tree : Id) × (tree_named payload ≡ Some tree) × HasTree earlier tree
+
+abbrev pub IsClosed : List Held → Type 0
+IsClosed [] = Unit {0}
+IsClosed (h ∷ earlier) = (find h.id earlier ≡ None) × IsSound h.word h.payload earlier × IsClosed earlier
+
+-- each object's id is the one that a naming gives it
+abbrev pub AllNamed : (List ℕ → List ℕ → Id) → List Held → Type 0
+AllNamed name [] = Unit {0}
+AllNamed name (h ∷ earlier) = (name (word_text h.word) h.payload ≡ h.id) × AllNamed name earlier

@@ -1,0 +1,5 @@
+pub mod Objects
+pub mod Trees
+pub mod Commits
+pub mod Puts
+pub mod Closed

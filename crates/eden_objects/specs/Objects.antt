@@ -1,0 +1,51 @@
+-- The objects of a store, newest first, so that what an object names stands behind it.
+use Rattle.std.specs.Prelude.{ℕ, Bool, true, false, ◌&&◌, nat_eq, List, [], ◌∷◌, codes, replicate, Option, Some, None, if◌then◌else◌}
+use Rattle.std.specs.Cmp.Lexicographic.{pointwise}
+use Rattle.eden_ids.specs.declared.id.Id.{Id}
+use Rattle.eden_objects.specs.declared.word.Word.{Word}
+use Rattle.eden_objects.specs.declared.word.Word.TheVariants.{Blob, Tree, Commit}
+
+-- the word by which Git calls a kind of object
+abbrev pub word_text : Word → List ℕ
+word_text Blob = codes "blob"
+word_text Tree = codes "tree"
+word_text Commit = codes "commit"
+
+abbrev pub same_word : Word → Word → Bool
+same_word Blob Blob = true
+same_word Tree Tree = true
+same_word Commit Commit = true
+same_word _ _ = false
+
+abbrev pub same_bytes : List ℕ → List ℕ → Bool
+same_bytes a b = pointwise nat_eq a b
+
+abbrev pub same_id : Id → Id → Bool
+same_id a b = same_bytes a.0 b.0
+
+-- the id of the empty commit, which no object has
+abbrev pub zero_id : Id
+zero_id = record { 0 = replicate 20 0 }
+
+-- an object, with its id
+pub record Held : Type 0 where
+  pub id : Id
+  pub word : Word
+  pub payload : List ℕ
+
+-- the object with an id
+abbrev pub find : Id → List Held → Option Held
+find id [] = None
+find id (h ∷ earlier) = if same_id id h.id then Some h else find id earlier
+
+abbrev pub payload_of : Option Held → List ℕ
+payload_of None = []
+payload_of (Some h) = h.payload
+
+-- the payload of the blob with an id
+abbrev pub blob_in : Option Held → Option (List ℕ)
+blob_in None = None
+blob_in (Some h) = if same_word h.word Blob then Some h.payload else None
+
+abbrev pub blob_of : List Held → Id → Option (List ℕ)
+blob_of held id = blob_in (find id held)

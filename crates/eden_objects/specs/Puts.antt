@@ -1,0 +1,111 @@
+-- What each put call answers, and what the store holds after it. A refusal is the first cause that stands, in the order in which
+-- they are asked here.
+use Rattle.std.specs.Prelude.{◌≡◌, ℕ, zero, suc, Bool, true, false, not, ◌&&◌, ◌||◌, nat_lt, nat_eq, if◌then◌else◌, List, [], ◌∷◌, length, codes, Option, Some, None, Result, Ok, Err}
+use Rattle.std.specs.Ordering.{nat_cmp, is_lt}
+use Rattle.std.specs.Cmp.Lexicographic.{slice_cmp}
+use Rattle.std.specs.List.{list_any}
+use Rattle.eden_ids.specs.declared.id.Id.{Id}
+use Rattle.eden_ids.specs.declared.content.Kind.{Kind}
+use Rattle.eden_objects.specs.declared.word.Word.{Word}
+use Rattle.eden_objects.specs.declared.word.Word.TheVariants.{Blob, Tree, Commit}
+use Rattle.eden_objects.specs.declared.fault.PutFault.{PutFault}
+use Rattle.eden_objects.specs.declared.fault.PutFault.TheVariants.{TooLarge, IdTaken, ZeroId, OutOfOrder, Duplicate, MissingChild, WrongChildKind, TooDeep, PathTooLong, CutShort, BadCommit, NoMemory}
+use Rattle.eden_objects.specs.Objects.{Held, find, same_bytes, same_id, same_word, word_text, zero_id}
+use Rattle.eden_objects.specs.Trees.{Entry, key, read_entry, entries_of, entries_depth, entries_reach, tree_depth, tree_reach}
+use Rattle.eden_objects.specs.Commits.{tree_named}
+
+abbrev pub Outcome : Type 0
+Outcome = Result (Id × List Held) PutFault
+
+-- the first of two causes that stands
+abbrev pub first_fault : Option PutFault → Option PutFault → Option PutFault
+first_fault None second = second
+first_fault (Some fault) second = Some fault
+
+abbrev pub if_so : Bool → PutFault → Option PutFault
+if_so true fault = Some fault
+if_so false fault = None
+
+abbrev pub too_large : List ℕ → Option PutFault
+too_large payload = if_so (nat_lt 8388608 (length payload)) TooLarge
+
+-- an object that is there already is left as it is; another one under its id is refused
+abbrev pub kept_or_added : Held → List Held → Option Held → Outcome
+kept_or_added new held None = Ok (new.id, new ∷ held)
+kept_or_added new held (Some h) =
+    if same_word h.word new.word && same_bytes h.payload new.payload then Ok (new.id, held) else Err IdTaken
+
+abbrev pub put_outcome : Held → List Held → Outcome
+put_outcome new held = if same_id new.id zero_id then Err ZeroId else kept_or_added new held (find new.id held)
+
+abbrev pub unless : Option PutFault → Outcome → Outcome
+unless (Some fault) outcome = Err fault
+unless None outcome = outcome
+
+-- the object with its id
+abbrev pub named : (List ℕ → List ℕ → Id) → Word → List ℕ → Held
+named name word payload = record { id = name (word_text word) payload; word = word; payload = payload }
+
+abbrev pub blob_outcome : (List ℕ → List ℕ → Id) → List ℕ → List Held → Outcome
+blob_outcome name payload held = unless (too_large payload) (put_outcome (named name Blob payload) held)
+
+-- what an id has to name: a tree for a directory, a blob for a file
+abbrev pub word_wanted : Option Kind → Word
+word_wanted None = Tree
+word_wanted (Some kind) = Blob
+
+abbrev pub child_fault : Word → Option Held → Option PutFault
+child_fault word None = Some MissingChild
+child_fault word (Some h) = if_so (not (same_word h.word word)) WrongChildKind
+
+-- the key is above that of the entry before, which is the first of the earlier ones
+abbrev pub is_above : Entry → List Entry → Bool
+is_above e [] = true
+is_above e (before ∷ earlier) = is_lt (slice_cmp nat_cmp (key before) (key e))
+
+-- why an entry can't follow these earlier ones
+abbrev pub entry_fault : List Held → List Entry → Entry → Option PutFault
+entry_fault held earlier e =
+    first_fault (if_so (list_any (λ f. same_bytes f.name e.name) earlier) Duplicate)
+    (first_fault (if_so (not (is_above e earlier)) OutOfOrder) (child_fault (word_wanted e.kind) (find e.id held)))
+
+-- the fault of the first entry that has one, of the entries in some bytes that follow these earlier ones, newest first
+abbrev pub fault_after : List Held → List Entry → (List Entry → List ℕ → Option PutFault) → Result (Entry × List ℕ) PutFault → Option PutFault
+fault_after held earlier more (Err fault) = Some fault
+fault_after held earlier more (Ok read) = first_fault (entry_fault held earlier read.0) (more (read.0 ∷ earlier) read.1)
+
+abbrev pub entries_fault : ℕ → List Held → List Entry → List ℕ → Option PutFault
+entries_fault n held earlier [] = None
+entries_fault zero held earlier (b ∷ bytes) = None
+entries_fault (suc n) held earlier (b ∷ bytes) = fault_after held earlier (entries_fault n held) (read_entry (b ∷ bytes))
+
+-- a tree's depth is at most 64, and its reach at most 1,024
+abbrev pub size_fault : ℕ → ℕ → Option PutFault
+size_fault depth reach = first_fault (if_so (nat_lt 64 depth) TooDeep) (if_so (nat_lt 1024 reach) PathTooLong)
+
+abbrev pub tree_fault : List ℕ → List Held → Option PutFault
+tree_fault payload held =
+    first_fault (too_large payload)
+    (first_fault (entries_fault (length payload) held [] payload)
+    (size_fault (entries_depth (tree_depth held) (entries_of payload)) (entries_reach (tree_reach held) (entries_of payload))))
+
+abbrev pub tree_outcome : (List ℕ → List ℕ → Id) → List ℕ → List Held → Outcome
+tree_outcome name payload held = unless (tree_fault payload held) (put_outcome (named name Tree payload) held)
+
+abbrev pub named_fault : List Held → Option Id → Option PutFault
+named_fault held None = Some BadCommit
+named_fault held (Some tree) = child_fault Tree (find tree held)
+
+abbrev pub commit_fault : List ℕ → List Held → Option PutFault
+commit_fault payload held =
+    first_fault (too_large payload)
+    (first_fault (if_so (nat_lt (length payload) 46) CutShort) (named_fault held (tree_named payload)))
+
+abbrev pub commit_outcome : (List ℕ → List ℕ → Id) → List ℕ → List Held → Outcome
+commit_outcome name payload held = unless (commit_fault payload held) (put_outcome (named name Commit payload) held)
+
+-- a put call gave its outcome, or a growth was refused where an object would have been added
+abbrev pub PutGives : Result Id PutFault → List Held → List Held → Outcome → Type 0
+PutGives (Ok id) old new outcome = outcome ≡ Ok (id, new)
+PutGives (Err NoMemory) old new outcome = (new ≡ old) × (id : Id) × (more : Held) × (outcome ≡ Ok (id, more ∷ old))
+PutGives (Err fault) old new outcome = (new ≡ old) × (outcome ≡ Err fault)

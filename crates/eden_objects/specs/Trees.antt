@@ -1,0 +1,118 @@
+-- Git's tree format. A tree's payload is its entries, one behind the other: a mode in octal digits, a space, a name, NUL, and the
+-- twenty bytes of an id. In bytes 32 is the space, 0 NUL and 47 the slash.
+use Rattle.std.specs.Prelude.{◌≡◌, ℕ, zero, suc, ◌+◌, Bool, true, false, not, ◌&&◌, nat_eq, nat_lt, if◌then◌else◌, List, [], ◌∷◌, ◌++◌, length, take, drop, codes, Option, Some, None, Result, Ok, Err}
+use Rattle.std.specs.List.{list_any}
+use Rattle.eden_ids.specs.declared.id.Id.{Id}
+use Rattle.eden_ids.specs.declared.content.Kind.{Kind}
+use Rattle.eden_ids.specs.declared.content.Kind.TheVariants.{Plain, Exec, Link}
+use Rattle.eden_ids.specs.Paths.{is_component}
+use Rattle.eden_objects.specs.declared.fault.PutFault.{PutFault}
+use Rattle.eden_objects.specs.declared.fault.PutFault.TheVariants.{CutShort, BadMode, BadName}
+use Rattle.eden_objects.specs.Objects.{Held, same_id, same_bytes}
+
+-- an entry: a file of some kind, or a directory
+pub record Entry : Type 0 where
+  pub name : List ℕ
+  pub kind : Option Kind
+  pub id : Id
+
+-- the bytes before the first byte b, and those after it
+abbrev pub before_more : ℕ → Option (List ℕ × List ℕ) → Option (List ℕ × List ℕ)
+before_more x None = None
+before_more x (Some parts) = Some (x ∷ parts.0, parts.1)
+
+abbrev pub cut : ℕ → List ℕ → Option (List ℕ × List ℕ)
+cut b [] = None
+cut b (x ∷ rest) = if nat_eq x b then Some ([], rest) else before_more x (cut b rest)
+
+-- what a mode says: a directory, or the kind of a file
+abbrev pub kind_of_mode : List ℕ → Option (Option Kind)
+kind_of_mode mode =
+    if same_bytes mode (codes "40000") then Some None else
+    if same_bytes mode (codes "100644") then Some (Some Plain) else
+    if same_bytes mode (codes "100755") then Some (Some Exec) else
+    if same_bytes mode (codes "120000") then Some (Some Link) else None
+
+-- a component of a path, which has no slash
+abbrev pub is_name : List ℕ → Bool
+is_name name = is_component name && not (list_any (λ b. nat_eq b 47) name)
+
+-- the first entry and the bytes behind it, or why there is none
+abbrev pub read_id : Option Kind → List ℕ → List ℕ → Result (Entry × List ℕ) PutFault
+read_id kind name rest =
+    if not (is_name name) then Err BadName else
+    if nat_lt (length rest) 20 then Err CutShort else
+    Ok (record { name = name; kind = kind; id = record { 0 = take 20 rest } }, drop 20 rest)
+
+abbrev pub read_named : Option Kind → Option (List ℕ × List ℕ) → Result (Entry × List ℕ) PutFault
+read_named kind None = Err CutShort
+read_named kind (Some parts) = read_id kind parts.0 parts.1
+
+abbrev pub read_kind : Option (Option Kind) → List ℕ → Result (Entry × List ℕ) PutFault
+read_kind None rest = Err BadMode
+read_kind (Some kind) rest = read_named kind (cut 0 rest)
+
+abbrev pub read_mode : Option (List ℕ × List ℕ) → Result (Entry × List ℕ) PutFault
+read_mode None = Err CutShort
+read_mode (Some parts) = read_kind (kind_of_mode parts.0) parts.1
+
+abbrev pub read_entry : List ℕ → Result (Entry × List ℕ) PutFault
+read_entry bytes = read_mode (cut 32 bytes)
+
+-- the entries at the front of some bytes, n at the most
+abbrev pub entries_after : (List ℕ → List Entry) → Result (Entry × List ℕ) PutFault → List Entry
+entries_after more (Err fault) = []
+entries_after more (Ok read) = read.0 ∷ more read.1
+
+abbrev pub entries : ℕ → List ℕ → List Entry
+entries zero bytes = []
+entries (suc n) bytes = entries_after (entries n) (read_entry bytes)
+
+-- the entries of a payload, which are no more than its bytes
+abbrev pub entries_of : List ℕ → List Entry
+entries_of payload = entries (length payload) payload
+
+-- entries stand in the order of their keys: a directory is compared as if a slash followed its name
+abbrev pub key_of : List ℕ → Option Kind → List ℕ
+key_of name None = name ++ 47 ∷ []
+key_of name (Some kind) = name
+
+abbrev pub key : Entry → List ℕ
+key e = key_of e.name e.kind
+
+-- what the tree with an id comes to, by what its entries come to: children are looked for among earlier objects alone
+unfoldable pub tree_fold : {A : Type 0} → A → ((Id → A) → List Entry → A) → List Held → Id → A
+tree_fold none step [] id = none
+tree_fold none step (h ∷ earlier) id =
+    if same_id id h.id then step (tree_fold none step earlier) (entries_of h.payload) else tree_fold none step earlier id
+
+abbrev pub greater : ℕ → ℕ → ℕ
+greater a b = if nat_lt a b then b else a
+
+-- the greatest of what the entries come to, 0 without entries
+abbrev pub greatest : (Entry → ℕ) → List Entry → ℕ
+greatest measure [] = 0
+greatest measure (e ∷ es) = greater (measure e) (greatest measure es)
+
+-- 1 for a file, 1 more than the child's for a directory
+abbrev pub depth_of : Option Kind → ℕ → ℕ
+depth_of None child = 1 + child
+depth_of (Some kind) child = 1
+
+-- the name's length for a file, its length, a slash and the child's for a directory
+abbrev pub reach_of : List ℕ → Option Kind → ℕ → ℕ
+reach_of name None child = length name + 1 + child
+reach_of name (Some kind) child = length name
+
+abbrev pub entries_depth : (Id → ℕ) → List Entry → ℕ
+entries_depth depth es = greatest (λ e. depth_of e.kind (depth e.id)) es
+
+abbrev pub entries_reach : (Id → ℕ) → List Entry → ℕ
+entries_reach reach es = greatest (λ e. reach_of e.name e.kind (reach e.id)) es
+
+-- the components and the bytes of the longest path below a tree, an empty directory counted too
+abbrev pub tree_depth : List Held → Id → ℕ
+tree_depth held id = tree_fold 0 entries_depth held id
+
+abbrev pub tree_reach : List Held → Id → ℕ
+tree_reach held id = tree_fold 0 entries_reach held id

@@ -1,0 +1,8 @@
+//! A store of Git's objects, in which every object names earlier ones only.
+#![tactic(auto)]
+
+pub use crate::fault::{ListFault, NoCommit, PutFault};
+pub use crate::word::Word;
+
+mod fault;
+mod word;
