@@ -1,5 +1,5 @@
 -- What every store keeps: one object an id, and each object names earlier ones of the right kinds, so that every tree has a meaning.
-use Rattle.std.specs.Prelude.{◌≡◌, ℕ, ◌≤◌, true, List, [], ◌∷◌, map, Option, Some, None}
+use Rattle.std.specs.Prelude.{◌≡◌, ℕ, ◌≤◌, true, false, List, [], ◌∷◌, map, Option, Some, None}
 use Rattle.std.specs.Ordering.{nat_cmp}
 use Rattle.std.specs.Cmp.Lexicographic.{slice_cmp}
 use Rattle.std.specs.List.{AllByRecursion}
@@ -7,7 +7,7 @@ use Rattle.std.specs.List.Sorted.{IsStrictlySortedBy}
 use Rattle.eden_ids.specs.declared.id.Id.{Id}
 use Rattle.eden_objects.specs.declared.word.Word.{Word}
 use Rattle.eden_objects.specs.declared.word.Word.TheVariants.{Blob, Tree, Commit}
-use Rattle.eden_objects.specs.Objects.{Held, find, word_text}
+use Rattle.eden_objects.specs.Objects.{Held, find, same_bytes, word_text}
 use Rattle.eden_objects.specs.Trees.{Entry, entries_of, entries_depth, entries_reach, is_name, key, tree_depth, tree_reach}
 use Rattle.eden_objects.specs.Commits.{tree_named}
 use Rattle.eden_objects.specs.Puts.{word_wanted}
@@ -19,12 +19,19 @@ IsHeld held word id = (h : Held) × (find id held ≡ Some h) × (h.word ≡ wor
 abbrev pub HasTree : List Held → Id → Type 0
 HasTree held id = IsHeld held Tree id
 
--- entries that a tree may have: their keys ascend, their names are names, what they name is there, and no path is too long
+-- no two entries have one name, also where one is a file and the other a directory
+abbrev pub NamesDiffer : List Entry → Type 0
+NamesDiffer [] = Unit {0}
+NamesDiffer (e ∷ es) = AllByRecursion (λ f. same_bytes e.name f.name ≡ false) es × NamesDiffer es
+
+-- entries that a tree may have: their keys ascend, their names are names, what they name is there, no path is too long, and no
+-- name comes twice
 abbrev pub IsTree : List Held → List Entry → Type 0
 IsTree earlier es = AllByRecursion (λ e. IsHeld earlier (word_wanted e.kind) e.id) es
     × IsStrictlySortedBy (slice_cmp nat_cmp) (map key es)
     × AllByRecursion (λ e. is_name e.name ≡ true) es
     × (entries_depth (tree_depth earlier) es ≤ 64) × (entries_reach (tree_reach earlier) es ≤ 1024)
+    × NamesDiffer es
 
 abbrev pub IsSound : Word → List ℕ → List Held → Type 0
 IsSound Blob payload earlier = Unit {0}
