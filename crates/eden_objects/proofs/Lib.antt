@@ -1,0 +1,4 @@
+mod Tables
+mod Putting
+mod Cuts
+mod Reading

@@ -3,3 +3,5 @@ pub mod Trees
 pub mod Commits
 pub mod Puts
 pub mod Closed
+pub mod Contents
+pub mod Entries

@@ -2,7 +2,12 @@
 #![tactic(auto)]
 
 pub use crate::fault::{ListFault, NoCommit, PutFault};
+pub use crate::store::Store;
 pub use crate::word::Word;
 
+mod entry;
 mod fault;
+mod judge;
+mod size;
+mod store;
 mod word;
