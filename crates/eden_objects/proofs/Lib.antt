@@ -2,3 +2,5 @@ mod Tables
 mod Putting
 mod Cuts
 mod Reading
+mod Refusals
+mod Order

@@ -8,6 +8,7 @@ pub use crate::word::Word;
 mod entry;
 mod fault;
 mod judge;
+mod seen;
 mod size;
 mod store;
 mod word;
