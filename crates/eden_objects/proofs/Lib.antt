@@ -4,3 +4,4 @@ mod Cuts
 mod Reading
 mod Refusals
 mod Order
+mod Judging

@@ -5,9 +5,11 @@ use Rattle.eden_objects.specs.declared.fault.PutFault.{PutFault}
 use Rattle.eden_objects.specs.declared.fault.PutFault.TheVariants.{TooLarge, IdTaken, ZeroId, BadMode, BadName, OutOfOrder, Duplicate, MissingChild, WrongChildKind, TooDeep, PathTooLong, CutShort, BadCommit, NoMemory}
 use Rattle.eden_objects.specs.declared.word.Word.{Word}
 use Rattle.eden_objects.specs.declared.word.Word.TheVariants.{Blob, Tree, Commit}
-use Rattle.eden_objects.specs.Objects.{Held, find, same_word}
+use Rattle.std.specs.List.{list_any}
+use Rattle.eden_objects.specs.Objects.{Held, find, same_bytes, same_word}
+use Rattle.eden_objects.specs.Trees.{Entry}
 use Rattle.eden_objects.specs.Commits.{tree_named}
-use Rattle.eden_objects.specs.Puts.{PutGives, Outcome, unless, first_fault, if_so, too_large, child_fault, named_fault, commit_fault, commit_outcome}
+use Rattle.eden_objects.specs.Puts.{PutGives, Outcome, unless, first_fault, if_so, too_large, child_fault, named_fault, commit_fault, commit_outcome, entry_fault, is_above, word_wanted}
 use Rattle.eden_objects.specs.Closed.{IsHeld, IsSound}
 
 -- every fault but want of memory is told as the outcome
@@ -88,3 +90,11 @@ pub commit_sound : (payload : List ℕ) (held : List Held) → commit_fault payl
 commit_sound payload held h =
     named_held held (tree_named payload)
     (if_so_first (nat_lt (length payload) 46) CutShort _ (if_so_first (nat_lt 8388608 (length payload)) TooLarge _ h))
+
+-- an entry that may follow names an object of its kind
+pub entry_held : (held : List Held) (earlier : List Entry) (e : Entry) → None ≡ entry_fault held earlier e
+    → IsHeld held (word_wanted e.kind) e.id
+entry_held held earlier e h =
+    child_held held (word_wanted e.kind) e.id
+    (if_so_first (not (is_above e earlier)) OutOfOrder _
+    (if_so_first (list_any (λ f. same_bytes f.name e.name) earlier) Duplicate _ (sym h)))
