@@ -1,10 +1,9 @@
 -- Looking at a tree's entries one by one, against the first fault of them all.
-use Rattle.std.proofs.Common.{◌≡◌, ◌∙◌, sym, refl, ap, ℕ, zero, suc, ◌+◌, ◌-◌, ◌<◌, ◌≤◌, Bool, true, false, cond, not, List, [], ◌∷◌, length, Option, Some, None, Result, Ok, Err, nat_lt, arith}
-use Rattle.eden_ids.specs.declared.id.Id.{Id}
+use Rattle.std.proofs.Common.{◌≡◌, ◌∙◌, sym, refl, ap, ℕ, zero, suc, ◌-◌, ◌<◌, ◌≤◌, List, [], ◌∷◌, length, Some, None, Ok, Err, arith}
 use Rattle.eden_objects.specs.declared.fault.PutFault.{PutFault}
 use Rattle.eden_objects.specs.declared.seen.Seen.{Seen}
 use Rattle.eden_objects.specs.declared.size.Size.{Size}
-use Rattle.eden_objects.specs.Objects.{Held, find}
+use Rattle.eden_objects.specs.Objects.{Held}
 use Rattle.eden_objects.specs.Trees.{Entry, read_entry, entries, entries_after, entries_of, greater, depth_of, reach_of, entries_depth, entries_reach, tree_depth, tree_reach}
 use Rattle.eden_objects.specs.Puts.{entries_fault, entry_fault, fault_after, first_fault}
 use Rattle.eden_objects.specs.Entries.{HasSeen}
@@ -58,9 +57,15 @@ Judging held payload seen size rest = (earlier : List Entry) × (n : ℕ) × (le
 
 pub begins : (held : List Held) (payload : List ℕ) (seen : Seen) (size : Size) → HasSeen seen [] → size.depth ≡ 0 → size.reach ≡ 0
     → Judging held payload seen size payload
-begins held payload seen size new depth reach = ([], length payload, omega arith, new, refl,
-    ap (λ a. greater a (entries_depth (tree_depth held) (entries_of payload))) depth ∙ greater-zero (entries_depth (tree_depth held) (entries_of payload)),
-    ap (λ a. greater a (entries_reach (tree_reach held) (entries_of payload))) reach ∙ greater-zero (entries_reach (tree_reach held) (entries_of payload)))
+begins held payload seen size new depth reach = (
+  [],
+  length payload,
+  omega arith,
+  new,
+  refl,
+  ap (λ a. greater a (entries_depth (tree_depth held) (entries_of payload))) depth ∙ greater-zero (entries_depth (tree_depth held) (entries_of payload)),
+  ap (λ a. greater a (entries_reach (tree_reach held) (entries_of payload))) reach ∙ greater-zero (entries_reach (tree_reach held) (entries_of payload)),
+)
 
 pub read_fault : (held : List Held) (payload : List ℕ) (seen : Seen) (size : Size) (rest : List ℕ) (fault : PutFault)
     → Judging held payload seen size rest → 0 < length rest → read_entry rest ≡ Err fault
@@ -92,13 +97,13 @@ goes_on held payload seen size rest e behind more larger j some less is passes n
       omega (arith, fits, less, some),
       notes j.0 j.3,
       j.4 ∙ fault_step j.1 held j.0 rest j.2 some ∙ ap (fault_after held j.0 (entries_fault m held)) is
-      ∙ ap (λ f. first_fault f (entries_fault m held (e ∷ j.0) behind)) (sym (passes j.0 j.3)),
+          ∙ ap (λ f. first_fault f (entries_fault m held (e ∷ j.0) behind)) (sym (passes j.0 j.3)),
       ap (λ a. greater a (entries_depth (tree_depth held) (entries m behind))) depth
-      ∙ greater-assoc size.depth (depth_of e.kind (tree_depth held e.id)) (entries_depth (tree_depth held) (entries m behind))
-      ∙ ap (λ es. greater size.depth (entries_depth (tree_depth held) es)) (sym now_left) ∙ j.5,
+          ∙ greater-assoc size.depth (depth_of e.kind (tree_depth held e.id)) (entries_depth (tree_depth held) (entries m behind))
+          ∙ ap (λ es. greater size.depth (entries_depth (tree_depth held) es)) (sym now_left) ∙ j.5,
       ap (λ a. greater a (entries_reach (tree_reach held) (entries m behind))) reach
-      ∙ greater-assoc size.reach (reach_of e.name e.kind (tree_reach held e.id)) (entries_reach (tree_reach held) (entries m behind))
-      ∙ ap (λ es. greater size.reach (entries_reach (tree_reach held) es)) (sym now_left) ∙ j.6,
+          ∙ greater-assoc size.reach (reach_of e.name e.kind (tree_reach held e.id)) (entries_reach (tree_reach held) (entries m behind))
+          ∙ ap (λ es. greater size.reach (entries_reach (tree_reach held) es)) (sym now_left) ∙ j.6,
     )
 
 pub ends : (held : List Held) (payload : List ℕ) (seen : Seen) (size : Size) (rest : List ℕ)

@@ -5,3 +5,4 @@ mod Reading
 mod Refusals
 mod Order
 mod Judging
+mod Judged

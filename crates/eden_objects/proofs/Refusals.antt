@@ -1,5 +1,5 @@
 -- Refusals of a put call, and what is known where none stands.
-use Rattle.std.proofs.Common.{◌≡◌, ◌≢◌, ◌∙◌, sym, refl, ap, ℕ, Bool, true, false, cond, not, List, [], ◌∷◌, length, Option, Some, None, Ok, Err, nat_lt, arith}
+use Rattle.std.proofs.Common.{◌≡◌, ◌≢◌, ◌∙◌, sym, refl, ap, ℕ, Bool, true, false, not, List, length, Option, Some, None, Err, nat_lt}
 use Rattle.eden_ids.specs.declared.id.Id.{Id}
 use Rattle.eden_objects.specs.declared.fault.PutFault.{PutFault}
 use Rattle.eden_objects.specs.declared.fault.PutFault.TheVariants.{TooLarge, IdTaken, ZeroId, BadMode, BadName, OutOfOrder, Duplicate, MissingChild, WrongChildKind, TooDeep, PathTooLong, CutShort, BadCommit, NoMemory}
@@ -9,7 +9,7 @@ use Rattle.std.specs.List.{list_any}
 use Rattle.eden_objects.specs.Objects.{Held, find, same_bytes, same_word}
 use Rattle.eden_objects.specs.Trees.{Entry}
 use Rattle.eden_objects.specs.Commits.{tree_named}
-use Rattle.eden_objects.specs.Puts.{PutGives, Outcome, unless, first_fault, if_so, too_large, child_fault, named_fault, commit_fault, commit_outcome, entry_fault, is_above, word_wanted}
+use Rattle.eden_objects.specs.Puts.{PutGives, first_fault, if_so, child_fault, named_fault, commit_fault, commit_outcome, entry_fault, is_above, word_wanted}
 use Rattle.eden_objects.specs.Closed.{IsHeld, IsSound}
 
 -- every fault but want of memory is told as the outcome
@@ -46,6 +46,7 @@ child_held held word id h = by (find id held) refl h where
   by_word : (x : Held) → (t : Bool) → same_word x.word word ≡ t → if_so (not t) WrongChildKind ≡ None → x.word ≡ word
   by_word x true is h = same_word-is x.word word is
   by_word x false is h = cc h
+
   by : (found : Option Held) → find id held ≡ found → child_fault word found ≡ None → IsHeld held word id
   by None is h = cc h
   by (Some x) is h = (x, is, by_word x (same_word x.word word) refl h)

@@ -1,14 +1,14 @@
 -- The table of a store, read from its newest entry, against what a look-up in it finds.
-use Rattle.std.proofs.Common.{◌≡◌, ◌≢◌, ◌∙◌, sym, refl, ap, ℕ, Bool, true, false, cond, List, [], ◌∷◌, ◌++◌, Option, Some, None, reverse, arith}
+use Rattle.std.proofs.Common.{◌≡◌, ◌∙◌, sym, refl, ap, ℕ, Bool, true, false, cond, List, [], ◌∷◌, ◌++◌, Option, Some, None, reverse}
 use Rattle.std.proofs.lemmas.List.{reverse-append, reverse-reverse}
 use Rattle.std.specs.Map.{lookup}
-use Rattle.std.specs.Cmp.Lexicographic.{pointwise, same_text, other_text}
+use Rattle.std.specs.Cmp.Lexicographic.{same_text}
 use Rattle.eden_ids.specs.declared.id.Id.{Id}
 use Rattle.eden_objects.specs.declared.store.Object.{Object}
 use Rattle.eden_objects.specs.declared.word.Word.{Word}
 use Rattle.eden_objects.specs.declared.word.Word.TheVariants.{Tree}
 use Rattle.eden_objects.specs.Objects.{Held, find, same_id, word_text}
-use Rattle.eden_objects.specs.Trees.{Entry, tree_fold, tree_depth, tree_reach, entries_of, entries_depth, entries_reach}
+use Rattle.eden_objects.specs.Trees.{Entry, tree_fold, entries_of, entries_depth, entries_reach}
 use Rattle.eden_objects.specs.Closed.{IsClosed, IsSound, IsTree, AllNamed}
 use Rattle.eden_objects.specs.Contents.{held_of, option_held, helds, Measures, AreMeasured, TellsSize}
 
@@ -102,6 +102,7 @@ sized_in_table [] id closed measured = tt
 sized_in_table (e ∷ table) id closed measured = by (same_id id e.0) refl (sized_in_table table id closed.2 measured.1) where
   h : Held
   h = held_of e.0 e.1
+
   by : (t : Bool) → same_id id e.0 ≡ t → TellsSize (helds table) id (lookup (same_id id) table)
       → TellsSize (h ∷ helds table) id (cond t (Some e.1) (lookup (same_id id) table))
   by true is rest = λ is_tree.

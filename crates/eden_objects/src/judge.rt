@@ -1,11 +1,12 @@
 //! Whether an object may be put: what each refusal of a tree or a commit asks of the store.
-ghost use Rattle.std.specs.Prelude.{◌≡◌, ◌≢◌, List, [], length, Some, None, IfOk, IfErr};
+ghost use Rattle.std.specs.Prelude.{◌≡◌, ◌≢◌, ◌≤◌, List, [], length, Some, None, IfOk, IfErr};
 ghost use Rattle.eden_objects.specs.Objects.{find};
 ghost use Rattle.eden_objects.specs.Trees.{Entry, depth_of, entries_depth, entries_of, entries_reach, reach_of, tree_depth, tree_reach};
-ghost use Rattle.eden_objects.specs.Closed.{IsHeld};
+ghost use Rattle.eden_objects.specs.Closed.{IsHeld, IsSound};
 ghost use Rattle.eden_objects.specs.Entries.{HasSeen, plain};
+ghost use Rattle.eden_objects.specs.Contents.{SizeFits};
 ghost use Rattle.eden_objects.specs.Commits.{tree_named};
-ghost use Rattle.eden_objects.specs.Puts.{child_fault, commit_fault, entries_fault, entry_fault, named_fault, word_wanted};
+ghost use Rattle.eden_objects.specs.Puts.{child_fault, commit_fault, entries_fault, entry_fault, named_fault, tree_fault, word_wanted};
 
 use crate::entry::{RawEntry, read_entry, tree_named};
 use crate::fault::PutFault;
@@ -83,7 +84,10 @@ impl<N: Naming + Drop> Store<N> {
     {
         let length = entry.name.len();
         if entry.kind.is_some() {
-            return Size { depth: 1, reach: length };
+            return Size {
+                depth: 1,
+                reach: length,
+            };
         }
         match self.object(entry.id) {
             Some(child) => Size {
@@ -118,6 +122,27 @@ impl<N: Naming + Drop> Store<N> {
                 return Err(PutFault::NoMemory);
             }
             rest = behind;
+        }
+        Ok(size)
+    }
+
+    /// What a tree comes to, or why the payload is no tree's that the store may hold.
+    pub(crate) fn tree_size(&self, payload: &[u8]) -> Result<Size, PutFault>
+        requires { length payload.now ≤ 8388608 }
+        ensures passes { IfOk result (λ size. tree_fault payload.now self.now ≡ None) }
+        ensures sound { IfOk result (λ size. IsSound Word.Tree payload.now self.now) }
+        ensures fits { IfOk result (λ size. SizeFits self.now Word.Tree payload.now size) }
+        ensures refuses { IfErr result (λ fault. fault ≢ PutFault.NoMemory → tree_fault payload.now self.now ≡ Some fault) }
+    {
+        let size = match self.judged(payload) {
+            Ok(size) => size,
+            Err(fault) => return Err(fault),
+        };
+        if size.depth > 64 {
+            return Err(PutFault::TooDeep);
+        }
+        if size.reach > 1024 {
+            return Err(PutFault::PathTooLong);
         }
         Ok(size)
     }

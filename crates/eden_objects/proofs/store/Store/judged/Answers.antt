@@ -1,4 +1,4 @@
-use Rattle.std.proofs.Common.{rules, ◌≡◌, ◌<◌, length, List, None, Some, Ok, Err, ◌∷◌, refl, sym, ◌∙◌}
+use Rattle.std.proofs.Common.{rules, ◌≡◌, ◌<◌, length, List, None, Ok, Err, ◌∷◌, refl, sym, ◌∙◌}
 use Rattle.eden_objects.specs.Trees.{Entry, greater, depth_of, reach_of, read_entry, tree_depth, tree_reach}
 use Rattle.eden_objects.specs.Puts.{entry_fault}
 use Rattle.eden_objects.specs.Entries.{HasSeen, plain}
@@ -37,9 +37,9 @@ loop-rest-preserved g c =
     let read : read_entry c.loop-rest.rest.now ≡ Ok (plain c.in-Ok.read.0, c.in-Ok.read.1.now) = search rules in
     let notes : (earlier : List Entry) → HasSeen c.loop-rest.seen earlier → HasSeen c.note.new.self (plain c.in-Ok.read.0 ∷ earlier) = search rules in
     let depth : c.or_greater-size.result.depth
-      ≡ greater c.loop-rest.size.depth (depth_of c.in-Ok.read.0.kind (tree_depth c.args.self.now c.in-Ok.read.0.id)) = search rules in
+    ≡ greater c.loop-rest.size.depth (depth_of c.in-Ok.read.0.kind (tree_depth c.args.self.now c.in-Ok.read.0.id)) = search rules in
     let reach : c.or_greater-size.result.reach
-      ≡ greater c.loop-rest.size.reach (reach_of c.in-Ok.read.0.name.now c.in-Ok.read.0.kind (tree_reach c.args.self.now c.in-Ok.read.0.id)) = search rules in
+    ≡ greater c.loop-rest.size.reach (reach_of c.in-Ok.read.0.name.now c.in-Ok.read.0.kind (tree_reach c.args.self.now c.in-Ok.read.0.id)) = search rules in
     goes_on c.args.self.now c.args.payload.now c.loop-rest.seen c.loop-rest.size c.loop-rest.rest.now
     (plain c.in-Ok.read.0) c.in-Ok.read.1.now c.note.new.self c.or_greater-size.result c.loop-rest.invariant some less read
     (λ earlier seen. sym c.in_default.is ∙ c.entry_fault.ensures earlier seen) notes depth reach

@@ -1,4 +1,4 @@
-use Rattle.std.proofs.Common.{ℕ, length}
+use Rattle.std.proofs.Common.{length}
 use Rattle.eden_objects.proofs.Judging.{Judging}
 use Rattle.eden_objects.proofs.store.Store.judged.Given as goal
 
