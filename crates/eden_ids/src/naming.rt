@@ -1,6 +1,4 @@
 ghost use Rattle.std.specs.Prelude.{◌≡◌};
-ghost use Rattle.eden_ids.specs.Naming.{object_text};
-ghost use Rattle.sha1.specs.Sha1.{sha1};
 
 use crate::id::Id;
 use itoa::Buffer;
@@ -27,7 +25,9 @@ pub trait Naming {
 pub struct GitNaming;
 
 impl Naming for GitNaming {
-    ghost id = { λ word payload. record { 0 = sha1 (object_text word payload) } };
+    ghost use Rattle.eden_ids.specs.Naming.{git_name};
+
+    ghost id = { git_name };
 
     fn id_of(&self, word: &[u8], payload: &[u8]) -> Id {
         let mut hasher = Sha1::new();

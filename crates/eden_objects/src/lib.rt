@@ -11,4 +11,6 @@ mod judge;
 mod seen;
 mod size;
 mod store;
+#[cfg(test)]
+mod tests;
 mod word;
