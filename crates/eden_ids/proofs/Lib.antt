@@ -1,3 +1,4 @@
 mod Below
 pub mod FileMapLemmas
 pub mod TreeMaps
+pub mod ColumnLemmas

@@ -1,6 +1,7 @@
 //! The ids, paths, contents and file maps that every other crate speaks of.
 #![tactic(auto)]
 
+pub use crate::column::IdColumn;
 pub use crate::content::{Content, Kind};
 pub use crate::files::Files;
 pub use crate::id::Id;
@@ -9,6 +10,9 @@ pub use crate::memory::NoMemory;
 pub use crate::path::{Path, PathFault};
 pub use crate::sequence::Sequence;
 
+mod column;
+#[cfg(test)]
+mod column_tests;
 mod content;
 mod files;
 mod id;
