@@ -1,0 +1,10 @@
+-- Masks of a comparison of two vectors: a bit is set where the lanes differ.
+use Rattle.std.specs.Prelude.{ℕ, ◌/◌, ◌%◌, Bool, not, ◌&&◌, ◌||◌, nat_eq}
+
+abbrev pub apart : ℕ → ℕ → Bool
+apart x y = not (nat_eq x y)
+
+-- of eighty lanes, in five masks of sixteen, twenty are clear: the first, the second, the third or the fourth twenty
+abbrev pub some_clear : ℕ → ℕ → ℕ → ℕ → ℕ → Bool
+some_clear a b c d e = nat_eq a 0 && nat_eq (b % 16) 0 || nat_eq (b / 16) 0 && nat_eq (c % 256) 0
+    || nat_eq (c / 256) 0 && nat_eq (d % 4096) 0 || nat_eq (d / 4096) 0 && nat_eq e 0

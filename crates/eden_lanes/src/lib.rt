@@ -1,0 +1,5 @@
+//! Comparisons of whole columns, four ids or thirty-two kinds at a time.
+#![tactic(auto)]
+
+mod ids;
+mod vectors;
