@@ -38,7 +38,7 @@ among-next n a b =
     let also : length (rows n b) ≡ n = length-rows n b in
     let place : 0 + length (rows n a) ≡ n = omega arith in
     rw e (differ_from-push id_eq 0 (rows n a) (rows n b) (id_at a (20 * n)) (id_at b (20 * n)) (omega arith)
-        ∙ ap (λ k. among n a b ++ cond (pointwise nat_eq (chunk (20 * n) 20 a) (chunk (20 * n) 20 b)) [] (k ∷ [])) place)
+    ∙ ap (λ k. among n a b ++ cond (pointwise nat_eq (chunk (20 * n) 20 a) (chunk (20 * n) 20 b)) [] (k ∷ [])) place)
 
 -- the next ids are the same
 pub among-same : (n : ℕ) (a b : List ℕ) → pointwise nat_eq (chunk (20 * n) 20 a) (chunk (20 * n) 20 b) ≡ true

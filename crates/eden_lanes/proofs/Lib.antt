@@ -1,3 +1,4 @@
 pub mod Differing
+pub mod Finding
 pub mod Masks
 pub mod Parts

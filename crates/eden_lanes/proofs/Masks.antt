@@ -67,8 +67,8 @@ mask_of-add a b i j k l p power first second =
     let long : length ms ≡ k = length-zip2 apart (chunk i k a) (chunk j k b) (omega arith) ∙ x in
     let small : mask_l ms < p = subst (λ q. mask_l ms < q) (ap (λ q. 2 ^ q) long ∙ sym power) (mask_l-lt ms) in
     let cut : mask_l (zip2 apart (chunk i (k + l) a) (chunk j (k + l) b)) ≡ mask_l ns * p + mask_l ms =
-        ap mask_l (rw (chunk-add i k l a, chunk-add j k l b) (zip2-append apart (chunk i k a) (chunk (i + k) l a) (chunk j k b) (chunk (j + k) l b) (omega arith)))
-        ∙ mask_l-append ms ns ∙ rw (long, ← power) (grind arith) in
+    ap mask_l (rw (chunk-add i k l a, chunk-add j k l b) (zip2-append apart (chunk i k a) (chunk (i + k) l a) (chunk j k b) (chunk (j + k) l b) (omega arith)))
+    ∙ mask_l-append ms ns ∙ rw (long, ← power) (grind arith) in
     (ap (λ m. m % p) cut ∙ mod-mul-add (mask_l ns) p (mask_l ms) small, ap (λ m. m / p) cut ∙ div-mul-add (mask_l ns) p (mask_l ms) small)
 
 -- the bits from k on
@@ -83,26 +83,26 @@ clear_parts : (a b : List ℕ) (i j k l u v m n : ℕ) → i + (k + l) ≤ lengt
     → (nat_eq m 0 && nat_eq n 0) ≡ pointwise nat_eq (chunk i (k + l) a) (chunk j (k + l) b)
 clear_parts a b i j k l u v m n first second at_u at_v low high =
     let none_low : nat_eq m 0 ≡ pointwise nat_eq (chunk i k a) (chunk j k b) =
-        rw low (mask_none (chunk i k a) (chunk j k b) (length-chunk i k a (omega arith) ∙ sym (length-chunk j k b (omega arith)))) in
+    rw low (mask_none (chunk i k a) (chunk j k b) (length-chunk i k a (omega arith) ∙ sym (length-chunk j k b (omega arith)))) in
     let none_high : nat_eq n 0 ≡ pointwise nat_eq (chunk (i + k) l a) (chunk (j + k) l b) =
-        rw (high, at_u, at_v) (mask_none (chunk (i + k) l a) (chunk (j + k) l b) (length-chunk (i + k) l a (omega arith) ∙ sym (length-chunk (j + k) l b (omega arith)))) in
+    rw (high, at_u, at_v) (mask_none (chunk (i + k) l a) (chunk (j + k) l b) (length-chunk (i + k) l a (omega arith) ∙ sym (length-chunk (j + k) l b (omega arith)))) in
     rw (none_low, none_high) (sym (same_parts nat_eq a b i j k l first second))
 
 -- of eighty bytes, twenty are the same where their bits in the five masks are clear
 pub four_masks : (a b : List ℕ) (at : ℕ) → 80 ≤ length a → at + 80 ≤ length b
     → some_clear (mask_of 16 a b 0 at) (mask_of 16 a b 16 (at + 16)) (mask_of 16 a b 32 (at + 32)) (mask_of 16 a b 48 (at + 48)) (mask_of 16 a b 64 (at + 64))
     ≡ (pointwise nat_eq (chunk 0 20 a) (chunk at 20 b) || pointwise nat_eq (chunk 20 20 a) (chunk (at + 20) 20 b)
-        || pointwise nat_eq (chunk 40 20 a) (chunk (at + 40) 20 b) || pointwise nat_eq (chunk 60 20 a) (chunk (at + 60) 20 b))
+    || pointwise nat_eq (chunk 40 20 a) (chunk (at + 40) 20 b) || pointwise nat_eq (chunk 60 20 a) (chunk (at + 60) 20 b))
 four_masks a b at first second =
     let one = clear_parts a b 0 at 16 4 16 (at + 16) _ _ (omega arith) (omega arith) refl refl refl
-        (mask_of-add a b 16 (at + 16) 4 12 16 refl (omega arith) (omega arith)).0 in
+    (mask_of-add a b 16 (at + 16) 4 12 16 refl (omega arith) (omega arith)).0 in
     let two = clear_parts a b 20 (at + 20) 12 8 32 (at + 32) _ _ (omega arith) (omega arith) refl (omega arith)
-        (high_bits a b 16 (at + 16) 4 12 16 20 (at + 20) refl (omega arith) (omega arith) refl (omega arith))
-        (mask_of-add a b 32 (at + 32) 8 8 256 refl (omega arith) (omega arith)).0 in
+    (high_bits a b 16 (at + 16) 4 12 16 20 (at + 20) refl (omega arith) (omega arith) refl (omega arith))
+    (mask_of-add a b 32 (at + 32) 8 8 256 refl (omega arith) (omega arith)).0 in
     let three = clear_parts a b 40 (at + 40) 8 12 48 (at + 48) _ _ (omega arith) (omega arith) refl (omega arith)
-        (high_bits a b 32 (at + 32) 8 8 256 40 (at + 40) refl (omega arith) (omega arith) refl (omega arith))
-        (mask_of-add a b 48 (at + 48) 12 4 4096 refl (omega arith) (omega arith)).0 in
+    (high_bits a b 32 (at + 32) 8 8 256 40 (at + 40) refl (omega arith) (omega arith) refl (omega arith))
+    (mask_of-add a b 48 (at + 48) 12 4 4096 refl (omega arith) (omega arith)).0 in
     let four = clear_parts a b 60 (at + 60) 4 16 64 (at + 64) _ _ (omega arith) (omega arith) refl (omega arith)
-        (high_bits a b 48 (at + 48) 12 4 4096 60 (at + 60) refl (omega arith) (omega arith) refl (omega arith))
-        refl in
+    (high_bits a b 48 (at + 48) 12 4 4096 60 (at + 60) refl (omega arith) (omega arith) refl (omega arith))
+    refl in
     rw (one, two, three, four) refl

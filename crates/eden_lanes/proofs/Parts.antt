@@ -30,7 +30,7 @@ same_parts same a b i j k l first second =
     let x = length-chunk i k a (omega arith) in
     let y = length-chunk j k b (omega arith) in
     rw (chunk-add i k l a, chunk-add j k l b)
-        (pointwise-append same (chunk i k a) (chunk j k b) (chunk (i + k) l a) (chunk (j + k) l b) (omega arith))
+    (pointwise-append same (chunk i k a) (chunk j k b) (chunk (i + k) l a) (chunk (j + k) l b) (omega arith))
 
 -- an id is a vector and four bytes
 pub id_parts : (a b : List ℕ) (i j : ℕ) → i + 20 ≤ length a → j + 20 ≤ length b

@@ -1,7 +1,6 @@
 ghost use Rattle.std.specs.Prelude.{◌≡◌, ◌+◌, ◌≤◌, ◌||◌, length, nat_eq};
 ghost use Rattle.std.specs.Simd.Lanes.{chunk, mask_l, zip2};
 ghost use Rattle.std.specs.Cmp.Lexicographic.{pointwise};
-
 ghost use Rattle.eden_lanes.specs.Masks.{apart, some_clear};
 
 use std::simd::prelude::*;
@@ -79,7 +78,9 @@ fn differences(a: &[u8], b: &[u8], at: usize, from: usize) -> u64
     requires second { from + 16 ≤ length b.now }
     ensures { result ≡ mask_l (zip2 apart (chunk at 16 a.now) (chunk from 16 b.now)) }
 {
-    u8x16::from_slice(&a[at..]).simd_ne(u8x16::from_slice(&b[from..])).to_bitmask()
+    u8x16::from_slice(&a[at..])
+        .simd_ne(u8x16::from_slice(&b[from..]))
+        .to_bitmask()
 }
 
 /// Whether one of four ids does not differ, by the five masks of their eighty bytes.
