@@ -50,7 +50,7 @@ pub among-apart : (n : ℕ) (a b : List ℕ) → pointwise nat_eq (chunk (20 * n
     → among (n + 1) a b ≡ among n a b ++ n ∷ []
 among-apart n a b differ = among-next n a b ∙ rw differ refl
 
-and_true : (s t : Bool) → (s && t) ≡ true → (s ≡ true) × (t ≡ true)
+pub and_true : (s t : Bool) → (s && t) ≡ true → (s ≡ true) × (t ≡ true)
 and_true true t both = (refl, both)
 and_true false t both = cc
 

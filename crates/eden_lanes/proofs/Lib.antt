@@ -1,4 +1,5 @@
 pub mod Differing
 pub mod Finding
+pub mod KindLemmas
 pub mod Masks
 pub mod Parts

@@ -3,4 +3,5 @@
 
 mod find;
 mod ids;
+mod kinds;
 mod vectors;
