@@ -34,8 +34,8 @@ kinds-next n a b first second =
     let y = length-take-le n b (omega arith) in
     let place : 0 + length (take n a) ≡ n = omega arith in
     rw (take_more a n 0 first, take_more b n 0 second)
-        (differ_from-push nat_eq 0 (take n a) (take n b) (get_or a n 0) (get_or b n 0) (omega arith)
-        ∙ ap (λ k. kinds_among n a b ++ cond (nat_eq (get_or a n 0) (get_or b n 0)) [] (k ∷ [])) place)
+    (differ_from-push nat_eq 0 (take n a) (take n b) (get_or a n 0) (get_or b n 0) (omega arith)
+    ∙ ap (λ k. kinds_among n a b ++ cond (nat_eq (get_or a n 0) (get_or b n 0)) [] (k ∷ [])) place)
 
 -- the next kinds are the same
 pub kinds-same : (n : ℕ) (a b : List ℕ) → n < length a → n < length b → get_or a n 0 ≡ get_or b n 0 → kinds_among (n + 1) a b ≡ kinds_among n a b
@@ -56,6 +56,6 @@ kinds-many_same n a b first second same =
     let x = length-take-le n a (omega arith) in
     let y = length-take-le n b (omega arith) in
     rw (take-add n 32 a, take-add n 32 b)
-        (differ_from-append_same nat_eq 0 (take n a) (take n b) (chunk n 32 a) (chunk n 32 b) (omega arith) same)
+    (differ_from-append_same nat_eq 0 (take n a) (take n b) (chunk n 32 a) (chunk n 32 b) (omega arith) same)
 
 pub ruleset next_kinds = (kinds-same, kinds-apart, kinds-many_same)

@@ -3,3 +3,4 @@ pub mod Finding
 pub mod KindLemmas
 pub mod Masks
 pub mod Parts
+pub mod RowLaws

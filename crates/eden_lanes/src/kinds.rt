@@ -23,7 +23,13 @@ fn push_if_apart(found: &mut Vec<usize>, a: &[u8], b: &[u8], row: usize) -> Resu
 }
 
 /// Puts the rows from `from` on and before `to` at which the kinds differ below the others.
-fn push_between(found: &mut Vec<usize>, a: &[u8], b: &[u8], from: usize, to: usize) -> Result<(), NoMemory>
+fn push_between(
+    found: &mut Vec<usize>,
+    a: &[u8],
+    b: &[u8],
+    from: usize,
+    to: usize,
+) -> Result<(), NoMemory>
     requires first { to ≤ length a.now }
     requires second { to ≤ length b.now }
     requires within { from ≤ to }
