@@ -76,14 +76,14 @@ impl IdColumn {
     pub fn len(&self) -> usize
         ensures { result ≡ length self.now }
     {
-        self.bytes.as_slice().len() / 20
+        self.bytes.len() / 20
     }
 
     /// The id at a row, or `None` where the column ends before it. This takes no memory.
     pub fn get(&self, row: usize) -> Option<Id>
         ensures { result ≡ slice_get self.now row }
     {
-        id_in(self.bytes.as_slice(), row)
+        id_in(&self.bytes, row)
     }
 
     /// The bytes of all ids in their order, twenty to an id. This takes no memory.

@@ -155,11 +155,6 @@ pub fn count_differing(a: &IdColumn, b: &IdColumn) -> usize
 {
     let (ids, others) = (a.bytes(), b.bytes());
     let fours = a.len() / 4;
-    count_between(
-        count_fours(ids, others, fours),
-        ids,
-        others,
-        4 * fours,
-        a.len(),
-    )
+    let counted = count_fours(ids, others, fours);
+    count_between(counted, ids, others, 4 * fours, a.len())
 }
