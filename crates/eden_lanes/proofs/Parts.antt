@@ -38,25 +38,20 @@ pub id_parts : (a b : List ℕ) (i j : ℕ) → i + 20 ≤ length a → j + 20 �
     ≡ (pointwise nat_eq (chunk i 16 a) (chunk j 16 b) && pointwise nat_eq (chunk (i + 16) 4 a) (chunk (j + 16) 4 b))
 id_parts a b i j first second = same_parts nat_eq a b i j 16 4 first second
 
--- two vectors
-pub two_vectors : (a b : List ℕ) (i j : ℕ) → i + 32 ≤ length a → j + 32 ≤ length b
-    → pointwise nat_eq (chunk i 32 a) (chunk j 32 b)
-    ≡ (pointwise nat_eq (chunk i 16 a) (chunk j 16 b) && pointwise nat_eq (chunk (i + 16) 16 a) (chunk (j + 16) 16 b))
-two_vectors a b i j first second = same_parts nat_eq a b i j 16 16 first second
-
--- four vectors
-pub four_vectors : (a b : List ℕ) (i j : ℕ) → i + 64 ≤ length a → j + 64 ≤ length b
-    → pointwise nat_eq (chunk i 64 a) (chunk j 64 b)
-    ≡ (pointwise nat_eq (chunk i 32 a) (chunk j 32 b) && pointwise nat_eq (chunk (i + 32) 32 a) (chunk (j + 32) 32 b))
-four_vectors a b i j first second = same_parts nat_eq a b i j 32 32 first second
-
--- five vectors
-pub five_vectors : (a b : List ℕ) (i j : ℕ) → i + 80 ≤ length a → j + 80 ≤ length b
-    → pointwise nat_eq (chunk i 80 a) (chunk j 80 b)
-    ≡ (pointwise nat_eq (chunk i 64 a) (chunk j 64 b) && pointwise nat_eq (chunk (i + 64) 16 a) (chunk (j + 64) 16 b))
-five_vectors a b i j first second = same_parts nat_eq a b i j 64 16 first second
-
-pub ruleset parts = (id_parts, two_vectors, four_vectors, five_vectors)
+-- four ids are five vectors
+pub five_vectors : (a b : List ℕ) (at : ℕ) → at + 80 ≤ length a → at + 80 ≤ length b
+    → pointwise nat_eq (chunk at 80 a) (chunk at 80 b)
+    ≡ (pointwise nat_eq (chunk at 16 a) (chunk at 16 b) && pointwise nat_eq (chunk (at + 16) 16 a) (chunk (at + 16) 16 b)
+    && pointwise nat_eq (chunk (at + 32) 16 a) (chunk (at + 32) 16 b) && pointwise nat_eq (chunk (at + 48) 16 a) (chunk (at + 48) 16 b)
+    && pointwise nat_eq (chunk (at + 64) 16 a) (chunk (at + 64) 16 b))
+five_vectors a b at first second =
+    same_parts nat_eq a b at at 64 16 first second
+    ∙ ap (λ t. t && pointwise nat_eq (chunk (at + 64) 16 a) (chunk (at + 64) 16 b))
+    (same_parts nat_eq a b at at 48 16 (omega arith) (omega arith)
+    ∙ ap (λ t. t && pointwise nat_eq (chunk (at + 48) 16 a) (chunk (at + 48) 16 b))
+    (same_parts nat_eq a b at at 32 16 (omega arith) (omega arith)
+    ∙ ap (λ t. t && pointwise nat_eq (chunk (at + 32) 16 a) (chunk (at + 32) 16 b))
+    (same_parts nat_eq a b at at 16 16 (omega arith) (omega arith))))
 
 -- two ids
 pub two_ids : (a b : List ℕ) (i j : ℕ) → i + 40 ≤ length a → j + 40 ≤ length b

@@ -10,6 +10,10 @@ abbrev pub some_clear : ℕ → ℕ → ℕ → ℕ → ℕ → Bool
 some_clear a b c d e = nat_eq a 0 && nat_eq (b % 16) 0 || nat_eq (b / 16) 0 && nat_eq (c % 256) 0
     || nat_eq (c / 256) 0 && nat_eq (d % 4096) 0 || nat_eq (d / 4096) 0 && nat_eq e 0
 
+-- of the same, by the second and the fourth mask alone: a part of each twenty lanes is in them
+abbrev pub may_be_clear : ℕ → ℕ → Bool
+may_be_clear b d = nat_eq (b % 16) 0 || nat_eq (b / 16) 0 || nat_eq (d % 4096) 0 || nat_eq (d / 4096) 0
+
 -- eighty bytes are one id, laid out four times
 abbrev pub IsFourTimes : List ℕ → Type 0
 IsFourTimes pattern = (chunk 20 20 pattern ≡ chunk 0 20 pattern) × (chunk 40 20 pattern ≡ chunk 0 20 pattern)

@@ -1,7 +1,7 @@
 ghost use Rattle.std.specs.Prelude.{◌≡◌, ◌+◌, ◌≤◌, ◌||◌, length, nat_eq};
 ghost use Rattle.std.specs.Simd.Lanes.{chunk, mask_l, zip2};
 ghost use Rattle.std.specs.Cmp.Lexicographic.{pointwise};
-ghost use Rattle.eden_lanes.specs.Masks.{apart, some_clear};
+ghost use Rattle.eden_lanes.specs.Masks.{apart, may_be_clear, some_clear};
 
 use std::simd::prelude::*;
 
@@ -24,7 +24,7 @@ fn same_four(a: &[u8], b: &[u8], at: usize, from: usize) -> bool
 }
 
 /// Whether the twenty bytes of an id in `a` from `at` on are those of `b` from `from` on.
-#[tactic(auto, using(crate::proofs::Parts::parts))]
+#[tactic(auto, using(crate::proofs::Parts::id_parts))]
 pub fn same_id(a: &[u8], b: &[u8], at: usize, from: usize) -> bool
     requires first { at + 20 ≤ length a.now }
     requires second { from + 20 ≤ length b.now }
@@ -33,34 +33,18 @@ pub fn same_id(a: &[u8], b: &[u8], at: usize, from: usize) -> bool
     same_sixteen(a, b, at, from) && same_four(a, b, at + 16, from + 16)
 }
 
-/// Whether thirty-two bytes, two vectors, are the same.
-#[tactic(auto, using(crate::proofs::Parts::parts))]
-fn same_two_vectors(a: &[u8], b: &[u8], at: usize) -> bool
-    requires first { at + 32 ≤ length a.now }
-    requires second { at + 32 ≤ length b.now }
-    ensures { result ≡ pointwise nat_eq (chunk at 32 a.now) (chunk at 32 b.now) }
-{
-    same_sixteen(a, b, at, at) && same_sixteen(a, b, at + 16, at + 16)
-}
-
-/// Whether sixty-four bytes, four vectors, are the same.
-#[tactic(auto, using(crate::proofs::Parts::parts))]
-fn same_four_vectors(a: &[u8], b: &[u8], at: usize) -> bool
-    requires first { at + 64 ≤ length a.now }
-    requires second { at + 64 ≤ length b.now }
-    ensures { result ≡ pointwise nat_eq (chunk at 64 a.now) (chunk at 64 b.now) }
-{
-    same_two_vectors(a, b, at) && same_two_vectors(a, b, at + 32)
-}
-
 /// Whether the eighty bytes of four ids, which are five vectors, are the same.
-#[tactic(auto, using(crate::proofs::Parts::parts))]
 pub fn same_four_ids(a: &[u8], b: &[u8], at: usize) -> bool
     requires first { at + 80 ≤ length a.now }
     requires second { at + 80 ≤ length b.now }
     ensures { result ≡ pointwise nat_eq (chunk at 80 a.now) (chunk at 80 b.now) }
 {
-    same_four_vectors(a, b, at) && same_sixteen(a, b, at + 64, at + 64)
+    let apart = u8x16::from_slice(&a[at..]).simd_ne(u8x16::from_slice(&b[at..]))
+        | u8x16::from_slice(&a[at + 16..]).simd_ne(u8x16::from_slice(&b[at + 16..]))
+        | u8x16::from_slice(&a[at + 32..]).simd_ne(u8x16::from_slice(&b[at + 32..]))
+        | u8x16::from_slice(&a[at + 48..]).simd_ne(u8x16::from_slice(&b[at + 48..]))
+        | u8x16::from_slice(&a[at + 64..]).simd_ne(u8x16::from_slice(&b[at + 64..]));
+    apart.to_bitmask() == 0
 }
 
 /// Whether thirty-two bytes are the same.
@@ -95,8 +79,15 @@ fn some_id_is_same(first: u64, second: u64, third: u64, fourth: u64, fifth: u64)
         || fourth / 4096 == 0 && fifth == 0
 }
 
+/// Whether one of four ids may be the same, by the second and the fourth mask alone: a part of each id is in them.
+fn some_id_may_be_same(second: u64, fourth: u64) -> bool
+    ensures { result ≡ may_be_clear second fourth }
+{
+    second % 16 == 0 || second / 16 == 0 || fourth % 4096 == 0 || fourth / 4096 == 0
+}
+
 /// Whether one of four ids in `bytes` from `at` on is in `pattern`, which has four ids, at the same place.
-#[tactic(auto, using(crate::proofs::Masks::four_masks))]
+#[tactic(auto, using(crate::proofs::Masks::searched))]
 pub fn holds_some(pattern: &[u8], bytes: &[u8], at: usize) -> bool
     requires pattern { 80 ≤ length pattern.now }
     requires bytes { at + 80 ≤ length bytes.now }
@@ -105,11 +96,13 @@ pub fn holds_some(pattern: &[u8], bytes: &[u8], at: usize) -> bool
         || pointwise nat_eq (chunk 40 20 pattern.now) (chunk (at + 40) 20 bytes.now)
         || pointwise nat_eq (chunk 60 20 pattern.now) (chunk (at + 60) 20 bytes.now)) }
 {
-    some_id_is_same(
-        differences(pattern, bytes, 0, at),
-        differences(pattern, bytes, 16, at + 16),
-        differences(pattern, bytes, 32, at + 32),
-        differences(pattern, bytes, 48, at + 48),
-        differences(pattern, bytes, 64, at + 64),
-    )
+    let second = differences(pattern, bytes, 16, at + 16);
+    let fourth = differences(pattern, bytes, 48, at + 48);
+    if !some_id_may_be_same(second, fourth) {
+        return false;
+    }
+    let first = differences(pattern, bytes, 0, at);
+    let third = differences(pattern, bytes, 32, at + 32);
+    let fifth = differences(pattern, bytes, 64, at + 64);
+    some_id_is_same(first, second, third, fourth, fifth)
 }
