@@ -2,3 +2,4 @@ mod Below
 pub mod FileMapLemmas
 pub mod TreeMaps
 mod HexTexts
+pub mod ColumnLemmas

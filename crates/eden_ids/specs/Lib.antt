@@ -2,3 +2,4 @@ pub mod Paths
 pub mod FileMaps
 pub mod Hex
 pub mod Naming
+pub mod Columns

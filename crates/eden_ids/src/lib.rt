@@ -1,6 +1,7 @@
 //! The ids, paths, contents and file maps that every other crate speaks of.
 #![tactic(auto)]
 
+pub use crate::column::IdColumn;
 pub use crate::content::{Content, Kind};
 pub use crate::files::Files;
 pub use crate::hex_text::{HexFault, hex_law, hex_text_law};
@@ -11,6 +12,9 @@ pub use crate::naming::{GitNaming, Naming};
 pub use crate::path::{Path, PathFault, is_component};
 pub use crate::sequence::Sequence;
 
+mod column;
+#[cfg(test)]
+mod column_tests;
 mod content;
 mod files;
 mod hex_text;

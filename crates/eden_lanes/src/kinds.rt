@@ -1,0 +1,86 @@
+ghost use Rattle.std.specs.Prelude.{◌≡◌, ◌+◌, ◌*◌, ◌≤◌, [], length, take, OnOk, IfOk};
+ghost use Rattle.eden_lanes.specs.Rows.{differing_kinds};
+
+use crate::vectors::same_thirty_two;
+use eden_ids::NoMemory;
+use std::alloc::Global;
+
+/// Puts a row below the others, if the kinds there differ.
+#[tactic(auto, using(crate::proofs::KindLemmas::next_kinds))]
+fn push_if_apart(found: &mut Vec<usize>, a: &[u8], b: &[u8], row: usize) -> Result<(), NoMemory>
+    requires first { row + 1 ≤ length a.now }
+    requires second { row + 1 ≤ length b.now }
+    requires so_far { found.old.items ≡ differing_kinds (take row a.now) (take row b.now) }
+    ensures { OnOk result (found.new.items ≡ differing_kinds (take (row + 1) a.now) (take (row + 1) b.now)) }
+{
+    if a[row] == b[row] {
+        return Ok(());
+    }
+    match found.push(row) {
+        Ok(()) => Ok(()),
+        Err(_) => Err(NoMemory),
+    }
+}
+
+/// Puts the rows from `from` on and before `to` at which the kinds differ below the others.
+fn push_between(
+    found: &mut Vec<usize>,
+    a: &[u8],
+    b: &[u8],
+    from: usize,
+    to: usize,
+) -> Result<(), NoMemory>
+    requires first { to ≤ length a.now }
+    requires second { to ≤ length b.now }
+    requires within { from ≤ to }
+    requires so_far { found.old.items ≡ differing_kinds (take from a.now) (take from b.now) }
+    ensures { OnOk result (found.new.items ≡ differing_kinds (take to a.now) (take to b.now)) }
+{
+    for row in from..to {
+        push_if_apart(found, a, b, row)?;
+    }
+    Ok(())
+}
+
+/// Puts the rows of thirty-two kinds at which they differ below the others.
+#[tactic(auto, using(crate::proofs::KindLemmas::next_kinds))]
+fn push_thirty_two(found: &mut Vec<usize>, a: &[u8], b: &[u8], row: usize) -> Result<(), NoMemory>
+    requires first { row + 32 ≤ length a.now }
+    requires second { row + 32 ≤ length b.now }
+    requires so_far { found.old.items ≡ differing_kinds (take row a.now) (take row b.now) }
+    ensures { OnOk result (found.new.items ≡ differing_kinds (take (row + 32) a.now) (take (row + 32) b.now)) }
+{
+    if same_thirty_two(a, b, row) {
+        Ok(())
+    } else {
+        push_between(found, a, b, row, row + 32)
+    }
+}
+
+/// Puts the rows of the first blocks of thirty-two at which the kinds differ into `found`.
+fn push_blocks(found: &mut Vec<usize>, a: &[u8], b: &[u8], blocks: usize) -> Result<(), NoMemory>
+    requires first { 32 * blocks ≤ length a.now }
+    requires second { 32 * blocks ≤ length b.now }
+    requires so_far { found.old.items ≡ [] }
+    ensures { OnOk result (found.new.items ≡ differing_kinds (take (32 * blocks) a.now) (take (32 * blocks) b.now)) }
+{
+    for block in 0..blocks {
+        push_thirty_two(found, a, b, 32 * block)?;
+    }
+    Ok(())
+}
+
+/// The rows at which two columns of kinds, of one length, differ, ascending. A kind is a byte.
+///
+/// Kinds are compared thirty-two at a time. `NoMemory` comes where a growth of the answer was refused; only the answer
+/// takes memory.
+pub fn differ_kinds(alloc: Global, a: &[u8], b: &[u8]) -> Result<Vec<usize>, NoMemory>
+    requires { length a.now ≡ length b.now }
+    ensures { IfOk result (λ found. found.items ≡ differing_kinds a.now b.now) }
+{
+    let mut found = Vec::new(alloc);
+    let blocks = a.len() / 32;
+    push_blocks(&mut found, a, b, blocks)?;
+    push_between(&mut found, a, b, 32 * blocks, a.len())?;
+    Ok(found)
+}
