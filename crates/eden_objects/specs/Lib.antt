@@ -3,3 +3,4 @@ pub mod Trees
 pub mod Commits
 pub mod Puts
 pub mod Closed
+pub mod Laws

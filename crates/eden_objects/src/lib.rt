@@ -2,7 +2,9 @@
 #![tactic(auto)]
 
 pub use crate::fault::{ListFault, NoCommit, PutFault};
+pub use crate::laws::tree_law;
 pub use crate::word::Word;
 
 mod fault;
+mod laws;
 mod word;

@@ -1,0 +1,11 @@
+//! What the definitions of trees and commits promise, each as the contract of a function with no work to do.
+
+ghost use Rattle.std.specs.Prelude.{◌≡◌, ℕ, List, Some};
+ghost use Rattle.eden_ids.specs.declared.id.Id.{Id};
+ghost use Rattle.eden_objects.specs.Laws.{TreesUnfold};
+
+/// The files of a tree are those of its entries.
+#[tactic(auto, using(crate::proofs::Closed::rows_of_tree))]
+pub fn tree_law()
+    ensures { TreesUnfold }
+{}
