@@ -34,9 +34,9 @@ find-there id top earlier t = ap (λ b. cond b (Some top) (find id earlier)) t
 pub find_stays : (id : Id) (top : Held) (earlier : List Held) (h : Held) → find top.id earlier ≡ None → find id earlier ≡ Some h
     → (same_id id top.id ≡ false) × (find id (top ∷ earlier) ≡ Some h)
 find_stays id top earlier h new found = elim (cases_Bool (same_id id top.id)) [
-    | inl t ↦ let e : find top.id earlier ≡ Some h = ap (λ i. find i earlier) (sym (same_id-is id top.id t)) ∙ found in absurd (cc)
-    | inr f ↦ (f, find-there id top earlier f ∙ found)
-  ]
+  | inl t ↦ let e : find top.id earlier ≡ Some h = ap (λ i. find i earlier) (sym (same_id-is id top.id t)) ∙ found in absurd (cc)
+  | inr f ↦ (f, find-there id top earlier f ∙ found)
+]
 
 pub held_stays : (top : Held) (earlier : List Held) (word : Word) (id : Id) → find top.id earlier ≡ None → IsHeld earlier word id → IsHeld (top ∷ earlier) word id
 held_stays top earlier word id new held = (held.0, (find_stays id top earlier held.0 new held.1).1, held.2)
@@ -117,12 +117,12 @@ sound_stays top earlier Commit payload new is = (is.0, is.1, held_stays top earl
 pub sound_in : (held : List Held) → IsClosed held → (id : Id) (h : Held) → find id held ≡ Some h → IsSound h.word h.payload held
 sound_in [] closed id h found = absurd (cc)
 sound_in (top ∷ earlier) closed id h found = elim (cases_Bool (same_id id top.id)) [
-    | inl t ↦
-        let e : Some top ≡ Some h = sym (find-here id top earlier t) ∙ found in
-        let same : top ≡ h = cc in
-        subst (λ o. IsSound o.word o.payload (top ∷ earlier)) same (sound_stays top earlier top.word top.payload closed.0 closed.1)
-    | inr f ↦ sound_stays top earlier h.word h.payload closed.0 (sound_in earlier closed.2 id h (sym (find-there id top earlier f) ∙ found))
-  ]
+  | inl t ↦
+      let e : Some top ≡ Some h = sym (find-here id top earlier t) ∙ found in
+      let same : top ≡ h = cc in
+      subst (λ o. IsSound o.word o.payload (top ∷ earlier)) same (sound_stays top earlier top.word top.payload closed.0 closed.1)
+  | inr f ↦ sound_stays top earlier h.word h.payload closed.0 (sound_in earlier closed.2 id h (sym (find-there id top earlier f) ∙ found))
+]
 
 pub tree_in : (held : List Held) → IsClosed held → (id : Id) (h : Held) → find id held ≡ Some h → h.word ≡ Tree → IsTree held (entries_of h.payload)
 tree_in held closed id h found word = subst (λ w. IsSound w h.payload held) word (sound_in held closed id h found)
@@ -136,20 +136,20 @@ pub fold_of_tree : {A : Type 0} (none : A) (step : (Id → A) → List Entry →
     → tree_fold none step held id ≡ step (tree_fold none step held) (entries_of h.payload)
 fold_of_tree none step local [] closed id h found word = absurd (cc)
 fold_of_tree none step local (top ∷ earlier) closed id h found word = elim (cases_Bool (same_id id top.id)) [
-    | inl t ↦
-        let e : Some top ≡ Some h = sym (find-here id top earlier t) ∙ found in
-        let same : top ≡ h = cc in
-        let is : IsTree earlier (entries_of top.payload) = subst (λ w. IsSound w top.payload earlier) (ap (λ o. o.word) same ∙ word) closed.1 in
-        fold-here none step id top earlier t
-        ∙ local _ _ (entries_of top.payload) (fold_stays none step top earlier closed.0 (entries_of top.payload) is.0)
-        ∙ ap (λ o. step (tree_fold none step (top ∷ earlier)) (entries_of o.payload)) same
-    | inr f ↦
-        let before : find id earlier ≡ Some h = sym (find-there id top earlier f) ∙ found in
-        let is : IsTree earlier (entries_of h.payload) = tree_in earlier closed.2 id h before word in
-        fold-there none step id top earlier f
-        ∙ fold_of_tree none step local earlier closed.2 id h before word
-        ∙ local _ _ (entries_of h.payload) (fold_stays none step top earlier closed.0 (entries_of h.payload) is.0)
-  ]
+  | inl t ↦
+      let e : Some top ≡ Some h = sym (find-here id top earlier t) ∙ found in
+      let same : top ≡ h = cc in
+      let is : IsTree earlier (entries_of top.payload) = subst (λ w. IsSound w top.payload earlier) (ap (λ o. o.word) same ∙ word) closed.1 in
+      fold-here none step id top earlier t
+      ∙ local _ _ (entries_of top.payload) (fold_stays none step top earlier closed.0 (entries_of top.payload) is.0)
+      ∙ ap (λ o. step (tree_fold none step (top ∷ earlier)) (entries_of o.payload)) same
+  | inr f ↦
+      let before : find id earlier ≡ Some h = sym (find-there id top earlier f) ∙ found in
+      let is : IsTree earlier (entries_of h.payload) = tree_in earlier closed.2 id h before word in
+      fold-there none step id top earlier f
+      ∙ fold_of_tree none step local earlier closed.2 id h before word
+      ∙ local _ _ (entries_of h.payload) (fold_stays none step top earlier closed.0 (entries_of h.payload) is.0)
+]
 
 pub rows_of_tree : (held : List Held) → IsClosed held → (id : Id) (h : Held) → find id held ≡ Some h → h.word ≡ Tree → tree_rows held id ≡ entries_rows (tree_rows held) (entries_of h.payload)
 rows_of_tree = fold_of_tree [] entries_rows rows_local

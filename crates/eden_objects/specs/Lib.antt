@@ -4,3 +4,4 @@ pub mod Commits
 pub mod Puts
 pub mod Closed
 pub mod Laws
+pub mod Walks

@@ -2,10 +2,12 @@
 
 ghost use Rattle.std.specs.Prelude.{◌≡◌, ℕ, List, Some};
 ghost use Rattle.eden_ids.specs.declared.id.Id.{Id};
-ghost use Rattle.eden_objects.specs.Laws.{TreesUnfold};
+ghost use Rattle.eden_objects.specs.Laws.{TreesUnfold, NamesFound, DirectoriesFound};
 
 /// The files of a tree are those of its entries.
-#[tactic(auto, using(crate::proofs::Closed::rows_of_tree))]
+#[tactic(auto, using(crate::proofs::Closed::rows_of_tree, crate::proofs::Lookup::look_file, crate::proofs::Lookup::look_dir))]
 pub fn tree_law()
-    ensures { TreesUnfold }
+    ensures unfold { TreesUnfold }
+    ensures names { NamesFound }
+    ensures directories { DirectoriesFound }
 {}
