@@ -1,3 +1,5 @@
 pub mod Closed
 pub mod Slashes
 pub mod Lookup
+pub mod ByTrees
+pub mod Rising
