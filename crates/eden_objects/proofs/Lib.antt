@@ -3,3 +3,4 @@ pub mod Slashes
 pub mod Lookup
 pub mod ByTrees
 pub mod Rising
+pub mod Fitting

@@ -5,6 +5,7 @@ use Rattle.std.specs.Cmp.Lexicographic.{slice_cmp}
 use Rattle.std.specs.List.{AllByRecursion}
 use Rattle.std.specs.List.Sorted.{IsStrictlySortedBy}
 use Rattle.eden_ids.specs.declared.id.Id.{Id}
+use Rattle.eden_ids.specs.Paths.{path_fault}
 use Rattle.eden_objects.specs.declared.word.Word.TheVariants.{Tree}
 use Rattle.eden_objects.specs.Objects.{Held, find}
 use Rattle.eden_objects.specs.Trees.{Entry, cut, entries_of, is_name}
@@ -29,3 +30,7 @@ DirectoriesFound = (rows : Id → List Row) (p c r : List ℕ) (es : List Entry)
 -- the files of a tree stand in byte order of their paths
 abbrev pub PathsRise : Type 0
 PathsRise = (held : List Held) → IsClosed held → (id : Id) → HasTree held id → IsStrictlySortedBy (slice_cmp nat_cmp) (map (λ row. row.0) (tree_rows held id))
+
+-- each path of a tree is a path
+abbrev pub PathsAreLegal : Type 0
+PathsAreLegal = (held : List Held) → IsClosed held → (id : Id) → HasTree held id → AllByRecursion (λ row. path_fault row.0 ≡ None) (tree_rows held id)

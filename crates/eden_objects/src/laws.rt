@@ -2,13 +2,14 @@
 
 ghost use Rattle.std.specs.Prelude.{◌≡◌, ℕ, List, Some};
 ghost use Rattle.eden_ids.specs.declared.id.Id.{Id};
-ghost use Rattle.eden_objects.specs.Laws.{TreesUnfold, NamesFound, DirectoriesFound, PathsRise};
+ghost use Rattle.eden_objects.specs.Laws.{TreesUnfold, NamesFound, DirectoriesFound, PathsRise, PathsAreLegal};
 
 /// The files of a tree are those of its entries.
-#[tactic(auto, using(crate::proofs::Closed::rows_of_tree, crate::proofs::Lookup::look_file, crate::proofs::Lookup::look_dir, crate::proofs::Rising::rising_law))]
+#[tactic(auto, using(crate::proofs::Closed::rows_of_tree, crate::proofs::Lookup::look_file, crate::proofs::Lookup::look_dir, crate::proofs::Rising::rising_law, crate::proofs::Fitting::fitting_law))]
 pub fn tree_law()
     ensures unfold { TreesUnfold }
     ensures names { NamesFound }
     ensures directories { DirectoriesFound }
     ensures rise { PathsRise }
+    ensures legal { PathsAreLegal }
 {}
