@@ -1,14 +1,12 @@
 -- What holds of every tree of a closed store, shown by one step: from the directories of a tree to the tree.
-use Rattle.std.proofs.Common.{◌≡◌, ℕ, inl, inr, Bool, true, false, List, [], ◌∷◌, map, Option, Some, None, refl, sym, ap, subst, ◌∙◌}
+use Rattle.std.proofs.Common.{◌≡◌, ℕ, inl, inr, true, false, List, [], ◌∷◌, map, Some, None, sym, ap, subst, ◌∙◌}
 use Rattle.std.proofs.lemmas.Bool.{cases_Bool}
 use Rattle.std.specs.Ordering.{nat_cmp}
 use Rattle.std.specs.Cmp.Lexicographic.{slice_cmp}
 use Rattle.std.specs.List.{AllByRecursion}
 use Rattle.std.specs.List.Sorted.{IsStrictlySortedBy}
 use Rattle.eden_ids.specs.declared.id.Id.{Id}
-use Rattle.eden_ids.specs.declared.content.Kind.{Kind}
-use Rattle.eden_objects.specs.declared.word.Word.TheVariants.{Tree}
-use Rattle.eden_objects.specs.Objects.{Held, find, same_id}
+use Rattle.eden_objects.specs.Objects.{Held, same_id}
 use Rattle.eden_objects.specs.Trees.{Entry, entries_of, is_name, key, entries_depth, entries_reach, tree_depth, tree_reach}
 use Rattle.eden_objects.specs.Commits.{Row, entries_rows, tree_rows}
 use Rattle.eden_objects.specs.Puts.{word_wanted}

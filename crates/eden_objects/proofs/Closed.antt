@@ -1,5 +1,5 @@
 -- What an object of a closed store names is in the store too, so that each tree is what its entries come to in the whole store.
-use Rattle.std.proofs.Common.{◌≡◌, ℕ, ◌+◌, ◌<◌, ◌≤◌, ◌++◌, inl, inr, Bool, true, false, cond, ltb, List, [], ◌∷◌, Option, Some, None, refl, sym, ap, subst, ◌∙◌, arith}
+use Rattle.std.proofs.Common.{◌≡◌, ℕ, ◌+◌, ◌<◌, ◌≤◌, ◌++◌, inl, inr, true, false, cond, ltb, List, [], ◌∷◌, Option, Some, None, refl, sym, ap, subst, ◌∙◌, arith}
 use Rattle.std.proofs.lemmas.Bool.{cases_Bool, ltb-true, ltb-false}
 use Rattle.std.proofs.lemmas.Slice.Eq.{bytes_eq-Decides}
 use Rattle.std.specs.List.{AllByRecursion}
@@ -8,7 +8,7 @@ use Rattle.eden_ids.specs.declared.content.Kind.{Kind}
 use Rattle.eden_objects.specs.declared.word.Word.{Word}
 use Rattle.eden_objects.specs.declared.word.Word.TheVariants.{Blob, Tree, Commit}
 use Rattle.eden_objects.specs.Objects.{Held, find, same_id}
-use Rattle.eden_objects.specs.Trees.{Entry, entries_of, tree_fold, greater, greatest, depth_of, reach_of, entries_depth, entries_reach, tree_depth, tree_reach}
+use Rattle.eden_objects.specs.Trees.{Entry, entries_of, tree_fold, greater, depth_of, reach_of, entries_depth, entries_reach, tree_depth, tree_reach}
 use Rattle.eden_objects.specs.Commits.{Row, rows_of_kind, entry_rows, entries_rows, tree_rows, tree_named}
 use Rattle.eden_objects.specs.Puts.{word_wanted}
 use Rattle.eden_objects.specs.Closed.{IsHeld, HasTree, IsTree, IsSound, IsClosed}

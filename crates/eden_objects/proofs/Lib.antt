@@ -4,3 +4,7 @@ pub mod Lookup
 pub mod ByTrees
 pub mod Rising
 pub mod Fitting
+pub mod Clashes
+pub mod Maps
+pub mod Blobs
+pub mod CommitLaws

@@ -1,19 +1,16 @@
 -- A path is looked up by its first name among a directory's entries, and by what follows in the directory of that name.
-use Rattle.std.proofs.Common.{◌≡◌, ℕ, ◌++◌, inl, inr, Bool, true, false, cond, ◌&&◌, nat_eq, List, [], ◌∷◌, map, Option, Some, None, refl, sym, ap, ◌∙◌, append_assoc}
-use Rattle.std.proofs.lemmas.Bool.{cases_Bool}
+use Rattle.std.proofs.Common.{◌≡◌, ℕ, ◌++◌, Bool, true, false, cond, ◌&&◌, List, [], ◌∷◌, map, Option, Some, None, refl, sym, ap, ◌∙◌}
 use Rattle.std.proofs.lemmas.Slice.Eq.{bytes_eq-Decides}
 use Rattle.std.specs.Cmp.Lexicographic.{nat_list_eq_equiv}
-use Rattle.std.specs.Prelude.{filter}
 use Rattle.std.specs.List.{AllByRecursion}
 use Rattle.eden_ids.specs.declared.id.Id.{Id}
 use Rattle.eden_ids.specs.declared.content.Kind.{Kind}
-use Rattle.eden_ids.specs.Paths.{lies_below}
 use Rattle.eden_objects.specs.Objects.{same_bytes}
 use Rattle.eden_objects.specs.Trees.{Entry, cut, is_name}
 use Rattle.eden_objects.specs.Commits.{Row, under, rows_of_kind, entry_rows, entries_rows, find_row}
 use Rattle.eden_objects.specs.Closed.{NamesDiffer}
 use Rattle.eden_objects.specs.Walks.{or_later, file_if, file_named, dir_if, dir_named, then_find}
-use Rattle.eden_objects.proofs.Slashes.{has_slash, name_has_none, cut_none, cut_some, not_under, not_slashed, same_under, name_not_below, below_name, below_under}
+use Rattle.eden_objects.proofs.Slashes.{has_slash, name_has_none, cut_none, cut_some, not_under, not_slashed, same_under}
 
 abbrev pub AllNames : List Entry → Type 0
 AllNames es = AllByRecursion (λ e. is_name e.name ≡ true) es

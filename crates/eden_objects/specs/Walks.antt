@@ -1,8 +1,9 @@
 -- What one directory says of a name, and the files of a tree below some path.
-use Rattle.std.specs.Prelude.{ℕ, Bool, true, false, if◌then◌else◌, List, [], ◌∷◌, ◌++◌, Option, Some, None}
+use Rattle.std.specs.Prelude.{ℕ, Bool, if◌then◌else◌, List, [], ◌∷◌, ◌++◌, Option, Some, None}
 use Rattle.eden_ids.specs.declared.id.Id.{Id}
 use Rattle.eden_ids.specs.declared.content.Kind.{Kind}
-use Rattle.eden_objects.specs.Objects.{same_bytes}
+use Rattle.eden_ids.specs.declared.content.Content.{Content}
+use Rattle.eden_objects.specs.Objects.{Held, find, payload_of, same_bytes}
 use Rattle.eden_objects.specs.Trees.{Entry}
 use Rattle.eden_objects.specs.Commits.{Row, find_row}
 
@@ -41,3 +42,8 @@ then_find rows path (Some child) = find_row path (rows child)
 abbrev pub then_rows : (Id → List Row) → Option Id → List Row
 then_rows rows None = []
 then_rows rows (Some child) = rows child
+
+-- the file that is found
+abbrev pub content_found : List Held → Option (Kind × Id) → Option Content
+content_found held None = None
+content_found held (Some found) = Some (record { kind = found.0; bytes = payload_of (find found.1 held) })

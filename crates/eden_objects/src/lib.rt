@@ -2,7 +2,7 @@
 #![tactic(auto)]
 
 pub use crate::fault::{ListFault, NoCommit, PutFault};
-pub use crate::laws::tree_law;
+pub use crate::laws::{commit_map_law, tree_law};
 pub use crate::word::Word;
 
 mod fault;
