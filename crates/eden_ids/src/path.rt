@@ -55,8 +55,10 @@ impl Model for Path {
     ghost invariant = { λ p. IsPath p.bytes.items };
 }
 
-/// Whether the bytes may stand between two slashes.
-fn is_name(name: &[u8]) -> bool
+/// Whether the bytes may stand between two slashes of a path: 1 to 255 bytes, neither `.` nor `..`, and no NUL byte.
+///
+/// A slash is not looked for. This takes no memory.
+pub fn is_component(name: &[u8]) -> bool
     ensures { result ≡ is_component name.now }
 {
     !name.is_empty()
@@ -69,7 +71,7 @@ fn is_name(name: &[u8]) -> bool
 fn has_names_alone(bytes: &[u8]) -> bool
     ensures { result ≡ list_all is_component (components bytes.now) }
 {
-    bytes.split(|b| *b == b'/').all(is_name)
+    bytes.split(|b| *b == b'/').all(is_component)
 }
 
 fn count_of_names(bytes: &[u8]) -> usize

@@ -8,3 +8,7 @@ pub mod Clashes
 pub mod Maps
 pub mod Blobs
 pub mod CommitLaws
+mod Tables
+mod Putting
+mod Cuts
+mod Reading

@@ -5,3 +5,5 @@ pub mod Puts
 pub mod Closed
 pub mod Laws
 pub mod Walks
+pub mod Contents
+pub mod Entries

@@ -3,8 +3,13 @@
 
 pub use crate::fault::{ListFault, NoCommit, PutFault};
 pub use crate::laws::{commit_map_law, tree_law};
+pub use crate::store::Store;
 pub use crate::word::Word;
 
+mod entry;
 mod fault;
+mod judge;
 mod laws;
+mod size;
+mod store;
 mod word;

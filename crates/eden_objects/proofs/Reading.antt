@@ -1,0 +1,94 @@
+-- An entry that was read leaves fewer bytes.
+use Rattle.std.proofs.Common.{◌≡◌, ◌∙◌, sym, refl, ap, ℕ, suc, ◌+◌, ◌<◌, ◌≤◌, Bool, true, false, cond, not, List, [], ◌∷◌, ◌++◌, take, drop, length, Option, Some, None, Result, Ok, Err, nat_eq, nat_lt, IfOk, ◌&&◌, if◌then◌else◌, codes, drop_of_length-le, arith}
+use Rattle.std.proofs.lemmas.List.{length-drop}
+use Rattle.eden_ids.specs.declared.content.Kind.{Kind}
+use Rattle.eden_objects.specs.declared.fault.PutFault.{PutFault}
+use Rattle.eden_objects.specs.declared.fault.PutFault.TheVariants.{BadName, CutShort}
+use Rattle.std.specs.Borrow.{Bor}
+use Rattle.eden_objects.specs.declared.entry.RawEntry.{RawEntry}
+use Rattle.eden_objects.specs.Entries.{plain, reading_of}
+use Rattle.eden_objects.specs.Commits.{tree_named, id_read}
+use Rattle.eden_ids.specs.Hex.{id_of_hex}
+use Rattle.eden_ids.specs.declared.id.Id.{Id}
+use Rattle.std.specs.List.{starts_with}
+use Rattle.eden_objects.specs.Trees.{Entry, cut, before_more, read_id, read_named, read_kind, read_mode, read_entry, kind_of_mode, is_name}
+
+none_before : (x : ℕ) (parts : Option (List ℕ × List ℕ)) (p : List ℕ × List ℕ) → before_more x parts ≡ Some p
+    → (q : List ℕ × List ℕ) × (parts ≡ Some q) × (q.1 ≡ p.1)
+none_before x None p h = cc h
+none_before x (Some q) p h = (q, refl, ap second h) where
+  second : Option (List ℕ × List ℕ) → List ℕ
+  second None = []
+  second (Some parts) = parts.1
+
+pub cut_shorter : (b : ℕ) (bytes : List ℕ) (p : List ℕ × List ℕ) → cut b bytes ≡ Some p → length p.1 < length bytes
+cut_shorter b [] p h = cc h
+cut_shorter b (x ∷ rest) p h = by (nat_eq x b) h (cut_shorter b rest) where
+  second : Option (List ℕ × List ℕ) → List ℕ
+  second None = []
+  second (Some parts) = parts.1
+
+  by : (t : Bool) → cond t (Some ([], rest)) (before_more x (cut b rest)) ≡ Some p
+      → ((q : List ℕ × List ℕ) → cut b rest ≡ Some q → length q.1 < length rest) → length p.1 < suc (length rest)
+  by true is less =
+      let same : rest ≡ p.1 = ap second is in
+      rw (← same) (omega arith)
+  by false is less =
+      let inner = none_before x (cut b rest) p is in
+      let shorter = less inner.0 inner.1 in
+      rw (← inner.2) (omega (arith, shorter))
+
+abbrev rest_of : Result (Entry × List ℕ) PutFault → List ℕ
+rest_of (Ok read) = read.1
+rest_of (Err fault) = []
+
+shorter_id : (kind : Option Kind) (name rest : List ℕ) (r : Entry × List ℕ) → read_id kind name rest ≡ Ok r → length r.1 ≤ length rest
+shorter_id kind name rest r h = by (not (is_name name)) (nat_lt (length rest) 20) h where
+  by : (bad short : Bool) → cond bad (Err BadName) (cond short (Err CutShort)
+      (Ok (record { name = name; kind = kind; id = record { 0 = take 20 rest } }, drop 20 rest))) ≡ Ok r → length r.1 ≤ length rest
+  by true short is = cc is
+  by false true is = cc is
+  by false false is =
+      let same : drop 20 rest ≡ r.1 = ap rest_of is in
+      let long = length-drop 20 rest in
+      rw (← same) (omega (arith, long))
+
+shorter_named : (kind : Option Kind) (bytes : List ℕ) (r : Entry × List ℕ) (parts : Option (List ℕ × List ℕ)) → cut 0 bytes ≡ parts
+    → read_named kind parts ≡ Ok r → length r.1 < length bytes
+shorter_named kind bytes r None is h = cc h
+shorter_named kind bytes r (Some parts) is h =
+    let first = cut_shorter 0 bytes parts is in
+    let second = shorter_id kind parts.0 parts.1 r h in
+    omega (arith, first, second)
+
+shorter_kind : (kind : Option (Option Kind)) (bytes : List ℕ) (r : Entry × List ℕ) → read_kind kind bytes ≡ Ok r → length r.1 < length bytes
+shorter_kind None bytes r h = cc h
+shorter_kind (Some kind) bytes r h = shorter_named kind bytes r (cut 0 bytes) refl h
+
+shorter_mode : (bytes : List ℕ) (r : Entry × List ℕ) (parts : Option (List ℕ × List ℕ)) → cut 32 bytes ≡ parts
+    → read_mode parts ≡ Ok r → length r.1 < length bytes
+shorter_mode bytes r None is h = cc h
+shorter_mode bytes r (Some parts) is h =
+    let first = cut_shorter 32 bytes parts is in
+    let second = shorter_kind (kind_of_mode parts.0) parts.1 r h in
+    omega (arith, first, second)
+
+pub read_shorter : (bytes : List ℕ) (r : Entry × List ℕ) → read_entry bytes ≡ Ok r → length r.1 < length bytes
+read_shorter bytes r h = shorter_mode bytes r (cut 32 bytes) refl h
+
+pub is_shorter : (bytes : List ℕ) (r : Result (RawEntry × Bor (List ℕ)) PutFault) → reading_of r ≡ read_entry bytes
+    → IfOk r (λ read. length read.1.now < length bytes)
+is_shorter bytes (Err fault) h = tt
+is_shorter bytes (Ok read) h = read_shorter bytes (plain read.0, read.1.now) (sym h)
+
+no_line_feed : (t : Bool) (digits : Option Id) → (if t && false then digits else None) ≡ None
+no_line_feed true digits = refl
+no_line_feed false digits = refl
+
+pub no_tree_in : (payload : List ℕ) → length payload < 46 → None ≡ tree_named payload
+no_tree_in payload short =
+    let few : length payload ≤ 45 = omega (arith, short) in
+    let nothing : drop 45 payload ≡ [] = drop_of_length-le payload few in
+    sym (ap (λ bytes. if starts_with nat_eq payload (codes "tree ") && starts_with nat_eq bytes (codes "\n")
+    then id_read (id_of_hex (take 40 (drop 5 payload))) else None) nothing
+    ∙ no_line_feed (starts_with nat_eq payload (codes "tree ")) (id_read (id_of_hex (take 40 (drop 5 payload)))))

@@ -1,0 +1,46 @@
+-- How the table of a store is read as the list of its objects. A table is given newest first.
+use Rattle.std.specs.Prelude.{◌≡◌, ℕ, Bool, ◌&&◌, List, [], ◌∷◌, map, Option, Some, None, Result, Ok, Err, if◌then◌else◌}
+use Rattle.eden_ids.specs.declared.id.Id.{Id}
+use Rattle.eden_objects.specs.declared.word.Word.{Word}
+use Rattle.eden_objects.specs.declared.word.Word.TheVariants.{Tree}
+use Rattle.eden_objects.specs.declared.size.Size.{Size}
+use Rattle.eden_objects.specs.declared.store.Object.{Object}
+use Rattle.eden_objects.specs.declared.fault.PutFault.{PutFault}
+use Rattle.eden_objects.specs.declared.fault.PutFault.TheVariants.{IdTaken}
+use Rattle.eden_objects.specs.Objects.{Held, same_word, same_bytes}
+use Rattle.eden_objects.specs.Trees.{entries_of, entries_depth, entries_reach, tree_depth, tree_reach}
+
+abbrev pub held_of : Id → Object → Held
+held_of id object = record { id = id; word = object.word; payload = object.payload.items }
+
+abbrev pub option_held : Id → Option Object → Option Held
+option_held id None = None
+option_held id (Some object) = Some (held_of id object)
+
+abbrev pub is_object : Object → Word → List ℕ → Bool
+is_object object word payload = same_word object.word word && same_bytes object.payload.items payload
+
+abbrev pub standing_answer : Object → Id → Word → List ℕ → Result Id PutFault
+standing_answer object id word payload = if is_object object word payload then Ok id else Err IdTaken
+
+abbrev pub helds : List (Id × Object) → List Held
+helds table = map (λ e. held_of e.0 e.1) table
+
+-- a tree's depth and reach, by what it names
+abbrev pub SizeFits : List Held → Word → List ℕ → Size → Type 0
+SizeFits earlier word payload size = word ≡ Tree
+    → (size.depth ≡ entries_depth (tree_depth earlier) (entries_of payload))
+    × (size.reach ≡ entries_reach (tree_reach earlier) (entries_of payload))
+
+-- they are kept beside it
+abbrev pub Measures : List Held → Object → Type 0
+Measures earlier object = SizeFits earlier object.word object.payload.items object.size
+
+abbrev pub AreMeasured : List (Id × Object) → Type 0
+AreMeasured [] = Unit {0}
+AreMeasured (e ∷ earlier) = Measures (helds earlier) e.1 × AreMeasured earlier
+
+abbrev pub TellsSize : List Held → Id → Option Object → Type 0
+TellsSize held id None = Unit {0}
+TellsSize held id (Some object) = object.word ≡ Tree
+    → (object.size.depth ≡ tree_depth held id) × (object.size.reach ≡ tree_reach held id)

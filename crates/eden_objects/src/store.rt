@@ -1,0 +1,175 @@
+ghost use Rattle.std.specs.Prelude.{◌≡◌, ◌∷◌, [], None, Some, OnOk, OnErr, option_copied};
+ghost use Rattle.eden_objects.specs.Objects.{find, same_word, same_bytes, word_text};
+ghost use Rattle.eden_objects.specs.Puts.{PutGives, put_outcome, blob_outcome, commit_outcome, named};
+ghost use Rattle.eden_objects.specs.Closed.{IsClosed, IsSound, AllNamed};
+ghost use Rattle.eden_objects.specs.Contents.{held_of, option_held, Measures, SizeFits, TellsSize, is_object, standing_answer};
+
+use crate::fault::PutFault;
+use crate::size::Size;
+use crate::word::{Word, same_word};
+use eden_ids::{Id, Naming, NoMemory};
+use indexmap::IndexMap;
+use std::alloc::Global;
+use std::marker::Model;
+
+/// The most bytes of an object's payload: 8 MiB.
+pub(crate) const PAYLOAD_LIMIT: usize = 8_388_608;
+
+/// An object of a store.
+#[derive(Drop)]
+pub(crate) struct Object {
+    pub(crate) word: Word,
+    pub(crate) payload: Vec<u8>,
+    /// What a tree comes to; nothing is said of another object.
+    pub(crate) size: Size,
+}
+
+impl Object {
+    /// Whether the object is of this kind and has this payload.
+    fn is(&self, word: Word, payload: &[u8]) -> bool
+        ensures { result ≡ is_object self.now word payload.now }
+    {
+        same_word(self.word, word) && self.payload.as_slice() == payload
+    }
+
+    /// What is answered where this object stands under the id that another would have.
+    fn answer(&self, id: Id, word: Word, payload: &[u8]) -> Result<Id, PutFault>
+        ensures { result ≡ standing_answer self.now id word payload.now }
+    {
+        if self.is(word, payload) {
+            Ok(id)
+        } else {
+            Err(PutFault::IdTaken)
+        }
+    }
+}
+
+/// A store of Git's objects: blobs, trees and commits, each under the id that a naming gives it.
+///
+/// An object names earlier ones only, so a tree or a commit is put after all that it names. An object that is there stays for good,
+/// and no other object is put under its id. Objects are kept in the order of their arrival, in memory, uncompressed.
+#[derive(Drop)]
+pub struct Store<N: Naming + Drop> {
+    objects: IndexMap<Id, Object>,
+    naming: N,
+}
+
+impl<N: Naming + Drop> Model for Store<N> {
+    ghost use Rattle.std.specs.Prelude.{List, reverse};
+    ghost use Rattle.eden_objects.specs.Objects.{Held};
+    ghost use Rattle.eden_objects.specs.Closed.{IsClosed, AllNamed};
+    ghost use Rattle.eden_objects.specs.Contents.{helds, AreMeasured};
+
+    ghost Value = { List Held };
+
+    ghost view = { λ s. helds (reverse s.objects.entries) };
+
+    ghost invariant = { λ s. IsClosed (helds (reverse s.objects.entries))
+        × AllNamed N.id (helds (reverse s.objects.entries))
+        × AreMeasured (reverse s.objects.entries) };
+}
+
+impl<N: Naming + Drop> Store<N> {
+    /// A store without objects, whose ids this naming gives.
+    pub fn new(alloc: Global, naming: N) -> Store<N>
+        ensures { result ≡ [] }
+    {
+        Store {
+            objects: IndexMap::new(alloc),
+            naming,
+        }
+    }
+
+    /// Puts a blob, whose payload is the bytes of a file or the target of a link, and answers its id; the same blob may be there
+    /// already.
+    ///
+    /// Refused, in this order, as `TooLarge`, `ZeroId` or `IdTaken`. `NoMemory` comes only where the blob would have been added and a
+    /// growth was refused. After a refusal the store is as before.
+    pub fn put_blob(&mut self, payload: &[u8]) -> Result<Id, PutFault>
+        ensures { PutGives result self.old self.new (blob_outcome N.id payload.now self.old) }
+    {
+        if payload.len() > PAYLOAD_LIMIT {
+            return Err(PutFault::TooLarge);
+        }
+        self.put(Word::Blob, payload, Size::NONE)
+    }
+
+    /// Puts a commit, whose payload begins with `tree `, the 40 lowercase hexadecimal digits of a tree's id and a line feed, and
+    /// answers its id; the same commit may be there already. What follows the first line is kept and not read.
+    ///
+    /// Refused, in this order, as `TooLarge`, `CutShort` (fewer than 46 bytes), `BadCommit` (it begins otherwise), `MissingChild`,
+    /// `WrongChildKind` (what it names is no tree), `ZeroId` or `IdTaken`. `NoMemory` comes only where the commit would have been
+    /// added and a growth was refused. After a refusal the store is as before.
+    pub fn put_commit(&mut self, payload: &[u8]) -> Result<Id, PutFault>
+        ensures { PutGives result self.old self.new (commit_outcome N.id payload.now self.old) }
+    {
+        if let Some(fault) = self.commit_fault(payload) {
+            return Err(fault);
+        }
+        self.put(Word::Commit, payload, Size::NONE)
+    }
+
+    /// The object with an id.
+    pub(crate) fn object(&self, id: Id) -> Option<&Object>
+        ensures found { option_held id (option_copied result) ≡ find id self.now }
+        ensures measured { TellsSize self.now id (option_copied result) }
+    {
+        self.objects.get(&id)
+    }
+
+    /// What holds of every store: an object has one id and names earlier ones of the right kinds, and its id is the naming's.
+    pub fn closed_law(&self)
+        ensures closed { IsClosed self.now }
+        ensures named { AllNamed N.id self.now }
+    {
+        let _ = &self.objects;
+    }
+
+    /// What new vectors take their memory from.
+    pub(crate) fn allocator(&self) -> Global {
+        *self.objects.allocator()
+    }
+
+    fn add(&mut self, id: Id, object: Object) -> Result<(), NoMemory>
+        requires fresh { find id self.old ≡ None }
+        requires sound { IsSound object.word object.payload.items self.old }
+        requires named { N.id (word_text object.word) object.payload.items ≡ id }
+        requires measured { Measures self.old object }
+        ensures ok { OnOk result (self.new ≡ held_of id object ∷ self.old) }
+        ensures err { OnErr result (self.new ≡ self.old) }
+    {
+        let Ok(_) = self.objects.insert(id, object) else {
+            return Err(NoMemory);
+        };
+        Ok(())
+    }
+
+    /// Puts a new object, or finds it there.
+    fn put(&mut self, word: Word, payload: &[u8], size: Size) -> Result<Id, PutFault>
+        requires sound { IsSound word payload.now self.old }
+        requires measured { SizeFits self.old word payload.now size }
+        ensures { PutGives result self.old self.new (put_outcome (named N.id word payload.now) self.old) }
+    {
+        let id = self.naming.id_of(word.text(), payload);
+        if id == Id::ZERO {
+            return Err(PutFault::ZeroId);
+        }
+        if let Some(held) = self.object(id) {
+            return held.answer(id, word, payload);
+        }
+        let Ok(payload) = payload.to_vec(self.allocator()) else {
+            return Err(PutFault::NoMemory);
+        };
+        match self.add(
+            id,
+            Object {
+                word,
+                payload,
+                size,
+            },
+        ) {
+            Ok(()) => Ok(id),
+            Err(_) => Err(PutFault::NoMemory),
+        }
+    }
+}
