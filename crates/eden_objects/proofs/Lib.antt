@@ -12,3 +12,6 @@ mod Tables
 mod Putting
 mod Cuts
 mod Reading
+mod Fuel
+mod TreeOf
+mod WalkSteps

@@ -1,11 +1,17 @@
 -- What one directory says of a name, and the files of a tree below some path.
-use Rattle.std.specs.Prelude.{ℕ, Bool, if◌then◌else◌, List, [], ◌∷◌, ◌++◌, Option, Some, None}
+use Rattle.std.specs.Prelude.{ℕ, Bool, if◌then◌else◌, List, [], ◌∷◌, ◌++◌, Option, Some, None, Result, Ok, Err}
 use Rattle.eden_ids.specs.declared.id.Id.{Id}
 use Rattle.eden_ids.specs.declared.content.Kind.{Kind}
 use Rattle.eden_ids.specs.declared.content.Content.{Content}
-use Rattle.eden_objects.specs.Objects.{Held, find, payload_of, same_bytes}
-use Rattle.eden_objects.specs.Trees.{Entry}
-use Rattle.eden_objects.specs.Commits.{Row, find_row}
+use Rattle.eden_objects.specs.Objects.{Held, find, payload_of, same_bytes, same_word}
+use Rattle.std.specs.Borrow.{Bor}
+use Rattle.eden_objects.specs.declared.entry.RawEntry.{RawEntry}
+use Rattle.eden_objects.specs.Entries.{plain}
+use Rattle.eden_objects.specs.Trees.{Entry, entries_of}
+use Rattle.eden_objects.specs.Commits.{Row, find_row, tree_named, tree_rows}
+use Rattle.eden_objects.specs.declared.word.Word.TheVariants.{Commit}
+use Rattle.eden_objects.specs.declared.fault.NoCommit.{NoCommit}
+use Rattle.eden_objects.specs.Closed.{HasTree}
 
 abbrev pub or_later : {A : Type 0} → Option A → Option A → Option A
 or_later None later = later
@@ -47,3 +53,23 @@ then_rows rows (Some child) = rows child
 abbrev pub content_found : List Held → Option (Kind × Id) → Option Content
 content_found held None = None
 content_found held (Some found) = Some (record { kind = found.0; bytes = payload_of (find found.1 held) })
+
+-- the entries of some bytes, of which the first was read
+abbrev pub entries_read : Option (RawEntry × Bor (List ℕ)) → List Entry
+entries_read None = []
+entries_read (Some read) = plain read.0 ∷ entries_of read.1.now
+
+-- the tree that an object names, where it is a commit
+abbrev pub tree_seen : Option Held → Option Id
+tree_seen None = None
+tree_seen (Some h) = if same_word h.word Commit then tree_named h.payload else None
+
+-- the rows of a commit by its tree, of which the empty commit has none
+abbrev pub rows_of_tree : List Held → Result (Option Id) NoCommit → Option (List Row)
+rows_of_tree held (Err fault) = None
+rows_of_tree held (Ok None) = Some []
+rows_of_tree held (Ok (Some tree)) = Some (tree_rows held tree)
+
+abbrev pub IsTreeOf : List Held → Result (Option Id) NoCommit → Type 0
+IsTreeOf held (Ok (Some tree)) = HasTree held tree
+IsTreeOf held _ = Unit {0}

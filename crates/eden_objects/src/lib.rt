@@ -6,10 +6,12 @@ pub use crate::laws::{commit_map_law, tree_law};
 pub use crate::store::Store;
 pub use crate::word::Word;
 
+mod directory;
 mod entry;
 mod fault;
 mod judge;
 mod laws;
 mod size;
 mod store;
+mod walk;
 mod word;
