@@ -15,3 +15,4 @@ mod Reading
 mod Fuel
 mod TreeOf
 mod WalkSteps
+mod Gathering

@@ -25,13 +25,13 @@ seen_rows held commit o f is =
 tree_held : (held : List Held) → IsClosed held → (commit : Id) (o : Option Held) (tree : Id) → find commit held ≡ o → Some tree ≡ tree_seen o → HasTree held tree
 tree_held held closed commit None tree found is = absurd (cc)
 tree_held held closed commit (Some h) tree found is = elim (cases_Bool (same_word h.word Commit)) [
-    | inl t ↦
-        let named = commit_in held closed commit h found (same_word-is h.word Commit t) in
-        let both : Some tree ≡ Some named.0 = is ∙ ap (λ b. cond b (tree_named h.payload) None) t ∙ named.1 in
-        let same : named.0 ≡ tree = cc in
-        subst (HasTree held) same named.2
-    | inr f ↦ let e : Some tree ≡ None = is ∙ ap (λ b. cond b (tree_named h.payload) None) f in absurd (cc)
-  ]
+  | inl t ↦
+      let named = commit_in held closed commit h found (same_word-is h.word Commit t) in
+      let both : Some tree ≡ Some named.0 = is ∙ ap (λ b. cond b (tree_named h.payload) None) t ∙ named.1 in
+      let same : named.0 ≡ tree = cc in
+      subst (HasTree held) same named.2
+  | inr f ↦ let e : Some tree ≡ None = is ∙ ap (λ b. cond b (tree_named h.payload) None) f in absurd (cc)
+]
 
 pub seen_tree : (held : List Held) (commit tree : Id) → IsClosed held → Some tree ≡ tree_seen (find commit held) → HasTree held tree
 seen_tree held commit tree closed is = tree_held held closed commit (find commit held) tree refl is

@@ -7,3 +7,4 @@ pub mod Laws
 pub mod Walks
 pub mod Contents
 pub mod Entries
+pub mod Listings

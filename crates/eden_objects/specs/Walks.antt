@@ -35,10 +35,6 @@ abbrev pub dir_named : List ℕ → List Entry → Option Id
 dir_named name [] = None
 dir_named name (e ∷ es) = or_later (dir_if e.kind e.id (same_bytes e.name name)) (dir_named name es)
 
--- a row whose path stands behind some bytes
-abbrev pub behind : List ℕ → Row → Row
-behind front row = (front ++ row.0, row.1, row.2)
-
 -- a look-up in what follows, where there is a directory
 abbrev pub then_find : (Id → List Row) → List ℕ → Option Id → Option (Kind × Id)
 then_find rows path None = None

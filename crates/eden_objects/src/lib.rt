@@ -11,6 +11,7 @@ mod entry;
 mod fault;
 mod judge;
 mod laws;
+mod list;
 mod size;
 mod store;
 mod walk;

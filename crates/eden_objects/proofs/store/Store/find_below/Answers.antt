@@ -16,20 +16,20 @@ returns-in-None g c =
 pub returns-in-None-dir_in : goal.returns-in-None-dir_in
 returns-in-None-dir_in g c =
     let named : dir_named c.in-Some.name.now (entries_in c.args.self.now c.walk.tree) ≡ None =
-        ap (λ bytes. dir_named c.in-Some.name.now (entries_of bytes)) (sym c.payload-in-Some.ensures) ∙ sym c.in-None-dir_in.ensures in
+    ap (λ bytes. dir_named c.in-Some.name.now (entries_of bytes)) (sym c.payload-in-Some.ensures) ∙ sym c.in-None-dir_in.ensures in
     sym
     (c.walk.invariant.answer
-     ∙ dir_here c.args.self.now c.walk.tree c.walk.rest.now c.in-Some.name.now c.in-Some.after.now c.closed_law.ensures.closed c.walk.invariant.is_tree c.in-Some.ensures
-     ∙ ap (then_find (tree_rows c.args.self.now) c.in-Some.after.now) named)
+    ∙ dir_here c.args.self.now c.walk.tree c.walk.rest.now c.in-Some.name.now c.in-Some.after.now c.closed_law.ensures.closed c.walk.invariant.is_tree c.in-Some.ensures
+    ∙ ap (then_find (tree_rows c.args.self.now) c.in-Some.after.now) named)
 
 pub walk-preserved : goal.walk-preserved
 walk-preserved g c =
     let named : Some c.in-Some-dir_in.child ≡ dir_named c.in-Some.name.now (entries_in c.args.self.now c.walk.tree) =
-        c.in-Some-dir_in.ensures ∙ ap (λ bytes. dir_named c.in-Some.name.now (entries_of bytes)) c.payload-in-Some.ensures in
+    c.in-Some-dir_in.ensures ∙ ap (λ bytes. dir_named c.in-Some.name.now (entries_of bytes)) c.payload-in-Some.ensures in
     record {
       is_tree = child_here c.args.self.now c.walk.tree c.in-Some.name.now c.in-Some-dir_in.child c.closed_law.ensures.closed c.walk.invariant.is_tree named;
       answer =
-        c.walk.invariant.answer
-        ∙ dir_here c.args.self.now c.walk.tree c.walk.rest.now c.in-Some.name.now c.in-Some.after.now c.closed_law.ensures.closed c.walk.invariant.is_tree c.in-Some.ensures
-        ∙ ap (then_find (tree_rows c.args.self.now) c.in-Some.after.now) (sym named)
+          c.walk.invariant.answer
+          ∙ dir_here c.args.self.now c.walk.tree c.walk.rest.now c.in-Some.name.now c.in-Some.after.now c.closed_law.ensures.closed c.walk.invariant.is_tree c.in-Some.ensures
+          ∙ ap (then_find (tree_rows c.args.self.now) c.in-Some.after.now) (sym named);
     }
