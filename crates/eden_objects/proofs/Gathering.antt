@@ -5,6 +5,7 @@ use Rattle.std.proofs.lemmas.List.Elements.{filter-append}
 use Rattle.std.proofs.Math.Seq.{take-append_seam}
 use Rattle.std.specs.Prelude.{filter}
 use Rattle.std.specs.List.{AllByRecursion}
+use Rattle.eden_globs.specs.Filters.{admits}
 use Rattle.eden_ids.specs.declared.id.Id.{Id}
 use Rattle.eden_ids.specs.declared.content.Kind.{Kind}
 use Rattle.eden_objects.specs.declared.word.Word.TheVariants.{Tree}
@@ -92,3 +93,19 @@ later_is_below depth e es all n is h =
     let same : entries_depth depth all ≡ entries_depth depth (e ∷ es) = ap (entries_depth depth) is in
     let less = later_below depth e es in
     omega (arith, same, less, h)
+
+behind_nothing : (rows : List Row) → map (behind []) rows ≡ rows
+behind_nothing [] = refl
+behind_nothing (row ∷ rows) = ap (λ (more : List Row). row ∷ more) (behind_nothing rows)
+
+pub nothing_before : (test : List ℕ → Bool) (front : List ℕ) (rows found : List Row) → front ≡ [] → found ≡ rows_behind test front rows → filter (λ row. test row.0) rows ≡ found
+nothing_before test front rows found none is =
+    sym (is ∙ ap (λ p. rows_behind test p rows) none ∙ ap (filter (λ row. test row.0)) (behind_nothing rows))
+
+every_row : (rows : List Row) → filter (λ row. admits [] row.0) rows ≡ rows
+every_row [] = refl
+every_row (row ∷ rows) = ap (λ (more : List Row). row ∷ more) (every_row rows)
+
+pub all_wanted : (patterns : List (List ℕ)) (front whole : List ℕ) (rows found : List Row) → patterns ≡ [] → front ≡ whole → found ≡ rows_behind (admits patterns) front rows → found ≡ map (behind whole) rows
+all_wanted patterns front whole rows found none is wanted =
+    wanted ∙ ap (λ p. filter (λ row. admits p row.0) (map (behind front) rows)) none ∙ every_row (map (behind front) rows) ∙ ap (λ p. map (behind p) rows) is

@@ -16,3 +16,4 @@ mod Fuel
 mod TreeOf
 mod WalkSteps
 mod Gathering
+mod Below

@@ -98,7 +98,7 @@ found_dir rows r None id true rest later e none = ap (or_later (find_row r (rows
 found_dir rows r None id false rest later e none = e
 found_dir rows r (Some kind) id t rest later e none = e
 
-apart_from : (a b : List ℕ) (es : List Entry) → a ≡ b → AllByRecursion (λ f. same_bytes a f.name ≡ false) es → AllByRecursion (λ f. same_bytes b f.name ≡ false) es
+pub apart_from : (a b : List ℕ) (es : List Entry) → a ≡ b → AllByRecursion (λ f. same_bytes a f.name ≡ false) es → AllByRecursion (λ f. same_bytes b f.name ≡ false) es
 apart_from a b [] e all = tt
 apart_from a b (f ∷ es) e all = (ap (λ n. same_bytes n f.name) (sym e) ∙ all.0, apart_from a b es e all.1)
 

@@ -23,8 +23,11 @@ Lists (Ok rows) answer = answer ≡ Some rows.items
 Lists (Err NoCommit) answer = answer ≡ None
 Lists (Err NoMemory) answer = Unit {0}
 
--- the files of a tree below a path are those of the directory that stands there, if one does
+-- the files of a tree below a path
+abbrev pub rows_below : List Held → Id → List ℕ → List Row
+rows_below held tree path = filter (λ row. lies_below row.0 path) (tree_rows held tree)
+
+-- they are those of the directory that stands there, if one does
 abbrev pub IsBelow : List Held → Id → List ℕ → Option Id → Type 0
-IsBelow held tree path None = rows_where (λ p. lies_below p path) (Some (tree_rows held tree)) ≡ Some []
-IsBelow held tree path (Some dir) =
-    HasTree held dir × (rows_where (λ p. lies_below p path) (Some (tree_rows held tree)) ≡ Some (map (behind (path ++ 47 ∷ [])) (tree_rows held dir)))
+IsBelow held tree path None = rows_below held tree path ≡ []
+IsBelow held tree path (Some dir) = HasTree held dir × (rows_below held tree path ≡ map (behind (path ++ 47 ∷ [])) (tree_rows held dir))
