@@ -76,7 +76,7 @@ module _ (rows : Id → List Row) (test inner : List ℕ → Bool) (c : List ℕ
   none_kept [] names apart = refl
   none_kept (e ∷ es) names apart =
       let first : kept (entry_rows rows e) ≡ [] =
-          entry_kept e.name e.kind e.id false (name_has_none e.name names.0) (turn e.name c ∙ apart.0) ∙ none_of e.kind e.id in
+      entry_kept e.name e.kind e.id false (name_has_none e.name names.0) (turn e.name c ∙ apart.0) ∙ none_of e.kind e.id in
       let rest = none_kept es names.1 apart.1 in
       filter-append (λ row. test row.0) (entry_rows rows e) (entries_rows rows es) ∙ (λ i. first i ++ rest i)
 
@@ -93,7 +93,7 @@ module _ (rows : Id → List Row) (test inner : List ℕ → Bool) (c : List ℕ
       filter-append (λ row. test row.0) (entry_rows rows e) (entries_rows rows es)
       ∙ ap (λ found. found ++ kept (entries_rows rows es)) first
       ∙ joined e.kind e.id (same_bytes e.name c) (dir_named c es) (kept (entries_rows rows es)) (by_name es names.1 differ.1)
-          (λ t. none_kept es names.1 (apart_from e.name c es ((bytes_eq-Decides e.name c).0 t) differ.0))
+      (λ t. none_kept es names.1 (apart_from e.name c es ((bytes_eq-Decides e.name c).0 t) differ.0))
 
 and_true : (a : Bool) → a ≡ (a && true)
 and_true true = refl
@@ -111,7 +111,7 @@ below_here held id p closed has none =
     let free : has_slash p ≡ false = cut_none p (sym none) in
     ap (filter (λ row. lies_below row.0 p)) (rows_here held closed id has)
     ∙ by_name (tree_rows held) (λ q. lies_below q p) (λ q. true) p (λ n slashless. name_not_below n p slashless)
-        (λ n q slashless. below_name n p q slashless free ∙ and_true (same_bytes n p)) (entries_in held id) is.2 is.5
+    (λ n q slashless. below_name n p q slashless free ∙ and_true (same_bytes n p)) (entries_in held id) is.2 is.5
     ∙ ap (map (behind (p ++ 47 ∷ []))) (all_kept (then_rows (tree_rows held) (dir_named p (entries_in held id))))
 
 -- below a path with a slash stand the files that stand below what follows it in the directory that it begins with
@@ -123,7 +123,7 @@ below_there held id p c r closed has some =
     ap (λ q. filter (λ row. lies_below row.0 q) (tree_rows held id)) parts.0
     ∙ ap (filter (λ row. lies_below row.0 (c ++ 47 ∷ r))) (rows_here held closed id has)
     ∙ by_name (tree_rows held) (λ q. lies_below q (c ++ 47 ∷ r)) (λ q. lies_below q r) c (λ n slashless. name_not_below n (c ++ 47 ∷ r) slashless)
-        (λ n q slashless. below_under n c q r slashless parts.1) (entries_in held id) is.2 is.5
+    (λ n q slashless. below_under n c q r slashless parts.1) (entries_in held id) is.2 is.5
 
 -- how far a walk to a directory has come
 abbrev pub IsOnTheWay : List Held → Id → List ℕ → Id → List ℕ → Type 0
@@ -143,17 +143,18 @@ at_end held tree dir path rest None closed way none is =
     way.1.2 ∙ ap (map (behind way.1.0)) (below_here held dir rest closed way.0 none ∙ ap (λ o. map (behind (rest ++ 47 ∷ [])) (then_rows (tree_rows held) o)) (sym is))
 at_end held tree dir path rest (Some child) closed way none is =
     let front : List ℕ = way.1.0 in
-    let whole : front ++ (rest ++ 47 ∷ []) ≡ path ++ 47 ∷ [] = sym (append_assoc front rest (47 ∷ [])) ∙ ap (λ (p : List ℕ). p ++ 47 ∷ []) (sym way.1.1) in
-    (child_here held dir rest child closed way.0 is,
-     way.1.2 ∙ ap (map (behind front)) (below_here held dir rest closed way.0 none ∙ ap (λ o. map (behind (rest ++ 47 ∷ [])) (then_rows (tree_rows held) o)) (sym is))
-     ∙ behind_behind front (rest ++ 47 ∷ []) (tree_rows held child) ∙ ap (λ p. map (behind p) (tree_rows held child)) whole)
+    let whole : front ++ (rest ++ 47 ∷ []) ≡ path ++ 47 ∷ [] = sym (append_assoc front rest (47 ∷ [])) ∙ ap (λ (p : List ℕ). p ++ 47 ∷ []) (sym way.1.1) in (
+      child_here held dir rest child closed way.0 is,
+      way.1.2 ∙ ap (map (behind front)) (below_here held dir rest closed way.0 none ∙ ap (λ o. map (behind (rest ++ 47 ∷ [])) (then_rows (tree_rows held) o)) (sym is))
+          ∙ behind_behind front (rest ++ 47 ∷ []) (tree_rows held child) ∙ ap (λ p. map (behind p) (tree_rows held child)) whole,
+    )
 
 pub at_stop : (held : List Held) (tree dir : Id) (path rest c r : List ℕ) → IsClosed held → IsOnTheWay held tree path dir rest → Some (c, r) ≡ cut 47 rest
     → None ≡ dir_named c (entries_in held dir) → IsBelow held tree path None
 at_stop held tree dir path rest c r closed way some is =
     way.1.2
     ∙ ap (map (behind way.1.0))
-        (below_there held dir rest c r closed way.0 some ∙ ap (λ o. map (behind (c ++ 47 ∷ [])) (filter (λ row. lies_below row.0 r) (then_rows (tree_rows held) o))) (sym is))
+    (below_there held dir rest c r closed way.0 some ∙ ap (λ o. map (behind (c ++ 47 ∷ [])) (filter (λ row. lies_below row.0 r) (then_rows (tree_rows held) o))) (sym is))
 
 pub at_step : (held : List Held) (tree dir child : Id) (path rest c r : List ℕ) → IsClosed held → IsOnTheWay held tree path dir rest → Some (c, r) ≡ cut 47 rest
     → Some child ≡ dir_named c (entries_in held dir) → IsOnTheWay held tree path child r
@@ -161,10 +162,14 @@ at_step held tree dir child path rest c r closed way some is =
     let front : List ℕ = way.1.0 in
     let parts = cut_some rest c r (sym some) in
     let whole : path ≡ (front ++ (c ++ 47 ∷ [])) ++ r =
-        way.1.1 ∙ ap (λ p. front ++ p) (parts.0 ∙ sym (append_assoc c (47 ∷ []) r)) ∙ sym (append_assoc front (c ++ 47 ∷ []) r) in
-    (child_here held dir c child closed way.0 is,
-     (front ++ (c ++ 47 ∷ []), whole,
-      way.1.2
-      ∙ ap (map (behind front))
-          (below_there held dir rest c r closed way.0 some ∙ ap (λ o. map (behind (c ++ 47 ∷ [])) (filter (λ row. lies_below row.0 r) (then_rows (tree_rows held) o))) (sym is))
-      ∙ behind_behind front (c ++ 47 ∷ []) (rows_below held child r)))
+    way.1.1 ∙ ap (λ p. front ++ p) (parts.0 ∙ sym (append_assoc c (47 ∷ []) r)) ∙ sym (append_assoc front (c ++ 47 ∷ []) r) in (
+      child_here held dir c child closed way.0 is,
+      (
+        front ++ (c ++ 47 ∷ []),
+        whole,
+        way.1.2
+            ∙ ap (map (behind front))
+            (below_there held dir rest c r closed way.0 some ∙ ap (λ o. map (behind (c ++ 47 ∷ [])) (filter (λ row. lies_below row.0 r) (then_rows (tree_rows held) o))) (sym is))
+            ∙ behind_behind front (c ++ 47 ∷ []) (rows_below held child r),
+      ),
+    )

@@ -43,7 +43,7 @@ under_behind : (front name : List ℕ) (rows : List Row) → map (behind front) 
 under_behind front name [] = refl
 under_behind front name (row ∷ rows) =
     let path : front ++ (name ++ 47 ∷ row.0) ≡ (front ++ name ++ 47 ∷ []) ++ row.0 =
-        sym (append_assoc front name (47 ∷ row.0)) ∙ sym (append_assoc (front ++ name) (47 ∷ []) row.0) in
+    sym (append_assoc front name (47 ∷ row.0)) ∙ sym (append_assoc (front ++ name) (47 ∷ []) row.0) in
     let rest = under_behind front name rows in
     λ i. (path i, row.1, row.2) ∷ rest i
 
