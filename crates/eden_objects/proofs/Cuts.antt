@@ -1,5 +1,5 @@
 -- Cutting bytes at the first that is some byte, place by place.
-use Rattle.std.proofs.Common.{◌≡◌, ◌∙◌, sym, refl, ap, ℕ, suc, ◌+◌, ◌<◌, Bool, true, false, cond, List, [], ◌∷◌, ◌++◌, take, drop, length, Option, Some, None, nat_eq, slice_index, arith}
+use Rattle.std.proofs.Common.{◌≡◌, sym, refl, ap, ℕ, suc, ◌+◌, ◌<◌, true, false, List, [], ◌∷◌, ◌++◌, take, drop, length, Option, Some, None, nat_eq, slice_index, arith}
 use Rattle.std.proofs.Math.Seq.{drop-cons, take-suc}
 use Rattle.std.proofs.lemmas.List.{append_assoc, append-nil}
 use Rattle.eden_objects.specs.Trees.{cut, before_more}

@@ -17,3 +17,7 @@ mod TreeOf
 mod WalkSteps
 mod Gathering
 mod Below
+mod Refusals
+mod Order
+mod Judging
+mod Judged

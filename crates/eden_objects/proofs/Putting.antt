@@ -1,11 +1,10 @@
 -- What a put call answers, case by case.
-use Rattle.std.proofs.Common.{◌≡◌, ◌∙◌, sym, refl, ap, ℕ, Bool, true, false, cond, List, [], ◌∷◌, Option, Some, None, Ok, Err, arith}
+use Rattle.std.proofs.Common.{◌≡◌, ◌∙◌, refl, ap, Bool, true, false, cond, List, ◌∷◌, Some, None, Ok, Err}
 use Rattle.eden_ids.specs.declared.id.Id.{Id}
-use Rattle.eden_objects.specs.declared.word.Word.{Word}
 use Rattle.eden_objects.specs.declared.store.Object.{Object}
 use Rattle.eden_objects.specs.declared.fault.PutFault.TheVariants.{IdTaken}
 use Rattle.eden_objects.specs.Objects.{Held, find, same_id, zero_id}
-use Rattle.eden_objects.specs.Puts.{PutGives, put_outcome, kept_or_added}
+use Rattle.eden_objects.specs.Puts.{PutGives, put_outcome}
 use Rattle.eden_objects.specs.Contents.{held_of, standing_answer, is_object}
 
 pub added : (new : Held) (held : List Held) → same_id new.id zero_id ≡ false → find new.id held ≡ None

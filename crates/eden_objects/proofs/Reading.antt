@@ -1,5 +1,5 @@
 -- An entry that was read leaves fewer bytes.
-use Rattle.std.proofs.Common.{◌≡◌, ◌∙◌, sym, refl, ap, ℕ, suc, ◌+◌, ◌<◌, ◌≤◌, Bool, true, false, cond, not, List, [], ◌∷◌, ◌++◌, take, drop, length, Option, Some, None, Result, Ok, Err, nat_eq, nat_lt, IfOk, ◌&&◌, if◌then◌else◌, codes, drop_of_length-le, arith}
+use Rattle.std.proofs.Common.{◌≡◌, ◌∙◌, sym, refl, ap, ℕ, suc, ◌<◌, ◌≤◌, Bool, true, false, cond, not, List, [], ◌∷◌, take, drop, length, Option, Some, None, Result, Ok, Err, nat_eq, nat_lt, IfOk, ◌&&◌, if◌then◌else◌, codes, drop_of_length-le, arith}
 use Rattle.std.proofs.lemmas.List.{length-drop}
 use Rattle.eden_ids.specs.declared.content.Kind.{Kind}
 use Rattle.eden_objects.specs.declared.fault.PutFault.{PutFault}

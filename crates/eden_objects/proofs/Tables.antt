@@ -1,14 +1,15 @@
 -- The table of a store, read from its newest entry, against what a look-up in it finds.
-use Rattle.std.proofs.Common.{◌≡◌, ◌≢◌, ◌∙◌, sym, refl, ap, ℕ, Bool, true, false, cond, List, [], ◌∷◌, ◌++◌, Option, Some, None, reverse, arith}
+use Rattle.std.proofs.Common.{◌≡◌, ◌∙◌, sym, refl, ap, ℕ, Bool, true, false, cond, List, [], ◌∷◌, ◌++◌, Option, Some, None, reverse}
 use Rattle.std.proofs.lemmas.List.{reverse-append, reverse-reverse}
 use Rattle.std.specs.Map.{lookup}
-use Rattle.std.specs.Cmp.Lexicographic.{pointwise, same_text, other_text}
+use Rattle.std.specs.Cmp.Lexicographic.{same_text}
 use Rattle.eden_ids.specs.declared.id.Id.{Id}
 use Rattle.eden_objects.specs.declared.store.Object.{Object}
+use Rattle.eden_objects.specs.declared.word.Word.{Word}
 use Rattle.eden_objects.specs.declared.word.Word.TheVariants.{Tree}
 use Rattle.eden_objects.specs.Objects.{Held, find, same_id, word_text}
-use Rattle.eden_objects.specs.Trees.{Entry, tree_fold, tree_depth, tree_reach, entries_of, entries_depth, entries_reach}
-use Rattle.eden_objects.specs.Closed.{IsClosed, IsSound, AllNamed}
+use Rattle.eden_objects.specs.Trees.{Entry, tree_fold, entries_of, entries_depth, entries_reach}
+use Rattle.eden_objects.specs.Closed.{IsClosed, IsSound, IsTree, AllNamed}
 use Rattle.eden_objects.specs.Contents.{held_of, option_held, helds, Measures, AreMeasured, TellsSize}
 
 pub same_id-is : (a b : Id) → same_id a b ≡ true → a ≡ b
@@ -87,27 +88,37 @@ sized_further h earlier id None past tells = tells
 sized_further h earlier id (Some object) past tells = λ is_tree. (
   (tells is_tree).0 ∙ sym (fold_past 0 entries_depth h earlier id past),
   (tells is_tree).1 ∙ sym (fold_past 0 entries_reach h earlier id past),
+  (tells is_tree).2,
+  (tells is_tree).3,
 )
 
-pub sized_in_table : (table : List (Id × Object)) (id : Id) → AreMeasured table → TellsSize (helds table) id (lookup (same_id id) table)
-sized_in_table [] id measured = tt
-sized_in_table (e ∷ table) id measured = by (same_id id e.0) refl (sized_in_table table id measured.1) where
+small_tree : (word : Word) (payload : List ℕ) (earlier : List Held) → word ≡ Tree → IsSound word payload earlier
+    → IsTree earlier (entries_of payload)
+small_tree word payload earlier is sound = rw is at sound
+
+pub sized_in_table : (table : List (Id × Object)) (id : Id) → IsClosed (helds table) → AreMeasured table
+    → TellsSize (helds table) id (lookup (same_id id) table)
+sized_in_table [] id closed measured = tt
+sized_in_table (e ∷ table) id closed measured = by (same_id id e.0) refl (sized_in_table table id closed.2 measured.1) where
   h : Held
   h = held_of e.0 e.1
 
   by : (t : Bool) → same_id id e.0 ≡ t → TellsSize (helds table) id (lookup (same_id id) table)
       → TellsSize (h ∷ helds table) id (cond t (Some e.1) (lookup (same_id id) table))
-  by true is rest = λ is_tree. (
-    (measured.0 is_tree).0 ∙ sym (fold_here 0 entries_depth h (helds table) id is),
-    (measured.0 is_tree).1 ∙ sym (fold_here 0 entries_reach h (helds table) id is),
-  )
+  by true is rest = λ is_tree.
+      let tree = small_tree e.1.word e.1.payload.items (helds table) is_tree closed.1 in (
+        (measured.0 is_tree).0 ∙ sym (fold_here 0 entries_depth h (helds table) id is),
+        (measured.0 is_tree).1 ∙ sym (fold_here 0 entries_reach h (helds table) id is),
+        rw (measured.0 is_tree).0 tree.3,
+        rw (measured.0 is_tree).1 tree.4,
+      )
   by false is rest = sized_further h (helds table) id (lookup (same_id id) table) is rest
 
 pub sized_in : (entries : List (Id × Object)) (id : Id) → IsClosed (helds (reverse entries)) → AreMeasured (reverse entries)
     → TellsSize (helds (reverse entries)) id (lookup (same_id id) entries)
 sized_in entries id closed measured =
     rw (ap (lookup (same_id id)) (sym (reverse-reverse entries)) ∙ turned (reverse entries) id closed)
-    (sized_in_table (reverse entries) id measured)
+    (sized_in_table (reverse entries) id closed measured)
 
 -- a new object stands first
 

@@ -1,6 +1,6 @@
 -- What a commit holds, from Git's tree format: a file entry gives its name, its mode's kind and its blob's payload; a directory entry
 -- gives its name, a slash and each path of its child.
-use Rattle.std.specs.Prelude.{◌≡◌, ℕ, ◌==◌, Bool, true, false, ◌&&◌, not, if◌then◌else◌, List, [], ◌∷◌, ◌++◌, length, map, take, drop, codes, nat_eq, slice_get, Option, Some, None, Result, Ok, Err}
+use Rattle.std.specs.Prelude.{ℕ, Bool, ◌&&◌, if◌then◌else◌, List, [], ◌∷◌, ◌++◌, map, take, drop, codes, nat_eq, Option, Some, None, Result, Ok, Err}
 use Rattle.std.specs.Prelude.{filter}
 use Rattle.std.specs.List.{flat_map, starts_with}
 use Rattle.std.specs.FinMap as fin
@@ -10,7 +10,6 @@ use Rattle.eden_ids.specs.declared.content.Content.{Content}
 use Rattle.eden_ids.specs.declared.hex_text.HexFault.{HexFault}
 use Rattle.eden_ids.specs.Hex.{id_of_hex}
 use Rattle.eden_ids.specs.FileMaps.{FileMap}
-use Rattle.eden_ids.specs.Paths.{lies_below}
 use Rattle.eden_objects.specs.declared.word.Word.TheVariants.{Commit}
 use Rattle.eden_objects.specs.Objects.{Held, find, payload_of, same_bytes, same_id, same_word, zero_id}
 use Rattle.eden_objects.specs.Trees.{Entry, tree_fold}

@@ -1,5 +1,5 @@
 -- How the table of a store is read as the list of its objects. A table is given newest first.
-use Rattle.std.specs.Prelude.{◌≡◌, ℕ, Bool, ◌&&◌, List, [], ◌∷◌, map, Option, Some, None, Result, Ok, Err, if◌then◌else◌}
+use Rattle.std.specs.Prelude.{◌≡◌, ℕ, ◌≤◌, Bool, ◌&&◌, List, [], ◌∷◌, map, Option, Some, None, Result, Ok, Err, if◌then◌else◌}
 use Rattle.eden_ids.specs.declared.id.Id.{Id}
 use Rattle.eden_objects.specs.declared.word.Word.{Word}
 use Rattle.eden_objects.specs.declared.word.Word.TheVariants.{Tree}
@@ -44,3 +44,4 @@ abbrev pub TellsSize : List Held → Id → Option Object → Type 0
 TellsSize held id None = Unit {0}
 TellsSize held id (Some object) = object.word ≡ Tree
     → (object.size.depth ≡ tree_depth held id) × (object.size.reach ≡ tree_reach held id)
+    × (object.size.depth ≤ 64) × (object.size.reach ≤ 1024)

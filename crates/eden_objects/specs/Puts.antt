@@ -1,6 +1,6 @@
 -- What each put call answers, and what the store holds after it. A refusal is the first cause that stands, in the order in which
 -- they are asked here.
-use Rattle.std.specs.Prelude.{◌≡◌, ℕ, zero, suc, Bool, true, false, not, ◌&&◌, ◌||◌, nat_lt, nat_eq, if◌then◌else◌, List, [], ◌∷◌, length, codes, Option, Some, None, Result, Ok, Err}
+use Rattle.std.specs.Prelude.{◌≡◌, ℕ, zero, suc, Bool, true, false, not, ◌&&◌, nat_lt, if◌then◌else◌, List, [], ◌∷◌, length, Option, Some, None, Result, Ok, Err}
 use Rattle.std.specs.Ordering.{nat_cmp, is_lt}
 use Rattle.std.specs.Cmp.Lexicographic.{slice_cmp}
 use Rattle.std.specs.List.{list_any}
@@ -109,3 +109,9 @@ abbrev pub PutGives : Result Id PutFault → List Held → List Held → Outcome
 PutGives (Ok id) old new outcome = outcome ≡ Ok (id, new)
 PutGives (Err NoMemory) old new outcome = (new ≡ old) × (id : Id) × (more : Held) × (outcome ≡ Ok (id, more ∷ old))
 PutGives (Err fault) old new outcome = (new ≡ old) × (outcome ≡ Err fault)
+
+-- the same of a tree, for whose look memory is wanted before its outcome is known
+abbrev pub TreeGives : Result Id PutFault → List Held → List Held → List ℕ → Outcome → Type 0
+TreeGives (Ok id) old new payload outcome = outcome ≡ Ok (id, new)
+TreeGives (Err NoMemory) old new payload outcome = (new ≡ old) × (too_large payload ≡ None)
+TreeGives (Err fault) old new payload outcome = (new ≡ old) × (outcome ≡ Err fault)

@@ -1,11 +1,17 @@
 //! Whether an object may be put: what each refusal of a tree or a commit asks of the store.
-ghost use Rattle.std.specs.Prelude.{◌≡◌, ◌≢◌, None, Some, IfOk, IfErr};
+ghost use Rattle.std.specs.Prelude.{◌≡◌, ◌≢◌, ◌≤◌, List, [], length, Some, None, IfOk, IfErr};
 ghost use Rattle.eden_objects.specs.Objects.{find};
+ghost use Rattle.eden_objects.specs.Trees.{Entry, depth_of, entries_depth, entries_of, entries_reach, reach_of, tree_depth, tree_reach};
+ghost use Rattle.eden_objects.specs.Closed.{IsHeld, IsSound};
+ghost use Rattle.eden_objects.specs.Entries.{HasSeen, plain};
+ghost use Rattle.eden_objects.specs.Contents.{SizeFits};
 ghost use Rattle.eden_objects.specs.Commits.{tree_named};
-ghost use Rattle.eden_objects.specs.Puts.{child_fault, commit_fault, named_fault, word_wanted};
+ghost use Rattle.eden_objects.specs.Puts.{child_fault, commit_fault, entries_fault, entry_fault, named_fault, tree_fault, word_wanted};
 
-use crate::entry::tree_named;
+use crate::entry::{RawEntry, read_entry, tree_named};
 use crate::fault::PutFault;
+use crate::seen::Seen;
+use crate::size::Size;
 use crate::store::{PAYLOAD_LIMIT, Store};
 use crate::word::{Word, same_word};
 use eden_ids::{Id, Kind, Naming};
@@ -55,5 +61,89 @@ impl<N: Naming + Drop> Store<N> {
         } else {
             self.named_fault(tree_named(payload))
         }
+    }
+
+    /// Why an entry can't follow those that came.
+    fn entry_fault<'a>(&self, seen: &Seen<'a>, entry: &RawEntry<'a>) -> Option<PutFault>
+        ensures { (earlier : List Entry) → HasSeen seen.now earlier → result ≡ entry_fault self.now earlier (plain entry.now) }
+    {
+        if seen.has_name(entry.name) {
+            Some(PutFault::Duplicate)
+        } else if !seen.is_below(entry) {
+            Some(PutFault::OutOfOrder)
+        } else {
+            self.child_fault(word_wanted(entry.kind), entry.id)
+        }
+    }
+
+    /// What an entry comes to.
+    fn size_of(&self, entry: &RawEntry<'_>) -> Size
+        requires { IsHeld self.now (word_wanted entry.now.kind) entry.now.id }
+        ensures depth { result.depth ≡ depth_of entry.now.kind (tree_depth self.now entry.now.id) }
+        ensures reach { result.reach ≡ reach_of entry.now.name.now entry.now.kind (tree_reach self.now entry.now.id) }
+    {
+        let length = entry.name.len();
+        if entry.kind.is_some() {
+            return Size {
+                depth: 1,
+                reach: length,
+            };
+        }
+        match self.object(entry.id) {
+            Some(child) => Size {
+                depth: 1 + child.size.depth,
+                reach: length + 1 + child.size.reach,
+            },
+            None => Size::NONE,
+        }
+    }
+
+    /// What a tree with these entries comes to, or the first fault of the first entry that has one.
+    fn judged(&self, payload: &[u8]) -> Result<Size, PutFault>
+        ensures passes { IfOk result (λ size. entries_fault (length payload.now) self.now [] payload.now ≡ None) }
+        ensures depth { IfOk result (λ size. size.depth ≡ entries_depth (tree_depth self.now) (entries_of payload.now)) }
+        ensures reach { IfOk result (λ size. size.reach ≡ entries_reach (tree_reach self.now) (entries_of payload.now)) }
+        ensures refuses { IfErr result (λ fault. fault ≢ PutFault.NoMemory
+            → entries_fault (length payload.now) self.now [] payload.now ≡ Some fault) }
+    {
+        let mut seen = Seen::new(self.allocator());
+        let mut size = Size::NONE;
+        let mut rest = payload;
+        while rest.len() > 0 {
+            let (entry, behind) = match read_entry(rest) {
+                Ok(read) => read,
+                Err(fault) => return Err(fault),
+            };
+            if let Some(fault) = self.entry_fault(&seen, &entry) {
+                return Err(fault);
+            }
+            size = size.or_greater(self.size_of(&entry));
+            if seen.note(entry).is_err() {
+                return Err(PutFault::NoMemory);
+            }
+            rest = behind;
+        }
+        Ok(size)
+    }
+
+    /// What a tree comes to, or why the payload is no tree's that the store may hold.
+    pub(crate) fn tree_size(&self, payload: &[u8]) -> Result<Size, PutFault>
+        requires { length payload.now ≤ 8388608 }
+        ensures passes { IfOk result (λ size. tree_fault payload.now self.now ≡ None) }
+        ensures sound { IfOk result (λ size. IsSound Word.Tree payload.now self.now) }
+        ensures fits { IfOk result (λ size. SizeFits self.now Word.Tree payload.now size) }
+        ensures refuses { IfErr result (λ fault. fault ≢ PutFault.NoMemory → tree_fault payload.now self.now ≡ Some fault) }
+    {
+        let size = match self.judged(payload) {
+            Ok(size) => size,
+            Err(fault) => return Err(fault),
+        };
+        if size.depth > 64 {
+            return Err(PutFault::TooDeep);
+        }
+        if size.reach > 1024 {
+            return Err(PutFault::PathTooLong);
+        }
+        Ok(size)
     }
 }

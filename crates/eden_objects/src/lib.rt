@@ -12,6 +12,7 @@ mod fault;
 mod judge;
 mod laws;
 mod list;
+mod seen;
 mod size;
 mod store;
 mod walk;

@@ -13,4 +13,21 @@ pub(crate) struct Size {
 impl Size {
     /// That of a tree without entries.
     pub(crate) const NONE: Size = Size { depth: 0, reach: 0 };
+
+    /// What two parts of a tree come to together.
+    pub(crate) fn or_greater(self, other: Size) -> Size
+        ensures depth { result.depth ≡ greater self.depth other.depth }
+        ensures reach { result.reach ≡ greater self.reach other.reach }
+    {
+        Size {
+            depth: greater(self.depth, other.depth),
+            reach: greater(self.reach, other.reach),
+        }
+    }
+}
+
+fn greater(first: usize, second: usize) -> usize
+    ensures { result ≡ greater first second }
+{
+    if first < second { second } else { first }
 }

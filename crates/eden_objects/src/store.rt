@@ -1,6 +1,6 @@
 ghost use Rattle.std.specs.Prelude.{◌≡◌, ◌∷◌, [], None, Some, OnOk, OnErr, option_copied};
 ghost use Rattle.eden_objects.specs.Objects.{find, same_word, same_bytes, word_text};
-ghost use Rattle.eden_objects.specs.Puts.{PutGives, put_outcome, blob_outcome, commit_outcome, named};
+ghost use Rattle.eden_objects.specs.Puts.{PutGives, TreeGives, put_outcome, blob_outcome, commit_outcome, named, tree_outcome};
 ghost use Rattle.eden_objects.specs.Closed.{IsClosed, IsSound, AllNamed};
 ghost use Rattle.eden_objects.specs.Contents.{held_of, option_held, Measures, SizeFits, TellsSize, is_object, standing_answer};
 
@@ -92,6 +92,28 @@ impl<N: Naming + Drop> Store<N> {
             return Err(PutFault::TooLarge);
         }
         self.put(Word::Blob, payload, Size::NONE)
+    }
+
+    /// Puts a tree, whose payload is its entries, and answers its id; the same tree may be there already. An entry is a mode in octal
+    /// digits, a space, a name, a NUL byte and the 20 bytes of an id, as in Git's tree format.
+    ///
+    /// Refused as `TooLarge`, and then at the first entry with a fault: as `CutShort` where the payload ends before the entry does,
+    /// `BadMode`, `BadName`, `Duplicate` (an earlier entry has the name), `OutOfOrder` (names ascend, a directory's with a slash
+    /// behind it), `MissingChild` or `WrongChildKind`, in the order in which an entry is read. After all entries it is refused, in
+    /// this order, as `TooDeep` (more than 64 components), `PathTooLong` (more than 1,024 bytes), `ZeroId` or `IdTaken`.
+    /// `NoMemory` may stand in place of any answer but `TooLarge` where a growth was refused. After a refusal the store is as before.
+    ///
+    /// It takes time in the order of the payload's length and, for n entries, of n log n; no child is read.
+    pub fn put_tree(&mut self, payload: &[u8]) -> Result<Id, PutFault>
+        ensures { TreeGives result self.old self.new payload.now (tree_outcome N.id payload.now self.old) }
+    {
+        if payload.len() > PAYLOAD_LIMIT {
+            return Err(PutFault::TooLarge);
+        }
+        match self.tree_size(payload) {
+            Ok(size) => self.put(Word::Tree, payload, size),
+            Err(fault) => Err(fault),
+        }
     }
 
     /// Puts a commit, whose payload begins with `tree `, the 40 lowercase hexadecimal digits of a tree's id and a line feed, and

@@ -1,4 +1,4 @@
-use Rattle.std.proofs.Common.{◌∷◌, sym, ◌∙◌, ap, reverse}
+use Rattle.std.proofs.Common.{◌∷◌, ◌∙◌, ap, reverse}
 use Rattle.indexmap.proofs.CallerLemmas.{insert_entry-new}
 use Rattle.eden_objects.specs.Objects.{find, same_id}
 use Rattle.eden_objects.specs.Contents.{held_of, helds}
@@ -16,4 +16,6 @@ pub returns-clause-ok : goal.returns-clause-ok
 returns-clause-ok g c =
     let absent = absent_in c.self.inside.objects.entries c.args.id c.self.invariant.0 (ap (find c.args.id) c.self.view_is ∙ c.requires.fresh) in
     let entries = c.in-Ok.ensures.entries ∙ insert_entry-new same_id c.self.inside.objects c.args.id c.args.object absent in
-    ap helds (ap reverse entries) ∙ pushed c.self.inside.objects.entries c.args.id c.args.object ∙ ap (λ held. held_of c.args.id c.args.object ∷ held) c.self.view_is
+    ap helds (ap reverse entries)
+    ∙ pushed c.self.inside.objects.entries c.args.id c.args.object
+    ∙ ap (λ held. held_of c.args.id c.args.object ∷ held) c.self.view_is

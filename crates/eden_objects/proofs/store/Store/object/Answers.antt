@@ -1,7 +1,5 @@
-use Rattle.std.proofs.Common.{rules, sym, ◌∙◌, ap, reverse}
-use Rattle.std.proofs.lemmas.List.{reverse-reverse}
-use Rattle.std.specs.Map.{lookup}
-use Rattle.eden_objects.specs.Objects.{find, same_id}
+use Rattle.std.proofs.Common.{◌∙◌, ap}
+use Rattle.eden_objects.specs.Objects.{find}
 use Rattle.eden_objects.specs.Contents.{option_held}
 use Rattle.eden_objects.proofs.Tables.{found_in, sized_in}
 use Rattle.eden_objects.proofs.store.Store.object.Goals as goal

@@ -1,4 +1,4 @@
-use Rattle.std.proofs.Common.{rules, ◌≡◌, None, Some, false, refl, sym, ◌∙◌, ap}
+use Rattle.std.proofs.Common.{rules, ◌≡◌, None, Some, false, refl}
 use Rattle.eden_objects.specs.Objects.{find, same_id, zero_id}
 use Rattle.eden_objects.specs.Puts.{named}
 use Rattle.eden_objects.specs.Contents.{held_of}

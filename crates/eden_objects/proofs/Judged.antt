@@ -1,0 +1,157 @@
+-- A tree without a fault is one that a store may hold.
+use Rattle.std.proofs.Common.{◌≡◌, ◌∙◌, sym, refl, ap, ℕ, zero, suc, ◌≤◌, Bool, true, false, cond, not, List, [], ◌∷◌, map, take, drop, length, Option, Some, None, Result, Ok, Err, nat_lt, Ordering, Less, Equal, Greater, arith}
+use Rattle.std.proofs.lemmas.Bool.{or_parts}
+use Rattle.std.specs.Ordering.{nat_cmp, is_lt}
+use Rattle.std.specs.Cmp.Lexicographic.{slice_cmp, nat_list_cmp_total}
+use Rattle.std.specs.List.{AllByRecursion, list_any}
+use Rattle.std.specs.List.Sorted.{IsStrictlySortedBy}
+use Rattle.eden_ids.specs.declared.content.Kind.{Kind}
+use Rattle.eden_objects.specs.declared.fault.PutFault.{PutFault}
+use Rattle.eden_objects.specs.declared.fault.PutFault.TheVariants.{Duplicate, OutOfOrder, BadName, CutShort}
+use Rattle.eden_objects.specs.Objects.{Held, same_bytes}
+use Rattle.eden_objects.specs.Trees.{Entry, cut, read_entry, read_mode, read_kind, read_named, read_id, kind_of_mode, is_name, key, entries, entries_after, entries_of, entries_depth, entries_reach, tree_depth, tree_reach}
+use Rattle.eden_objects.specs.Puts.{entries_fault, entry_fault, fault_after, first_fault, if_so, is_above, word_wanted}
+use Rattle.eden_objects.specs.Closed.{IsHeld, IsTree, NamesDiffer}
+use Rattle.eden_objects.proofs.Refusals.{entry_held}
+use Rattle.eden_objects.proofs.Reading.{read_shorter}
+
+-- the name of an entry that was read is a name
+
+entry_or : Result (Entry × List ℕ) PutFault → List ℕ → List ℕ
+entry_or (Ok read) other = read.0.name
+entry_or (Err fault) other = other
+
+name_id : (kind : Option Kind) (name rest : List ℕ) (r : Entry × List ℕ) → read_id kind name rest ≡ Ok r → is_name r.0.name ≡ true
+unfolding entry_or
+name_id kind name rest r h = by (is_name name) refl (nat_lt (length rest) 20) h where
+  by : (good : Bool) → is_name name ≡ good → (short : Bool) → cond (not good) (Err BadName) (cond short (Err CutShort)
+      (Ok (record { name = name; kind = kind; id = record { 0 = take 20 rest } }, drop 20 rest))) ≡ Ok r → is_name r.0.name ≡ true
+  by true good false is = ap is_name (ap (λ read. entry_or read []) (sym is)) ∙ good
+  by true good true is = cc is
+  by false good short is = cc is
+
+name_named : (kind : Option Kind) (parts : Option (List ℕ × List ℕ)) (r : Entry × List ℕ) → read_named kind parts ≡ Ok r → is_name r.0.name ≡ true
+name_named kind None r h = cc h
+name_named kind (Some parts) r h = name_id kind parts.0 parts.1 r h
+
+name_kind : (kind : Option (Option Kind)) (rest : List ℕ) (r : Entry × List ℕ) → read_kind kind rest ≡ Ok r → is_name r.0.name ≡ true
+name_kind None rest r h = cc h
+name_kind (Some kind) rest r h = name_named kind (cut 0 rest) r h
+
+name_mode : (parts : Option (List ℕ × List ℕ)) (r : Entry × List ℕ) → read_mode parts ≡ Ok r → is_name r.0.name ≡ true
+name_mode None r h = cc h
+name_mode (Some parts) r h = name_kind (kind_of_mode parts.0) parts.1 r h
+
+name_read : (bytes : List ℕ) (r : Entry × List ℕ) → read_entry bytes ≡ Ok r → is_name r.0.name ≡ true
+name_read bytes r h = name_mode (cut 32 bytes) r h
+
+-- what an entry without a fault has beside its object
+
+first_none : (first second : Option PutFault) → first_fault first second ≡ None → (first ≡ None) × (second ≡ None)
+first_none None second h = (refl, h)
+first_none (Some fault) second h = cc h
+
+not_so : (t : Bool) (fault : PutFault) → if_so t fault ≡ None → t ≡ false
+not_so true fault h = cc h
+not_so false fault h = refl
+
+not_false : (t : Bool) → not t ≡ false → t ≡ true
+not_false true h = refl
+not_false false h = cc h
+
+new_name : (held : List Held) (earlier : List Entry) (e : Entry) → entry_fault held earlier e ≡ None
+    → list_any (λ f. same_bytes f.name e.name) earlier ≡ false
+new_name held earlier e h =
+    not_so (list_any (λ f. same_bytes f.name e.name) earlier) Duplicate
+    (first_none (if_so (list_any (λ f. same_bytes f.name e.name) earlier) Duplicate) _ h).0
+
+above : (held : List Held) (earlier : List Entry) (e : Entry) → entry_fault held earlier e ≡ None → is_above e earlier ≡ true
+above held earlier e h =
+    let rest = (first_none (if_so (list_any (λ f. same_bytes f.name e.name) earlier) Duplicate) _ h).1 in
+    not_false (is_above e earlier) (not_so (not (is_above e earlier)) OutOfOrder (first_none (if_so (not (is_above e earlier)) OutOfOrder) _ rest).0)
+
+less_is : (o : Ordering) → is_lt o ≡ true → o ≡ Less
+less_is Less h = refl
+less_is Equal h = cc h
+less_is Greater h = cc h
+
+-- the keys are above that of the last of the earlier entries
+abbrev AreAbove : List Entry → List Entry → Type 0
+AreAbove [] es = Unit {0}
+AreAbove (before ∷ earlier) es = AllByRecursion (λ k. slice_cmp nat_cmp (key before) k ≡ Less) (map key es)
+
+abbrev NewNames : List Entry → List Entry → Type 0
+NewNames earlier es = AllByRecursion (λ e. list_any (λ f. same_bytes f.name e.name) earlier ≡ false) es
+
+abbrev Sound : List Held → List Entry → List Entry → Type 0
+Sound held earlier es = AllByRecursion (λ e. IsHeld held (word_wanted e.kind) e.id) es
+    × IsStrictlySortedBy (slice_cmp nat_cmp) (map key es)
+    × AllByRecursion (λ e. is_name e.name ≡ true) es
+    × NamesDiffer es × AreAbove earlier es × NewNames earlier es
+
+-- what holds of the entries after an entry that passed holds of it and them
+
+older : (e f : Entry) (earlier : List Entry) → list_any (λ g. same_bytes g.name f.name) (e ∷ earlier) ≡ false
+    → (same_bytes e.name f.name ≡ false) × (list_any (λ g. same_bytes g.name f.name) earlier ≡ false)
+older e f earlier h = or_parts (same_bytes e.name f.name) (list_any (λ g. same_bytes g.name f.name) earlier) h
+
+names_apart : (e : Entry) (earlier es : List Entry) → NewNames (e ∷ earlier) es
+    → AllByRecursion (λ f. same_bytes e.name f.name ≡ false) es × NewNames earlier es
+names_apart e earlier [] h = (tt, tt)
+names_apart e earlier (f ∷ es) h =
+    let parts = older e f earlier h.0 in
+    let rest = names_apart e earlier es h.1 in
+    ((parts.0, rest.0), (parts.1, rest.1))
+
+further : (before e : Entry) (es : List Entry) → slice_cmp nat_cmp (key before) (key e) ≡ Less
+    → AllByRecursion (λ k. slice_cmp nat_cmp (key e) k ≡ Less) (map key es)
+    → AllByRecursion (λ k. slice_cmp nat_cmp (key before) k ≡ Less) (map key es)
+further before e [] less all = tt
+further before e (f ∷ es) less all = (nat_list_cmp_total.trans (key before) (key e) (key f) less all.0, further before e es less all.1)
+
+all_above : (earlier : List Entry) (e : Entry) (es : List Entry) → is_above e earlier ≡ true
+    → AllByRecursion (λ k. slice_cmp nat_cmp (key e) k ≡ Less) (map key es) → AreAbove earlier (e ∷ es)
+all_above [] e es h all = tt
+all_above (before ∷ earlier) e es h all =
+    let less = less_is (slice_cmp nat_cmp (key before) (key e)) h in
+    (less, further before e es less all)
+
+sound_more : (held : List Held) (earlier : List Entry) (e : Entry) (es : List Entry) → entry_fault held earlier e ≡ None
+    → is_name e.name ≡ true → Sound held (e ∷ earlier) es → Sound held earlier (e ∷ es)
+unfolding IsStrictlySortedBy
+sound_more held earlier e es passes name rest =
+    let names = names_apart e earlier es rest.5 in (
+      (entry_held held earlier e (sym passes), rest.0),
+      (rest.4, rest.1),
+      (name, rest.2),
+      (names.0, rest.3),
+      all_above earlier e es (above held earlier e passes) rest.4,
+      (new_name held earlier e passes, names.1),
+    )
+
+nothing_sound : (held : List Held) (earlier : List Entry) → Sound held earlier []
+unfolding IsStrictlySortedBy
+nothing_sound held [] = (tt, tt, tt, tt, tt, tt)
+nothing_sound held (e ∷ earlier) = (tt, tt, tt, tt, tt, tt)
+
+judged : (n : ℕ) (held : List Held) (earlier : List Entry) (bytes : List ℕ) → length bytes ≤ n → entries_fault n held earlier bytes ≡ None
+    → Sound held earlier (entries n bytes)
+judged zero held earlier bytes fits h = nothing_sound held earlier
+judged (suc n) held earlier [] fits h = nothing_sound held earlier
+judged (suc n) held earlier (b ∷ bytes) fits h = by (read_entry (b ∷ bytes)) refl h (λ e rest. judged n held (e ∷ earlier) rest) where
+  by : (r : Result (Entry × List ℕ) PutFault) → read_entry (b ∷ bytes) ≡ r → fault_after held earlier (entries_fault n held) r ≡ None
+      → ((e : Entry) (rest : List ℕ) → length rest ≤ n → entries_fault n held (e ∷ earlier) rest ≡ None → Sound held (e ∷ earlier) (entries n rest))
+      → Sound held earlier (entries_after (entries n) r)
+  by (Err fault) is h more = cc h
+  by (Ok read) is h more =
+      let parts = first_none (entry_fault held earlier read.0) (entries_fault n held (read.0 ∷ earlier) read.1) h in
+      let shorter = read_shorter (b ∷ bytes) read is in
+      sound_more held earlier read.0 (entries n read.1) parts.0 (name_read (b ∷ bytes) read is)
+      (more read.0 read.1 (omega (arith, fits, shorter)) parts.1)
+
+pub tree_sound : (payload : List ℕ) (held : List Held) (depth reach : ℕ) → entries_fault (length payload) held [] payload ≡ None
+    → depth ≡ entries_depth (tree_depth held) (entries_of payload) → reach ≡ entries_reach (tree_reach held) (entries_of payload)
+    → depth ≤ 64 → reach ≤ 1024 → IsTree held (entries_of payload)
+tree_sound payload held depth reach passes deep long small short =
+    let sound = judged (length payload) held [] payload (omega arith) passes in
+    (sound.0, sound.1, sound.2, rw (← deep) small, rw (← long) short, sound.3)

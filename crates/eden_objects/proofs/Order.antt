@@ -1,0 +1,35 @@
+-- The order of entries, by their keys.
+use Rattle.std.proofs.Common.{◌≡◌, ◌∙◌, refl, sym, ap, ℕ, Bool, true, false, cond, ◌||◌, List, ◌++◌, Option, Some, None}
+use Rattle.std.specs.Borrow.{Bor}
+use Rattle.std.specs.Ordering.{nat_cmp}
+use Rattle.std.specs.Cmp.Lexicographic.{slice_cmp, texts_ties}
+use Rattle.std.specs.BTreeSet.{BTreeSet, Updates, contains}
+use Rattle.std.specs.BTreeMap.{is_at}
+use Rattle.std.proofs.lemmas.List.{append-nil}
+use Rattle.eden_ids.specs.declared.content.Kind.{Kind}
+use Rattle.eden_objects.specs.declared.entry.RawEntry.{RawEntry}
+use Rattle.eden_objects.specs.Objects.{same_bytes}
+use Rattle.eden_objects.specs.Trees.{Entry, key, key_of}
+use Rattle.eden_objects.specs.Entries.{plain, ending_of, has_name}
+
+key_of_parts : (name : List ℕ) (kind : Option Kind) → name ++ ending_of kind ≡ key_of name kind
+key_of_parts name None = refl
+key_of_parts name (Some kind) = append-nil name
+
+pub key_is : (e : RawEntry) → e.name.now ++ ending_of e.kind ≡ key (plain e)
+key_is e = key_of_parts e.name.now e.kind
+
+-- a name that is noted is among the names
+
+or_first : (t x : Bool) → cond t true x ≡ (t || x)
+or_first true x = refl
+or_first false x = refl
+
+pub noted : (old new : BTreeSet (Bor (List ℕ))) (name : Bor (List ℕ)) (earlier : List Entry)
+    → Updates (λ a b. slice_cmp nat_cmp a.now b.now) old new name true
+    → ((n : Bor (List ℕ)) → contains (λ a b. slice_cmp nat_cmp a.now b.now) old n ≡ has_name n.now earlier)
+    → (n : Bor (List ℕ)) → contains (λ a b. slice_cmp nat_cmp a.now b.now) new n ≡ (same_bytes name.now n.now || has_name n.now earlier)
+noted old new name earlier updates names n =
+    updates.0 n ∙ ap (cond (is_at (λ b. slice_cmp nat_cmp name.now b.now) n) true) (names n)
+    ∙ ap (λ t. cond t true (has_name n.now earlier)) (sym (texts_ties name.now n.now))
+    ∙ or_first (same_bytes name.now n.now) (has_name n.now earlier)

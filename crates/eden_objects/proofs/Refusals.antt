@@ -1,0 +1,101 @@
+-- Refusals of a put call, and what is known where none stands.
+use Rattle.std.proofs.Common.{◌≡◌, ◌≢◌, ◌∙◌, sym, refl, ap, ℕ, Bool, true, false, not, List, length, Option, Some, None, Err, nat_lt}
+use Rattle.eden_ids.specs.declared.id.Id.{Id}
+use Rattle.eden_objects.specs.declared.fault.PutFault.{PutFault}
+use Rattle.eden_objects.specs.declared.fault.PutFault.TheVariants.{TooLarge, IdTaken, ZeroId, BadMode, BadName, OutOfOrder, Duplicate, MissingChild, WrongChildKind, TooDeep, PathTooLong, CutShort, BadCommit, NoMemory}
+use Rattle.eden_objects.specs.declared.word.Word.{Word}
+use Rattle.eden_objects.specs.declared.word.Word.TheVariants.{Blob, Tree, Commit}
+use Rattle.std.specs.List.{list_any}
+use Rattle.eden_objects.specs.Objects.{Held, find, same_bytes, same_word}
+use Rattle.eden_objects.specs.Trees.{Entry}
+use Rattle.eden_objects.specs.Commits.{tree_named}
+use Rattle.eden_objects.specs.Puts.{PutGives, first_fault, if_so, child_fault, named_fault, commit_fault, commit_outcome, entry_fault, is_above, word_wanted}
+use Rattle.eden_objects.specs.Closed.{IsHeld, IsSound}
+
+-- every fault but want of memory is told as the outcome
+pub refused : (fault : PutFault) (held : List Held) → fault ≢ NoMemory → PutGives (Err fault) held held (Err fault)
+refused TooLarge held other = (refl, refl)
+refused IdTaken held other = (refl, refl)
+refused ZeroId held other = (refl, refl)
+refused BadMode held other = (refl, refl)
+refused BadName held other = (refl, refl)
+refused OutOfOrder held other = (refl, refl)
+refused Duplicate held other = (refl, refl)
+refused MissingChild held other = (refl, refl)
+refused WrongChildKind held other = (refl, refl)
+refused TooDeep held other = (refl, refl)
+refused PathTooLong held other = (refl, refl)
+refused CutShort held other = (refl, refl)
+refused BadCommit held other = (refl, refl)
+refused NoMemory held other = absurd (other refl)
+
+same_word-is : (a b : Word) → same_word a b ≡ true → a ≡ b
+same_word-is Blob Blob h = refl
+same_word-is Tree Tree h = refl
+same_word-is Commit Commit h = refl
+same_word-is Blob Tree h = cc h
+same_word-is Blob Commit h = cc h
+same_word-is Tree Blob h = cc h
+same_word-is Tree Commit h = cc h
+same_word-is Commit Blob h = cc h
+same_word-is Commit Tree h = cc h
+
+-- an id that may be named is that of an object of the kind
+pub child_held : (held : List Held) (word : Word) (id : Id) → child_fault word (find id held) ≡ None → IsHeld held word id
+child_held held word id h = by (find id held) refl h where
+  by_word : (x : Held) → (t : Bool) → same_word x.word word ≡ t → if_so (not t) WrongChildKind ≡ None → x.word ≡ word
+  by_word x true is h = same_word-is x.word word is
+  by_word x false is h = cc h
+
+  by : (found : Option Held) → find id held ≡ found → child_fault word found ≡ None → IsHeld held word id
+  by None is h = cc h
+  by (Some x) is h = (x, is, by_word x (same_word x.word word) refl h)
+
+child_not_memory : (word : Word) (found : Option Held) → child_fault word found ≢ Some NoMemory
+child_not_memory word None h = cc h
+child_not_memory word (Some x) h = by (same_word x.word word) h where
+  by : (t : Bool) → if_so (not t) WrongChildKind ≢ Some NoMemory
+  by true h = cc h
+  by false h = cc h
+
+named_not_memory : (held : List Held) (tree : Option Id) → named_fault held tree ≢ Some NoMemory
+named_not_memory held None h = cc h
+named_not_memory held (Some tree) h = child_not_memory Tree (find tree held) h
+
+if_so_first : (t : Bool) (fault : PutFault) (more : Option PutFault) → first_fault (if_so t fault) more ≡ None → more ≡ None
+if_so_first true fault more h = cc h
+if_so_first false fault more h = h
+
+if_so_not_memory : (t : Bool) (fault : PutFault) (more : Option PutFault) → fault ≢ NoMemory → more ≢ Some NoMemory
+    → first_fault (if_so t fault) more ≢ Some NoMemory
+if_so_not_memory true fault more other rest h = other (some_is fault h) where
+  some_is : (fault : PutFault) → Some fault ≡ Some NoMemory → fault ≡ NoMemory
+  some_is fault h = cc h
+if_so_not_memory false fault more other rest h = rest h
+
+pub commit_not_memory : (payload : List ℕ) (held : List Held) → commit_fault payload held ≢ Some NoMemory
+commit_not_memory payload held =
+    if_so_not_memory (nat_lt 8388608 (length payload)) TooLarge _ (λ e. cc e)
+    (if_so_not_memory (nat_lt (length payload) 46) CutShort _ (λ e. cc e) (named_not_memory held (tree_named payload)))
+
+pub commit_refused : (name : List ℕ → List ℕ → Id) (payload : List ℕ) (held : List Held) (fault : PutFault)
+    → commit_fault payload held ≡ Some fault → PutGives (Err fault) held held (commit_outcome name payload held)
+commit_refused name payload held fault is =
+    rw is (refused fault held (λ memory. commit_not_memory payload held (is ∙ ap Some memory)))
+
+named_held : (held : List Held) (tree : Option Id) → named_fault held tree ≡ None → (id : Id) × (tree ≡ Some id) × IsHeld held Tree id
+named_held held None h = cc h
+named_held held (Some id) h = (id, refl, child_held held Tree id h)
+
+pub commit_sound : (payload : List ℕ) (held : List Held) → commit_fault payload held ≡ None → IsSound Commit payload held
+commit_sound payload held h =
+    named_held held (tree_named payload)
+    (if_so_first (nat_lt (length payload) 46) CutShort _ (if_so_first (nat_lt 8388608 (length payload)) TooLarge _ h))
+
+-- an entry that may follow names an object of its kind
+pub entry_held : (held : List Held) (earlier : List Entry) (e : Entry) → None ≡ entry_fault held earlier e
+    → IsHeld held (word_wanted e.kind) e.id
+entry_held held earlier e h =
+    child_held held (word_wanted e.kind) e.id
+    (if_so_first (not (is_above e earlier)) OutOfOrder _
+    (if_so_first (list_any (λ f. same_bytes f.name e.name) earlier) Duplicate _ (sym h)))

@@ -1,0 +1,77 @@
+//! What a tree's entries so far ask of the next one.
+ghost use Rattle.std.specs.Prelude.{◌≡◌, ◌∷◌, [], List, OnOk};
+ghost use Rattle.std.specs.Ordering.{nat_cmp};
+ghost use Rattle.std.specs.Cmp.Lexicographic.{slice_cmp};
+ghost use Rattle.eden_objects.specs.Trees.{Entry, key};
+ghost use Rattle.eden_objects.specs.Entries.{plain, option_plain, HasSeen, ending_of, is_above_last, has_name};
+
+use crate::entry::RawEntry;
+use eden_ids::NoMemory;
+use std::alloc::Global;
+use std::cmp::Ordering;
+use std::collections::BTreeSet;
+
+/// The names that came, and the last entry.
+#[derive(Drop)]
+pub(crate) struct Seen<'a> {
+    names: BTreeSet<&'a [u8]>,
+    last: Option<RawEntry<'a>>,
+}
+
+/// What follows a name where entries are compared.
+fn ending(entry: &RawEntry<'_>) -> &'static [u8]
+    ensures { result.now ≡ ending_of entry.now.kind }
+{
+    match entry.kind {
+        None => b"/".as_slice(),
+        Some(_) => b"".as_slice(),
+    }
+}
+
+/// How two entries stand in Git's order.
+fn key_order(first: &RawEntry<'_>, second: &RawEntry<'_>) -> Ordering
+    ensures { result ≡ slice_cmp nat_cmp (key (plain first.now)) (key (plain second.now)) }
+{
+    let bytes = first.name.iter().chain(ending(first).iter());
+    bytes.cmp(second.name.iter().chain(ending(second).iter()))
+}
+
+impl<'a> Seen<'a> {
+    /// Before the first entry.
+    pub(crate) fn new(alloc: Global) -> Seen<'a>
+        ensures { HasSeen result [] }
+    {
+        Seen {
+            names: BTreeSet::new(alloc),
+            last: None,
+        }
+    }
+
+    /// Whether an entry with this name came.
+    pub(crate) fn has_name(&self, name: &'a [u8]) -> bool
+        ensures { (earlier : List Entry) → HasSeen self.now earlier → result ≡ has_name name.now earlier }
+    {
+        self.names.contains(&name)
+    }
+
+    /// Whether the entry stands above the last one.
+    pub(crate) fn is_below(&self, entry: &RawEntry<'_>) -> bool
+        ensures { result ≡ is_above_last (plain entry.now) (option_plain self.now.last) }
+    {
+        match &self.last {
+            None => true,
+            Some(before) => key_order(before, entry) == Ordering::Less,
+        }
+    }
+
+    /// Takes the next entry.
+    pub(crate) fn note(&mut self, entry: RawEntry<'a>) -> Result<(), NoMemory>
+        ensures { OnOk result ((earlier : List Entry) → HasSeen self.old earlier → HasSeen self.new (plain entry.entry ∷ earlier)) }
+    {
+        if self.names.insert(entry.name).is_err() {
+            return Err(NoMemory);
+        }
+        self.last = Some(entry);
+        Ok(())
+    }
+}
