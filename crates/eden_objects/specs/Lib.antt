@@ -3,5 +3,8 @@ pub mod Trees
 pub mod Commits
 pub mod Puts
 pub mod Closed
+pub mod Laws
+pub mod Walks
 pub mod Contents
 pub mod Entries
+pub mod Listings

@@ -17,7 +17,7 @@ pub(crate) struct RawEntry<'a> {
 
 /// The bytes before the first that is `byte`, and those after it.
 #[tactic(auto, using(crate::proofs::Cuts::cut_step, crate::proofs::Cuts::cut_here, crate::proofs::Cuts::behind_none))]
-fn cut(bytes: &[u8], byte: u8) -> Option<(&[u8], &[u8])>
+pub(crate) fn cut(bytes: &[u8], byte: u8) -> Option<(&[u8], &[u8])>
     ensures { parts_of result ≡ cut byte bytes.now }
 {
     for at in 0..bytes.len() {

@@ -1,0 +1,111 @@
+-- A listing that is gathered entry by entry.
+use Rattle.std.proofs.Common.{◌≡◌, ℕ, ◌<◌, ◌≤◌, ◌++◌, Bool, List, [], ◌∷◌, map, take, length, Option, Some, None, refl, sym, ap, subst, ◌∙◌, arith, append_assoc}
+use Rattle.std.proofs.lemmas.List.{map-append}
+use Rattle.std.proofs.lemmas.List.Elements.{filter-append}
+use Rattle.std.proofs.Math.Seq.{take-append_seam}
+use Rattle.std.specs.Prelude.{filter}
+use Rattle.std.specs.List.{AllByRecursion}
+use Rattle.eden_globs.specs.Filters.{admits}
+use Rattle.eden_ids.specs.declared.id.Id.{Id}
+use Rattle.eden_ids.specs.declared.content.Kind.{Kind}
+use Rattle.eden_objects.specs.declared.word.Word.TheVariants.{Tree}
+use Rattle.eden_objects.specs.Objects.{Held, find, payload_of}
+use Rattle.eden_objects.specs.Trees.{Entry, entries_of, entries_depth, tree_depth}
+use Rattle.eden_objects.specs.Commits.{Row, under, rows_of_kind, entry_rows, entries_rows, tree_rows}
+use Rattle.eden_objects.specs.Puts.{word_wanted}
+use Rattle.eden_objects.specs.Closed.{IsHeld, HasTree, IsClosed}
+use Rattle.eden_objects.specs.Listings.{behind, rows_behind}
+use Rattle.eden_objects.proofs.Closed.{depth_of_tree, child_below, later_below}
+use Rattle.eden_objects.proofs.WalkSteps.{entries_in, tree_here, rows_here}
+
+pub behind-append : (test : List ℕ → Bool) (front : List ℕ) (xs ys : List Row) → rows_behind test front (xs ++ ys) ≡ rows_behind test front xs ++ rows_behind test front ys
+behind-append test front xs ys = ap (filter (λ row. test row.0)) (map-append (behind front) xs ys) ∙ filter-append (λ row. test row.0) (map (behind front) xs) (map (behind front) ys)
+
+-- one entry more
+more : (test : List ℕ → Bool) (front : List ℕ) (rows : Id → List Row) (target done new : List Row) (e : Entry) (es all : List Entry) → all ≡ e ∷ es
+    → target ≡ done ++ rows_behind test front (entries_rows rows all) → new ≡ done ++ rows_behind test front (entry_rows rows e)
+    → target ≡ new ++ rows_behind test front (entries_rows rows es)
+more test front rows target done new e es all is so_far now =
+    so_far
+    ∙ ap (λ fs. done ++ rows_behind test front (entries_rows rows fs)) is
+    ∙ ap (λ more. done ++ more) (behind-append test front (entry_rows rows e) (entries_rows rows es))
+    ∙ sym (append_assoc done (rows_behind test front (entry_rows rows e)) (rows_behind test front (entries_rows rows es)))
+    ∙ ap (λ front_rows. front_rows ++ rows_behind test front (entries_rows rows es)) (sym now)
+
+pub one_file : (test : List ℕ → Bool) (front : List ℕ) (rows : Id → List Row) (target done new : List Row) (e : Entry) (es all : List Entry) (kind : Kind) → all ≡ e ∷ es → e.kind ≡ Some kind
+    → target ≡ done ++ rows_behind test front (entries_rows rows all) → new ≡ done ++ rows_behind test front ((e.name, kind, e.id) ∷ [])
+    → target ≡ new ++ rows_behind test front (entries_rows rows es)
+one_file test front rows target done new e es all kind is file so_far now =
+    more test front rows target done new e es all is so_far
+    (now ∙ ap (λ k. done ++ rows_behind test front (rows_of_kind e.name k e.id (rows e.id))) (sym file))
+
+under_behind : (front name : List ℕ) (rows : List Row) → map (behind front) (map (under name) rows) ≡ map (behind (front ++ name ++ 47 ∷ [])) rows
+under_behind front name [] = refl
+under_behind front name (row ∷ rows) =
+    let path : front ++ (name ++ 47 ∷ row.0) ≡ (front ++ name ++ 47 ∷ []) ++ row.0 =
+    sym (append_assoc front name (47 ∷ row.0)) ∙ sym (append_assoc (front ++ name) (47 ∷ []) row.0) in
+    let rest = under_behind front name rows in
+    λ i. (path i, row.1, row.2) ∷ rest i
+
+pub one_dir : (test : List ℕ → Bool) (front inner : List ℕ) (rows : Id → List Row) (target done new : List Row) (e : Entry) (es all : List Entry) → all ≡ e ∷ es → e.kind ≡ None
+    → inner ≡ front ++ e.name ++ 47 ∷ []
+    → target ≡ done ++ rows_behind test front (entries_rows rows all) → new ≡ done ++ rows_behind test inner (rows e.id)
+    → target ≡ new ++ rows_behind test front (entries_rows rows es)
+one_dir test front inner rows target done new e es all is dir entered so_far now =
+    more test front rows target done new e es all is so_far
+    (now ∙ ap (λ p. done ++ rows_behind test p (rows e.id)) entered
+    ∙ ap (λ found. done ++ filter (λ row. test row.0) found) (sym (under_behind front e.name (rows e.id)))
+    ∙ ap (λ k. done ++ rows_behind test front (rows_of_kind e.name k e.id (rows e.id))) (sym dir))
+
+-- the bytes before the name are there again
+pub left : (front inner name : List ℕ) → inner ≡ front ++ name ++ 47 ∷ [] → take (length front) inner ≡ front
+left front inner name is = ap (take (length front)) (is ∙ append_assoc front name (47 ∷ [])) ∙ take-append_seam front (name ++ 47 ∷ [])
+
+pub all_listed : (test : List ℕ → Bool) (front : List ℕ) (held : List Held) (id : Id) (done : List Row) → IsClosed held → HasTree held id
+    → done ++ rows_behind test front (tree_rows held id) ≡ done ++ rows_behind test front (entries_rows (tree_rows held) (entries_in held id))
+all_listed test front held id done closed has = ap (λ rows. done ++ rows_behind test front rows) (rows_here held closed id has)
+
+pub all_held : (held : List Held) (id : Id) → IsClosed held → HasTree held id → AllByRecursion (λ e. IsHeld held (word_wanted e.kind) e.id) (entries_in held id)
+all_held held id closed has = (tree_here held closed id has).0
+
+pub depth_here : (held : List Held) (id : Id) → IsClosed held → HasTree held id → tree_depth held id ≡ entries_depth (tree_depth held) (entries_in held id)
+depth_here held id closed has =
+    depth_of_tree held closed id has.0 has.1 has.2
+    ∙ ap (λ o. entries_depth (tree_depth held) (entries_of (payload_of o))) (sym has.1)
+
+pub dir_is_held : (held : List Held) (e : Entry) (es all : List Entry) → all ≡ e ∷ es → e.kind ≡ None → AllByRecursion (λ e. IsHeld held (word_wanted e.kind) e.id) all → HasTree held e.id
+dir_is_held held e es all is dir h =
+    let first = subst (λ fs. AllByRecursion (λ f. IsHeld held (word_wanted f.kind) f.id) fs) is h in
+    subst (λ k. IsHeld held (word_wanted k) e.id) dir first.0
+
+pub later_held : (held : List Held) (e : Entry) (es all : List Entry) → all ≡ e ∷ es → AllByRecursion (λ e. IsHeld held (word_wanted e.kind) e.id) all
+    → AllByRecursion (λ e. IsHeld held (word_wanted e.kind) e.id) es
+later_held held e es all is h = (subst (λ fs. AllByRecursion (λ f. IsHeld held (word_wanted f.kind) f.id) fs) is h).1
+
+pub dir_is_below : (depth : Id → ℕ) (e : Entry) (es all : List Entry) (n : ℕ) → all ≡ e ∷ es → e.kind ≡ None → entries_depth depth all ≤ n → depth e.id < n
+dir_is_below depth e es all n is dir h =
+    let same : entries_depth depth all ≡ entries_depth depth (e ∷ es) = ap (entries_depth depth) is in
+    let less = child_below depth e es dir in
+    omega (arith, same, less, h)
+
+pub later_is_below : (depth : Id → ℕ) (e : Entry) (es all : List Entry) (n : ℕ) → all ≡ e ∷ es → entries_depth depth all ≤ n → entries_depth depth es ≤ n
+later_is_below depth e es all n is h =
+    let same : entries_depth depth all ≡ entries_depth depth (e ∷ es) = ap (entries_depth depth) is in
+    let less = later_below depth e es in
+    omega (arith, same, less, h)
+
+behind_nothing : (rows : List Row) → map (behind []) rows ≡ rows
+behind_nothing [] = refl
+behind_nothing (row ∷ rows) = ap (λ (more : List Row). row ∷ more) (behind_nothing rows)
+
+pub nothing_before : (test : List ℕ → Bool) (front : List ℕ) (rows found : List Row) → front ≡ [] → found ≡ rows_behind test front rows → filter (λ row. test row.0) rows ≡ found
+nothing_before test front rows found none is =
+    sym (is ∙ ap (λ p. rows_behind test p rows) none ∙ ap (filter (λ row. test row.0)) (behind_nothing rows))
+
+every_row : (rows : List Row) → filter (λ row. admits [] row.0) rows ≡ rows
+every_row [] = refl
+every_row (row ∷ rows) = ap (λ (more : List Row). row ∷ more) (every_row rows)
+
+pub all_wanted : (patterns : List (List ℕ)) (front whole : List ℕ) (rows found : List Row) → patterns ≡ [] → front ≡ whole → found ≡ rows_behind (admits patterns) front rows → found ≡ map (behind whole) rows
+all_wanted patterns front whole rows found none is wanted =
+    wanted ∙ ap (λ p. filter (λ row. admits p row.0) (map (behind front) rows)) none ∙ every_row (map (behind front) rows) ∙ ap (λ p. map (behind p) rows) is

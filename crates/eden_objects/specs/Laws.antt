@@ -1,0 +1,68 @@
+-- What holds in every closed store.
+use Rattle.std.specs.Prelude.{◌≡◌, ℕ, true, List, map, Some, None}
+use Rattle.std.specs.Ordering.{nat_cmp}
+use Rattle.std.specs.Cmp.Lexicographic.{slice_cmp}
+use Rattle.std.specs.List.{AllByRecursion}
+use Rattle.std.specs.List.Sorted.{IsStrictlySortedBy}
+use Rattle.eden_ids.specs.declared.id.Id.{Id}
+use Rattle.eden_ids.specs.FileMaps.{FileMap, file_at, paths, IsFileMap}
+use Rattle.eden_ids.specs.Paths.{path_fault}
+use Rattle.eden_objects.specs.declared.word.Word.TheVariants.{Blob, Tree}
+use Rattle.eden_objects.specs.Objects.{Held, find}
+use Rattle.eden_objects.specs.Trees.{Entry, cut, entries_of, is_name}
+use Rattle.eden_objects.specs.Commits.{Row, tree_rows, entries_rows, find_row, commit_rows, commit_map}
+use Rattle.eden_objects.specs.Walks.{file_named, dir_named, then_find, content_found}
+use Rattle.eden_objects.specs.Closed.{IsHeld, HasTree, IsClosed, NamesDiffer}
+
+-- the files of a tree are those of its entries
+abbrev pub TreesUnfold : Type 0
+TreesUnfold = (held : List Held) → IsClosed held → (id : Id) (h : Held) → find id held ≡ Some h → h.word ≡ Tree
+    → tree_rows held id ≡ entries_rows (tree_rows held) (entries_of h.payload)
+
+-- a path with no slash is that of a file among the entries
+abbrev pub NamesFound : Type 0
+NamesFound = (rows : Id → List Row) (p : List ℕ) (es : List Entry) → cut 47 p ≡ None → find_row p (entries_rows rows es) ≡ file_named p es
+
+-- a path with a slash is that of a file below the directory that it begins with
+abbrev pub DirectoriesFound : Type 0
+DirectoriesFound = (rows : Id → List Row) (p c r : List ℕ) (es : List Entry) → cut 47 p ≡ Some (c, r) → AllByRecursion (λ e. is_name e.name ≡ true) es → NamesDiffer es
+    → find_row p (entries_rows rows es) ≡ then_find rows r (dir_named c es)
+
+-- the files of a tree stand in byte order of their paths
+abbrev pub PathsRise : Type 0
+PathsRise = (held : List Held) → IsClosed held → (id : Id) → HasTree held id → IsStrictlySortedBy (slice_cmp nat_cmp) (map (λ row. row.0) (tree_rows held id))
+
+-- each path of a tree is a path
+abbrev pub PathsAreLegal : Type 0
+PathsAreLegal = (held : List Held) → IsClosed held → (id : Id) → HasTree held id → AllByRecursion (λ row. path_fault row.0 ≡ None) (tree_rows held id)
+
+-- The rows of a commit and its file map. Each law is of every closed store, and so of every store that there is.
+
+-- the paths stand in byte order, so each is that of one row
+abbrev pub RowsRise : Type 0
+RowsRise = (held : List Held) → IsClosed held → (commit : Id) (rows : List Row) → commit_rows held commit ≡ Some rows
+    → IsStrictlySortedBy (slice_cmp nat_cmp) (map (λ row. row.0) rows)
+
+-- each path is a path
+abbrev pub RowsAreLegal : Type 0
+RowsAreLegal = (held : List Held) → IsClosed held → (commit : Id) (rows : List Row) → commit_rows held commit ≡ Some rows
+    → AllByRecursion (λ row. path_fault row.0 ≡ None) rows
+
+-- each file is a blob that is held
+abbrev pub RowsNameBlobs : Type 0
+RowsNameBlobs = (held : List Held) → IsClosed held → (commit : Id) (rows : List Row) → commit_rows held commit ≡ Some rows
+    → AllByRecursion (λ row. IsHeld held Blob row.2) rows
+
+-- no two files clash
+abbrev pub CommitsAreFileMaps : Type 0
+CommitsAreFileMaps = (held : List Held) → IsClosed held → (commit : Id) (files : FileMap) → commit_map held commit ≡ Some files → IsFileMap files
+
+-- the map has the paths of the rows
+abbrev pub CommitsListTheirRows : Type 0
+CommitsListTheirRows = (held : List Held) → IsClosed held → (commit : Id) (rows : List Row) (files : FileMap) → commit_rows held commit ≡ Some rows → commit_map held commit ≡ Some files
+    → paths files ≡ map (λ row. row.0) rows
+
+-- at each path the map has the file of the row
+abbrev pub RowsAreFiles : Type 0
+RowsAreFiles = (held : List Held) (commit : Id) (rows : List Row) (files : FileMap) → commit_rows held commit ≡ Some rows → commit_map held commit ≡ Some files
+    → (path : List ℕ) → file_at files path ≡ content_found held (find_row path rows)

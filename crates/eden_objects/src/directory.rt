@@ -1,0 +1,78 @@
+ghost use Rattle.std.specs.Prelude.{◌≡◌, ◌<◌, length, IfSome};
+ghost use Rattle.eden_objects.specs.Objects.{same_bytes};
+ghost use Rattle.eden_objects.specs.Trees.{entries_of};
+ghost use Rattle.eden_objects.specs.Walks.{entries_read, file_if, file_named, dir_if, dir_named};
+
+use crate::entry::{RawEntry, read_entry};
+use eden_ids::{Id, Kind};
+
+/// The first entry of some bytes and what stands behind it, if there is one.
+#[tactic(auto, using(crate::proofs::Fuel::all_read, crate::proofs::Fuel::still_shorter))]
+pub(crate) fn next_entry(bytes: &[u8]) -> Option<(RawEntry<'_>, &[u8])>
+    ensures entries { entries_of bytes.now ≡ entries_read result }
+    ensures shorter { IfSome result (λ read. length read.1.now < length bytes.now) }
+{
+    read_entry(bytes).ok()
+}
+
+/// The file that the entry is, if it has this name.
+fn file_with(entry: &RawEntry<'_>, name: &[u8]) -> Option<(Kind, Id)>
+    ensures { result ≡ file_if entry.now.kind entry.now.id (same_bytes entry.now.name.now name.now) }
+{
+    match entry.kind {
+        None => None,
+        Some(kind) => {
+            if entry.name == name {
+                Some((kind, entry.id))
+            } else {
+                None
+            }
+        }
+    }
+}
+
+/// The tree of the directory that the entry is, if it has this name.
+fn dir_with(entry: &RawEntry<'_>, name: &[u8]) -> Option<Id>
+    ensures { result ≡ dir_if entry.now.kind entry.now.id (same_bytes entry.now.name.now name.now) }
+{
+    match entry.kind {
+        None => {
+            if entry.name == name {
+                Some(entry.id)
+            } else {
+                None
+            }
+        }
+        Some(_) => None,
+    }
+}
+
+/// The file with a name in the payload of a tree.
+#[tactic(auto, using(crate::proofs::Fuel::file_skipped, crate::proofs::Fuel::file_hit))]
+pub(crate) fn file_in(payload: &[u8], name: &[u8]) -> Option<(Kind, Id)>
+    ensures { result ≡ file_named name.now (entries_of payload.now) }
+{
+    let mut rest = payload;
+    'entries: while let Some((entry, after)) = next_entry(rest) {
+        match file_with(&entry, name) {
+            Some(found) => return Some(found),
+            None => rest = after,
+        }
+    }
+    None
+}
+
+/// The tree of the directory with a name in the payload of a tree.
+#[tactic(auto, using(crate::proofs::Fuel::dir_skipped, crate::proofs::Fuel::dir_hit))]
+pub(crate) fn dir_in(payload: &[u8], name: &[u8]) -> Option<Id>
+    ensures { result ≡ dir_named name.now (entries_of payload.now) }
+{
+    let mut rest = payload;
+    'entries: while let Some((entry, after)) = next_entry(rest) {
+        match dir_with(&entry, name) {
+            Some(found) => return Some(found),
+            None => rest = after,
+        }
+    }
+    None
+}

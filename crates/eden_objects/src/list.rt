@@ -1,0 +1,233 @@
+ghost use Rattle.std.specs.Prelude.{◌≡◌, ◌++◌, ◌∷◌, [], Some, map, IfOk, OnOk};
+ghost use Rattle.eden_globs.specs.Filters.{admits};
+ghost use Rattle.eden_ids.specs.Paths.{lies_below};
+ghost use Rattle.eden_objects.specs.Commits.{commit_rows, rows_where, tree_rows};
+ghost use Rattle.eden_objects.specs.Closed.{HasTree};
+ghost use Rattle.eden_objects.specs.Listings.{IsBelow, Lists, behind, rows_behind, rows_below};
+
+use crate::directory::{dir_in, next_entry};
+use crate::entry::cut;
+use crate::fault::{ListFault, NoCommit};
+use crate::store::Store;
+use eden_globs::Filter;
+use eden_ids::{Id, Kind, Naming, NoMemory, Path};
+use std::alloc::Global;
+
+/// The files that were found so far, and the bytes that stand before each name of the directory that is read.
+#[derive(Drop)]
+struct Listing {
+    front: Vec<u8>,
+    rows: Vec<(Path, Kind, Id)>,
+}
+
+/// The path that begins with these bytes and ends with a name.
+fn path_behind(alloc: Global, front: &mut Vec<u8>, name: &[u8]) -> Result<Path, NoMemory>
+    ensures path { IfOk result (λ path. path ≡ front.old.items ++ name.now) }
+    ensures front { OnOk result (front.new.items ≡ front.old.items) }
+{
+    let length = front.len();
+    let Ok(_) = front.extend_from_slice(name) else {
+        return Err(NoMemory);
+    };
+    let parsed = Path::parse(alloc, front.as_slice());
+    front.truncate(length);
+    match parsed {
+        Ok(path) => Ok(path),
+        Err(_) => Err(NoMemory),
+    }
+}
+
+/// The bytes before each name of the directory at a path.
+fn front_of(alloc: Global, path: &[u8]) -> Result<Vec<u8>, NoMemory>
+    ensures { IfOk result (λ front. front.items ≡ path.now ++ 47 ∷ []) }
+{
+    let Ok(mut front) = path.to_vec(alloc) else {
+        return Err(NoMemory);
+    };
+    match front.push(b'/') {
+        Ok(()) => Ok(front),
+        Err(_) => Err(NoMemory),
+    }
+}
+
+/// The filter with no pattern, which admits every path.
+fn everything(alloc: Global) -> Result<Filter, NoMemory>
+    ensures { IfOk result (λ filter. filter ≡ []) }
+{
+    match Filter::parse(alloc, &[]) {
+        Ok(filter) => Ok(filter),
+        Err(_) => Err(NoMemory),
+    }
+}
+
+impl Listing {
+    /// Adds a file of the directory that is read, if it is wanted.
+    fn add(
+        &mut self,
+        alloc: Global,
+        filter: &Filter,
+        name: &[u8],
+        kind: Kind,
+        id: Id,
+    ) -> Result<(), NoMemory>
+        ensures rows { OnOk result (self.new.rows.items
+            ≡ self.old.rows.items ++ rows_behind (admits filter.now) self.old.front.items ((name.now, kind, id) ∷ [])) }
+        ensures front { OnOk result (self.new.front.items ≡ self.old.front.items) }
+    {
+        let path = path_behind(alloc, &mut self.front, name)?;
+        if !filter.admits(&path) {
+            return Ok(());
+        }
+        match self.rows.push((path, kind, id)) {
+            Ok(()) => Ok(()),
+            Err(_) => Err(NoMemory),
+        }
+    }
+
+    /// Goes on to a directory of the one that is read.
+    fn enter(&mut self, name: &[u8]) -> Result<(), NoMemory>
+        ensures rows { OnOk result (self.new.rows.items ≡ self.old.rows.items) }
+        ensures front { OnOk result (self.new.front.items ≡ self.old.front.items ++ name.now ++ 47 ∷ []) }
+    {
+        let Ok(_) = self.front.extend_from_slice(name) else {
+            return Err(NoMemory);
+        };
+        match self.front.push(b'/') {
+            Ok(()) => Ok(()),
+            Err(_) => Err(NoMemory),
+        }
+    }
+}
+
+impl<N: Naming + Drop> Store<N> {
+    /// The files of a commit that a filter admits, each with its path, its kind and its blob, in byte order of the paths.
+    ///
+    /// `NoCommit` comes where the id is no commit's; `NoMemory` may stand in place of any answer where a growth was refused. Each
+    /// directory is read once.
+    pub fn list(&self, commit: Id, filter: &Filter) -> Result<Vec<(Path, Kind, Id)>, ListFault>
+        ensures { Lists result (rows_where (admits filter.now) (commit_rows self.now commit)) }
+    {
+        match self.tree_of(commit) {
+            Ok(Some(tree)) => self.list_tree(tree, filter),
+            Ok(None) => Ok(Vec::new(self.allocator())),
+            Err(NoCommit) => Err(ListFault::NoCommit),
+        }
+    }
+
+    /// The files of a commit that stand below a path, each with its path, its kind and its blob, in byte order of the paths. The path
+    /// need not be a directory of the commit: then there are none.
+    ///
+    /// `NoCommit` comes where the id is no commit's; `NoMemory` may stand in place of any answer where a growth was refused. Only the
+    /// directories on the way to the path, and those below it, are read.
+    pub fn list_below(&self, commit: Id, top: &Path) -> Result<Vec<(Path, Kind, Id)>, ListFault>
+        ensures { Lists result (rows_where (λ p. lies_below p top.now) (commit_rows self.now commit)) }
+    {
+        match self.tree_of(commit) {
+            Ok(Some(tree)) => self.list_dir(tree, top.as_bytes()),
+            Ok(None) => Ok(Vec::new(self.allocator())),
+            Err(NoCommit) => Err(ListFault::NoCommit),
+        }
+    }
+
+    /// The files of a tree that stand below a path.
+    fn list_dir(&self, tree: Id, path: &[u8]) -> Result<Vec<(Path, Kind, Id)>, ListFault>
+        requires { HasTree self.now tree }
+        ensures { Lists result (Some (rows_below self.now tree path.now)) }
+    {
+        let Some(dir) = self.dir_below(tree, path) else {
+            return Ok(Vec::new(self.allocator()));
+        };
+        match self.gather_all(dir, path) {
+            Ok(rows) => Ok(rows),
+            Err(NoMemory) => Err(ListFault::NoMemory),
+        }
+    }
+
+    /// The directory of a tree at a path.
+    #[tactic(auto, using(crate::proofs::WalkSteps::rest_shorter))]
+    fn dir_below(&self, tree: Id, path: &[u8]) -> Option<Id>
+        requires { HasTree self.now tree }
+        ensures { IsBelow self.now tree path.now result }
+    {
+        self.closed_law();
+        let mut dir = tree;
+        let mut rest = path;
+        'walk: loop {
+            match cut(rest, b'/') {
+                None => return dir_in(self.payload(dir), rest),
+                Some((name, after)) => match dir_in(self.payload(dir), name) {
+                    None => return None,
+                    Some(child) => {
+                        dir = child;
+                        rest = after;
+                    }
+                },
+            }
+        }
+    }
+
+    /// The files of a tree, behind the path of its directory.
+    #[tactic(auto, using(crate::proofs::Gathering::all_wanted))]
+    fn gather_all(&self, dir: Id, path: &[u8]) -> Result<Vec<(Path, Kind, Id)>, NoMemory>
+        requires { HasTree self.now dir }
+        ensures { IfOk result (λ rows. rows.items ≡ map (behind (path.now ++ 47 ∷ [])) (tree_rows self.now dir)) }
+    {
+        let front = front_of(self.allocator(), path)?;
+        let filter = everything(self.allocator())?;
+        self.gather_behind(dir, &filter, front)
+    }
+
+    /// The files of a tree that a filter admits.
+    #[tactic(auto, using(crate::proofs::Gathering::nothing_before))]
+    fn list_tree(&self, tree: Id, filter: &Filter) -> Result<Vec<(Path, Kind, Id)>, ListFault>
+        requires { HasTree self.now tree }
+        ensures { Lists result (rows_where (admits filter.now) (Some (tree_rows self.now tree))) }
+    {
+        match self.gather_behind(tree, filter, Vec::new(self.allocator())) {
+            Ok(rows) => Ok(rows),
+            Err(NoMemory) => Err(ListFault::NoMemory),
+        }
+    }
+
+    /// The files of a tree that a filter admits behind these bytes.
+    fn gather_behind(
+        &self,
+        tree: Id,
+        filter: &Filter,
+        front: Vec<u8>,
+    ) -> Result<Vec<(Path, Kind, Id)>, NoMemory>
+        requires { HasTree self.now tree }
+        ensures { IfOk result (λ rows. rows.items ≡ rows_behind (admits filter.now) front.items (tree_rows self.now tree)) }
+    {
+        let mut listing = Listing {
+            front,
+            rows: Vec::new(self.allocator()),
+        };
+        self.gather(tree, filter, &mut listing)?;
+        Ok(listing.rows)
+    }
+
+    /// Adds the files of a tree to a listing, directory by directory.
+    fn gather(&self, tree: Id, filter: &Filter, listing: &mut Listing) -> Result<(), NoMemory>
+        requires { HasTree self.now tree }
+        ensures rows { OnOk result (listing.new.rows.items
+            ≡ listing.old.rows.items ++ rows_behind (admits filter.now) listing.old.front.items (tree_rows self.now tree)) }
+        ensures front { OnOk result (listing.new.front.items ≡ listing.old.front.items) }
+    {
+        self.closed_law();
+        let mut rest = self.payload(tree);
+        'entries: while let Some((entry, after)) = next_entry(rest) {
+            let Some(kind) = entry.kind else {
+                let length = listing.front.len();
+                listing.enter(entry.name)?;
+                self.gather(entry.id, filter, listing)?;
+                listing.front.truncate(length);
+                rest = after;
+                continue;
+            };
+            listing.add(self.allocator(), filter, entry.name, kind, entry.id)?;
+            rest = after;
+        }
+        Ok(())
+    }
+}

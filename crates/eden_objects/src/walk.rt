@@ -1,0 +1,129 @@
+ghost use Rattle.std.specs.Prelude.{◌≡◌, Some, None, if◌then◌else◌, option_copied, is_some};
+ghost use Rattle.std.specs.Result.{result_ok};
+ghost use Rattle.eden_objects.specs.Objects.{blob_of, find, payload_of, same_word};
+ghost use Rattle.eden_objects.specs.Commits.{commit_rows, find_row, row_in, tree_named, tree_rows};
+ghost use Rattle.eden_objects.specs.Closed.{HasTree};
+ghost use Rattle.eden_objects.specs.Walks.{IsTreeOf, rows_of_tree, tree_seen};
+
+use crate::directory::{dir_in, file_in};
+use crate::entry::{cut, tree_named};
+use crate::fault::NoCommit;
+use crate::store::{Object, Store};
+use crate::word::{Word, same_word};
+use eden_ids::{Id, Kind, Naming, Path};
+
+impl Object {
+    /// The payload, if the object is a blob.
+    fn blob(&self) -> Option<&[u8]>
+        ensures { option_copied result ≡ (if same_word self.now.word Word.Blob then Some self.now.payload.items else None) }
+    {
+        if same_word(self.word, Word::Blob) {
+            Some(self.payload.as_slice())
+        } else {
+            None
+        }
+    }
+
+    /// The tree that the object names, if it is a commit.
+    fn tree(&self) -> Option<Id>
+        ensures { result ≡ (if same_word self.now.word Word.Commit then tree_named self.now.payload.items else None) }
+    {
+        if same_word(self.word, Word::Commit) {
+            tree_named(self.payload.as_slice())
+        } else {
+            None
+        }
+    }
+}
+
+impl<N: Naming + Drop> Store<N> {
+    /// Whether the id is that of a commit, of which the empty one is always there. This takes no memory.
+    pub fn has_commit(&self, id: Id) -> bool
+        ensures { result ≡ is_some (commit_rows self.now id) }
+    {
+        self.tree_of(id).is_ok()
+    }
+
+    /// The payload of the blob with an id: the bytes of a file, or the target of a link. None where the id is not that of a blob. This
+    /// takes no memory.
+    pub fn blob(&self, id: Id) -> Option<&[u8]>
+        ensures { option_copied result ≡ blob_of self.now id }
+    {
+        match self.object(id) {
+            Some(object) => object.blob(),
+            None => None,
+        }
+    }
+
+    /// The file of a commit at a path: its kind and its blob, or none where the commit has no file there.
+    ///
+    /// `NoCommit` comes where the id is no commit's. This takes no memory, and reads one directory for each component of the path.
+    pub fn lookup(&self, commit: Id, path: &Path) -> Result<Option<(Kind, Id)>, NoCommit>
+        ensures { result_ok result ≡ row_in path.now (commit_rows self.now commit) }
+    {
+        match self.tree_of(commit) {
+            Ok(Some(tree)) => Ok(self.find_below(tree, path.as_bytes())),
+            Ok(None) => Ok(None),
+            Err(NoCommit) => Err(NoCommit),
+        }
+    }
+
+    /// The payload of the object with an id, and no bytes where there is none.
+    pub(crate) fn payload(&self, id: Id) -> &[u8]
+        ensures { result.now ≡ payload_of (find id self.now) }
+    {
+        match self.object(id) {
+            Some(object) => object.payload.as_slice(),
+            None => b"".as_slice(),
+        }
+    }
+
+    /// The tree that the commit with an id names, if there is one.
+    fn commit_tree(&self, id: Id) -> Option<Id>
+        ensures { result ≡ tree_seen (find id self.now) }
+    {
+        match self.object(id) {
+            Some(object) => object.tree(),
+            None => None,
+        }
+    }
+
+    /// The tree of a commit; the empty commit has none.
+    #[tactic(auto, using(crate::proofs::TreeOf::seen_rows, crate::proofs::TreeOf::seen_tree))]
+    pub(crate) fn tree_of(&self, commit: Id) -> Result<Option<Id>, NoCommit>
+        ensures rows { commit_rows self.now commit ≡ rows_of_tree self.now result }
+        ensures held { IsTreeOf self.now result }
+    {
+        self.closed_law();
+        if commit == Id::ZERO {
+            return Ok(None);
+        }
+        match self.commit_tree(commit) {
+            Some(tree) => Ok(Some(tree)),
+            None => Err(NoCommit),
+        }
+    }
+
+    /// The file of a tree at a path.
+    #[tactic(auto, using(crate::proofs::WalkSteps::rest_shorter))]
+    fn find_below(&self, tree: Id, path: &[u8]) -> Option<(Kind, Id)>
+        requires { HasTree self.now tree }
+        ensures { result ≡ find_row path.now (tree_rows self.now tree) }
+    {
+        self.closed_law();
+        let mut tree = tree;
+        let mut rest = path;
+        'walk: loop {
+            match cut(rest, b'/') {
+                None => return file_in(self.payload(tree), rest),
+                Some((name, after)) => match dir_in(self.payload(tree), name) {
+                    None => return None,
+                    Some(child) => {
+                        tree = child;
+                        rest = after;
+                    }
+                },
+            }
+        }
+    }
+}
