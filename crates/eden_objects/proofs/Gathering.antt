@@ -1,5 +1,5 @@
 -- A listing that is gathered entry by entry.
-use Rattle.std.proofs.Common.{◌≡◌, ℕ, ◌<◌, ◌≤◌, ◌++◌, Bool, List, [], ◌∷◌, map, take, length, Option, Some, None, refl, sym, ap, subst, ◌∙◌, arith, append_assoc}
+use Rattle.std.proofs.Common.{◌≡◌, ℕ, ◌<◌, ◌≤◌, ◌++◌, Bool, List, [], ◌∷◌, map, take, length, Some, None, refl, sym, ap, subst, ◌∙◌, arith, append_assoc}
 use Rattle.std.proofs.lemmas.List.{map-append}
 use Rattle.std.proofs.lemmas.List.Elements.{filter-append}
 use Rattle.std.proofs.Math.Seq.{take-append_seam}
@@ -8,8 +8,7 @@ use Rattle.std.specs.List.{AllByRecursion}
 use Rattle.eden_globs.specs.Filters.{admits}
 use Rattle.eden_ids.specs.declared.id.Id.{Id}
 use Rattle.eden_ids.specs.declared.content.Kind.{Kind}
-use Rattle.eden_objects.specs.declared.word.Word.TheVariants.{Tree}
-use Rattle.eden_objects.specs.Objects.{Held, find, payload_of}
+use Rattle.eden_objects.specs.Objects.{Held, payload_of}
 use Rattle.eden_objects.specs.Trees.{Entry, entries_of, entries_depth, tree_depth}
 use Rattle.eden_objects.specs.Commits.{Row, under, rows_of_kind, entry_rows, entries_rows, tree_rows}
 use Rattle.eden_objects.specs.Puts.{word_wanted}

@@ -1,10 +1,10 @@
 -- The rows of a commit are those of the tree that it names.
-use Rattle.std.proofs.Common.{◌≡◌, ℕ, inl, inr, Bool, true, false, cond, List, [], ◌∷◌, Option, Some, None, Result, Ok, Err, refl, sym, ap, subst, ◌∙◌}
+use Rattle.std.proofs.Common.{◌≡◌, inl, inr, Bool, true, false, cond, List, [], Option, Some, None, refl, sym, ap, subst, ◌∙◌}
 use Rattle.std.proofs.lemmas.Bool.{cases_Bool}
 use Rattle.eden_ids.specs.declared.id.Id.{Id}
 use Rattle.eden_objects.specs.declared.word.Word.TheVariants.{Commit}
 use Rattle.eden_objects.specs.Objects.{Held, find, same_id, same_word, zero_id}
-use Rattle.eden_objects.specs.Commits.{Row, tree_rows, tree_named, rows_named, rows_held, commit_rows}
+use Rattle.eden_objects.specs.Commits.{tree_named, rows_named, rows_held, commit_rows}
 use Rattle.eden_objects.specs.Closed.{HasTree, IsClosed}
 use Rattle.eden_objects.specs.Walks.{tree_seen}
 use Rattle.eden_objects.proofs.Closed.{commit_in}

@@ -1,13 +1,11 @@
 -- One step of a walk down a path, from a directory to what its entries say of the path's first name.
-use Rattle.std.proofs.Common.{◌≡◌, ℕ, ◌+◌, ◌<◌, ◌++◌, inl, inr, Bool, true, false, cond, List, [], ◌∷◌, length, Option, Some, None, refl, sym, ap, subst, ◌∙◌, arith, length-append}
-use Rattle.std.proofs.lemmas.Bool.{cases_Bool}
+use Rattle.std.proofs.Common.{◌≡◌, ℕ, ◌+◌, ◌<◌, ◌++◌, Bool, true, false, List, [], ◌∷◌, length, Option, Some, None, sym, ap, subst, ◌∙◌, arith, length-append}
 use Rattle.std.specs.List.{AllByRecursion}
 use Rattle.eden_ids.specs.declared.id.Id.{Id}
 use Rattle.eden_ids.specs.declared.content.Kind.{Kind}
-use Rattle.eden_objects.specs.declared.word.Word.TheVariants.{Tree}
 use Rattle.eden_objects.specs.Objects.{Held, find, payload_of, same_bytes}
 use Rattle.eden_objects.specs.Trees.{Entry, cut, entries_of}
-use Rattle.eden_objects.specs.Commits.{Row, find_row, tree_rows, entries_rows}
+use Rattle.eden_objects.specs.Commits.{find_row, tree_rows, entries_rows}
 use Rattle.eden_objects.specs.Puts.{word_wanted}
 use Rattle.eden_objects.specs.Closed.{IsHeld, HasTree, IsTree, IsClosed}
 use Rattle.eden_objects.specs.Walks.{or_later, file_named, dir_if, dir_named, then_find}

@@ -5,6 +5,7 @@ use Rattle.std.specs.Cmp.Lexicographic.{slice_cmp}
 use Rattle.std.specs.List.{AllByRecursion}
 use Rattle.std.specs.List.Sorted.{IsStrictlySortedBy}
 use Rattle.eden_ids.specs.declared.id.Id.{Id}
+use Rattle.eden_ids.specs.declared.content.Kind.{Kind}
 use Rattle.eden_ids.specs.FileMaps.{FileMap, file_at, paths, IsFileMap}
 use Rattle.eden_ids.specs.Paths.{path_fault}
 use Rattle.eden_objects.specs.declared.word.Word.TheVariants.{Blob, Tree}
@@ -12,7 +13,7 @@ use Rattle.eden_objects.specs.Objects.{Held, find}
 use Rattle.eden_objects.specs.Trees.{Entry, cut, entries_of, is_name}
 use Rattle.eden_objects.specs.Commits.{Row, tree_rows, entries_rows, find_row, commit_rows, commit_map}
 use Rattle.eden_objects.specs.Walks.{file_named, dir_named, then_find, content_found}
-use Rattle.eden_objects.specs.Closed.{IsHeld, HasTree, IsClosed, NamesDiffer}
+use Rattle.eden_objects.specs.Closed.{AllNamed, IsHeld, HasTree, IsClosed, NamesDiffer}
 
 -- the files of a tree are those of its entries
 abbrev pub TreesUnfold : Type 0
@@ -66,3 +67,14 @@ CommitsListTheirRows = (held : List Held) → IsClosed held → (commit : Id) (r
 abbrev pub RowsAreFiles : Type 0
 RowsAreFiles = (held : List Held) (commit : Id) (rows : List Row) (files : FileMap) → commit_rows held commit ≡ Some rows → commit_map held commit ≡ Some files
     → (path : List ℕ) → file_at files path ≡ content_found held (find_row path rows)
+
+-- Where a naming gave each id, two objects of one kind with one payload are one.
+
+abbrev pub EqualObjectsAreOne : Type 0
+EqualObjectsAreOne = (name : List ℕ → List ℕ → Id) (held : List Held) → AllNamed name held → (i j : Id) (h k : Held) → find i held ≡ Some h → find j held ≡ Some k
+    → h.word ≡ k.word → h.payload ≡ k.payload → i ≡ j
+
+-- two files of one kind hold the same bytes just where they have the same blob
+abbrev pub EqualFilesHaveOneBlob : Type 0
+EqualFilesHaveOneBlob = (name : List ℕ → List ℕ → Id) (held : List Held) → AllNamed name held → (kind : Kind) (i j : Id) → IsHeld held Blob i → IsHeld held Blob j
+    → content_found held (Some (kind, i)) ≡ content_found held (Some (kind, j)) → i ≡ j

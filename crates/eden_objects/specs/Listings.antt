@@ -6,7 +6,7 @@ use Rattle.eden_ids.specs.Paths.{lies_below}
 use Rattle.eden_objects.specs.declared.fault.ListFault.{ListFault}
 use Rattle.eden_objects.specs.declared.fault.ListFault.TheVariants.{NoCommit, NoMemory}
 use Rattle.eden_objects.specs.Objects.{Held}
-use Rattle.eden_objects.specs.Commits.{Row, rows_where, tree_rows}
+use Rattle.eden_objects.specs.Commits.{Row, tree_rows}
 use Rattle.eden_objects.specs.Closed.{HasTree}
 
 -- a row whose path stands behind some bytes

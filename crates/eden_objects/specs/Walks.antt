@@ -1,5 +1,5 @@
 -- What one directory says of a name, and the files of a tree below some path.
-use Rattle.std.specs.Prelude.{ℕ, Bool, if◌then◌else◌, List, [], ◌∷◌, ◌++◌, Option, Some, None, Result, Ok, Err}
+use Rattle.std.specs.Prelude.{ℕ, Bool, if◌then◌else◌, List, [], ◌∷◌, Option, Some, None, Result, Ok, Err}
 use Rattle.eden_ids.specs.declared.id.Id.{Id}
 use Rattle.eden_ids.specs.declared.content.Kind.{Kind}
 use Rattle.eden_ids.specs.declared.content.Content.{Content}

@@ -2,7 +2,7 @@
 #![tactic(auto)]
 
 pub use crate::fault::{ListFault, NoCommit, PutFault};
-pub use crate::laws::{commit_map_law, tree_law};
+pub use crate::laws::{commit_map_law, same_object_law, tree_law};
 pub use crate::store::Store;
 pub use crate::word::Word;
 
@@ -18,4 +18,6 @@ mod store;
 #[cfg(test)]
 mod tests;
 mod walk;
+#[cfg(test)]
+mod walk_tests;
 mod word;

@@ -1,4 +1,4 @@
-use Rattle.std.proofs.Common.{rules, ◌≡◌, ℕ, ◌≤◌, ◌++◌, ◌∷◌, [], List, None, length, take, ap, sym, subst, ◌∙◌, arith}
+use Rattle.std.proofs.Common.{rules, ◌≡◌, ℕ, ◌++◌, ◌∷◌, [], List, length, take, ap, sym, subst, ◌∙◌, arith}
 use Rattle.std.specs.List.{AllByRecursion}
 use Rattle.eden_globs.specs.Filters.{admits}
 use Rattle.eden_objects.specs.Entries.{plain}
@@ -40,12 +40,13 @@ entries-preserved-in_default-kind g t c =
     record {
       listed =
           one_dir (admits c.args.filter.now) front c.enter.new.self.front.items (tree_rows c.args.self.now)
-          _ c.entries.listing.rows.items c.gather.new.listing.rows.items (plain c.in-Some.entry)
+          (c.args.listing.now.rows.items ++ rows_behind (admits c.args.filter.now) front (tree_rows c.args.self.now c.args.tree)) c.entries.listing.rows.items c.gather.new.listing.rows.items (plain c.in-Some.entry)
           (entries_of c.in-Some.after.now) (entries_of c.entries.rest.now) c.in-Some.ensures.entries c.in_default-kind.is entered c.entries.invariant.listed rows;
       front =
           c.truncate.ensures.items ∙ ap (λ n. take n c.gather.new.listing.front.items) length_is
           ∙ left front c.gather.new.listing.front.items c.in-Some.entry.name.now (c.in_ok-gather.ensures.front ∙ entered);
       held = later_held c.args.self.now (plain c.in-Some.entry) (entries_of c.in-Some.after.now) (entries_of c.entries.rest.now) c.in-Some.ensures.entries c.entries.invariant.held;
       below =
-          later_is_below (tree_depth c.args.self.now) (plain c.in-Some.entry) (entries_of c.in-Some.after.now) (entries_of c.entries.rest.now) _ c.in-Some.ensures.entries c.entries.invariant.below;
+          later_is_below (tree_depth c.args.self.now) (plain c.in-Some.entry) (entries_of c.in-Some.after.now) (entries_of c.entries.rest.now)
+          (tree_depth c.args.self.now c.args.tree) c.in-Some.ensures.entries c.entries.invariant.below;
     }

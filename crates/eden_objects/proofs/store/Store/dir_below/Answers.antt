@@ -1,7 +1,6 @@
-use Rattle.std.proofs.Common.{◌≡◌, Some, None, ap, ◌∙◌}
+use Rattle.std.proofs.Common.{ap, ◌∙◌}
 use Rattle.eden_objects.specs.Trees.{entries_of}
 use Rattle.eden_objects.specs.Walks.{dir_named}
-use Rattle.eden_objects.proofs.WalkSteps.{entries_in}
 use Rattle.eden_objects.proofs.Below.{at_start, at_end, at_stop, at_step}
 use Rattle.eden_objects.proofs.store.Store.dir_below.Goals as goal
 

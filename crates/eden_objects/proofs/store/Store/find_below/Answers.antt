@@ -1,5 +1,4 @@
-use Rattle.std.proofs.Common.{◌≡◌, ℕ, List, Option, Some, None, ap, sym, ◌∙◌}
-use Rattle.eden_ids.specs.declared.id.Id.{Id}
+use Rattle.std.proofs.Common.{◌≡◌, Some, None, ap, sym, ◌∙◌}
 use Rattle.eden_objects.specs.Trees.{entries_of}
 use Rattle.eden_objects.specs.Commits.{tree_rows}
 use Rattle.eden_objects.specs.Walks.{file_named, dir_named, then_find}

@@ -1,0 +1,47 @@
+-- Where a naming gave each id, an object's kind and payload say its id.
+use Rattle.std.proofs.Common.{◌≡◌, ℕ, inl, inr, List, [], ◌∷◌, Option, Some, None, sym, ap, subst, ◌∙◌}
+use Rattle.std.proofs.lemmas.Bool.{cases_Bool}
+use Rattle.eden_ids.specs.declared.id.Id.{Id}
+use Rattle.eden_ids.specs.declared.content.Content.{Content}
+use Rattle.eden_objects.specs.Objects.{Held, find, payload_of, same_id, word_text}
+use Rattle.eden_objects.specs.Closed.{AllNamed}
+use Rattle.eden_objects.specs.Laws.{EqualObjectsAreOne, EqualFilesHaveOneBlob}
+use Rattle.eden_objects.proofs.Closed.{find-here, find-there, same_id-is}
+
+-- an object that is found has the id that was asked for
+pub found_id : (held : List Held) (id : Id) (h : Held) → find id held ≡ Some h → id ≡ h.id
+found_id [] id h found = absurd (cc)
+found_id (top ∷ earlier) id h found = elim (cases_Bool (same_id id top.id)) [
+  | inl t ↦
+      let e : Some top ≡ Some h = sym (find-here id top earlier t) ∙ found in
+      let same : top ≡ h = cc in
+      same_id-is id top.id t ∙ ap (λ o. o.id) same
+  | inr f ↦ found_id earlier id h (sym (find-there id top earlier f) ∙ found)
+]
+
+-- it is the one that its kind and its payload are given
+pub named_id : (name : List ℕ → List ℕ → Id) (held : List Held) → AllNamed name held → (id : Id) (h : Held) → find id held ≡ Some h → name (word_text h.word) h.payload ≡ h.id
+named_id name [] named id h found = absurd (cc)
+named_id name (top ∷ earlier) named id h found = elim (cases_Bool (same_id id top.id)) [
+  | inl t ↦
+      let e : Some top ≡ Some h = sym (find-here id top earlier t) ∙ found in
+      let same : top ≡ h = cc in
+      subst (λ o. name (word_text o.word) o.payload ≡ o.id) same named.0
+  | inr f ↦ named_id name earlier named.1 id h (sym (find-there id top earlier f) ∙ found)
+]
+
+pub one_object : EqualObjectsAreOne
+one_object name held named i j h k first second word payload =
+    found_id held i h first ∙ sym (named_id name held named i h first)
+    ∙ (λ at. name (word_text (word at)) (payload at))
+    ∙ named_id name held named j k second ∙ sym (found_id held j k second)
+
+bytes_found : Option Content → List ℕ
+bytes_found None = []
+bytes_found (Some file) = file.bytes
+
+pub same_contents : EqualFilesHaveOneBlob
+unfolding bytes_found
+same_contents name held named kind i j first second same =
+    one_object name held named i j first.0 second.0 first.1 second.1 (first.2 ∙ sym second.2)
+    (ap payload_of (sym first.1) ∙ ap bytes_found same ∙ ap payload_of second.1)

@@ -1,0 +1,171 @@
+use crate::{ListFault, NoCommit, Store};
+use eden_globs::Filter;
+use eden_ids::{GitNaming, Id, Kind, Path};
+use std::alloc::Global;
+use std::test::Fail;
+
+/// Adds an entry to a tree's payload.
+fn push_entry(payload: &mut Vec<u8>, mode: &str, name: &str, id: Id) -> Result<(), Fail> {
+    payload.extend_from_slice(mode.as_bytes())?;
+    payload.push(b' ')?;
+    payload.extend_from_slice(name.as_bytes())?;
+    payload.push(0)?;
+    payload.extend_from_slice(id.0.as_slice())?;
+    Ok(())
+}
+
+/// Puts a tree of one entry.
+fn put_one(
+    alloc: Global,
+    store: &mut Store<GitNaming>,
+    mode: &str,
+    name: &str,
+    id: Id,
+) -> Result<Id, Fail> {
+    let mut payload = Vec::new(alloc);
+    push_entry(&mut payload, mode, name, id)?;
+    Ok(store.put_tree(payload.as_slice())?)
+}
+
+/// Puts a commit of a tree.
+fn put_commit(alloc: Global, store: &mut Store<GitNaming>, tree: Id) -> Result<Id, Fail> {
+    let mut payload = b"tree ".to_vec(alloc)?;
+    payload.extend_from_slice(tree.to_hex().as_slice())?;
+    payload.push(b'\n')?;
+    Ok(store.put_commit(payload.as_slice())?)
+}
+
+/// Puts the files `a-b`, `a/x`, `a0` and `d/e/f`, and answers their commit.
+fn put_files(alloc: Global, store: &mut Store<GitNaming>) -> Result<Id, Fail> {
+    let one = store.put_blob(b"one\n".as_slice())?;
+    let two = store.put_blob(b"two\n".as_slice())?;
+    let link = store.put_blob(b"a-b".as_slice())?;
+    let three = store.put_blob(b"three\n".as_slice())?;
+    let a = put_one(alloc, store, "100755", "x", two)?;
+    let e = put_one(alloc, store, "100644", "f", three)?;
+    let d = put_one(alloc, store, "40000", "e", e)?;
+    let mut top = Vec::new(alloc);
+    push_entry(&mut top, "100644", "a-b", one)?;
+    push_entry(&mut top, "40000", "a", a)?;
+    push_entry(&mut top, "120000", "a0", link)?;
+    push_entry(&mut top, "40000", "d", d)?;
+    let tree = store.put_tree(top.as_slice())?;
+    put_commit(alloc, store, tree)
+}
+
+/// A file: its path, its kind, and the id that Git gives its blob.
+type Row = (&'static str, Kind, &'static str);
+
+const A_B: Row = (
+    "a-b",
+    Kind::Plain,
+    "5626abf0f72e58d7a153368ba57db4c673c0e171",
+);
+
+const A_X: Row = (
+    "a/x",
+    Kind::Exec,
+    "f719efd430d52bcfc8566a43b2eb655688d38871",
+);
+
+const A0: Row = ("a0", Kind::Link, "5c7796f622a1e15babe6f341a239b0de7af1ba49");
+
+const F: Row = (
+    "d/e/f",
+    Kind::Plain,
+    "2bdf67abb163a4ffb2d7f3f0880c9fe5068ce782",
+);
+
+/// Whether the listing has just these rows.
+fn has_rows(listed: &[(Path, Kind, Id)], rows: &[Row]) -> bool {
+    if listed.len() != rows.len() {
+        return false;
+    }
+    for (one, row) in listed.iter().zip(rows) {
+        let (path, kind, id) = one;
+        if path.as_bytes() != row.0.as_bytes()
+            || *kind != row.1
+            || id.to_hex().as_slice() != row.2.as_bytes()
+        {
+            return false;
+        }
+    }
+    true
+}
+
+// The ids are those that Git gives the same files.
+#[test]
+fn a_commit_lists_its_files(rt: HostRuntime) -> Result<(), Fail> {
+    let alloc = rt.alloc();
+    let mut store = Store::new(alloc, GitNaming);
+    let commit = put_files(alloc, &mut store)?;
+    assert_eq!(rt;
+        commit.to_hex().as_slice(),
+        b"121c0404102d0c4f3969bca6aa8e28f3be526767".as_slice()
+    );
+    let all = Filter::parse(alloc, &[])?;
+    let listed = store.list(commit, &all)?;
+    assert!(rt; has_rows(listed.as_slice(), &[A_B, A_X, A0, F]));
+    for (top, rows) in [
+        ("a", [A_X].as_slice()),
+        ("d", [F].as_slice()),
+        ("d/e", [F].as_slice()),
+        ("a-b", [].as_slice()),
+        ("a/x", [].as_slice()),
+        ("d/f", [].as_slice()),
+        ("z/e", [].as_slice()),
+    ] {
+        let top = Path::parse(alloc, top.as_bytes())?;
+        assert!(rt;
+            has_rows(store.list_below(commit, &top)?.as_slice(), rows),
+            "at {top:?}"
+        );
+    }
+    Ok(())
+}
+
+#[test]
+fn a_file_is_looked_up(rt: HostRuntime) -> Result<(), Fail> {
+    let alloc = rt.alloc();
+    let mut store = Store::new(alloc, GitNaming);
+    let commit = put_files(alloc, &mut store)?;
+    for (path, kind, id) in [A_B, A_X, A0, F] {
+        let id = Id::from_hex(id.as_bytes())?;
+        let path = Path::parse(alloc, path.as_bytes())?;
+        assert_eq!(rt;
+            store.lookup(commit, &path),
+            Ok(Some((kind, id))),
+            "at {path:?}"
+        );
+    }
+    for path in ["a", "a-b/x", "a/y", "d/e", "d/e/f/g", "x", "z"] {
+        let path = Path::parse(alloc, path.as_bytes())?;
+        assert_eq!(rt; store.lookup(commit, &path), Ok(None), "at {path:?}");
+    }
+    let two = Id::from_hex(A_X.2.as_bytes())?;
+    assert_eq!(rt; store.blob(two), Some(b"two\n".as_slice()));
+    assert_eq!(rt; store.blob(commit), None);
+    assert_eq!(rt; store.blob(Id::ZERO), None);
+    Ok(())
+}
+
+#[test]
+fn commits_are_told_from_other_objects(rt: HostRuntime) -> Result<(), Fail> {
+    let alloc = rt.alloc();
+    let mut store = Store::new(alloc, GitNaming);
+    let commit = put_files(alloc, &mut store)?;
+    let all = Filter::parse(alloc, &[])?;
+    let path = Path::parse(alloc, b"a".as_slice())?;
+    assert!(rt; store.has_commit(commit));
+    assert!(rt; store.has_commit(Id::ZERO));
+    assert!(rt; store.list(Id::ZERO, &all)?.is_empty());
+    assert!(rt; store.list_below(Id::ZERO, &path)?.is_empty());
+    assert_eq!(rt; store.lookup(Id::ZERO, &path), Ok(None));
+    for id in [Id::from_hex(A_B.2.as_bytes())?, Id([7; 20])] {
+        assert!(rt; !store.has_commit(id));
+        assert_eq!(rt; store.lookup(id, &path), Err(NoCommit));
+        assert!(rt; store.list(id, &all).err() == Some(ListFault::NoCommit));
+        assert!(rt; store.list_below(id, &path).err() == Some(ListFault::NoCommit));
+    }
+    Ok(())
+}
