@@ -1,2 +1,3 @@
-mod LineAnswers
+mod LabelLemmas
+mod EntryLemmas
 mod PlainSteps

@@ -1,4 +1,3 @@
+pub mod BoundMaps
 pub mod Asked
 pub mod StandsFor
-pub mod Told
-pub mod SessionScript
