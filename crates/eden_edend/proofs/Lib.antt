@@ -1,3 +1,7 @@
-mod LabelLemmas
+mod PayloadLemmas
 mod EntryLemmas
+mod LabelLemmas
 mod PlainSteps
+mod PutSteps
+mod LineAnswers
+mod SessionSteps

@@ -1,3 +1,5 @@
-pub mod BoundMaps
 pub mod Asked
+pub mod BoundMaps
 pub mod StandsFor
+pub mod Told
+pub mod SessionScript

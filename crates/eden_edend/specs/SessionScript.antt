@@ -1,0 +1,63 @@
+-- The script of a session is one: it skips what says nothing, and refuses what is too long.
+use Rattle.std.proofs.Common.{◌≡◌, ℕ, ◌<◌, inl, inr, ◌==◌, nat_lt, true, false, if◌then◌else◌, List, [], ◌∷◌, length, Option, Some, None, refl, sym, ap, ◌∙◌, arith}
+use Rattle.std.specs.Prelude.{option_and_then, option_map}
+use Rattle.std.proofs.lemmas.Bool.{lt-ltb, eq-eqb, eqb-true}
+use Rattle.eden_script.specs.Words.{words_of}
+use Rattle.eden_stream.specs.Lines.{IsSkipped, IsComment}
+use Rattle.eden_stream.specs.Scripts.{IsScript}
+use Rattle.eden_world.specs.ScriptLines.{command_of}
+use Rattle.eden_world.specs.ScriptText.{Session, told, is_skipped, line_told, before_text, continued, script_text}
+use Rattle.eden_edend.specs.declared.plain_mount.PlainMount.{PlainMount}
+use Rattle.eden_edend.specs.declared.objects.Objects.{Objects}
+use Rattle.eden_edend.specs.Told.{SessionStands, session_at}
+
+pub script_text-cons : (session : Session) (line : List ℕ) (more : List (List ℕ)) → script_text session (line ∷ more) ≡ continued (line_told session line) (λ next. script_text next more)
+unfolding script_text
+script_text-cons session line more = refl
+
+pub script_text-nil : (session : Session) → script_text session [] ≡ Some []
+unfolding script_text
+script_text-nil session = refl
+
+skips : (line : List ℕ) → IsSkipped line → is_skipped line ≡ true
+skips [] h = refl
+skips (b ∷ line) (inl e) = cc
+skips (b ∷ line) (inr e) = eq-eqb b 35 e
+
+nothing_before : (text : Option (List ℕ)) → before_text [] text ≡ text
+nothing_before None = refl
+nothing_before (Some text) = refl
+
+pub skipped-text : (session : Session) (line : List ℕ) (more : List (List ℕ)) → is_skipped line ≡ true → script_text session (line ∷ more) ≡ script_text session more
+skipped-text session line more e =
+    script_text-cons session line more
+    ∙ ap (λ b. continued (if b then Some (session, []) else (if nat_lt 65536 (length line) then None else option_map (told session) (option_and_then command_of (words_of line)))) (λ next. script_text next more)) e
+    ∙ nothing_before (script_text session more)
+
+pub long-text : (session : Session) (line : List ℕ) (more : List (List ℕ)) → is_skipped line ≡ false → 65536 < length line → script_text session (line ∷ more) ≡ None
+long-text session line more e long =
+    script_text-cons session line more
+    ∙ ap (λ b. continued (if b then Some (session, []) else (if nat_lt 65536 (length line) then None else option_map (told session) (option_and_then command_of (words_of line)))) (λ next. script_text next more)) e
+    ∙ ap (λ b. continued (if b then None else option_map (told session) (option_and_then command_of (words_of line))) (λ next. script_text next more)) (lt-ltb 65536 (length line) long)
+
+keeps : (line : List ℕ) → 65536 < length line → ¬ IsComment line → is_skipped line ≡ false
+keeps [] long apart = absurd (omega arith)
+keeps (b ∷ line) long apart = elim (b == 35) as (λ t. (b == 35) ≡ t → t ≡ false) [ true ↦ λ e. absurd (apart (eqb-true b 35 e)) | false ↦ λ e. refl ] refl
+
+-- what the words of a line say it makes of the session
+pub read-text : (session : Session) (line : List ℕ) (more : List (List ℕ)) → is_skipped line ≡ false → nat_lt 65536 (length line) ≡ false
+    → script_text session (line ∷ more) ≡ continued (option_map (told session) (option_and_then command_of (words_of line))) (λ next. script_text next more)
+read-text session line more e short =
+    script_text-cons session line more
+    ∙ ap (λ b. continued (if b then Some (session, []) else (if nat_lt 65536 (length line) then None else option_map (told session) (option_and_then command_of (words_of line)))) (λ next. script_text next more)) e
+    ∙ ap (λ b. continued (if b then None else option_map (told session) (option_and_then command_of (words_of line))) (λ next. script_text next more)) short
+
+pub session_script : (mount : Option PlainMount) (objects : Objects) (script : List (List ℕ) → Option (List ℕ)) → SessionStands mount objects script → IsScript script
+session_script mount objects script stands = record {
+  ends = stands.2 [] ∙ script_text-nil at;
+  skips = λ line more h. stands.2 (line ∷ more) ∙ skipped-text at line more (skips line h) ∙ sym (stands.2 more);
+  bounded = λ line more h. stands.2 (line ∷ more) ∙ long-text at line more (keeps line h.0 h.1) h.0;
+}
+  where
+    at : Session
+    at = session_at stands.0 objects
