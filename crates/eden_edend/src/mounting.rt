@@ -45,7 +45,12 @@ pub(crate) fn tell_mount(
     Ok(())
 }
 
-fn tell_change(mount: &mut PlainMount, labels: &Labels, change: Change, text: &mut Vec<u8>) -> Result<(), AllocError>
+fn tell_change(
+    mount: &mut PlainMount,
+    labels: &Labels,
+    change: Change,
+    text: &mut Vec<u8>,
+) -> Result<(), AllocError>
     ensures stands { (world : WorldState) → StandsFor mount.old world → OnOk result (StandsFor mount.new (world_after empty_commit world change)) }
     ensures prints { (world : WorldState) → StandsFor mount.old world
         → OnOk result (text.new.items ≡ text.old.items ++ script.answer_text labels.now (answer_of empty_commit world change)) }
@@ -133,4 +138,3 @@ pub(crate) fn tell_since(
         Err(fault) => tell_since_fault(fault, text),
     }
 }
-

@@ -31,7 +31,12 @@ pub(crate) struct Session {
 }
 
 impl Session {
-    fn tell_blob(&mut self, label: Label, bytes: &Word, text: &mut Vec<u8>) -> Result<(), AllocError>
+    fn tell_blob(
+        &mut self,
+        label: Label,
+        bytes: &Word,
+        text: &mut Vec<u8>,
+    ) -> Result<(), AllocError>
         ensures { (mounted : Option WorldState) → MountStands self.old.mount mounted
             → OnOk result (Tells (script.before_mount (session_at mounted self.old.objects) mounted (script.put_told (session_at mounted self.old.objects) label (blob_outcome script.git_name bytes.now self.old.objects.store))) self.new.mount self.new.objects text.old.items text.new.items) }
     {
@@ -41,7 +46,12 @@ impl Session {
         }
     }
 
-    fn tell_tree(&mut self, label: Label, entries: &[TreeEntry], text: &mut Vec<u8>) -> Result<(), AllocError>
+    fn tell_tree(
+        &mut self,
+        label: Label,
+        entries: &[TreeEntry],
+        text: &mut Vec<u8>,
+    ) -> Result<(), AllocError>
         ensures { (mounted : Option WorldState) → MountStands self.old.mount mounted
             → OnOk result (Tells (script.before_mount (session_at mounted self.old.objects) mounted (script.tried (session_at mounted self.old.objects) label (λ payload. tree_outcome script.git_name payload self.old.objects.store) (script.tree_payload self.old.objects.labels entries.now))) self.new.mount self.new.objects text.old.items text.new.items) }
     {
@@ -51,7 +61,12 @@ impl Session {
         }
     }
 
-    fn tell_commit(&mut self, label: Label, tree: &Label, text: &mut Vec<u8>) -> Result<(), AllocError>
+    fn tell_commit(
+        &mut self,
+        label: Label,
+        tree: &Label,
+        text: &mut Vec<u8>,
+    ) -> Result<(), AllocError>
         ensures { (mounted : Option WorldState) → MountStands self.old.mount mounted
             → OnOk result (Tells (script.before_mount (session_at mounted self.old.objects) mounted (script.tried (session_at mounted self.old.objects) label (λ payload. commit_outcome script.git_name payload self.old.objects.store) (script.commit_payload (bound self.old.objects.labels tree.now)))) self.new.mount self.new.objects text.old.items text.new.items) }
     {
@@ -74,10 +89,25 @@ impl Session {
             Command::Tree { label, entries } => self.tell_tree(label, entries.as_slice(), text),
             Command::Commit { label, tree } => self.tell_commit(label, &tree, text),
             Command::Id { label } => tell_id(labels, &label, text),
-            Command::Mount { label, generation, .. } => tell_mount(alloc, &mut self.mount, labels, &label, generation, text),
-            Command::Write { path, kind, bytes } => tell_write(alloc, &mut self.mount, labels, &path, kind, bytes, text),
+            Command::Mount {
+                label,
+                generation,
+                ..
+            } => tell_mount(alloc, &mut self.mount, labels, &label, generation, text),
+            Command::Write { path, kind, bytes } => tell_write(
+                alloc,
+                &mut self.mount,
+                labels,
+                &path,
+                kind,
+                bytes,
+                text,
+            ),
             Command::Remove { path } => tell_remove(alloc, &mut self.mount, labels, &path, text),
-            Command::Since { generation, sequence } => tell_since(alloc, &self.mount, labels, generation, sequence, text),
+            Command::Since {
+                generation,
+                sequence,
+            } => tell_since(alloc, &self.mount, labels, generation, sequence, text),
         }
     }
 }

@@ -14,10 +14,11 @@ returns-then-ne c = λ limit mounted stands.
     let other : same_id c.in-Some.id zero_id ≡ false = search rules in
     on_ok_weaker c.push_refused-then-ne.result
     (λ printed.
-        subst (λ (told : MountTold). MountTells told c.args.mount.now c.args.text.now.items c.push_refused-then-ne.new.text.items)
-        (sym (mount-refused c.args.mount.now mounted c.args.labels.now c.args.label.now c.args.generation limit c.in-Some.id (sym c.is_some.ensures ∙ c.if-is_some.false) stands (sym c.in-Some.ensures) other))
-        (subst (MountStands c.args.mount.now) (no_mount c.args.mount.now mounted (sym c.is_some.ensures ∙ c.if-is_some.false) stands) stands,
-        printed ∙ ap (λ name. c.args.text.now.items ++ refused_text name) c.as_slice-then-ne.ensures))
+    subst (λ (told : MountTold). MountTells told c.args.mount.now c.args.text.now.items c.push_refused-then-ne.new.text.items)
+    (sym (mount-refused c.args.mount.now mounted c.args.labels.now c.args.label.now c.args.generation limit c.in-Some.id (sym c.is_some.ensures ∙ c.if-is_some.false) stands (sym c.in-Some.ensures) other)) (
+      subst (MountStands c.args.mount.now) (no_mount c.args.mount.now mounted (sym c.is_some.ensures ∙ c.if-is_some.false) stands) stands,
+      printed ∙ ap (λ name. c.args.text.now.items ++ refused_text name) c.as_slice-then-ne.ensures,
+    ))
     c.push_refused-then-ne.ensures
 
 pub returns : goal.returns

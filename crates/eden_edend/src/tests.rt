@@ -1,0 +1,333 @@
+//! Scripts and what they print, over devices that give and take little at a time.
+
+use super::{RunFault, run};
+use eden_stream::Counted;
+use std::alloc::Global;
+use std::io;
+use std::io::{ErrorKind, Read, Write};
+use std::test::Fail;
+
+/// Gives at most `most` bytes a read, none beyond `cut` in the read that comes to it, and an error from `fails_at` on.
+#[derive(Drop)]
+struct Source<'a> {
+    bytes: &'a [u8],
+    at: usize,
+    most: usize,
+    cut: usize,
+    fails_at: usize,
+}
+
+impl<'a> Source<'a> {
+    fn new(bytes: &'a [u8]) -> Self {
+        Source {
+            bytes,
+            at: 0,
+            most: usize::MAX,
+            cut: usize::MAX,
+            fails_at: usize::MAX,
+        }
+    }
+}
+
+impl<'a> Read for Source<'a> {
+    fn read(&mut self, buf: &mut [u8]) -> io::Result<usize> {
+        if self.at >= self.fails_at {
+            return Err(io::Error::from(ErrorKind::BrokenPipe));
+        }
+        if self.at >= self.bytes.len() {
+            return Ok(0);
+        }
+        let mut end = self.bytes.len().min(self.at.saturating_add(self.most));
+        if self.at < self.cut {
+            end = end.min(self.cut);
+        }
+        let left = &self.bytes[self.at..end.max(self.at)];
+        let taken = left.len().min(buf.len());
+        buf[..taken].copy_from_slice(&left[..taken]);
+        self.at += taken;
+        Ok(taken)
+    }
+}
+
+/// Takes at most `most` bytes a call and `room` bytes in all, and then gives an error.
+#[derive(Drop)]
+struct Sink {
+    bytes: Vec<u8>,
+    most: usize,
+    room: usize,
+}
+
+impl Sink {
+    fn new(alloc: Global) -> Self {
+        Sink {
+            bytes: Vec::new(alloc),
+            most: usize::MAX,
+            room: usize::MAX,
+        }
+    }
+}
+
+impl Write for Sink {
+    fn write(&mut self, buf: &[u8]) -> io::Result<usize> {
+        let taken = buf.len().min(self.most).min(self.room);
+        if taken == 0 && !buf.is_empty() {
+            return Err(io::Error::from(ErrorKind::BrokenPipe));
+        }
+        match self.bytes.extend_from_slice(&buf[..taken]) {
+            Ok(()) => {
+                self.room -= taken;
+                Ok(taken)
+            }
+            Err(_) => Err(io::Error::from(ErrorKind::OutOfMemory)),
+        }
+    }
+
+    fn flush(&mut self) -> io::Result<()> {
+        Ok(())
+    }
+}
+
+fn ran(alloc: Global, source: Source<'_>, sink: &mut Sink) -> Result<u64, RunFault> {
+    let mut source = source;
+    let mut reader = Counted::new(&mut source);
+    let mut writer = Counted::new(sink);
+    run(alloc, &mut reader, &mut writer)
+}
+
+/// What a script prints and how it ends, in one piece.
+pub(crate) fn told(alloc: Global, script: &[u8]) -> (Vec<u8>, Result<u64, RunFault>) {
+    let mut sink = Sink::new(alloc);
+    let ended = ran(alloc, Source::new(script), &mut sink);
+    (sink.bytes, ended)
+}
+
+const FIRST_RUN: &str =
+    "mount empty 7 1000\nsince 7 1\nwrite a plain hi\nwrite b plain yo\nremove a\nsince 7 1\nsince 7 3\nsince 7 4\n";
+
+const FIRST_RUN_TEXT: &str =
+    "at 7 1 empty\nchanges 0 to 7 1 empty\nat 7 2 empty\nat 7 3 empty\nat 7 4 empty\nchanges 2 to 7 4 empty\nChanged a\nCreated b\nchanges 1 to 7 4 empty\nRemoved a\nchanges 0 to 7 4 empty\n";
+
+#[test]
+fn first_run(rt: HostRuntime) {
+    let (text, ended) = told(rt.alloc(), FIRST_RUN.as_bytes());
+    assert!(rt; text.as_slice() == FIRST_RUN_TEXT.as_bytes());
+    assert_eq!(rt; ended, Ok(8));
+}
+
+#[test]
+fn first_run_in_pieces(rt: HostRuntime) {
+    let alloc = rt.alloc();
+    let script = FIRST_RUN.as_bytes();
+    for cut in 0..script.len() {
+        let mut sink = Sink::new(alloc);
+        let mut source = Source::new(script);
+        source.cut = cut;
+        assert_eq!(rt; ran(alloc, source, &mut sink), Ok(8));
+        assert!(rt;
+            sink.bytes.as_slice() == FIRST_RUN_TEXT.as_bytes(),
+            "cut at {cut}"
+        );
+    }
+    let mut sink = Sink::new(alloc);
+    sink.most = 3;
+    let mut source = Source::new(script);
+    source.most = 1;
+    assert_eq!(rt; ran(alloc, source, &mut sink), Ok(8));
+    assert!(rt; sink.bytes.as_slice() == FIRST_RUN_TEXT.as_bytes());
+}
+
+#[test]
+fn scripts_and_their_texts(rt: HostRuntime) {
+    let alloc = rt.alloc();
+    for (name, script, text) in [
+        (
+            "refused positions",
+            "mount empty 7 1000\nsince 7 0\nsince 7 2\nsince 8 9\n",
+            "at 7 1 empty\nrefused Truncated 1\nrefused Ahead 1\nrefused Stale 7\n",
+        ),
+        (
+            "refused changes",
+            "mount empty 7 1000\nwrite a plain 1\nwrite a/b plain 1\nwrite d/e plain 1\nwrite d plain 1\nremove z\n",
+            "at 7 1 empty\nat 7 2 empty\nrefused NotADirectory\nat 7 3 empty\nrefused IsADirectory\nrefused NoEntry\n",
+        ),
+        (
+            "refused paths",
+            "mount empty 7 1000\nwrite \\e plain x\nwrite a//b plain x\nwrite /a plain x\nremove ..\n",
+            "at 7 1 empty\nrefused Empty\nrefused BadComponent\nrefused BadComponent\nrefused BadComponent\n",
+        ),
+        (
+            "mounts",
+            "write a plain x\nremove ..\nsince 7 1\nmount c 7 1000\nmount empty 7 1000\nmount c 8 1\nmount empty 8 1\nsince 7 1\n",
+            "refused NotMounted\nrefused NotMounted\nrefused NotMounted\nrefused NoLabel\nat 7 1 empty\nrefused Mounted\nrefused Mounted\nchanges 0 to 7 1 empty\n",
+        ),
+        (
+            "escapes",
+            "mount empty 7 1000\nwrite a\\sb plain \\\\\\n\nwr\\eite \\\\\\e link \\e\nsince 7 1\n",
+            "at 7 1 empty\nat 7 2 empty\nat 7 3 empty\nchanges 2 to 7 3 empty\nCreated \\\\\nCreated a\\sb\n",
+        ),
+        (
+            "kinds and marks",
+            "mount empty 18446744073709551615 0\nwrite a exec 1\nwrite a link 2\nremove a\nwrite b plain 1\nwrite b plain 2\nsince 18446744073709551615 1\nsince 18446744073709551615 2\n",
+            "at 18446744073709551615 1 empty\nat 18446744073709551615 2 empty\nat 18446744073709551615 3 empty\nat 18446744073709551615 4 empty\nat 18446744073709551615 5 empty\nat 18446744073709551615 6 empty\nchanges 2 to 18446744073709551615 6 empty\nChanged a\nCreated b\nchanges 2 to 18446744073709551615 6 empty\nRemoved a\nCreated b\n",
+        ),
+        ("an empty script", "", ""),
+        (
+            "comments and empty lines",
+            "\n# mount\n\r\n#\nmount empty 7 1\n",
+            "at 7 1 empty\n",
+        ),
+        (
+            "other ends of lines",
+            "mount empty 7 1\r\nsince 7 1\r\nsince 7 2",
+            "at 7 1 empty\nchanges 0 to 7 1 empty\nrefused Ahead 1\n",
+        ),
+        (
+            "a carriage return that ends no line",
+            "mount empty 7 1\nwrite a plain x\r\nwrite b plain y\rz\nremove b\nwrite c plain \r",
+            "at 7 1 empty\nat 7 2 empty\nat 7 3 empty\nat 7 4 empty\nat 7 5 empty\n",
+        ),
+    ] {
+        let (printed, ended) = told(alloc, script.as_bytes());
+        assert!(rt; printed.as_slice() == text.as_bytes(), "{name}");
+        assert!(rt; ended.is_ok(), "{name}");
+    }
+}
+
+#[test]
+fn bad_lines(rt: HostRuntime) {
+    let alloc = rt.alloc();
+    for line in [
+        "list",
+        "mount",
+        "mount empty 7",
+        "mount empty 7 1 1",
+        "mount empty 07 1",
+        "mount empty +7 1",
+        "mount empty 7 18446744073709551616",
+        "mount EMPTY 7 1",
+        "mount abcdefghijklmnopqrstuvwxyz0123456 7 1",
+        "mount  empty 7 1",
+        "mount empty 7 1 ",
+        " mount empty 7 1",
+        "write a plain",
+        "write a plane x",
+        "write a Plain x",
+        "write a plain x y",
+        "write a\\ plain x",
+        "write a\\b plain x",
+        "write  plain x",
+        "remove",
+        "remove a b",
+        "since 7",
+        "since 7 -1",
+        "since 7 1 1",
+        "since 7 \\e",
+        "\\e#",
+        "Mount empty 7 1",
+        "mount empty 7\t1",
+    ] {
+        for (before, text) in [
+            ("", ""),
+            ("mount empty 7 1\n", "at 7 1 empty\n"),
+            (
+                "#\nmount empty 7 1\nsince 8 1\n",
+                "at 7 1 empty\nrefused Stale 7\n",
+            ),
+        ] {
+            let mut sink = Sink::new(alloc);
+            let lines = before.as_bytes().iter().filter(|b| **b == b'\n').count() as u64;
+            let Ok(script) = format!(in alloc; "{before}{line}\nmount empty 9 1\n") else {
+                return assert!(rt; false, "no memory");
+            };
+            let ended = ran(alloc, Source::new(script.as_bytes()), &mut sink);
+            assert!(rt;
+                ended == Err(RunFault::BadLine(lines.saturating_add(1))),
+                "{line}"
+            );
+            assert!(rt; sink.bytes.as_slice() == text.as_bytes(), "{line}");
+        }
+    }
+}
+
+/// Writes `count` copies of a byte, with a slash between each `every` of them.
+fn push_path(text: &mut Vec<u8>, count: usize, every: usize) -> Result<(), Fail> {
+    let mut run: usize = 0;
+    for _ in 0..count {
+        if run >= every {
+            text.push(b'/')?;
+            run = 0;
+        }
+        text.push(b'a')?;
+        run = run.saturating_add(1);
+    }
+    Ok(())
+}
+
+#[test]
+fn path_refusals(rt: HostRuntime) -> Result<(), Fail> {
+    let alloc = rt.alloc();
+    for (count, every, text) in [
+        (1025, 255, "refused TooLong\n"),
+        (256, 256, "refused BadComponent\n"),
+        (65, 1, "refused TooDeep\n"),
+        (64, 1, "refused NoEntry\n"),
+        (255, 255, "refused NoEntry\n"),
+    ] {
+        let mut script = b"mount empty 7 1\nremove ".to_vec(alloc)?;
+        push_path(&mut script, count, every)?;
+        let (printed, ended) = told(alloc, script.as_slice());
+        assert_eq!(rt; ended, Ok(2));
+        assert!(rt; printed.as_slice() == format!(in alloc; "at 7 1 empty\n{text}")?.as_bytes());
+    }
+    Ok(())
+}
+
+/// A line of this many bytes that writes a file.
+fn long_write(alloc: Global, length: usize) -> Result<Vec<u8>, Fail> {
+    let mut line = b"write a plain ".to_vec(alloc)?;
+    for _ in 0..length.saturating_sub(14) {
+        line.push(b'x')?;
+    }
+    Ok(line)
+}
+
+#[test]
+fn the_longest_line(rt: HostRuntime) -> Result<(), Fail> {
+    let alloc = rt.alloc();
+    for (length, end, ended) in [
+        (65_536, "\n", Ok(2)),
+        (65_536, "\r\n", Ok(2)),
+        (65_536, "", Ok(2)),
+        (65_537, "\n", Err(RunFault::BadLine(2))),
+        (65_537, "", Err(RunFault::BadLine(2))),
+    ] {
+        let mut script = b"mount empty 7 1\n".to_vec(alloc)?;
+        script.extend_from_slice(long_write(alloc, length)?.as_slice())?;
+        script.extend_from_slice(end.as_bytes())?;
+        let (text, result) = told(alloc, script.as_slice());
+        assert_eq!(rt; result, ended);
+        assert!(rt; text.as_slice().starts_with(b"at 7 1 empty\n".as_slice()));
+    }
+    Ok(())
+}
+
+#[test]
+fn failing_devices(rt: HostRuntime) {
+    let alloc = rt.alloc();
+    let script = FIRST_RUN.as_bytes();
+    let mut source = Source::new(script);
+    source.most = 10;
+    source.fails_at = 30;
+    let mut sink = Sink::new(alloc);
+    assert_eq!(rt; ran(alloc, source, &mut sink), Err(RunFault::Read));
+    assert!(rt; sink.bytes.as_slice() == b"at 7 1 empty\nchanges 0 to 7 1 empty\n".as_slice());
+    for room in 0..FIRST_RUN_TEXT.len() {
+        let mut sink = Sink::new(alloc);
+        sink.room = room;
+        assert_eq!(rt;
+            ran(alloc, Source::new(script), &mut sink),
+            Err(RunFault::Write)
+        );
+        assert!(rt; sink.bytes.as_slice() == &FIRST_RUN_TEXT.as_bytes()[..room]);
+    }
+}
