@@ -1,11 +1,9 @@
 -- What a session answers to a line, by what the line is.
-use Rattle.std.proofs.Common.{◌≡◌, ℕ, ◌<◌, true, false, nat_lt, List, [], ◌∷◌, ◌++◌, length, Option, Some, None, is_some, if◌then◌else◌, codes, replicate, refl, sym, ap, ◌∙◌, append-nil}
+use Rattle.std.proofs.Common.{◌≡◌, ℕ, ◌<◌, true, false, nat_lt, List, [], ◌∷◌, ◌++◌, length, Option, Some, None, refl, sym, ap, ◌∙◌, append-nil}
 use Rattle.std.specs.Prelude.{option_and_then, option_map}
 use Rattle.eden_script.specs.Words.{words_of}
 use Rattle.eden_stream.specs.Scripts.{in_front}
 use Rattle.eden_stream.specs.Answers.{TakesLine, RefusesLine}
-use Rattle.eden_ids.specs.FileMaps.{no_files}
-use Rattle.eden_world.specs.Worlds.{WorldState, now, position_of, opened}
 use Rattle.eden_world.specs.declared.command.Command.{Command}
 use Rattle.eden_world.specs.ScriptLines.{command_of}
 use Rattle.eden_world.specs.ScriptText.{Told, told, is_skipped, before_text, continued, script_text}

@@ -1,5 +1,5 @@
 -- What a line makes of a session, by whether there is a mount.
-use Rattle.std.proofs.Common.{◌≡◌, ℕ, true, false, List, [], ◌∷◌, ◌++◌, Option, Some, None, is_some, if◌then◌else◌, codes, replicate, refl, sym, ap, subst, ◌∙◌}
+use Rattle.std.proofs.Common.{◌≡◌, ℕ, true, false, List, ◌++◌, Option, Some, None, is_some, if◌then◌else◌, codes, replicate, refl, sym, ap, subst, ◌∙◌}
 use Rattle.eden_ids.specs.declared.id.Id.{Id}
 use Rattle.eden_ids.specs.FileMaps.{no_files}
 use Rattle.eden_objects.specs.Objects.{same_id, zero_id}

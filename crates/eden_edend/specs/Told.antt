@@ -1,6 +1,10 @@
 -- What a session holds of the script's, and what it makes of a line.
-use Rattle.std.specs.Prelude.{◌≡◌, ℕ, List, ◌++◌, Option, Some, None}
+use Rattle.std.specs.Prelude.{◌≡◌, ℕ, List, ◌++◌, Option, Some, None, Result, Ok, Err}
+use Rattle.eden_ids.specs.declared.id.Id.{Id}
+use Rattle.eden_objects.specs.declared.fault.PutFault.{PutFault}
+use Rattle.eden_objects.specs.declared.fault.PutFault.TheVariants.{NoMemory}
 use Rattle.eden_objects.specs.Objects.{Held}
+use Rattle.eden_objects.specs.Puts.{Outcome}
 use Rattle.eden_edend.specs.declared.plain_mount.PlainMount.{PlainMount}
 use Rattle.eden_edend.specs.declared.objects.Objects.{Objects}
 use Rattle.eden_edend.specs.StandsFor.{StandsFor}
@@ -21,6 +25,12 @@ session_at mounted objects = record { mounted = mounted; held = objects.store; b
 -- the mount and the text after a line of the mount are those that the line tells
 abbrev pub MountTells : MountTold → Option PlainMount → List ℕ → List ℕ → Type 0
 MountTells told mount old new = MountStands mount told.0 × (new ≡ old ++ told.1)
+
+-- a put gave its outcome; nothing is said where memory ran out
+abbrev pub Gave : Result Id PutFault → List Held → List Held → Outcome → Type 0
+Gave (Ok id) old new outcome = outcome ≡ Ok (id, new)
+Gave (Err NoMemory) old new outcome = Unit {0}
+Gave (Err fault) old new outcome = (new ≡ old) × (outcome ≡ Err fault)
 
 -- the objects, the bindings and the text after an object line are those that the line tells, and the mount is this one
 abbrev pub ObjectTells : Told → Option WorldState → List Held → List Binding → List ℕ → List ℕ → Type 0

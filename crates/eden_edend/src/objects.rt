@@ -3,11 +3,11 @@
 ghost use Rattle.std.specs.Prelude.{◌≡◌, ◌++◌, ◌∷◌, [], IfOk, OnOk, Option, List};
 ghost use Rattle.std.specs.Option.{option_map};
 ghost use Rattle.eden_objects.specs.Objects.{Held};
-ghost use Rattle.eden_objects.specs.Puts.{Outcome, PutGives, blob_outcome, tree_outcome, commit_outcome};
+ghost use Rattle.eden_objects.specs.Puts.{Outcome, blob_outcome, tree_outcome, commit_outcome};
 ghost use Rattle.eden_world.specs.Labels.{bound};
 ghost use Rattle.eden_world.specs.Worlds.{WorldState};
 ghost use Rattle.eden_world.specs.ScriptText.{git_name, put_told, tried, entry_bytes, tree_payload, commit_payload, id_told};
-ghost use Rattle.eden_edend.specs.Told.{session_at, ObjectTells};
+ghost use Rattle.eden_edend.specs.Told.{session_at, ObjectTells, Gave};
 
 use crate::labels::Labels;
 use crate::texts::{push_id, push_id_line, push_ok, push_refused, put_fault_name};
@@ -39,25 +39,25 @@ impl Objects {
     }
 }
 
+#[tactic(auto, using(crate::proofs::PutSteps::put_gave))]
 fn put_blob(store: &mut Store<GitNaming>, payload: &[u8]) -> Result<Id, PutFault>
-    ensures { PutGives result store.old store.new (blob_outcome git_name payload.now store.old) }
+    ensures { Gave result store.old store.new (blob_outcome git_name payload.now store.old) }
 {
-    let _ = store;
-    Err(PutFault::CutShort)
+    store.put_blob(payload)
 }
 
+#[tactic(auto, using(crate::proofs::PutSteps::tree_gave))]
 fn put_tree(store: &mut Store<GitNaming>, payload: &[u8]) -> Result<Id, PutFault>
-    ensures { PutGives result store.old store.new (tree_outcome git_name payload.now store.old) }
+    ensures { Gave result store.old store.new (tree_outcome git_name payload.now store.old) }
 {
-    let _ = store;
-    Err(PutFault::CutShort)
+    store.put_tree(payload)
 }
 
+#[tactic(auto, using(crate::proofs::PutSteps::put_gave))]
 fn put_commit(store: &mut Store<GitNaming>, payload: &[u8]) -> Result<Id, PutFault>
-    ensures { PutGives result store.old store.new (commit_outcome git_name payload.now store.old) }
+    ensures { Gave result store.old store.new (commit_outcome git_name payload.now store.old) }
 {
-    let _ = store;
-    Err(PutFault::CutShort)
+    store.put_commit(payload)
 }
 
 /// Binds the label to what was put, or tells why nothing was.
@@ -68,7 +68,7 @@ fn tell_put(
     put: Result<Id, PutFault>,
     text: &mut Vec<u8>,
 ) -> Result<(), AllocError>
-    ensures { (mounted : Option WorldState) (held more : List Held) (outcome : Outcome) → PutGives put held more outcome
+    ensures { (mounted : Option WorldState) (held more : List Held) (outcome : Outcome) → Gave put held more outcome
         → OnOk result (ObjectTells (put_told (record { mounted = mounted; held = held; bindings = labels.old }) label outcome) mounted more labels.new text.old.items text.new.items) }
 {
     match put {

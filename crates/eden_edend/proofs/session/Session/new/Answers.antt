@@ -1,4 +1,4 @@
-use Rattle.std.proofs.Common.{None, ap, sym}
+use Rattle.std.proofs.Common.{None, sym}
 use Rattle.eden_world.specs.ScriptText.{script_text}
 use Rattle.eden_edend.proofs.session.Session.new.Goals as goal
 
