@@ -45,6 +45,11 @@ fn known_object_ids(rt: HostRuntime) -> Result<(), Fail> {
             "tree t;commit c t;id c;blob b a\\sb\\\\\\n;id b",
             "ok;ok;id e43fc45fe9861f11199bfc430939749be99df922;ok;id dc2d86a9bf8c85c0244d60d7e18d6bc0be6c6a9b",
         ),
+        (
+            "the mode ends at its first space",
+            "blob x x;tree t 100644\\s a x;id t",
+            "ok;ok;id d8fbb3f9d7fafc98961fa52cf3a383ac9a2dff8a",
+        ),
     ] {
         assert!(rt; prints(alloc, script, text)?, "{name}");
     }
@@ -81,7 +86,6 @@ fn tree_refusals(rt: HostRuntime) -> Result<(), Fail> {
             "BadMode",
         ),
         ("no mode", "tree e \\e a x", "BadMode"),
-        ("a space in the mode", "tree e 100644\\s a x", "BadName"),
         ("no name", "tree e 100644 \\e x", "BadName"),
         ("a name with a slash", "tree e 100644 a/b x", "BadName"),
         ("a name of dots", "tree e 100644 .. x", "BadName"),
@@ -105,7 +109,11 @@ fn tree_refusals(rt: HostRuntime) -> Result<(), Fail> {
             "tree e 40000 a empty",
             "MissingChild",
         ),
-        ("NUL in the last name", "tree e 100644 a\0 x", "CutShort"),
+        (
+            "NUL in a name, behind which the id is another one",
+            "tree e 100644 a\0 x",
+            "MissingChild",
+        ),
         ("a commit of a blob", "commit e x", "WrongChildKind"),
         ("a commit of a commit", "commit e c", "WrongChildKind"),
         (
@@ -149,6 +157,20 @@ fn tree_refusals(rt: HostRuntime) -> Result<(), Fail> {
         let text = format!(in alloc; "ok;ok;ok;ok;refused {text};refused NoLabel")?;
         assert!(rt; prints(alloc, script.as_str(), text.as_str())?, "{name}");
     }
+    Ok(())
+}
+
+#[test]
+fn a_name_that_holds_an_entry(rt: HostRuntime) -> Result<(), Fail> {
+    let alloc = rt.alloc();
+    let id =
+        b"\xc1\xb0\x73\x0e\x01\x33\x44\x7b\xad\xcf\xd4\x7f\xd1\x44\xe2\x54\x80\x7b\x06\xe1".as_slice();
+    let mut script = b"blob x x\ntree t 100644 a\0".to_vec(alloc)?;
+    script.extend_from_slice(id)?;
+    script.extend_from_slice(b"b x\n".as_slice())?;
+    let (printed, ended) = told(alloc, script.as_slice());
+    assert!(rt; ended.is_ok());
+    assert!(rt; printed.as_slice() == b"ok\nrefused CutShort\n".as_slice());
     Ok(())
 }
 
