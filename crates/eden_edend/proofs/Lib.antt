@@ -1,2 +1,7 @@
-mod LineAnswers
+mod PayloadLemmas
+mod EntryLemmas
+mod LabelLemmas
 mod PlainSteps
+mod PutSteps
+mod LineAnswers
+mod SessionSteps

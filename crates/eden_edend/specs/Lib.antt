@@ -1,4 +1,5 @@
 pub mod Asked
+pub mod BoundMaps
 pub mod StandsFor
 pub mod Told
 pub mod SessionScript

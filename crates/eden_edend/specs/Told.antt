@@ -1,9 +1,16 @@
 -- What a session holds of the script's, and what it makes of a line.
-use Rattle.std.specs.Prelude.{◌≡◌, ℕ, List, ◌++◌, Option, Some, None}
+use Rattle.std.specs.Prelude.{◌≡◌, ℕ, List, ◌++◌, Option, Some, None, Result, Ok, Err}
+use Rattle.eden_ids.specs.declared.id.Id.{Id}
+use Rattle.eden_objects.specs.declared.fault.PutFault.{PutFault}
+use Rattle.eden_objects.specs.declared.fault.PutFault.TheVariants.{NoMemory}
+use Rattle.eden_objects.specs.Objects.{Held}
+use Rattle.eden_objects.specs.Puts.{Outcome}
 use Rattle.eden_edend.specs.declared.plain_mount.PlainMount.{PlainMount}
+use Rattle.eden_edend.specs.declared.objects.Objects.{Objects}
 use Rattle.eden_edend.specs.StandsFor.{StandsFor}
+use Rattle.eden_world.specs.declared.label.Binding.{Binding}
 use Rattle.eden_world.specs.Worlds.{WorldState}
-use Rattle.eden_world.specs.ScriptText.{Session, Told, script_text}
+use Rattle.eden_world.specs.ScriptText.{Session, Told, MountTold, script_text}
 
 -- there is a mount where the script has one, and it stands for the script's
 abbrev pub MountStands : Option PlainMount → Option WorldState → Type 0
@@ -11,10 +18,31 @@ MountStands None None = Unit {0}
 MountStands (Some mount) (Some world) = StandsFor mount world
 MountStands _ _ = ⊥
 
--- the mount and the text after a line are those that the line tells
-abbrev pub Tells : Told → Option PlainMount → List ℕ → List ℕ → Type 0
-Tells told mount old new = MountStands mount told.0.mounted × (new ≡ old ++ told.1)
+-- the script's session with this mount and these objects
+abbrev pub session_at : Option WorldState → Objects → Session
+session_at mounted objects = record { mounted = mounted; held = objects.store; bindings = objects.labels }
 
--- the session stands for a script: for what is printed by the lines that follow on some session of the definitions
-abbrev pub SessionStands : Option PlainMount → (List (List ℕ) → Option (List ℕ)) → Type 0
-SessionStands mount script = (session : Session) × MountStands mount session.mounted × ((lines : List (List ℕ)) → script lines ≡ script_text session lines)
+-- the mount and the text after a line of the mount are those that the line tells
+abbrev pub MountTells : MountTold → Option PlainMount → List ℕ → List ℕ → Type 0
+MountTells told mount old new = MountStands mount told.0 × (new ≡ old ++ told.1)
+
+-- a put gave its outcome; nothing is said where memory ran out
+abbrev pub Gave : Result Id PutFault → List Held → List Held → Outcome → Type 0
+Gave (Ok id) old new outcome = outcome ≡ Ok (id, new)
+Gave (Err NoMemory) old new outcome = Unit {0}
+Gave (Err fault) old new outcome = (new ≡ old) × (outcome ≡ Err fault)
+
+-- the objects, the bindings and the text after an object line are those that the line tells, and the mount is this one
+abbrev pub ObjectTells : Told → Option WorldState → List Held → List Binding → List ℕ → List ℕ → Type 0
+ObjectTells told mounted held bindings old new =
+    (told.0.mounted ≡ mounted) × (held ≡ told.0.held) × (bindings ≡ told.0.bindings) × (new ≡ old ++ told.1)
+
+-- all that is there after a line is what the line tells
+abbrev pub Tells : Told → Option PlainMount → Objects → List ℕ → List ℕ → Type 0
+Tells told mount objects old new =
+    MountStands mount told.0.mounted × (objects.store ≡ told.0.held) × (objects.labels ≡ told.0.bindings) × (new ≡ old ++ told.1)
+
+-- the session stands for a script: for what is printed by the lines that follow on a session of the definitions
+abbrev pub SessionStands : Option PlainMount → Objects → (List (List ℕ) → Option (List ℕ)) → Type 0
+SessionStands mount objects script =
+    (mounted : Option WorldState) × MountStands mount mounted × ((lines : List (List ℕ)) → script lines ≡ script_text (session_at mounted objects) lines)

@@ -1,16 +1,17 @@
 //! What a line asks for, read from its words.
 
-ghost use Rattle.std.specs.Prelude.{◌≡◌, ◌+◌, ◌<◌, [], ◌∷◌, ◌++◌, vec_len};
-ghost use Rattle.std.specs.List.{list_all};
+ghost use Rattle.std.specs.Prelude.{◌≡◌, ◌<◌, [], ◌∷◌, length, IfOk, OnSome};
 ghost use Rattle.eden_script.specs.Numbers.{number_of};
-ghost use Rattle.eden_world.specs.ScriptText.{is_word, kind_of, is_label, is_label_byte, mount_of, since_of, write_of, command_of};
+ghost use Rattle.eden_world.specs.LabelWords.{is_word, label_read, label_to_bind};
+ghost use Rattle.eden_world.specs.ScriptLines.{kind_of, mount_of, since_of, write_of, blob_of, commit_of, id_of, entry_of, entry_before, entries_of, tree_of, row_of, command_of};
 
-use eden_ids::Kind;
+use crate::unread::Unread;
+use eden_ids::{Kind, Sequence};
 use eden_script::{Word, number};
-use eden_world::Command;
+use eden_world::{Command, Label, TreeEntry};
+use std::alloc::{AllocError, Global};
 
-/// Whether the word is this name.
-pub(crate) fn is_named(word: &Word, name: &[u8]) -> bool
+fn is_named(word: &Word, name: &[u8]) -> bool
     ensures { result ≡ is_word word.now name.now }
 {
     word.as_bytes() == name
@@ -30,24 +31,14 @@ fn read_kind(word: &Word) -> Option<Kind>
     }
 }
 
-fn is_label(word: &Word) -> bool
-    ensures { result ≡ is_label word.now }
-{
-    let bytes = word.as_bytes();
-    1 <= bytes.len() && bytes.len() <= 32 && has_label_bytes(bytes)
-}
-
-fn has_label_bytes(bytes: &[u8]) -> bool
-    ensures { result ≡ list_all is_label_byte bytes.now }
-{
-    bytes.iter().all(|b| matches!(b, b'a'..=b'z' | b'0'..=b'9'))
-}
-
 fn read_mount(label: Word, generation: &Word, limit: &Word) -> Option<Command>
-    ensures { result ≡ mount_of label (number_of generation.now) (number_of limit.now) }
+    ensures { result ≡ mount_of (label_read label) (number_of generation.now) (number_of limit.now) }
 {
-    match (number(generation.as_bytes()), number(limit.as_bytes())) {
-        (Some(generation), Some(limit)) if is_label(&label) => Some(Command::Mount {
+    let label = Label::read(label);
+    let generation = number(generation.as_bytes());
+    let limit = number(limit.as_bytes());
+    match (label, generation, limit) {
+        (Some(label), Some(generation), Some(limit)) => Some(Command::Mount {
             label,
             generation,
             limit,
@@ -77,28 +68,61 @@ fn read_write(path: Word, kind: &Word, bytes: Word) -> Option<Command>
     }
 }
 
+fn read_blob(label: Word, bytes: Word) -> Option<Command>
+    ensures { result ≡ blob_of (label_to_bind label) bytes }
+{
+    match Label::read_to_bind(label) {
+        Some(label) => Some(Command::Blob { label, bytes }),
+        None => None,
+    }
+}
+
+fn read_commit(label: Word, tree: Word) -> Option<Command>
+    ensures { result ≡ commit_of (label_to_bind label) (label_read tree) }
+{
+    match (Label::read_to_bind(label), Label::read(tree)) {
+        (Some(label), Some(tree)) => Some(Command::Commit { label, tree }),
+        _ => None,
+    }
+}
+
+fn read_id(label: Word) -> Option<Command>
+    ensures { result ≡ id_of (label_read label) }
+{
+    match Label::read(label) {
+        Some(label) => Some(Command::Id { label }),
+        None => None,
+    }
+}
+
 fn read_two(first: &Word, second: Word) -> Option<Command>
-    ensures { result ≡ command_of (first.now ∷ second ∷ []) }
+    ensures { result ≡ row_of first.now (second ∷ []) }
 {
     if is_named(first, b"remove".as_slice()) {
         Some(Command::Remove { path: second })
+    } else if is_named(first, b"id".as_slice()) {
+        read_id(second)
     } else {
         None
     }
 }
 
-fn read_three(first: &Word, second: &Word, third: &Word) -> Option<Command>
-    ensures { result ≡ command_of (first.now ∷ second.now ∷ third.now ∷ []) }
+fn read_three(first: &Word, second: Word, third: Word) -> Option<Command>
+    ensures { result ≡ row_of first.now (second ∷ third ∷ []) }
 {
     if is_named(first, b"since".as_slice()) {
-        read_since(second, third)
+        read_since(&second, &third)
+    } else if is_named(first, b"blob".as_slice()) {
+        read_blob(second, third)
+    } else if is_named(first, b"commit".as_slice()) {
+        read_commit(second, third)
     } else {
         None
     }
 }
 
 fn read_four(first: &Word, second: Word, third: &Word, fourth: Word) -> Option<Command>
-    ensures { result ≡ command_of (first.now ∷ second ∷ third.now ∷ fourth ∷ []) }
+    ensures { result ≡ row_of first.now (second ∷ third.now ∷ fourth ∷ []) }
 {
     if is_named(first, b"mount".as_slice()) {
         read_mount(second, third, &fourth)
@@ -109,38 +133,88 @@ fn read_four(first: &Word, second: Word, third: &Word, fourth: Word) -> Option<C
     }
 }
 
-/// The words from the last one on, in the order in which they are taken.
-fn take_last(words: &mut Vec<Word>) -> Word
-    requires { 0 < vec_len words.old }
-    ensures items { words.old.items ≡ words.new.items ++ result ∷ [] }
-    ensures len { vec_len words.new + 1 ≡ vec_len words.old }
+/// What a line that is no tree's asks for, by its first word and the others.
+fn read_row(first: &Word, mut others: Unread) -> Option<Command>
+    ensures { result ≡ row_of first.now others }
 {
-    words.pop().unwrap()
+    match others.len() {
+        1 => read_two(first, others.take()),
+        2 => {
+            let second = others.take();
+            read_three(first, second, others.take())
+        }
+        3 => {
+            let second = others.take();
+            let third = others.take();
+            read_four(first, second, &third, others.take())
+        }
+        _ => None,
+    }
+}
+
+fn read_entry(mode: Word, name: Word, label: Word) -> Option<TreeEntry>
+    ensures { result ≡ entry_of mode name (label_read label) }
+{
+    match Label::read(label) {
+        Some(label) => Some(TreeEntry { mode, name, label }),
+        None => None,
+    }
+}
+
+/// The entry of the first three words, which are taken.
+fn take_entry(words: &mut Unread) -> Option<TreeEntry>
+    requires { 0 < length words.old }
+    ensures reads { entries_of words.old ≡ entry_before result (entries_of words.new) }
+    ensures takes { OnSome result (length words.new < length words.old) }
+{
+    if words.len() < 3 {
+        return None;
+    }
+    let mode = words.take();
+    let name = words.take();
+    read_entry(mode, name, words.take())
+}
+
+#[tactic(auto, using(crate::proofs::EntryLemmas::one_more, crate::proofs::EntryLemmas::none_before, crate::proofs::EntryLemmas::all_read))]
+fn read_entries(alloc: Global, mut words: Unread) -> Result<Option<Sequence<TreeEntry>>, AllocError>
+    ensures { IfOk result (λ entries. entries ≡ entries_of words) }
+{
+    let mut entries = Vec::new(alloc);
+    while words.len() > 0 {
+        match take_entry(&mut words) {
+            Some(entry) => entries.push(entry)?,
+            None => return Ok(None),
+        }
+    }
+    Ok(Some(Sequence::from_vec(entries)))
+}
+
+/// What a tree's line asks for, by the words after its first.
+fn read_tree(alloc: Global, mut words: Unread) -> Result<Option<Command>, AllocError>
+    ensures { IfOk result (λ command. command ≡ tree_of words) }
+{
+    if words.len() == 0 {
+        return Ok(None);
+    }
+    let label = Label::read_to_bind(words.take());
+    match (label, read_entries(alloc, words)?) {
+        (Some(label), Some(entries)) => Ok(Some(Command::Tree { label, entries })),
+        _ => Ok(None),
+    }
 }
 
 /// What the words of a line ask for, or none where no row of the table reads them.
-pub(crate) fn read_command(mut words: Vec<Word>) -> Option<Command>
-    ensures { result ≡ command_of words.items }
+pub(crate) fn read_command(alloc: Global, words: Vec<Word>) -> Result<Option<Command>, AllocError>
+    ensures { IfOk result (λ command. command ≡ command_of words.items) }
 {
-    match words.len() {
-        2 => {
-            let second = take_last(&mut words);
-            let first = take_last(&mut words);
-            read_two(&first, second)
-        }
-        3 => {
-            let third = take_last(&mut words);
-            let second = take_last(&mut words);
-            let first = take_last(&mut words);
-            read_three(&first, &second, &third)
-        }
-        4 => {
-            let fourth = take_last(&mut words);
-            let third = take_last(&mut words);
-            let second = take_last(&mut words);
-            let first = take_last(&mut words);
-            read_four(&first, second, &third, fourth)
-        }
-        _ => None,
+    let mut words = Unread::new(words);
+    if words.len() == 0 {
+        return Ok(None);
+    }
+    let first = words.take();
+    if is_named(&first, b"tree".as_slice()) {
+        read_tree(alloc, words)
+    } else {
+        Ok(read_row(&first, words))
     }
 }

@@ -5,9 +5,15 @@ pub use crate::script::run;
 pub use eden_stream::RunFault;
 
 mod commands;
+mod labels;
+mod mounting;
+#[cfg(test)]
+mod object_tests;
+mod objects;
 mod plain_mount;
 mod script;
 mod session;
 #[cfg(test)]
 mod tests;
 mod texts;
+mod unread;

@@ -3,7 +3,7 @@
 ghost use Rattle.std.specs.Prelude.{ℕ, ◌+◌, ◌≤◌, IsErrOf};
 ghost use Rattle.eden_stream.specs.Counts.{Rose, RoseBy};
 ghost use Rattle.eden_stream.specs.Ends.{Ends};
-ghost use Rattle.eden_world.specs.ScriptText.{script_text, unmounted};
+ghost use Rattle.eden_world.specs.ScriptText.{script_text, first_session};
 
 use crate::session::Session;
 use eden_stream::{CountedRead, CountedWrite, RunFault, run_lines};
@@ -31,7 +31,7 @@ pub fn run<R: CountedRead, W: CountedWrite>(
     reader: &mut R,
     writer: &mut W,
 ) -> Result<u64, RunFault>
-    ensures ends { Ends (script_text unmounted) (R.remaining reader.old) (R.remaining reader.new) (W.contents writer.old) (W.contents writer.new) result }
+    ensures ends { Ends (script_text first_session) (R.remaining reader.old) (R.remaining reader.new) (W.contents writer.old) (W.contents writer.new) result }
     ensures read { IsErrOf result RunFault.Read → Rose (R.failed reader.old) (R.failed reader.new) }
     ensures write { IsErrOf result RunFault.Write → Rose (W.failed writer.old) (W.failed writer.new) }
     ensures turns_spent { IsErrOf result RunFault.TurnsSpent → RoseBy 1000000 (R.called reader.old) (R.called reader.new) }

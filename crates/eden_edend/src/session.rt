@@ -1,23 +1,23 @@
-//! A session of a script: the mount, once there is one, and what each line makes of it.
+//! A session of a script: the objects, the mount once there is one, and what each line makes of them.
 
 ghost use Rattle.std.specs.Prelude.{◌≡◌, ◌≢◌, ◌++◌, ℕ, Option, OnOk, IfOk, option_and_then};
 ghost use Rattle.eden_script.specs.Words.{words_of};
-ghost use Rattle.eden_ids.specs.Paths.{path_fault};
-ghost use Rattle.eden_world.specs.Worlds.{WorldState, empty_commit};
-ghost use Rattle.eden_world.specs.Outcome.{answer_of, world_after};
+ghost use Rattle.eden_world.specs.Worlds.{WorldState};
+ghost use Rattle.eden_world.specs.ScriptLines.{command_of};
 ghost use Rattle.eden_world.specs.ScriptText as script;
-ghost use Rattle.eden_edend.specs.StandsFor.{StandsFor};
-ghost use Rattle.eden_edend.specs.Told.{MountStands, Tells, SessionStands};
+ghost use Rattle.eden_ids.specs.Naming.{git_name};
+ghost use Rattle.eden_objects.specs.Puts.{blob_outcome, tree_outcome, commit_outcome};
+ghost use Rattle.eden_world.specs.Labels.{bound};
+ghost use Rattle.eden_edend.specs.Told.{MountStands, Tells, SessionStands, session_at};
 
-use crate::commands::{is_named, read_command};
+use crate::commands::read_command;
+use crate::mounting::{tell_mount, tell_remove, tell_since, tell_write};
+use crate::objects::{Objects, tell_blob, tell_commit, tell_id, tell_tree};
 use crate::plain_mount::PlainMount;
-use crate::texts::{
-    path_fault_name, push_answer, push_at, push_changes, push_refused, push_refused_since,
-};
-use eden_ids::{Kind, Path, PathFault, Sequence};
+use crate::texts::push_refused;
 use eden_script::{Word, push_bytes, words};
 use eden_stream::{Answered, LineMachine};
-use eden_world::{Change, Command, SinceFault};
+use eden_world::{Command, Label, TreeEntry};
 use std::alloc::{AllocError, Global};
 
 /// A line of more bytes can't be read, unless it is a comment.
@@ -28,136 +28,88 @@ const LINE_LIMIT: usize = 65_536;
 pub(crate) struct Session {
     alloc: Global,
     mount: Option<PlainMount>,
+    objects: Objects,
 }
 
-fn tell_mount(
-    alloc: Global,
-    mount: &mut Option<PlainMount>,
-    label: &Word,
-    generation: u64,
-    text: &mut Vec<u8>,
-) -> Result<(), AllocError>
-    ensures { (limit : ℕ) (mounted : Option WorldState) → MountStands mount.old mounted
-        → OnOk result (Tells (script.mount_told mounted label.now generation limit) mount.new text.old.items text.new.items) }
-{
-    if mount.is_some() {
-        return push_refused(text, b"Mounted".as_slice());
-    }
-    if !is_named(label, b"empty".as_slice()) {
-        return push_refused(text, b"NoLabel".as_slice());
-    }
-    let plain = PlainMount::empty(alloc, generation);
-    push_at(text, &plain.position())?;
-    *mount = Some(plain);
-    Ok(())
-}
-
-fn tell_change(mount: &mut PlainMount, change: Change, text: &mut Vec<u8>) -> Result<(), AllocError>
-    ensures stands { (world : WorldState) → StandsFor mount.old world → OnOk result (StandsFor mount.new (world_after empty_commit world change)) }
-    ensures prints { (world : WorldState) → StandsFor mount.old world
-        → OnOk result (text.new.items ≡ text.old.items ++ script.answer_text (answer_of empty_commit world change)) }
-{
-    match mount.change(change) {
-        Ok(answer) => push_answer(text, &answer),
-        Err(_) => Err(AllocError),
-    }
-}
-
-fn tell_write(
-    alloc: Global,
-    mount: &mut Option<PlainMount>,
-    path: &Word,
-    kind: Kind,
-    bytes: Word,
-    text: &mut Vec<u8>,
-) -> Result<(), AllocError>
-    ensures { (mounted : Option WorldState) → MountStands mount.old mounted
-        → OnOk result (Tells (script.in_mount mounted (λ world. script.changed world (path_fault path.now) (Change.Write path.now kind bytes))) mount.new text.old.items text.new.items) }
-{
-    let Some(mount) = mount else {
-        return push_refused(text, b"NotMounted".as_slice());
-    };
-    match Path::parse(alloc, path.as_bytes()) {
-        Ok(path) => {
-            let bytes = Sequence::from_vec(bytes.into_bytes());
-            tell_change(mount, Change::Write { path, kind, bytes }, text)
+impl Session {
+    fn tell_blob(
+        &mut self,
+        label: Label,
+        bytes: &Word,
+        text: &mut Vec<u8>,
+    ) -> Result<(), AllocError>
+        ensures { (mounted : Option WorldState) → MountStands self.old.mount mounted
+            → OnOk result (Tells (script.before_mount (session_at mounted self.old.objects) mounted (script.put_told (session_at mounted self.old.objects) label (blob_outcome git_name bytes.now self.old.objects.store))) self.new.mount self.new.objects text.old.items text.new.items) }
+    {
+        match &self.mount {
+            Some(_) => push_refused(text, b"Mounted".as_slice()),
+            None => tell_blob(&mut self.objects, label, bytes, text),
         }
-        Err(PathFault::NoMemory) => Err(AllocError),
-        Err(fault) => push_refused(text, path_fault_name(fault)),
     }
-}
 
-fn tell_remove(
-    alloc: Global,
-    mount: &mut Option<PlainMount>,
-    path: &Word,
-    text: &mut Vec<u8>,
-) -> Result<(), AllocError>
-    ensures { (mounted : Option WorldState) → MountStands mount.old mounted
-        → OnOk result (Tells (script.in_mount mounted (λ world. script.changed world (path_fault path.now) (Change.Remove path.now))) mount.new text.old.items text.new.items) }
-{
-    let Some(mount) = mount else {
-        return push_refused(text, b"NotMounted".as_slice());
-    };
-    match Path::parse(alloc, path.as_bytes()) {
-        Ok(path) => tell_change(mount, Change::Remove { path }, text),
-        Err(PathFault::NoMemory) => Err(AllocError),
-        Err(fault) => push_refused(text, path_fault_name(fault)),
+    fn tell_tree(
+        &mut self,
+        label: Label,
+        entries: &[TreeEntry],
+        text: &mut Vec<u8>,
+    ) -> Result<(), AllocError>
+        ensures { (mounted : Option WorldState) → MountStands self.old.mount mounted
+            → OnOk result (Tells (script.before_mount (session_at mounted self.old.objects) mounted (script.tried (session_at mounted self.old.objects) label (λ payload. tree_outcome git_name payload self.old.objects.store) (script.tree_payload self.old.objects.labels entries.now))) self.new.mount self.new.objects text.old.items text.new.items) }
+    {
+        match &self.mount {
+            Some(_) => push_refused(text, b"Mounted".as_slice()),
+            None => tell_tree(self.alloc, &mut self.objects, label, entries, text),
+        }
     }
-}
 
-fn tell_since_fault(fault: SinceFault, text: &mut Vec<u8>) -> Result<(), AllocError>
-    ensures told { OnOk result (fault ≢ SinceFault.NoMemory) }
-    ensures prints { OnOk result (text.new.items ≡ text.old.items ++ script.refused_text (script.since_fault_text fault)) }
-{
-    match fault {
-        SinceFault::NoMemory => Err(AllocError),
-        fault => push_refused_since(text, &fault),
+    fn tell_commit(
+        &mut self,
+        label: Label,
+        tree: &Label,
+        text: &mut Vec<u8>,
+    ) -> Result<(), AllocError>
+        ensures { (mounted : Option WorldState) → MountStands self.old.mount mounted
+            → OnOk result (Tells (script.before_mount (session_at mounted self.old.objects) mounted (script.tried (session_at mounted self.old.objects) label (λ payload. commit_outcome git_name payload self.old.objects.store) (script.commit_payload (bound self.old.objects.labels tree.now)))) self.new.mount self.new.objects text.old.items text.new.items) }
+    {
+        match &self.mount {
+            Some(_) => push_refused(text, b"Mounted".as_slice()),
+            None => tell_commit(self.alloc, &mut self.objects, label, tree, text),
+        }
     }
-}
 
-fn tell_since(
-    alloc: Global,
-    mount: &Option<PlainMount>,
-    generation: u64,
-    sequence: u64,
-    text: &mut Vec<u8>,
-) -> Result<(), AllocError>
-    ensures { (mounted : Option WorldState) → MountStands mount.now mounted
-        → OnOk result (Tells (script.in_mount mounted (λ world. script.since_told world generation sequence)) mount.now text.old.items text.new.items) }
-{
-    let Some(mount) = mount else {
-        return push_refused(text, b"NotMounted".as_slice());
-    };
-    match mount.since(alloc, generation, sequence) {
-        Ok(marked) => push_changes(text, marked.as_slice(), &mount.position()),
-        Err(fault) => tell_since_fault(fault, text),
-    }
-}
-
-/// Does what a line asks for, and adds what it prints to the text.
-#[tactic(auto, unfolding(eden_world::specs::ScriptText::told))]
-fn tell(
-    alloc: Global,
-    mount: &mut Option<PlainMount>,
-    command: Command,
-    text: &mut Vec<u8>,
-) -> Result<(), AllocError>
-    ensures { (session : script.Session) → MountStands mount.old session.mounted
-        → OnOk result (Tells (script.told session command) mount.new text.old.items text.new.items) }
-{
-    match command {
-        Command::Mount {
-            label,
-            generation,
-            ..
-        } => tell_mount(alloc, mount, &label, generation, text),
-        Command::Write { path, kind, bytes } => tell_write(alloc, mount, &path, kind, bytes, text),
-        Command::Remove { path } => tell_remove(alloc, mount, &path, text),
-        Command::Since {
-            generation,
-            sequence,
-        } => tell_since(alloc, mount, generation, sequence, text),
+    /// Does what a line asks for, and adds what it prints to the text.
+    #[tactic(auto, unfolding(eden_world::specs::ScriptText::told))]
+    fn tell(&mut self, command: Command, text: &mut Vec<u8>) -> Result<(), AllocError>
+        ensures { (mounted : Option WorldState) → MountStands self.old.mount mounted
+            → OnOk result (Tells (script.told (session_at mounted self.old.objects) command) self.new.mount self.new.objects text.old.items text.new.items) }
+    {
+        let alloc = self.alloc;
+        let labels = &self.objects.labels;
+        match command {
+            Command::Blob { label, bytes } => self.tell_blob(label, &bytes, text),
+            Command::Tree { label, entries } => self.tell_tree(label, entries.as_slice(), text),
+            Command::Commit { label, tree } => self.tell_commit(label, &tree, text),
+            Command::Id { label } => tell_id(labels, &label, text),
+            Command::Mount {
+                label,
+                generation,
+                ..
+            } => tell_mount(alloc, &mut self.mount, labels, &label, generation, text),
+            Command::Write { path, kind, bytes } => tell_write(
+                alloc,
+                &mut self.mount,
+                labels,
+                &path,
+                kind,
+                bytes,
+                text,
+            ),
+            Command::Remove { path } => tell_remove(alloc, &mut self.mount, labels, &path, text),
+            Command::Since {
+                generation,
+                sequence,
+            } => tell_since(alloc, &self.mount, labels, generation, sequence, text),
+        }
     }
 }
 
@@ -173,10 +125,10 @@ fn is_skipped(line: &[u8]) -> bool
 
 /// What a line asks for, or none where it can't be read.
 fn read_line(alloc: Global, line: &[u8]) -> Result<Option<Command>, AllocError>
-    ensures { IfOk result (λ command. command ≡ option_and_then script.command_of (words_of line.now)) }
+    ensures { IfOk result (λ command. command ≡ option_and_then command_of (words_of line.now)) }
 {
     match words(alloc, line)? {
-        Some(words) => Ok(read_command(words)),
+        Some(words) => read_command(alloc, words),
         None => Ok(None),
     }
 }
@@ -185,7 +137,7 @@ impl LineMachine for Session {
     ghost use Rattle.eden_edend.specs.Told.{SessionStands};
     ghost use Rattle.eden_edend.specs.SessionScript.{session_script};
 
-    ghost stands_for = { λ session script. SessionStands session.mount script };
+    ghost stands_for = { λ session script. SessionStands session.mount session.objects script };
 
     fn answer(&mut self, line: &[u8], text: &mut Vec<u8>) -> Answered {
         if is_skipped(line) {
@@ -200,7 +152,7 @@ impl LineMachine for Session {
             Err(_) => return Answered::NoMemory,
         };
         let mut printed = Vec::new(self.alloc);
-        match tell(self.alloc, &mut self.mount, command, &mut printed) {
+        match self.tell(command, &mut printed) {
             Ok(()) => {}
             Err(_) => return Answered::NoMemory,
         }
@@ -210,14 +162,18 @@ impl LineMachine for Session {
         }
     }
 
-    ghost lawful = { λ session script stands. session_script session.mount script stands };
+    ghost lawful = { λ session script stands. session_script session.mount session.objects script stands };
 }
 
 impl Session {
-    /// A session with no mount. It takes no memory.
+    /// A session with no object and no mount. It takes no memory.
     pub(crate) fn new(alloc: Global) -> Session
-        ensures { SessionStands result.mount (script.script_text script.unmounted) }
+        ensures { SessionStands result.mount result.objects (script.script_text script.first_session) }
     {
-        Session { alloc, mount: None }
+        Session {
+            alloc,
+            mount: None,
+            objects: Objects::new(alloc),
+        }
     }
 }

@@ -95,7 +95,7 @@ fn ran(alloc: Global, source: Source<'_>, sink: &mut Sink) -> Result<u64, RunFau
 }
 
 /// What a script prints and how it ends, in one piece.
-fn told(alloc: Global, script: &[u8]) -> (Vec<u8>, Result<u64, RunFault>) {
+pub(crate) fn told(alloc: Global, script: &[u8]) -> (Vec<u8>, Result<u64, RunFault>) {
     let mut sink = Sink::new(alloc);
     let ended = ran(alloc, Source::new(script), &mut sink);
     (sink.bytes, ended)

@@ -2,42 +2,71 @@
 
 ghost use Rattle.std.specs.Prelude.{◌≡◌, ◌++◌, ◌∷◌, [], length, OnOk, codes};
 ghost use Rattle.std.specs.List.{flat_map};
-ghost use Rattle.eden_world.specs.ScriptText.{root_text, position_text, at_text, refused_text, path_fault_text, change_fault_text, since_fault_text, mark_text, marked_text, changes_text, answer_text};
+ghost use Rattle.hex.specs.Hex.{encode_lower};
+ghost use Rattle.eden_world.specs.ScriptText.{root_text, position_text, at_text, ok_text, id_text, refused_text, put_fault_text, path_fault_text, change_fault_text, since_fault_text, mark_text, marked_text, changes_text, answer_text};
 
+use crate::labels::Labels;
 use eden_ids::{Id, PathFault};
+use eden_objects::PutFault;
 use eden_script::{push_bytes, push_escaped, push_number};
 use eden_world::{Answer, ChangeFault, Mark, Marked, Position, SinceFault};
 use std::alloc::AllocError;
 
-fn push_root(text: &mut Vec<u8>, root: &Id) -> Result<(), AllocError>
-    ensures { OnOk result (text.new.items ≡ text.old.items ++ root_text root.now) }
+/// An id in hexadecimal.
+pub(crate) fn push_id(text: &mut Vec<u8>, id: &Id) -> Result<(), AllocError>
+    ensures { OnOk result (text.new.items ≡ text.old.items ++ encode_lower id.now.0) }
 {
-    if root.0 == [0; 20] {
+    push_bytes(text, id.to_hex().as_slice())
+}
+
+fn push_root(text: &mut Vec<u8>, labels: &Labels, root: &Id) -> Result<(), AllocError>
+    ensures { OnOk result (text.new.items ≡ text.old.items ++ root_text labels.now root.now) }
+{
+    if *root == Id::ZERO {
         return push_bytes(text, b"empty".as_slice());
     }
-    let mut digits = [0; 40];
-    match hex::encode_to_slice(root.0.as_slice(), &mut digits) {
-        Ok(()) => push_bytes(text, digits.as_slice()),
-        Err(_) => Err(AllocError),
+    match labels.first_bound(*root) {
+        Some(label) => push_bytes(text, label.as_bytes()),
+        None => push_id(text, root),
     }
 }
 
-fn push_position(text: &mut Vec<u8>, position: &Position) -> Result<(), AllocError>
-    ensures { OnOk result (text.new.items ≡ text.old.items ++ position_text position.now) }
+fn push_position(text: &mut Vec<u8>, labels: &Labels, position: &Position) -> Result<(), AllocError>
+    ensures { OnOk result (text.new.items ≡ text.old.items ++ position_text labels.now position.now) }
 {
     push_number(text, position.generation)?;
     push_bytes(text, b" ".as_slice())?;
     push_number(text, position.sequence)?;
     push_bytes(text, b" ".as_slice())?;
-    push_root(text, &position.root)
+    push_root(text, labels, &position.root)
 }
 
 /// The line of a change that was made.
-pub(crate) fn push_at(text: &mut Vec<u8>, position: &Position) -> Result<(), AllocError>
-    ensures { OnOk result (text.new.items ≡ text.old.items ++ at_text position.now) }
+pub(crate) fn push_at(
+    text: &mut Vec<u8>,
+    labels: &Labels,
+    position: &Position,
+) -> Result<(), AllocError>
+    ensures { OnOk result (text.new.items ≡ text.old.items ++ at_text labels.now position.now) }
 {
     push_bytes(text, b"at ".as_slice())?;
-    push_position(text, position)?;
+    push_position(text, labels, position)?;
+    push_bytes(text, b"\n".as_slice())
+}
+
+/// The line of an object that was put.
+pub(crate) fn push_ok(text: &mut Vec<u8>) -> Result<(), AllocError>
+    ensures { OnOk result (text.new.items ≡ text.old.items ++ ok_text) }
+{
+    push_bytes(text, b"ok\n".as_slice())
+}
+
+/// The line of an id that was asked for.
+pub(crate) fn push_id_line(text: &mut Vec<u8>, id: &Id) -> Result<(), AllocError>
+    ensures { OnOk result (text.new.items ≡ text.old.items ++ id_text id.now) }
+{
+    push_bytes(text, b"id ".as_slice())?;
+    push_id(text, id)?;
     push_bytes(text, b"\n".as_slice())
 }
 
@@ -48,6 +77,28 @@ pub(crate) fn push_refused(text: &mut Vec<u8>, name: &[u8]) -> Result<(), AllocE
     push_bytes(text, b"refused ".as_slice())?;
     push_bytes(text, name)?;
     push_bytes(text, b"\n".as_slice())
+}
+
+/// The name of a put's fault.
+pub(crate) fn put_fault_name(fault: PutFault) -> &'static [u8]
+    ensures { result.now ≡ put_fault_text fault }
+{
+    match fault {
+        PutFault::TooLarge => b"TooLarge".as_slice(),
+        PutFault::IdTaken => b"IdTaken".as_slice(),
+        PutFault::ZeroId => b"ZeroId".as_slice(),
+        PutFault::BadMode => b"BadMode".as_slice(),
+        PutFault::BadName => b"BadName".as_slice(),
+        PutFault::OutOfOrder => b"OutOfOrder".as_slice(),
+        PutFault::Duplicate => b"Duplicate".as_slice(),
+        PutFault::MissingChild => b"MissingChild".as_slice(),
+        PutFault::WrongChildKind => b"WrongChildKind".as_slice(),
+        PutFault::TooDeep => b"TooDeep".as_slice(),
+        PutFault::PathTooLong => b"PathTooLong".as_slice(),
+        PutFault::CutShort => b"CutShort".as_slice(),
+        PutFault::BadCommit => b"BadCommit".as_slice(),
+        PutFault::NoMemory => b"NoMemory".as_slice(),
+    }
 }
 
 /// The name of a path's fault.
@@ -77,11 +128,15 @@ fn change_fault_name(fault: ChangeFault) -> &'static [u8]
 }
 
 /// The line of a change's answer.
-pub(crate) fn push_answer(text: &mut Vec<u8>, answer: &Answer) -> Result<(), AllocError>
-    ensures { OnOk result (text.new.items ≡ text.old.items ++ answer_text answer.now) }
+pub(crate) fn push_answer(
+    text: &mut Vec<u8>,
+    labels: &Labels,
+    answer: &Answer,
+) -> Result<(), AllocError>
+    ensures { OnOk result (text.new.items ≡ text.old.items ++ answer_text labels.now answer.now) }
 {
     match answer {
-        Answer::At(position) => push_at(text, position),
+        Answer::At(position) => push_at(text, labels, position),
         Answer::Refused(fault) => push_refused(text, change_fault_name(*fault)),
     }
 }
@@ -147,15 +202,16 @@ fn push_all_marked(text: &mut Vec<u8>, marked: &[Marked]) -> Result<(), AllocErr
 /// The lines of what changed since a position: how many paths up to which position, and then each of them.
 pub(crate) fn push_changes(
     text: &mut Vec<u8>,
+    labels: &Labels,
     marked: &[Marked],
     position: &Position,
 ) -> Result<(), AllocError>
-    ensures { OnOk result (text.new.items ≡ text.old.items ++ changes_text marked.now position.now) }
+    ensures { OnOk result (text.new.items ≡ text.old.items ++ changes_text labels.now marked.now position.now) }
 {
     push_bytes(text, b"changes ".as_slice())?;
     push_number(text, marked.len() as u64)?;
     push_bytes(text, b" to ".as_slice())?;
-    push_position(text, position)?;
+    push_position(text, labels, position)?;
     push_bytes(text, b"\n".as_slice())?;
     push_all_marked(text, marked)
 }

@@ -7,6 +7,9 @@ pub mod Spells
 pub mod Status
 pub mod Marks
 pub mod Touches
+pub mod LabelWords
+pub mod Labels
+pub mod ScriptLines
 pub mod ScriptText
 pub mod Runs
 pub mod Replies

@@ -1,20 +1,21 @@
 -- What a script prints: a row of the table of lines for each line that can be read, told over the session so far. Bytes: 10 is LF, 32 a
 -- space, 35 `#`.
-use Rattle.std.specs.Prelude.{ℕ, Bool, true, ◌&&◌, ◌||◌, ◌==◌, nat_eq, nat_lt, nat_le, if◌then◌else◌, List, [], ◌∷◌, ◌++◌, length, codes, replicate, Option, Some, None, option_map, option_and_then}
-use Rattle.std.specs.Cmp.Lexicographic.{pointwise}
+use Rattle.std.specs.Prelude.{ℕ, Bool, true, ◌==◌, nat_lt, if◌then◌else◌, List, [], ◌∷◌, ◌++◌, length, codes, replicate, Option, Some, None, Ok, Err, option_map, option_and_then}
 use Rattle.std.specs.Fmt.{decimal}
-use Rattle.std.specs.List.{flat_map, list_all}
+use Rattle.std.specs.List.{flat_map}
 use Rattle.hex.specs.Hex.{encode_lower}
 use Rattle.eden_script.specs.Escapes.{escaped}
-use Rattle.eden_script.specs.Numbers.{number_of}
 use Rattle.eden_script.specs.Words.{words_of}
-use Rattle.eden_ids.specs.declared.content.Kind.{Kind}
-use Rattle.eden_ids.specs.declared.content.Kind.TheVariants.{Plain, Exec, Link}
 use Rattle.eden_ids.specs.declared.id.Id.{Id}
 use Rattle.eden_ids.specs.declared.path.PathFault.{PathFault}
 use Rattle.eden_ids.specs.declared.path.PathFault.TheVariants as path
 use Rattle.eden_ids.specs.FileMaps.{no_files}
+use Rattle.eden_ids.specs.Naming.{git_name}
 use Rattle.eden_ids.specs.Paths.{path_fault}
+use Rattle.eden_objects.specs.declared.fault.PutFault.{PutFault}
+use Rattle.eden_objects.specs.declared.fault.PutFault.TheVariants as put
+use Rattle.eden_objects.specs.Objects.{Held, same_id, zero_id}
+use Rattle.eden_objects.specs.Puts.{Outcome, blob_outcome, tree_outcome, commit_outcome}
 use Rattle.eden_world.specs.declared.answer.Answer.{Answer}
 use Rattle.eden_world.specs.declared.answer.Answer.TheVariants.{At, Refused}
 use Rattle.eden_world.specs.declared.answer.SinceFault.{SinceFault}
@@ -24,70 +25,61 @@ use Rattle.eden_world.specs.declared.change.Change.TheVariants as change
 use Rattle.eden_world.specs.declared.change.ChangeFault.{ChangeFault}
 use Rattle.eden_world.specs.declared.change.ChangeFault.TheVariants as fault
 use Rattle.eden_world.specs.declared.command.Command.{Command}
-use Rattle.eden_world.specs.declared.command.Command.TheVariants.{Mount, Write, Remove, Since}
+use Rattle.eden_world.specs.declared.command.Command.TheVariants as line
+use Rattle.eden_world.specs.declared.command.TreeEntry.{TreeEntry}
+use Rattle.eden_world.specs.declared.label.Binding.{Binding}
 use Rattle.eden_world.specs.declared.mark.Mark.{Mark}
 use Rattle.eden_world.specs.declared.mark.Mark.TheVariants.{Created, Removed, Changed, Root}
 use Rattle.eden_world.specs.declared.mark.Marked.{Marked}
 use Rattle.eden_world.specs.declared.position.Position.{Position}
+use Rattle.eden_world.specs.Labels.{bound, label_of}
+use Rattle.eden_world.specs.ScriptLines.{command_of}
 use Rattle.eden_world.specs.Worlds.{WorldState, now, position_of, opened, empty_commit}
 use Rattle.eden_world.specs.Outcome.{answer_of, world_after}
 use Rattle.eden_world.specs.Status.{status}
 use Rattle.eden_world.specs.Marks.{marked_since}
 
--- ---- lines
-
-abbrev pub is_word : List ℕ → List ℕ → Bool
-is_word word name = pointwise nat_eq word name
-
-abbrev pub kind_of : List ℕ → Option Kind
-kind_of word =
-    if is_word word (codes "plain") then Some Plain else
-    if is_word word (codes "exec") then Some Exec else
-    if is_word word (codes "link") then Some Link else None
-
--- a label is 1 to 32 of `a` to `z` and `0` to `9`
-abbrev pub is_label_byte : ℕ → Bool
-is_label_byte b = (nat_le 97 b && nat_le b 122) || (nat_le 48 b && nat_le b 57)
-
-abbrev pub is_label : List ℕ → Bool
-is_label word = nat_le 1 (length word) && nat_le (length word) 32 && list_all is_label_byte word
-
-abbrev pub mount_of : List ℕ → Option ℕ → Option ℕ → Option Command
-mount_of label (Some generation) (Some limit) = if is_label label then Some (Mount label generation limit) else None
-mount_of label _ _ = None
-
-abbrev pub since_of : Option ℕ → Option ℕ → Option Command
-since_of (Some generation) (Some sequence) = Some (Since generation sequence)
-since_of _ _ = None
-
-abbrev pub write_of : List ℕ → Option Kind → List ℕ → Option Command
-write_of path (Some kind) bytes = Some (Write path kind bytes)
-write_of path None bytes = None
-
--- the words of a line, read by the first of them and by how many they are
-abbrev pub command_of : List (List ℕ) → Option Command
-command_of (first ∷ path ∷ []) = if is_word first (codes "remove") then Some (Remove path) else None
-command_of (first ∷ generation ∷ sequence ∷ []) =
-    if is_word first (codes "since") then since_of (number_of generation) (number_of sequence) else None
-command_of (first ∷ second ∷ third ∷ fourth ∷ []) =
-    if is_word first (codes "mount") then mount_of second (number_of third) (number_of fourth) else
-    if is_word first (codes "write") then write_of second (kind_of third) fourth else None
-command_of _ = None
-
 -- ---- texts
 
--- a root is shown as the label that is bound to it, else in hexadecimal; `empty` alone is bound
-abbrev pub root_text : Id → List ℕ
-root_text id = if pointwise nat_eq id.0 (replicate 20 0) then codes "empty" else encode_lower id.0
+abbrev pub labelled : Id → Option (List ℕ) → List ℕ
+labelled id (Some label) = label
+labelled id None = encode_lower id.0
 
-abbrev pub position_text : Position → List ℕ
-position_text position = decimal position.generation ++ (32 ∷ decimal position.sequence) ++ (32 ∷ root_text position.root)
+-- a root is shown as `empty` where it is the empty commit, else as the first label ever bound to it that still is, else in hexadecimal
+abbrev pub root_text : List Binding → Id → List ℕ
+root_text bindings id = if same_id id zero_id then codes "empty" else labelled id (label_of bindings id)
 
-abbrev pub at_text : Position → List ℕ
-at_text position = codes "at " ++ position_text position ++ (10 ∷ [])
+abbrev pub position_text : List Binding → Position → List ℕ
+position_text bindings position =
+    decimal position.generation ++ (32 ∷ decimal position.sequence) ++ (32 ∷ root_text bindings position.root)
+
+abbrev pub at_text : List Binding → Position → List ℕ
+at_text bindings position = codes "at " ++ position_text bindings position ++ (10 ∷ [])
+
+abbrev pub ok_text : List ℕ
+ok_text = codes "ok" ++ (10 ∷ [])
+
+abbrev pub id_text : Id → List ℕ
+id_text id = codes "id " ++ encode_lower id.0 ++ (10 ∷ [])
 
 abbrev pub refused_text : List ℕ → List ℕ
 refused_text name = codes "refused " ++ name ++ (10 ∷ [])
+
+abbrev pub put_fault_text : PutFault → List ℕ
+put_fault_text put.TooLarge = codes "TooLarge"
+put_fault_text put.IdTaken = codes "IdTaken"
+put_fault_text put.ZeroId = codes "ZeroId"
+put_fault_text put.BadMode = codes "BadMode"
+put_fault_text put.BadName = codes "BadName"
+put_fault_text put.OutOfOrder = codes "OutOfOrder"
+put_fault_text put.Duplicate = codes "Duplicate"
+put_fault_text put.MissingChild = codes "MissingChild"
+put_fault_text put.WrongChildKind = codes "WrongChildKind"
+put_fault_text put.TooDeep = codes "TooDeep"
+put_fault_text put.PathTooLong = codes "PathTooLong"
+put_fault_text put.CutShort = codes "CutShort"
+put_fault_text put.BadCommit = codes "BadCommit"
+put_fault_text put.NoMemory = codes "NoMemory"
 
 abbrev pub path_fault_text : PathFault → List ℕ
 path_fault_text path.Empty = codes "Empty"
@@ -119,63 +111,124 @@ mark_text Root = codes "Root"
 abbrev pub marked_text : Marked → List ℕ
 marked_text marked = mark_text marked.mark ++ (32 ∷ escaped marked.path) ++ (10 ∷ [])
 
-abbrev pub changes_text : List Marked → Position → List ℕ
-changes_text marked position =
-    codes "changes " ++ decimal (length marked) ++ codes " to " ++ position_text position ++ (10 ∷ []) ++ flat_map marked_text marked
+abbrev pub changes_text : List Binding → List Marked → Position → List ℕ
+changes_text bindings marked position =
+    codes "changes " ++ decimal (length marked) ++ codes " to " ++ position_text bindings position ++ (10 ∷ []) ++ flat_map marked_text marked
 
 -- ---- the session
 
--- the mount, once there is one
+-- what the lines so far have made: the mount, once there is one; the objects put, newest first; and the bindings made, newest first
 pub record Session : Type 0 where
   pub mounted : Option WorldState
+  pub held : List Held
+  pub bindings : List Binding
 
-abbrev pub unmounted : Session
-unmounted = record { mounted = None }
-
-abbrev pub mounted_as : WorldState → Session
-mounted_as world = record { mounted = Some world }
+abbrev pub first_session : Session
+first_session = record { mounted = None; held = []; bindings = [] }
 
 -- a line's session after it, and its text
 abbrev pub Told : Type 0
 Told = Session × List ℕ
 
-abbrev pub answer_text : Answer → List ℕ
-answer_text (At position) = at_text position
-answer_text (Refused fault) = refused_text (change_fault_text fault)
+-- ---- objects, which are put before the mount
+
+-- a put binds its label, and one that is refused changes nothing
+abbrev pub put_told : Session → List ℕ → Outcome → Told
+put_told session label (Err fault) = (session, refused_text (put_fault_text fault))
+put_told session label (Ok made) =
+    (record { mounted = session.mounted; held = made.1; bindings = record { label = label; id = made.0 } ∷ session.bindings }, ok_text)
+
+-- a label that is not bound is refused before the put is tried
+abbrev pub tried : Session → List ℕ → (List ℕ → Outcome) → Option (List ℕ) → Told
+tried session label outcome None = (session, refused_text (codes "NoLabel"))
+tried session label outcome (Some payload) = put_told session label (outcome payload)
+
+-- the bytes that an entry puts into a tree, where its label is bound: mode, space, name, NUL and the id's bytes
+abbrev pub entry_bytes : TreeEntry → Option Id → Option (List ℕ)
+entry_bytes entry None = None
+entry_bytes entry (Some id) = Some (entry.mode ++ 32 ∷ entry.name ++ 0 ∷ id.0)
+
+abbrev pub joined : Option (List ℕ) → Option (List ℕ) → Option (List ℕ)
+joined (Some bytes) (Some more) = Some (bytes ++ more)
+joined _ _ = None
+
+unfoldable pub tree_payload : List Binding → List TreeEntry → Option (List ℕ)
+tree_payload bindings [] = Some []
+tree_payload bindings (entry ∷ entries) = joined (entry_bytes entry (bound bindings entry.label)) (tree_payload bindings entries)
+
+abbrev pub commit_payload : Option Id → Option (List ℕ)
+commit_payload None = None
+commit_payload (Some tree) = Some (codes "tree " ++ encode_lower tree.0 ++ (10 ∷ []))
+
+abbrev pub id_told : Option Id → List ℕ
+id_told None = refused_text (codes "NoLabel")
+id_told (Some id) = id_text id
+
+abbrev pub before_mount : Session → Option WorldState → Told → Told
+before_mount session None told = told
+before_mount session (Some world) told = (session, refused_text (codes "Mounted"))
+
+-- ---- the mount, which knows the labels
+
+-- a line's mount after it, and its text
+abbrev pub MountTold : Type 0
+MountTold = Option WorldState × List ℕ
+
+abbrev pub with_mount : Session → MountTold → Told
+with_mount session told = (record { mounted = told.0; held = session.held; bindings = session.bindings }, told.1)
+
+abbrev pub answer_text : List Binding → Answer → List ℕ
+answer_text bindings (At position) = at_text bindings position
+answer_text bindings (Refused fault) = refused_text (change_fault_text fault)
 
 -- a change is refused for its path before the mount is asked
-abbrev pub changed : WorldState → Option PathFault → Change → Told
-changed world (Some fault) change = (mounted_as world, refused_text (path_fault_text fault))
-changed world None change = (mounted_as (world_after empty_commit world change), answer_text (answer_of empty_commit world change))
+abbrev pub changed : List Binding → WorldState → Option PathFault → Change → MountTold
+changed bindings world (Some fault) change = (Some world, refused_text (path_fault_text fault))
+changed bindings world None change = (Some (world_after empty_commit world change), answer_text bindings (answer_of empty_commit world change))
 
 -- no change is forgotten, so the floor is the first row
-abbrev pub since_text : WorldState → ℕ → Option SinceFault → List ℕ
-since_text world sequence (Some fault) = refused_text (since_fault_text fault)
-since_text world sequence None = changes_text (marked_since world sequence) (position_of (now world))
+abbrev pub since_text : List Binding → WorldState → ℕ → Option SinceFault → List ℕ
+since_text bindings world sequence (Some fault) = refused_text (since_fault_text fault)
+since_text bindings world sequence None = changes_text bindings (marked_since world sequence) (position_of (now world))
 
-abbrev pub since_told : WorldState → ℕ → ℕ → Told
-since_told world generation sequence =
+abbrev pub since_told : List Binding → WorldState → ℕ → ℕ → MountTold
+since_told bindings world generation sequence =
     let position : Position = record { generation = generation; sequence = sequence; root = record { 0 = replicate 20 0 } } in
-    (mounted_as world, since_text world sequence (status 1 (now world) position))
+    (Some world, since_text bindings world sequence (status 1 (now world) position))
+
+-- the empty commit alone can be mounted
+abbrev pub mounted_at : List Binding → ℕ → ℕ → Option Id → MountTold
+mounted_at bindings generation limit None = (None, refused_text (codes "NoLabel"))
+mounted_at bindings generation limit (Some id) =
+    if same_id id zero_id
+    then (let world = opened generation limit (record { 0 = replicate 20 0 }) no_files in (Some world, at_text bindings (position_of (now world))))
+    else (None, refused_text (codes "NoCommit"))
 
 -- a mount is refused where there is one, and then where its label isn't bound
-abbrev pub mount_told : Option WorldState → List ℕ → ℕ → ℕ → Told
-mount_told (Some world) label generation limit = (mounted_as world, refused_text (codes "Mounted"))
-mount_told None label generation limit =
-    if is_word label (codes "empty")
-    then (let world = opened generation limit (record { 0 = replicate 20 0 }) no_files in (mounted_as world, at_text (position_of (now world))))
-    else (unmounted, refused_text (codes "NoLabel"))
+abbrev pub mount_told : List Binding → Option WorldState → List ℕ → ℕ → ℕ → MountTold
+mount_told bindings (Some world) label generation limit = (Some world, refused_text (codes "Mounted"))
+mount_told bindings None label generation limit = mounted_at bindings generation limit (bound bindings label)
 
--- any other line is refused where there is no mount
-abbrev pub in_mount : Option WorldState → (WorldState → Told) → Told
-in_mount None told = (unmounted, refused_text (codes "NotMounted"))
+-- a line of the mount is refused where there is none
+abbrev pub in_mount : Option WorldState → (WorldState → MountTold) → MountTold
+in_mount None told = (None, refused_text (codes "NotMounted"))
 in_mount (Some world) told = told world
 
 unfoldable pub told : Session → Command → Told
-told session (Mount label generation limit) = mount_told session.mounted label generation limit
-told session (Write path kind bytes) = in_mount session.mounted (λ world. changed world (path_fault path) (change.Write path kind bytes))
-told session (Remove path) = in_mount session.mounted (λ world. changed world (path_fault path) (change.Remove path))
-told session (Since generation sequence) = in_mount session.mounted (λ world. since_told world generation sequence)
+told session (line.Blob label bytes) =
+    before_mount session session.mounted (put_told session label (blob_outcome git_name bytes session.held))
+told session (line.Tree label entries) =
+    before_mount session session.mounted (tried session label (λ payload. tree_outcome git_name payload session.held) (tree_payload session.bindings entries))
+told session (line.Commit label tree) =
+    before_mount session session.mounted (tried session label (λ payload. commit_outcome git_name payload session.held) (commit_payload (bound session.bindings tree)))
+told session (line.Id label) = (session, id_told (bound session.bindings label))
+told session (line.Mount label generation limit) = with_mount session (mount_told session.bindings session.mounted label generation limit)
+told session (line.Write path kind bytes) =
+    with_mount session (in_mount session.mounted (λ world. changed session.bindings world (path_fault path) (change.Write path kind bytes)))
+told session (line.Remove path) =
+    with_mount session (in_mount session.mounted (λ world. changed session.bindings world (path_fault path) (change.Remove path)))
+told session (line.Since generation sequence) =
+    with_mount session (in_mount session.mounted (λ world. since_told session.bindings world generation sequence))
 
 -- ---- the script
 

@@ -1,13 +1,52 @@
-use eden_ids::Kind;
+use crate::label::Label;
+use eden_ids::{Kind, Sequence};
 use eden_script::Word;
 
-/// What a line of a script asks for. Labels, paths and contents are the words as they were written, with their escapes undone.
+/// What a line of a script gives as an entry of a tree. The mode and the name are the words as they were written, with their
+/// escapes undone: they go into the tree's payload as they are.
+#[derive(Drop)]
+pub struct TreeEntry {
+    /// The mode, not looked at.
+    pub mode: Word,
+    /// The name, not looked at.
+    pub name: Word,
+    /// The label of the object.
+    pub label: Label,
+}
+
+/// What a line of a script asks for. Paths and contents are the words as they were written, with their escapes undone.
 #[derive(Drop)]
 pub enum Command {
+    /// Puts a blob, and binds a label to it.
+    Blob {
+        /// The label, not `empty`.
+        label: Label,
+        /// The blob's payload.
+        bytes: Word,
+    },
+    /// Puts a tree, and binds a label to it.
+    Tree {
+        /// The label, not `empty`.
+        label: Label,
+        /// What the tree is to name, in the order of the line.
+        entries: Sequence<TreeEntry>,
+    },
+    /// Puts a commit, and binds a label to it.
+    Commit {
+        /// The label, not `empty`.
+        label: Label,
+        /// The label of the commit's tree.
+        tree: Label,
+    },
+    /// Asks for the id that a label is bound to.
+    Id {
+        /// The label.
+        label: Label,
+    },
     /// Mounts a commit.
     Mount {
-        /// The label of the commit: 1 to 32 of `a` to `z` and `0` to `9`.
-        label: Word,
+        /// The label of the commit.
+        label: Label,
         /// The mount's generation.
         generation: u64,
         /// What the changes that are kept may cost together.

@@ -6,7 +6,8 @@
 
 pub use crate::answer::{Answer, SinceFault};
 pub use crate::change::{Change, ChangeFault};
-pub use crate::command::Command;
+pub use crate::command::{Command, TreeEntry};
+pub use crate::label::{Binding, Label};
 pub use crate::laws::{floor_law, runs_law};
 pub use crate::mark::{Mark, Marked};
 pub use crate::message::{Cause, Query, Reply, Request};
@@ -19,6 +20,7 @@ pub use crate::world::World;
 mod answer;
 mod change;
 mod command;
+mod label;
 mod laws;
 mod mark;
 mod message;

@@ -1,6 +1,6 @@
-use Rattle.std.proofs.Common.{refl}
-use Rattle.eden_world.specs.ScriptText.{unmounted}
+use Rattle.std.proofs.Common.{None, sym}
+use Rattle.eden_world.specs.ScriptText.{script_text}
 use Rattle.eden_edend.proofs.session.Session.new.Goals as goal
 
 pub returns : goal.returns
-returns c = (unmounted, tt, λ lines. refl)
+returns c = (None, tt, λ lines. (λ i. script_text (record { mounted = None; held = sym c.new.ensures.store i; bindings = sym c.new.ensures.labels i }) lines))

@@ -1,0 +1,158 @@
+//! The labels of a script, and the ids that they are bound to.
+
+ghost use Rattle.std.specs.Prelude.{◌≡◌, ◌∷◌, [], OnOk, OnErr, find, reverse};
+ghost use Rattle.std.specs.Option.{option_copied};
+ghost use Rattle.std.specs.FinMap as fin;
+ghost use Rattle.eden_world.specs.Labels.{newest, bound, still_binds, label_of, is_id};
+
+use eden_ids::Id;
+use eden_world::{Binding, Label};
+use std::alloc::{AllocError, Global};
+use std::collections::BTreeMap;
+use std::marker::Model;
+
+/// What each label is bound to.
+#[derive(Drop)]
+struct Bound {
+    ids: BTreeMap<Label, Id>,
+}
+
+impl Model for Bound {
+    ghost use Rattle.std.specs.Coded.{coded_list, coded_ℕ};
+    ghost use Rattle.std.specs.FinMap as fin;
+    ghost use Rattle.eden_ids.specs.contracts.id.Id as id;
+    ghost use Rattle.eden_edend.specs.BoundMaps.{BoundMap};
+
+    ghost Value = { BoundMap };
+
+    ghost coded = { fin.code (coded_list coded_ℕ) id.the_row.coded };
+
+    ghost view = { λ bound. fin.from_entries bound.ids.entries };
+}
+
+impl Bound {
+    fn new(alloc: Global) -> Bound
+        ensures { result ≡ fin.empty }
+    {
+        Bound {
+            ids: BTreeMap::new(alloc),
+        }
+    }
+
+    fn get(&self, label: &Label) -> Option<&Id>
+        ensures { option_copied result ≡ fin.get self.now label.now }
+    {
+        self.ids.get(label)
+    }
+
+    fn insert(&mut self, label: Label, id: Id) -> Result<(), AllocError>
+        ensures ok { OnOk result (self.new ≡ fin.insert self.old label id) }
+        ensures err { OnErr result (self.new ≡ self.old) }
+    {
+        match self.ids.insert(label, id) {
+            Ok(_) => {}
+            Err(_) => return Err(AllocError),
+        }
+        Ok(())
+    }
+}
+
+/// The bindings that a script has made. What a label is bound to is found in a time that grows with the logarithm of their number.
+#[derive(Drop)]
+pub(crate) struct Labels {
+    // The oldest first.
+    made: Vec<Binding>,
+    bound: Bound,
+}
+
+impl Model for Labels {
+    ghost use Rattle.std.specs.Prelude.{◌≡◌, List, reverse};
+    ghost use Rattle.eden_world.specs.declared.label.Binding.{Binding};
+    ghost use Rattle.eden_edend.specs.BoundMaps.{bound_map};
+
+    ghost Value = { List Binding };
+
+    ghost view = { λ labels. reverse labels.made.items };
+
+    ghost invariant = { λ labels. labels.bound ≡ bound_map (reverse labels.made.items) };
+}
+
+/// Whether the label was bound to the id, and that one is this.
+fn is_id(found: Option<Id>, id: Id) -> bool
+    ensures { result ≡ is_id found id }
+{
+    match found {
+        Some(found) => found == id,
+        None => false,
+    }
+}
+
+impl Labels {
+    /// No binding. It takes no memory.
+    pub(crate) fn new(alloc: Global) -> Labels
+        ensures { result ≡ [] }
+    {
+        Labels {
+            made: Vec::new(alloc),
+            bound: Bound::new(alloc),
+        }
+    }
+
+    #[tactic(auto, using(crate::proofs::LabelLemmas::get_bound_map))]
+    fn newest(&self, label: &Label) -> Option<Id>
+        ensures { result ≡ newest self.now label.now }
+    {
+        match self.bound.get(label) {
+            Some(id) => Some(*id),
+            None => None,
+        }
+    }
+
+    /// What the label is bound to.
+    pub(crate) fn get(&self, label: &Label) -> Option<Id>
+        ensures { result ≡ bound self.now label.now }
+    {
+        if label.is_empty() {
+            Some(Id::ZERO)
+        } else {
+            self.newest(label)
+        }
+    }
+
+    #[tactic(auto, using(crate::proofs::LabelLemmas::bound_map_more, crate::proofs::LabelLemmas::reverse_one))]
+    /// Binds the label to the id, from now on.
+    pub(crate) fn bind(&mut self, label: Label, id: Id) -> Result<(), AllocError>
+        ensures { OnOk result (self.new ≡ record { label = label; id = id } ∷ self.old) }
+    {
+        let key = label.clone()?;
+        self.made.reserve(1)?;
+        self.bound.insert(key, id)?;
+        self.made.push_reserved(Binding { label, id });
+        Ok(())
+    }
+
+    fn still_binds(&self, binding: &Binding, id: Id) -> bool
+        ensures { result ≡ still_binds self.now id binding.now }
+    {
+        binding.id == id && is_id(self.newest(&binding.label), id)
+    }
+
+    #[tactic(auto, using(crate::proofs::LabelLemmas::turned_twice))]
+    fn first_binding(&self, id: Id) -> Option<&Binding>
+        ensures { option_copied result ≡ find (still_binds self.now id) (reverse self.now) }
+    {
+        self.made
+            .iter()
+            .find(|binding| self.still_binds(binding, id))
+    }
+
+    /// The first label that was ever bound to the id and still is. The time grows with the bindings made before it was.
+    pub(crate) fn first_bound(&self, id: Id) -> Option<&Label>
+        ensures { option_copied result ≡ label_of self.now id }
+    {
+        match self.first_binding(id) {
+            Some(binding) => Some(&binding.label),
+            None => None,
+        }
+    }
+}

@@ -1,0 +1,26 @@
+-- Which words are labels.
+use Rattle.std.specs.Prelude.{ℕ, Bool, not, ◌&&◌, ◌||◌, nat_eq, nat_le, if◌then◌else◌, List, length, codes, Option, Some, None}
+use Rattle.std.specs.Cmp.Lexicographic.{pointwise}
+use Rattle.std.specs.List.{list_all}
+
+abbrev pub is_word : List ℕ → List ℕ → Bool
+is_word word name = pointwise nat_eq word name
+
+-- a label is 1 to 32 of `a` to `z` and `0` to `9`
+abbrev pub is_label_byte : ℕ → Bool
+is_label_byte b = (nat_le 97 b && nat_le b 122) || (nat_le 48 b && nat_le b 57)
+
+abbrev pub is_label : List ℕ → Bool
+is_label word = nat_le 1 (length word) && nat_le (length word) 32 && list_all is_label_byte word
+
+-- the label of the empty commit, which no line binds
+abbrev pub is_empty : List ℕ → Bool
+is_empty label = is_word label (codes "empty")
+
+-- a label that a line reads
+abbrev pub label_read : List ℕ → Option (List ℕ)
+label_read word = if is_label word then Some word else None
+
+-- a label that a line binds: any but `empty`
+abbrev pub label_to_bind : List ℕ → Option (List ℕ)
+label_to_bind word = if is_label word && not (is_empty word) then Some word else None
