@@ -1,5 +1,6 @@
 pub mod Worlds
 pub mod Outcome
+pub mod Renames
 pub mod Named
 pub mod Legal
 pub mod Changes
