@@ -93,6 +93,19 @@ fn has_rows(listed: &[(Path, Kind, Id)], rows: &[Row]) -> bool {
     true
 }
 
+/// Whether a commit has just these rows below a path.
+fn has_below(
+    alloc: Global,
+    store: &Store<GitNaming>,
+    commit: Id,
+    top: &str,
+    rows: &[Row],
+) -> Result<bool, Fail> {
+    let top = Path::parse(alloc, top.as_bytes())?;
+    let listed = store.list_below(commit, &top)?;
+    Ok(has_rows(listed.as_slice(), rows))
+}
+
 // The ids are those that Git gives the same files.
 #[test]
 fn a_commit_lists_its_files(rt: HostRuntime) -> Result<(), Fail> {
@@ -106,20 +119,11 @@ fn a_commit_lists_its_files(rt: HostRuntime) -> Result<(), Fail> {
     let all = Filter::parse(alloc, &[])?;
     let listed = store.list(commit, &all)?;
     assert!(rt; has_rows(listed.as_slice(), &[A_B, A_X, A0, F]));
-    for (top, rows) in [
-        ("a", [A_X].as_slice()),
-        ("d", [F].as_slice()),
-        ("d/e", [F].as_slice()),
-        ("a-b", [].as_slice()),
-        ("a/x", [].as_slice()),
-        ("d/f", [].as_slice()),
-        ("z/e", [].as_slice()),
-    ] {
-        let top = Path::parse(alloc, top.as_bytes())?;
-        assert!(rt;
-            has_rows(store.list_below(commit, &top)?.as_slice(), rows),
-            "at {top:?}"
-        );
+    assert!(rt; has_below(alloc, &store, commit, "a", &[A_X])?);
+    assert!(rt; has_below(alloc, &store, commit, "d", &[F])?);
+    assert!(rt; has_below(alloc, &store, commit, "d/e", &[F])?);
+    for top in ["a-b", "a/x", "d/f", "z/e"] {
+        assert!(rt; has_below(alloc, &store, commit, top, &[])?, "at {top}");
     }
     Ok(())
 }
