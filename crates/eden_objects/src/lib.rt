@@ -12,6 +12,8 @@ mod fault;
 mod judge;
 mod laws;
 mod list;
+#[cfg(test)]
+mod made;
 mod seen;
 mod size;
 mod store;

@@ -1,5 +1,6 @@
 ghost use Rattle.std.specs.Prelude.{◌≡◌, ◌||◌, nat_eq, slice_index};
 
+use crate::made::{commit_of, push_entry};
 use crate::{PutFault, Store};
 use eden_ids::{GitNaming, Id, Naming};
 use std::alloc::Global;
@@ -51,16 +52,6 @@ fn too_large_comes_first(rt: HostRuntime) -> Result<(), Fail> {
     Ok(())
 }
 
-/// Appends an entry of a tree.
-fn push_entry(payload: &mut Vec<u8>, mode: &str, name: &[u8], id: Id) -> Result<(), Fail> {
-    payload.extend_from_slice(mode.as_bytes())?;
-    payload.extend_from_slice(b" ".as_slice())?;
-    payload.extend_from_slice(name)?;
-    payload.extend_from_slice(b"\0".as_slice())?;
-    payload.extend_from_slice(id.0.as_slice())?;
-    Ok(())
-}
-
 /// A tree's payload from entries `MODE NAME CHILD`, each child being `b`lob, `t`ree, `c`ommit or `m`issing.
 #[derive(Clone, Copy)]
 struct Children {
@@ -90,15 +81,6 @@ impl Children {
         }
         Ok(payload)
     }
-}
-
-/// The text of a commit that names a tree.
-fn commit_of(alloc: Global, tree: Id, more: &str) -> Result<Vec<u8>, Fail> {
-    let mut payload = b"tree ".to_vec(alloc)?;
-    payload.extend_from_slice(tree.to_hex().as_slice())?;
-    payload.extend_from_slice(b"\n".as_slice())?;
-    payload.extend_from_slice(more.as_bytes())?;
-    Ok(payload)
 }
 
 /// A store with a blob, a tree and a commit.

@@ -1,18 +1,9 @@
+use crate::made::{commit_of, push_entry};
 use crate::{ListFault, NoCommit, Store};
 use eden_globs::Filter;
 use eden_ids::{GitNaming, Id, Kind, Path};
 use std::alloc::Global;
 use std::test::Fail;
-
-/// Adds an entry to a tree's payload.
-fn push_entry(payload: &mut Vec<u8>, mode: &str, name: &str, id: Id) -> Result<(), Fail> {
-    payload.extend_from_slice(mode.as_bytes())?;
-    payload.push(b' ')?;
-    payload.extend_from_slice(name.as_bytes())?;
-    payload.push(0)?;
-    payload.extend_from_slice(id.0.as_slice())?;
-    Ok(())
-}
 
 /// Puts a tree of one entry.
 fn put_one(
@@ -23,15 +14,13 @@ fn put_one(
     id: Id,
 ) -> Result<Id, Fail> {
     let mut payload = Vec::new(alloc);
-    push_entry(&mut payload, mode, name, id)?;
+    push_entry(&mut payload, mode, name.as_bytes(), id)?;
     Ok(store.put_tree(payload.as_slice())?)
 }
 
 /// Puts a commit of a tree.
 fn put_commit(alloc: Global, store: &mut Store<GitNaming>, tree: Id) -> Result<Id, Fail> {
-    let mut payload = b"tree ".to_vec(alloc)?;
-    payload.extend_from_slice(tree.to_hex().as_slice())?;
-    payload.push(b'\n')?;
+    let payload = commit_of(alloc, tree, "")?;
     Ok(store.put_commit(payload.as_slice())?)
 }
 
@@ -45,10 +34,10 @@ fn put_files(alloc: Global, store: &mut Store<GitNaming>) -> Result<Id, Fail> {
     let e = put_one(alloc, store, "100644", "f", three)?;
     let d = put_one(alloc, store, "40000", "e", e)?;
     let mut top = Vec::new(alloc);
-    push_entry(&mut top, "100644", "a-b", one)?;
-    push_entry(&mut top, "40000", "a", a)?;
-    push_entry(&mut top, "120000", "a0", link)?;
-    push_entry(&mut top, "40000", "d", d)?;
+    push_entry(&mut top, "100644", b"a-b".as_slice(), one)?;
+    push_entry(&mut top, "40000", b"a".as_slice(), a)?;
+    push_entry(&mut top, "120000", b"a0".as_slice(), link)?;
+    push_entry(&mut top, "40000", b"d".as_slice(), d)?;
     let tree = store.put_tree(top.as_slice())?;
     put_commit(alloc, store, tree)
 }
@@ -171,5 +160,53 @@ fn commits_are_told_from_other_objects(rt: HostRuntime) -> Result<(), Fail> {
         assert!(rt; store.list(id, &all).err() == Some(ListFault::NoCommit));
         assert!(rt; store.list_below(id, &path).err() == Some(ListFault::NoCommit));
     }
+    Ok(())
+}
+
+// The other tree of a pair in which a file becomes a directory of the same name.
+#[test]
+fn file_becomes_directory(rt: HostRuntime) -> Result<(), Fail> {
+    let alloc = rt.alloc();
+    let mut store = Store::new(alloc, GitNaming);
+    let x = store.put_blob(b"x".as_slice())?;
+    let s = put_one(alloc, &mut store, "100644", "b", x)?;
+    let mut top = Vec::new(alloc);
+    push_entry(&mut top, "100644", b"a.b".as_slice(), x)?;
+    push_entry(&mut top, "40000", b"a".as_slice(), s)?;
+    let tree = store.put_tree(top.as_slice())?;
+    let commit = put_commit(alloc, &mut store, tree)?;
+    let a = Path::parse(alloc, b"a".as_slice())?;
+    let below = store.list_below(commit, &a)?;
+    assert_eq!(rt; below.len(), 1);
+    for (path, kind, id) in below.iter() {
+        assert_eq!(rt; path.as_bytes(), b"a/b".as_slice());
+        assert_eq!(rt; (*kind, *id), (Kind::Plain, x));
+    }
+    Ok(())
+}
+
+// Forty levels, each with two entries that name the level below: 2 to the 40 files, of which none is listed.
+#[test]
+fn shared_subtrees(rt: HostRuntime) -> Result<(), Fail> {
+    let alloc = rt.alloc();
+    let mut store = Store::new(alloc, GitNaming);
+    let x = store.put_blob(b"x".as_slice())?;
+    let mut tree = put_one(alloc, &mut store, "100644", "a", x)?;
+    let mut path = b"a".to_vec(alloc)?;
+    for level in 0..40u32 {
+        let mut payload = Vec::new(alloc);
+        push_entry(&mut payload, "40000", b"a".as_slice(), tree)?;
+        push_entry(&mut payload, "40000", b"b".as_slice(), tree)?;
+        tree = store.put_tree(payload.as_slice())?;
+        let name = if level % 2 == 0 { b"/a" } else { b"/b" };
+        path.extend_from_slice(name.as_slice())?;
+    }
+    let commit = put_commit(alloc, &mut store, tree)?;
+    let down = Path::parse(alloc, path.as_slice())?;
+    assert_eq!(rt; store.lookup(commit, &down)?, None);
+    // The other way round the last component is the file's name.
+    path.reverse();
+    let up = Path::parse(alloc, path.as_slice())?;
+    assert_eq!(rt; store.lookup(commit, &up)?, Some((Kind::Plain, x)));
     Ok(())
 }
