@@ -1,9 +1,10 @@
 use crate::{
-    Answer, Cause, Change, ChangeFault, FileTouch, Mark, Marked, Position, Query, Reply, Request,
-    Touches, World, floor_law, runs_law,
+    Answer, Cause, Change, ChangeFault, FileTouch, Label, Mark, Marked, Position, Query, Reply,
+    Request, Touches, World, floor_law, runs_law,
 };
 use eden_globs::Filter;
 use eden_ids::{Id, Kind, Path, Sequence};
+use eden_script::words;
 use std::alloc::Global;
 use std::test::Fail;
 
@@ -213,6 +214,47 @@ fn merged_writes(rt: HostRuntime) -> Result<(), Fail> {
             assert!(rt; world.reply(alloc, &poll(alloc, 7, since)?)? == expected);
         }
         assert!(rt; world.reply(alloc, &poll(alloc, 7, 4)?)? == changes(alloc, 4, &[])?);
+    }
+    Ok(())
+}
+
+fn label(alloc: Global, text: &str) -> Result<Option<Label>, Fail> {
+    match words(alloc, text.as_bytes())? {
+        Some(mut words) => Ok(words.pop().and_then(Label::read)),
+        None => Ok(None),
+    }
+}
+
+fn label_to_bind(alloc: Global, text: &str) -> Result<Option<Label>, Fail> {
+    match words(alloc, text.as_bytes())? {
+        Some(mut words) => Ok(words.pop().and_then(Label::read_to_bind)),
+        None => Ok(None),
+    }
+}
+
+#[test]
+fn labels(rt: HostRuntime) -> Result<(), Fail> {
+    let alloc = rt.alloc();
+    for (text, reads, binds) in [
+        ("a", true, true),
+        ("z09", true, true),
+        ("abcdefghijklmnopqrstuvwxyz012345", true, true),
+        ("abcdefghijklmnopqrstuvwxyz0123456", false, false),
+        ("empty", true, false),
+        ("empty0", true, true),
+        ("A", false, false),
+        ("a_", false, false),
+        ("\\e", false, false),
+    ] {
+        assert_eq!(rt; label(alloc, text)?.is_some(), reads);
+        assert_eq!(rt; label_to_bind(alloc, text)?.is_some(), binds);
+    }
+    match (label(alloc, "a")?, label(alloc, "ab")?) {
+        (Some(first), Some(second)) => {
+            assert!(rt; first < second && first != second && first == first.clone()?);
+            assert!(rt; !first.is_empty() && second.as_bytes() == b"ab".as_slice());
+        }
+        _ => assert!(rt; false),
     }
     Ok(())
 }
