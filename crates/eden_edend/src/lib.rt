@@ -1,4 +1,4 @@
-//! The program `edend` as a library: a script of changes and questions, run over a mount.
+//! The program `edend` as a library: a script of objects, changes and questions, run over a store and a mount.
 #![tactic(auto)]
 
 pub use crate::script::run;

@@ -12,8 +12,9 @@ use std::alloc::Global;
 /// Runs a script: reads its lines, does what each asks for, and writes what it prints. Gives the number of lines.
 ///
 /// A line ends with LF or CR LF; the last may lack its end, and then a CR counts as its byte. Empty lines and lines that begin
-/// with `#` are skipped and counted. The other lines are those of the script's table: `mount empty GENERATION LIMIT`,
-/// `write PATH KIND TEXT`, `remove PATH` and `since GENERATION SEQUENCE`, with words parted by single spaces.
+/// with `#` are skipped and counted. The other lines are those of the script's table, with words parted by single spaces:
+/// `blob L TEXT`, `tree L` and any number of `MODE NAME LABEL`, `commit L TREE` and `id L` for objects, and
+/// `mount L GENERATION LIMIT`, `write PATH KIND TEXT`, `remove PATH` and `since GENERATION SEQUENCE` for the mount.
 ///
 /// Whole lines are answered before the next read, of 64 KiB each; what they print is gathered, and written before the next
 /// read and whenever there are 64 KiB of it.
