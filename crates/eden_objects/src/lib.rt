@@ -6,6 +6,7 @@ pub use crate::entries::Entry;
 pub use crate::entry::RawEntry;
 pub use crate::fault::{ListFault, NoCommit, PutFault};
 pub use crate::laws::{commit_map_law, tree_law};
+pub use crate::seen::key_order;
 pub use crate::store::Store;
 pub use crate::word::Word;
 

@@ -1,0 +1,4 @@
+mod Blocks
+mod Exact
+mod Ascending
+mod Listed
