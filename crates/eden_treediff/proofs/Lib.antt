@@ -2,3 +2,6 @@ mod Blocks
 mod Exact
 mod Ascending
 mod Listed
+mod Pairs
+mod Steps
+mod Sides

@@ -1,2 +1,4 @@
 pub mod Merges
 pub mod Laws
+pub mod Pairs
+pub mod Walks

@@ -1,6 +1,10 @@
 //! The paths on which two commits of a store differ, found by one walk over both trees.
 #![tactic(auto)]
 
+mod difference;
 mod laws;
+mod pair;
+mod walk;
 
+pub use difference::{DiffFault, diff};
 pub use laws::merge_law;
