@@ -9,7 +9,7 @@ use Rattle.std.specs.List.{AllByRecursion}
 use Rattle.std.specs.List.Sorted.{IsStrictlySortedBy}
 use Rattle.eden_objects.specs.Commits.{Row}
 use Rattle.eden_objects.proofs.Rising.{IsBelow}
-use Rattle.eden_treediff.specs.Merges.{merge_row, merge_rows, paths_of, same_row}
+use Rattle.eden_treediff.specs.Merges.{merge_row, merge_rows, same_row}
 use Rattle.eden_treediff.specs.Laws.{MergesRise, Rise}
 use Rattle.eden_treediff.proofs.Blocks.{order}
 use Rattle.eden_treediff.proofs.Exact.{below_more, is_path}

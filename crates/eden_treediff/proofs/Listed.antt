@@ -13,12 +13,12 @@ use Rattle.std.specs.FinMap.{put}
 use Rattle.std.specs.FinMap.Entries.{by_order}
 use Rattle.eden_ids.specs.declared.id.Id.{Id}
 use Rattle.eden_ids.specs.declared.content.Kind.{Kind}
-use Rattle.eden_ids.specs.FileMaps.{FileMap, PathSet, differ, file_at, listing, path_set, same_file, same_kind}
+use Rattle.eden_ids.specs.FileMaps.{differ, file_at, listing, path_set, same_file, same_kind}
 use Rattle.eden_ids.proofs.FileMapLemmas.{has-differ, has-path_set, same_path_set}
 use Rattle.eden_objects.specs.declared.word.Word.TheVariants.{Blob}
 use Rattle.eden_objects.specs.Objects.{Held, find, payload_of, same_bytes, same_id, word_text}
-use Rattle.eden_objects.specs.Commits.{Row, commit_map, commit_rows, find_row, map_of_rows}
-use Rattle.eden_objects.specs.Closed.{IsHeld, IsClosed, AllNamed}
+use Rattle.eden_objects.specs.Commits.{Row, commit_map, find_row, map_of_rows}
+use Rattle.eden_objects.specs.Closed.{IsHeld, AllNamed}
 use Rattle.eden_objects.specs.Walks.{content_found}
 use Rattle.eden_objects.proofs.Closed.{find-here, find-there, same_id-is}
 use Rattle.eden_objects.proofs.CommitLaws.{rows_blobs, rows_rise}

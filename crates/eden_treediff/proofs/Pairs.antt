@@ -1,14 +1,12 @@
 -- The files of two directories are merged pair by pair of their entries.
-use Rattle.std.proofs.Common.{◌≡◌, ℕ, ◌+◌, ◌<◌, ◌≤◌, ◌++◌, inl, inr, Bool, true, false, cond, not, ◌&&◌, ◌||◌, nat_eq, List, [], ◌∷◌, map, Option, Some, None, refl, sym, ap, subst, ◌∙◌, arith}
-use Rattle.std.proofs.lemmas.Bool.{cases_Bool}
+use Rattle.std.proofs.Common.{◌≡◌, ℕ, ◌+◌, ◌<◌, ◌≤◌, ◌++◌, Bool, true, false, cond, not, ◌&&◌, ◌||◌, nat_eq, List, [], ◌∷◌, map, Option, Some, None, refl, sym, ap, subst, ◌∙◌, arith}
 use Rattle.std.proofs.lemmas.List.{append_cancel_right}
-use Rattle.std.specs.declared.cmp.Ordering.{Ordering}
 use Rattle.std.specs.declared.cmp.Ordering.TheVariants.{Less, Equal, Greater}
 use Rattle.std.specs.Ordering.{nat_cmp, ordering_reverse}
 use Rattle.std.specs.Cmp.Lexicographic.{slice_cmp, nat_list_cmp_total}
 use Rattle.std.specs.Cmp.{tied_itself}
 use Rattle.std.specs.FinMap.Entries.{by_order}
-use Rattle.std.specs.List.{AllByRecursion, list_any}
+use Rattle.std.specs.List.{AllByRecursion}
 use Rattle.std.specs.List.Sorted.{IsStrictlySortedBy}
 use Rattle.eden_ids.specs.declared.id.Id.{Id}
 use Rattle.eden_ids.specs.declared.content.Kind.{Kind}
@@ -20,12 +18,12 @@ use Rattle.eden_objects.specs.Commits.{Row, under, rows_of_kind, entry_rows, ent
 use Rattle.eden_objects.specs.Puts.{word_wanted}
 use Rattle.eden_objects.specs.Closed.{IsHeld, HasTree}
 use Rattle.eden_objects.proofs.Closed.{child_below, later_below, same_id-is}
-use Rattle.eden_objects.proofs.Rising.{IsBelow, file_entries, all_dir}
+use Rattle.eden_objects.proofs.Rising.{file_entries, all_dir}
 use Rattle.eden_objects.proofs.Slashes.{has_slash, name_has_none}
-use Rattle.eden_treediff.specs.Merges.{merge_rows, paths_of, same_row}
+use Rattle.eden_treediff.specs.Merges.{merge_rows}
 use Rattle.eden_treediff.specs.Pairs.{Directory, Next, next_of_both, next_pair, is_changed, same_mode, name_of, directory, directory_of}
 use Rattle.eden_treediff.specs.Walks.{IsSide, side_rows, side_depth}
-use Rattle.eden_treediff.proofs.Blocks.{order, turned, below, AllBelow, merge_blocks, merge_under}
+use Rattle.eden_treediff.proofs.Blocks.{order, below, AllBelow, merge_blocks, merge_under}
 use Rattle.eden_treediff.proofs.Exact.{is_path, same_law}
 
 -- what is left of a tree's entries

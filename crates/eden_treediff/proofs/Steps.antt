@@ -1,20 +1,19 @@
 -- One step of the walk over two trees.
-use Rattle.std.proofs.Common.{◌≡◌, ℕ, ◌+◌, ◌<◌, ◌≤◌, ◌++◌, Bool, true, false, List, [], ◌∷◌, map, take, length, Option, Some, None, refl, sym, ap, subst, ◌∙◌, arith, append_assoc}
+use Rattle.std.proofs.Common.{◌≡◌, ℕ, ◌≤◌, ◌++◌, true, false, List, [], ◌∷◌, map, take, length, Option, Some, None, refl, sym, ap, ◌∙◌, arith, append_assoc}
 use Rattle.std.proofs.lemmas.List.{map-append, append-nil}
 use Rattle.std.proofs.Math.Seq.{take-append_seam}
-use Rattle.std.specs.List.{AllByRecursion}
 use Rattle.std.specs.List.Sorted.{IsStrictlySortedBy}
 use Rattle.eden_ids.specs.declared.id.Id.{Id}
-use Rattle.eden_objects.specs.Objects.{Held, find, payload_of}
-use Rattle.eden_objects.specs.Trees.{Entry, entries_of, entries_depth, is_name, tree_depth}
-use Rattle.eden_objects.specs.Commits.{Row, entries_rows, tree_rows}
-use Rattle.eden_objects.specs.Closed.{HasTree, IsClosed}
+use Rattle.eden_objects.specs.Objects.{Held}
+use Rattle.eden_objects.specs.Trees.{Entry, entries_depth, tree_depth}
+use Rattle.eden_objects.specs.Commits.{entries_rows, tree_rows}
+use Rattle.eden_objects.specs.Closed.{IsClosed}
 use Rattle.eden_objects.proofs.WalkSteps.{rows_here, tree_here}
 use Rattle.eden_objects.proofs.Closed.{same_id-is}
 use Rattle.eden_objects.proofs.Gathering.{depth_here}
 use Rattle.eden_treediff.specs.Merges.{merge_rows}
 use Rattle.eden_treediff.specs.Pairs.{Directory, Next, directory, is_changed, name_of, next_pair}
-use Rattle.eden_treediff.specs.Walks.{IsSide, behind, same_side, side_bytes, side_depth, side_entries, side_rows}
+use Rattle.eden_treediff.specs.Walks.{IsSide, behind, same_side, side_depth, side_entries, side_rows}
 use Rattle.eden_treediff.proofs.Blocks.{below}
 use Rattle.eden_treediff.proofs.Exact.{same_law}
 use Rattle.eden_treediff.proofs.Pairs.{IsDirectory, IsNext, IsRest, next_is, rest_after, entry_held, entry_named, depth_after, entry_depth, merge_next, nothing_changed, file_changed, directory_met, rows_of_entry}

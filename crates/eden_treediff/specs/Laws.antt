@@ -1,5 +1,5 @@
 -- What the merge of two lists of files is.
-use Rattle.std.specs.Prelude.{◌≡◌, ℕ, not, List, [], map, Some}
+use Rattle.std.specs.Prelude.{◌≡◌, ℕ, not, List, [], Some}
 use Rattle.std.specs.Ordering.{nat_cmp}
 use Rattle.std.specs.Cmp.Lexicographic.{slice_cmp}
 use Rattle.std.specs.List.{list_any}

@@ -36,7 +36,6 @@ fn side_of<N: Naming + Drop>(store: &Store<N>, commit: Id) -> Result<Option<Id>,
 }
 
 /// The paths on which two trees differ.
-#[tactic(auto, using(crate::proofs::Sides::all_found))]
 fn paths_between<N: Naming + Drop>(
     store: &Store<N>,
     first: Option<Id>,
@@ -59,7 +58,7 @@ fn paths_between<N: Naming + Drop>(
 ///
 /// `NoCommit` comes where one of the ids is no commit's; `NoMemory` may stand in place of any answer where a growth was refused.
 /// Directories with one id on both sides are not read. Two trees with different ids may hold the same files: then nothing is named.
-#[tactic(auto, using(crate::proofs::Sides::no_first, crate::proofs::Sides::no_second, crate::proofs::Sides::both_sides))]
+#[tactic(auto, using(crate::proofs::Sides::no_first, crate::proofs::Sides::no_second))]
 pub fn diff<N: Naming + Drop>(
     store: &Store<N>,
     first: Id,
