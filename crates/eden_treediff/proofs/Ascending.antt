@@ -47,7 +47,7 @@ unfolding IsStrictlySortedBy
 rising_step r rs h rest [] rise = (above_merge r.0 rs [] h tt, rest [] tt)
 rising_step r rs h rest (s ∷ ss) rise =
     elim (order r.0 s.0) as (λ o. order r.0 s.0 ≡ o
-        → IsStrictlySortedBy (slice_cmp nat_cmp) (by_order o (r.0 ∷ merge_rows rs (s ∷ ss)) (cond (same_row r s) (merge_rows rs ss) (r.0 ∷ merge_rows rs ss)) (s.0 ∷ merge_row r (merge_rows rs) ss))) [
+    → IsStrictlySortedBy (slice_cmp nat_cmp) (by_order o (r.0 ∷ merge_rows rs (s ∷ ss)) (cond (same_row r s) (merge_rows rs ss) (r.0 ∷ merge_rows rs ss)) (s.0 ∷ merge_row r (merge_rows rs) ss))) [
       | Less ↦ λ less. (above_merge r.0 rs (s ∷ ss) h (less, below_more r.0 s.0 ss less rise.0), rest (s ∷ ss) rise)
       | Equal ↦ λ same.
           let later : IsBelow r.0 ss = subst (λ p. IsBelow p ss) (sym (is_path r.0 s.0 same)) rise.0 in

@@ -114,7 +114,7 @@ exact_step p r rs h rest (s ∷ ss) rise =
     let found_r = found_by p r rs in
     let found_s = found_by p s ss in
     elim (order r.0 s.0) as (λ o. order r.0 s.0 ≡ o
-        → Tells p (r ∷ rs) (s ∷ ss) (by_order o (r.0 ∷ merge_rows rs (s ∷ ss)) (cond (same_row r s) (merge_rows rs ss) (r.0 ∷ merge_rows rs ss)) (s.0 ∷ merge_row r (merge_rows rs) ss))) [
+    → Tells p (r ∷ rs) (s ∷ ss) (by_order o (r.0 ∷ merge_rows rs (s ∷ ss)) (cond (same_row r s) (merge_rows rs ss) (r.0 ∷ merge_rows rs ss)) (s.0 ∷ merge_row r (merge_rows rs) ss))) [
       | Less ↦ λ less.
           left_tells (same_path p r.0) (r.1, r.2) (has p (merge_rows rs (s ∷ ss))) (find_row p rs) (find_row p (s ∷ ss))
           (λ t. at_first p r.0 (s ∷ ss) (less, below_more r.0 s.0 ss less rise.0) t) (rest (s ∷ ss) rise)

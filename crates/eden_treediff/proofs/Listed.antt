@@ -109,11 +109,11 @@ of_rows : (name : List ℕ → List ℕ → Id) (held : List Held) → AllNamed 
     → listing (differ (map_of held rs) (map_of held ss)) ≡ merge_rows rs ss
 of_rows name held named rs ss rise rises blobs others =
     ap listing (sym (same_path_set (path_set (merge_rows rs ss)) (differ (map_of held rs) (map_of held ss))
-        (λ p. has-path_set (merge_rows rs ss) p ∙ exact_law rs ss rise rises p
-            ∙ ap not (sym (same_contents name held named (find_row p rs) (find_row p ss) (found_blob held p rs blobs) (found_blob held p ss others)))
-            ∙ ap (λ f. not (same_file f (content_found held (find_row p ss)))) (sym (file_at-map_of held rs p))
-            ∙ ap (λ f. not (same_file (file_at (map_of held rs) p) f)) (sym (file_at-map_of held ss p))
-            ∙ sym (has-differ (map_of held rs) (map_of held ss) p))))
+    (λ p. has-path_set (merge_rows rs ss) p ∙ exact_law rs ss rise rises p
+    ∙ ap not (sym (same_contents name held named (find_row p rs) (find_row p ss) (found_blob held p rs blobs) (found_blob held p ss others)))
+    ∙ ap (λ f. not (same_file f (content_found held (find_row p ss)))) (sym (file_at-map_of held rs p))
+    ∙ ap (λ f. not (same_file (file_at (map_of held rs) p) f)) (sym (file_at-map_of held ss p))
+    ∙ sym (has-differ (map_of held rs) (map_of held ss) p))))
     ∙ listing_is (merge_rows rs ss) (ascending_law rs ss rise rises)
 
 pub listed_law : MergesAreDifferences

@@ -81,8 +81,8 @@ skipped held m n es fs next front target done way is same so_far =
     let met = is_next held m n es fs next way is in
     one_pair held m n es fs next front target done done way is so_far
     (sym (ap (λ ps. done ++ behind front ps)
-      (nothing_changed (tree_rows held) next.0 next.1 met.2 (entry_named held es next.0 next.2 met.0 way.0) (entry_named held fs next.1 next.3 met.1 way.1) same)
-      ∙ append-nil done))
+    (nothing_changed (tree_rows held) next.0 next.1 met.2 (entry_named held es next.0 next.2 met.0 way.0) (entry_named held fs next.1 next.3 met.1 way.1) same)
+    ∙ append-nil done))
 
 pub file_found : (held : List Held) (m n : ℕ) (es fs : List Entry) (next : Next) (front : List ℕ) (target done new : List (List ℕ)) → IsWay held m n es fs → Some next ≡ next_pair es fs
     → is_changed next.0 next.1 ≡ true → directory next.0 next.1 ≡ None → target ≡ done ++ behind front (merge_entries held es fs)
@@ -92,7 +92,7 @@ file_found held m n es fs next front target done new way is changed file so_far 
     let met = is_next held m n es fs next way is in
     one_pair held m n es fs next front target done new way is so_far
     (now ∙ sym (ap (λ ps. done ++ behind front ps)
-      (file_changed (tree_rows held) next.0 next.1 met.2 (entry_named held es next.0 next.2 met.0 way.0) (entry_named held fs next.1 next.3 met.1 way.1) changed file)))
+    (file_changed (tree_rows held) next.0 next.1 met.2 (entry_named held es next.0 next.2 met.0 way.0) (entry_named held fs next.1 next.3 met.1 way.1) changed file)))
 
 pub directory_is : (held : List Held) (m n : ℕ) (es fs : List Entry) (next : Next) (d : Directory) → IsWay held m n es fs → Some next ≡ next_pair es fs → directory next.0 next.1 ≡ Some d
     → IsDirectory held m n (rows_of_entry (tree_rows held) next.0) (rows_of_entry (tree_rows held) next.1) d

@@ -4,6 +4,8 @@
 mod difference;
 mod laws;
 mod pair;
+#[cfg(test)]
+mod tests;
 mod walk;
 
 pub use difference::{DiffFault, diff};
