@@ -5,3 +5,4 @@ mod Listed
 mod Pairs
 mod Steps
 mod Sides
+mod Rows

@@ -1,5 +1,5 @@
 -- The rows of two columns, in step with the pairs of entries.
-use Rattle.std.proofs.Common.{◌≡◌, ℕ, ◌+◌, ◌<◌, ◌≤◌, ◌++◌, inl, inr, Bool, true, false, cond, not, ◌&&◌, ◌||◌, nat_eq, List, [], ◌∷◌, map, length, Option, Some, None, refl, sym, ap, ◌∙◌, arith, append_assoc}
+use Rattle.std.proofs.Common.{◌≡◌, ℕ, ◌+◌, ◌<◌, ◌++◌, inl, inr, Bool, true, false, cond, not, ◌&&◌, ◌||◌, nat_eq, List, [], ◌∷◌, map, length, Option, Some, None, refl, sym, ap, subst, ◌∙◌, arith, append_assoc}
 use Rattle.std.proofs.lemmas.Bool.{cases_Bool}
 use Rattle.std.proofs.lemmas.List.{map-append, append-nil}
 use Rattle.std.specs.declared.cmp.Ordering.{Ordering}
@@ -7,14 +7,16 @@ use Rattle.std.specs.declared.cmp.Ordering.TheVariants.{Less, Equal, Greater}
 use Rattle.std.specs.Ordering.{nat_cmp}
 use Rattle.std.specs.Cmp.Lexicographic.{slice_cmp}
 use Rattle.std.specs.FinMap.Entries.{by_order}
-use Rattle.eden_ids.specs.declared.id.Id.{Id}
 use Rattle.eden_ids.specs.declared.content.Kind.{Kind}
 use Rattle.eden_ids.specs.declared.content.Kind.TheVariants.{Plain, Exec, Link}
 use Rattle.eden_ids.specs.Columns.{id_eq}
 use Rattle.eden_lanes.specs.Rows.{differ_from}
 use Rattle.eden_objects.specs.Objects.{same_id}
 use Rattle.eden_objects.specs.Trees.{Entry, key}
-use Rattle.eden_treediff.specs.Columns.{AreChanges, Both, both_of, common, common_with, first_ids, first_kinds, is_first, kind_byte, rows_after, second_ids, second_kinds}
+use Rattle.eden_objects.specs.declared.entry.RawEntry.{RawEntry}
+use Rattle.eden_objects.specs.Entries.{option_plain, plain}
+use Rattle.eden_treediff.specs.declared.changes.Changes.{Changes}
+use Rattle.eden_treediff.specs.Columns.{AreChanges, Both, Tells, both_of, common, first_ids, first_kinds, is_first, kind_byte, rows_after, second_ids, second_kinds}
 use Rattle.eden_treediff.specs.Pairs.{Next, is_changed, next_of_both, next_pair, same_mode}
 
 -- the next entries of one key, and those of what is left
@@ -123,3 +125,43 @@ both_told k b bs ids kinds are =
       (λ i. one.0 i || two.0 i) ∙ not_both (id_eq b.0.id b.1.id) (nat_eq (kind_byte b.0.kind) (kind_byte b.1.kind)) ∙ ap (λ t. not (t && same_id b.0.id b.1.id)) (kinds_told b.0.kind b.1.kind),
       (one.1, two.1),
     )
+
+pub tells_next : (changes : Changes) (es fs : List Entry) (next : Next) → Some next ≡ next_pair es fs → Tells changes (common es fs) → Tells changes (both_of next.0 next.1 ++ common next.2 next.3)
+tells_next changes es fs next is tells = subst (Tells changes) (common_next es fs next is) tells
+
+or_first : (r t : Bool) → r ≡ true → r ≡ (r || t)
+or_first true t h = refl
+or_first false t h = absurd (cc)
+
+or_second : (r t : Bool) → r ≡ false → t ≡ (r || t)
+or_second true t h = absurd (cc)
+or_second false t h = refl
+
+abbrev pub Told : Bool → Both → Type 0
+Told told b = told ≡ not (same_mode b.0.kind b.1.kind && same_id b.0.id b.1.id)
+
+either_told : (k : ℕ) (b : Both) (bs : List Both) (ids kinds id_rows kind_rows : List ℕ) (r t : Bool) → AreChanges ids kinds k (b ∷ bs) → r ≡ is_first k ids → t ≡ is_first k kinds
+    → id_rows ≡ rows_after k ids → kind_rows ≡ rows_after k kinds → Told (r || t) b × AreChanges id_rows kind_rows (k + 1) bs
+either_told k b bs ids kinds id_rows kind_rows r t are one two after behind =
+    let told = both_told k b bs ids kinds are in
+    ((λ i. one i || two i) ∙ told.0, (after ∙ told.1.0, behind ∙ told.1.1))
+
+pub id_told : (k : ℕ) (b : Both) (bs : List Both) (ids kinds id_rows kind_rows : List ℕ) (r t : Bool) → AreChanges ids kinds k (b ∷ bs) → r ≡ is_first k ids → t ≡ is_first k kinds
+    → id_rows ≡ rows_after k ids → kind_rows ≡ rows_after k kinds → r ≡ true → Told r b × AreChanges id_rows kind_rows (k + 1) bs
+id_told k b bs ids kinds id_rows kind_rows r t are one two after behind so =
+    let told = either_told k b bs ids kinds id_rows kind_rows r t are one two after behind in (or_first r t so ∙ told.0, told.1)
+
+pub kind_told : (k : ℕ) (b : Both) (bs : List Both) (ids kinds id_rows kind_rows : List ℕ) (r t : Bool) → AreChanges ids kinds k (b ∷ bs) → r ≡ is_first k ids → t ≡ is_first k kinds
+    → id_rows ≡ rows_after k ids → kind_rows ≡ rows_after k kinds → r ≡ false → Told t b × AreChanges id_rows kind_rows (k + 1) bs
+kind_told k b bs ids kinds id_rows kind_rows r t are one two after behind so =
+    let told = either_told k b bs ids kinds id_rows kind_rows r t are one two after behind in (or_second r t so ∙ told.0, told.1)
+
+-- a pair of two entries
+pub pair_told : (changes later : Changes) (o p : Option RawEntry) (e f : RawEntry) (r : Bool) → o ≡ Some e → p ≡ Some f
+    → ((b : Both) (bs : List Both) → Tells changes (b ∷ bs) → Told r b × Tells later bs)
+    → (bs : List Both) → Tells changes (both_of (option_plain o) (option_plain p) ++ bs) → (r ≡ is_changed (option_plain o) (option_plain p)) × Tells later bs
+pair_told changes later o p e f r first second take bs tells =
+    let one : both_of (option_plain o) (option_plain p) ≡ (plain e, plain f) ∷ [] = λ i. both_of (option_plain (first i)) (option_plain (second i)) in
+    let same : is_changed (option_plain o) (option_plain p) ≡ is_changed (Some (plain e)) (Some (plain f)) = λ i. is_changed (option_plain (first i)) (option_plain (second i)) in
+    let told = take (plain e, plain f) bs (subst (λ cs. Tells changes (cs ++ bs)) one tells) in
+    (told.0 ∙ sym same, told.1)

@@ -2,3 +2,4 @@ pub mod Merges
 pub mod Laws
 pub mod Pairs
 pub mod Walks
+pub mod Columns

@@ -1,6 +1,8 @@
 //! The paths on which two commits of a store differ, found by one walk over both trees.
 #![tactic(auto)]
 
+mod changes;
+mod columns;
 mod difference;
 mod laws;
 mod pair;

@@ -1,18 +1,18 @@
 ghost use Rattle.std.specs.Prelude.{◌≡◌, ◌+◌, ◌<◌, length, Some, None, IfSome};
 ghost use Rattle.eden_objects.specs.Trees.{entries_of};
 ghost use Rattle.eden_objects.specs.Entries.{option_plain};
-ghost use Rattle.eden_treediff.specs.Pairs.{directory, directory_of, is_changed, name_of, next_of, next_pair, option_next, same_mode};
+ghost use Rattle.eden_treediff.specs.Pairs.{directory, directory_of, name_of, next_of, next_pair, option_next};
 ghost use Rattle.eden_treediff.specs.Walks.{directory_read};
 
-use eden_ids::{Id, Kind};
+use eden_ids::Id;
 use eden_objects::{RawEntry, key_order, next_entry};
 use std::cmp::Ordering;
 
 /// The next entry of each of two directories, both where they have one key, and what is left to read.
 #[derive(Clone, Copy)]
 pub(crate) struct Pair<'a> {
-    first: Option<RawEntry<'a>>,
-    second: Option<RawEntry<'a>>,
+    pub(crate) first: Option<RawEntry<'a>>,
+    pub(crate) second: Option<RawEntry<'a>>,
     pub(crate) left: &'a [u8],
     pub(crate) right: &'a [u8],
 }
@@ -37,18 +37,6 @@ impl<'a> Pair<'a> {
         }
     }
 
-    /// Whether the entry is one side's alone, or those of both are not the same.
-    pub(crate) fn is_changed(&self) -> bool
-        ensures { result ≡ is_changed (option_plain self.now.first) (option_plain self.now.second) }
-    {
-        match (&self.first, &self.second) {
-            (Some(entry), Some(other)) => {
-                !(same_mode(entry.kind, other.kind) && entry.id == other.id)
-            }
-            _ => true,
-        }
-    }
-
     /// The name.
     pub(crate) fn name(&self) -> &'a [u8]
         ensures { result.now ≡ name_of (option_plain self.now.first) (option_plain self.now.second) }
@@ -70,17 +58,6 @@ impl<'a> Pair<'a> {
             (None, Some(other)) => directory_of(other, None, Some(other.id)),
             (Some(entry), Some(other)) => directory_of(entry, Some(entry.id), Some(other.id)),
         }
-    }
-}
-
-/// Whether both are directories, or files of one kind.
-fn same_mode(first: Option<Kind>, second: Option<Kind>) -> bool
-    ensures { result ≡ same_mode first second }
-{
-    match (first, second) {
-        (None, None) => true,
-        (Some(kind), Some(other)) => kind == other,
-        _ => false,
     }
 }
 

@@ -2,6 +2,8 @@ ghost use Rattle.std.specs.Prelude.{◌≡◌, ◌++◌, ◌∷◌, [], IfOk, On
 ghost use Rattle.eden_treediff.specs.Merges.{merge_rows};
 ghost use Rattle.eden_treediff.specs.Walks.{IsSide, behind, same_side, side_bytes, side_rows};
 
+use crate::changes::Changes;
+use crate::columns::changed_rows;
 use crate::pair::next_pair;
 use eden_ids::{Id, Naming, NoMemory, Path};
 use eden_objects::Store;
@@ -85,6 +87,8 @@ fn entries_of<N: Naming + Drop>(store: &Store<N>, side: Option<Id>) -> &[u8]
 }
 
 /// Adds the paths on which two trees differ, directory by directory. What both have under one id is not read.
+///
+/// The entries that both sides have are compared as whole columns, first of ids and then of kinds.
 pub(crate) fn walk<N: Naming + Drop>(
     store: &Store<N>,
     first: Option<Id>,
@@ -103,10 +107,12 @@ pub(crate) fn walk<N: Naming + Drop>(
     }
     let mut left = entries_of(store, first);
     let mut right = entries_of(store, second);
+    let rows = changed_rows(store.allocator(), left, right)?;
+    let mut changes = Changes::of(&rows);
     'pairs: while let Some(pair) = next_pair(left, right) {
         left = pair.left;
         right = pair.right;
-        if !pair.is_changed() {
+        if !changes.is_changed(&pair) {
             continue;
         }
         let Some((name, tree, other)) = pair.directory() else {
