@@ -12,7 +12,7 @@ use Rattle.eden_ids.specs.declared.content.Kind.TheVariants.{Plain, Exec, Link}
 use Rattle.eden_ids.specs.Columns.{id_eq}
 use Rattle.eden_lanes.specs.Rows.{differ_from}
 use Rattle.eden_objects.specs.Objects.{same_id}
-use Rattle.eden_objects.specs.Trees.{Entry, key}
+use Rattle.eden_objects.specs.Trees.{Entry, entries_of, key}
 use Rattle.eden_objects.specs.declared.entry.RawEntry.{RawEntry}
 use Rattle.eden_objects.specs.Entries.{option_plain, plain}
 use Rattle.eden_treediff.specs.declared.changes.Changes.{Changes}
@@ -165,3 +165,22 @@ pair_told changes later o p e f r first second take bs tells =
     let same : is_changed (option_plain o) (option_plain p) ≡ is_changed (Some (plain e)) (Some (plain f)) = λ i. is_changed (option_plain (first i)) (option_plain (second i)) in
     let told = take (plain e, plain f) bs (subst (λ cs. Tells changes (cs ++ bs)) one tells) in
     (told.0 ∙ sym same, told.1)
+
+none_common : (es : List Entry) → common es [] ≡ []
+none_common [] = refl
+none_common (e ∷ es) = none_common es
+
+no_bytes : (bytes : List ℕ) → length bytes ≡ 0 → entries_of bytes ≡ []
+no_bytes [] none = refl
+no_bytes (b ∷ bytes) none = absurd (omega (arith, none))
+
+-- where one side has no bytes, there are no changes
+pub no_left : (left right ids kinds : List ℕ) → length left ≡ 0 → ids ≡ [] → kinds ≡ [] → AreChanges ids kinds 0 (common (entries_of left) (entries_of right))
+no_left left right ids kinds none first second =
+    let bs : common (entries_of left) (entries_of right) ≡ [] = ap (λ es. common es (entries_of right)) (no_bytes left none) in
+    (first ∙ ap (λ cs. differ_from id_eq 0 (first_ids cs) (second_ids cs)) (sym bs), second ∙ ap (λ cs. differ_from nat_eq 0 (first_kinds cs) (second_kinds cs)) (sym bs))
+
+pub no_right : (left right ids kinds : List ℕ) → length right ≡ 0 → ids ≡ [] → kinds ≡ [] → AreChanges ids kinds 0 (common (entries_of left) (entries_of right))
+no_right left right ids kinds none first second =
+    let bs : common (entries_of left) (entries_of right) ≡ [] = ap (common (entries_of left)) (no_bytes right none) ∙ none_common (entries_of left) in
+    (first ∙ ap (λ cs. differ_from id_eq 0 (first_ids cs) (second_ids cs)) (sym bs), second ∙ ap (λ cs. differ_from nat_eq 0 (first_kinds cs) (second_kinds cs)) (sym bs))

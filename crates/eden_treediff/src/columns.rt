@@ -90,7 +90,7 @@ fn columns_of(alloc: Global, left: &[u8], right: &[u8]) -> Result<(Column, Colum
     Ok((first, second))
 }
 
-/// The rows at which the entries of one key differ.
+/// The rows at which the entries of one key differ. Nothing is read where one side has no entries.
 pub(crate) fn changed_rows(
     alloc: Global,
     left: &[u8],
@@ -98,6 +98,12 @@ pub(crate) fn changed_rows(
 ) -> Result<ChangedRows, NoMemory>
     ensures { IfOk result (λ rows. AreChanges rows.ids.items rows.kinds.items 0 (common (entries_of left.now) (entries_of right.now))) }
 {
+    if left.is_empty() || right.is_empty() {
+        return Ok(ChangedRows {
+            ids: Vec::new(alloc),
+            kinds: Vec::new(alloc),
+        });
+    }
     let (first, second) = columns_of(alloc, left, right)?;
     let ids = differ_rows(alloc, &first.ids, &second.ids)?;
     let kinds = differ_kinds(alloc, first.kinds.as_slice(), second.kinds.as_slice())?;
