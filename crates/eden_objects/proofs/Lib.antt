@@ -13,10 +13,10 @@ mod Tables
 mod Putting
 mod Cuts
 mod Reading
-mod Fuel
-mod TreeOf
-mod WalkSteps
-mod Gathering
+pub mod Fuel
+pub mod TreeOf
+pub mod WalkSteps
+pub mod Gathering
 mod Below
 mod Refusals
 mod Order

@@ -26,7 +26,7 @@ contents held rows = map (λ row. (row.0, content_of held row)) rows
 abbrev pub map_of : List Held → List Row → FileMap
 map_of held rows = fin.from_entries (map (λ row. (row.0, content_of held row)) rows)
 
-same_test : (p q : List ℕ) → eq_by_cmp (slice_cmp nat_cmp) p q ≡ same_bytes q p
+pub same_test : (p q : List ℕ) → eq_by_cmp (slice_cmp nat_cmp) p q ≡ same_bytes q p
 same_test p q = (eq_by_cmp_equiv nat_list_cmp_total).symm p q ∙ sym (lists_ties nat_cmp unsigned_ties q p)
 
 found_if : (held : List Held) (t : Bool) (row : Row) (o : Option (Kind × Id)) → cond t (Some (content_of held row)) (content_found held o) ≡ content_found held (cond t (Some (row.1, row.2)) o)

@@ -18,14 +18,14 @@ use Rattle.eden_objects.specs.Closed.{HasTree, IsClosed}
 use Rattle.eden_objects.proofs.Slashes.{has_slash, name_has_none}
 use Rattle.eden_objects.proofs.ByTrees.{IsStep, by_trees}
 
-abbrev order : List ℕ → List ℕ → Ordering
+abbrev pub order : List ℕ → List ℕ → Ordering
 order = slice_cmp nat_cmp
 
 -- the paths stand in byte order
 abbrev pub Rises : List Row → Type 0
 Rises rows = IsStrictlySortedBy (slice_cmp nat_cmp) (map (λ row. row.0) rows)
 
-abbrev IsBelow : List ℕ → List Row → Type 0
+abbrev pub IsBelow : List ℕ → List Row → Type 0
 IsBelow p rows = AllByRecursion (λ q. slice_cmp nat_cmp p q ≡ Less) (map (λ row. row.0) rows)
 
 then_less : (r o p : Ordering) → (o ≡ Less → p ≡ Less) → ordering_then r o ≡ Less → ordering_then r p ≡ Less
@@ -66,11 +66,11 @@ dir_dir (a ∷ n) (x ∷ m) q r none free h =
     then_less (nat_cmp a x) (order (n ++ 47 ∷ []) (m ++ 47 ∷ [])) (order (n ++ 47 ∷ q) (m ++ 47 ∷ r)) (dir_dir n m q r (or_parts _ _ none).1 (or_parts _ _ free).1) h
 
 -- paths below one directory stand as what follows it
-prefix : (n q r : List ℕ) → order (n ++ q) (n ++ r) ≡ order q r
+pub prefix : (n q r : List ℕ) → order (n ++ q) (n ++ r) ≡ order q r
 prefix [] q r = refl
 prefix (a ∷ n) q r = ap (λ o. ordering_then o (order (n ++ q) (n ++ r))) (tied_itself nat_cmp_total a) ∙ prefix n q r
 
-below_append : (p : List ℕ) (xs ys : List Row) → IsBelow p xs → IsBelow p ys → IsBelow p (xs ++ ys)
+pub below_append : (p : List ℕ) (xs ys : List Row) → IsBelow p xs → IsBelow p ys → IsBelow p (xs ++ ys)
 below_append p [] ys h g = g
 below_append p (x ∷ xs) ys h g = (h.0, below_append p xs ys h.1 g)
 
@@ -79,7 +79,7 @@ unfolding IsStrictlySortedBy
 rises_append [] ys h g cross = g
 rises_append (x ∷ xs) ys h g cross = (below_append x.0 xs ys h.0 cross.0, rises_append xs ys h.1 g cross.1)
 
-below_under : (n p : List ℕ) (rows : List Row) → IsBelow p rows → IsBelow (n ++ 47 ∷ p) (map (under n) rows)
+pub below_under : (n p : List ℕ) (rows : List Row) → IsBelow p rows → IsBelow (n ++ 47 ∷ p) (map (under n) rows)
 below_under n p [] h = tt
 below_under n p (row ∷ rows) h = (
   ap (λ a. order a (n ++ 47 ∷ row.0)) (sym (append_assoc n (47 ∷ []) p)) ∙ ap (order ((n ++ 47 ∷ []) ++ p)) (sym (append_assoc n (47 ∷ []) row.0))
@@ -99,7 +99,7 @@ file_entry n m None id (row ∷ rows) h =
     (ap (order n) (sym (append_assoc m (47 ∷ []) row.0)) ∙ less_more n (m ++ 47 ∷ []) row.0 h, file_entry n m None id rows h)
 file_entry n m (Some kind) id rows h = (h, tt)
 
-file_entries : (n : List ℕ) (rows : Id → List Row) (es : List Entry) → AllByRecursion (λ k. slice_cmp nat_cmp n k ≡ Less) (map key es) → IsBelow n (entries_rows rows es)
+pub file_entries : (n : List ℕ) (rows : Id → List Row) (es : List Entry) → AllByRecursion (λ k. slice_cmp nat_cmp n k ≡ Less) (map key es) → IsBelow n (entries_rows rows es)
 file_entries n rows [] h = tt
 file_entries n rows (e ∷ es) h =
     below_append n (entry_rows rows e) (entries_rows rows es) (file_entry n e.name e.kind e.id (rows e.id) h.0) (file_entries n rows es h.1)
@@ -118,7 +118,7 @@ dir_entries n q rows (e ∷ es) none names h =
     below_append (n ++ 47 ∷ q) (entry_rows rows e) (entries_rows rows es)
     (dir_entry n q e.name e.kind e.id (rows e.id) none (name_has_none e.name names.0) h.0) (dir_entries n q rows es none names.1 h.1)
 
-all_dir : (n : List ℕ) (below : List Row) (rows : Id → List Row) (es : List Entry) → has_slash n ≡ false → AllByRecursion (λ e. is_name e.name ≡ true) es
+pub all_dir : (n : List ℕ) (below : List Row) (rows : Id → List Row) (es : List Entry) → has_slash n ≡ false → AllByRecursion (λ e. is_name e.name ≡ true) es
     → AllByRecursion (λ k. slice_cmp nat_cmp (n ++ 47 ∷ []) k ≡ Less) (map key es) → AllByRecursion (λ x. IsBelow x.0 (entries_rows rows es)) (map (under n) below)
 all_dir n [] rows es none names h = tt
 all_dir n (row ∷ below) rows es none names h = (dir_entries n row.0 rows es none names h, all_dir n below rows es none names h)

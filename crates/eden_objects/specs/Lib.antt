@@ -8,3 +8,5 @@ pub mod Walks
 pub mod Contents
 pub mod Entries
 pub mod Listings
+pub mod Readings
+pub mod Copies

@@ -6,9 +6,10 @@ ghost use Rattle.eden_objects.specs.Walks.{entries_read, file_if, file_named, di
 use crate::entry::{RawEntry, read_entry};
 use eden_ids::{Id, Kind};
 
-/// The first entry of some bytes and what stands behind it, if there is one.
+/// The first entry of some bytes and what stands behind it, if there is one. So the entries of a tree's payload are read one after
+/// another, and no name is copied. This takes no memory.
 #[tactic(auto, using(crate::proofs::Fuel::all_read, crate::proofs::Fuel::still_shorter))]
-pub(crate) fn next_entry(bytes: &[u8]) -> Option<(RawEntry<'_>, &[u8])>
+pub fn next_entry(bytes: &[u8]) -> Option<(RawEntry<'_>, &[u8])>
     ensures entries { entries_of bytes.now ≡ entries_read result }
     ensures shorter { IfSome result (λ read. length read.1.now < length bytes.now) }
 {

@@ -6,13 +6,15 @@ ghost use Rattle.eden_objects.specs.Entries.{plain, parts_of, reading_of, id_of_
 use crate::fault::PutFault;
 use eden_ids::{Id, Kind, is_component};
 
-/// An entry of a tree, as it stands in the payload.
+/// An entry of a tree, whose name stands in the payload.
 #[derive(Clone, Copy)]
-pub(crate) struct RawEntry<'a> {
-    pub(crate) name: &'a [u8],
-    /// `None` for a directory.
-    pub(crate) kind: Option<Kind>,
-    pub(crate) id: Id,
+pub struct RawEntry<'a> {
+    /// The name, which has no slash.
+    pub name: &'a [u8],
+    /// What the file is; `None` for a directory.
+    pub kind: Option<Kind>,
+    /// The file's blob, or the directory's tree.
+    pub id: Id,
 }
 
 /// The bytes before the first that is `byte`, and those after it.

@@ -107,7 +107,7 @@ impl<N: Naming + Drop> Store<N> {
     pub fn list(&self, commit: Id, filter: &Filter) -> Result<Vec<(Path, Kind, Id)>, ListFault>
         ensures { Lists result (rows_where (admits filter.now) (commit_rows self.now commit)) }
     {
-        match self.tree_of(commit) {
+        match self.root_tree(commit) {
             Ok(Some(tree)) => self.list_tree(tree, filter),
             Ok(None) => Ok(Vec::new(self.allocator())),
             Err(NoCommit) => Err(ListFault::NoCommit),
@@ -122,7 +122,7 @@ impl<N: Naming + Drop> Store<N> {
     pub fn list_below(&self, commit: Id, top: &Path) -> Result<Vec<(Path, Kind, Id)>, ListFault>
         ensures { Lists result (rows_where (λ p. lies_below p top.now) (commit_rows self.now commit)) }
     {
-        match self.tree_of(commit) {
+        match self.root_tree(commit) {
             Ok(Some(tree)) => self.list_dir(tree, top.as_bytes()),
             Ok(None) => Ok(Vec::new(self.allocator())),
             Err(NoCommit) => Err(ListFault::NoCommit),

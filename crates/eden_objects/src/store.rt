@@ -147,8 +147,8 @@ impl<N: Naming + Drop> Store<N> {
         let _ = &self.objects;
     }
 
-    /// What new vectors take their memory from.
-    pub(crate) fn allocator(&self) -> Global {
+    /// What the store takes its memory from.
+    pub fn allocator(&self) -> Global {
         *self.objects.allocator()
     }
 

@@ -25,7 +25,7 @@ impl Object {
     }
 
     /// The tree that the object names, if it is a commit.
-    fn tree(&self) -> Option<Id>
+    pub(crate) fn tree(&self) -> Option<Id>
         ensures { result ≡ (if same_word self.now.word Word.Commit then tree_named self.now.payload.items else None) }
     {
         if same_word(self.word, Word::Commit) {
@@ -41,7 +41,7 @@ impl<N: Naming + Drop> Store<N> {
     pub fn has_commit(&self, id: Id) -> bool
         ensures { result ≡ is_some (commit_rows self.now id) }
     {
-        self.tree_of(id).is_ok()
+        self.root_tree(id).is_ok()
     }
 
     /// The payload of the blob with an id: the bytes of a file, or the target of a link. None where the id is not that of a blob. This
@@ -61,7 +61,7 @@ impl<N: Naming + Drop> Store<N> {
     pub fn lookup(&self, commit: Id, path: &Path) -> Result<Option<(Kind, Id)>, NoCommit>
         ensures { result_ok result ≡ row_in path.now (commit_rows self.now commit) }
     {
-        match self.tree_of(commit) {
+        match self.root_tree(commit) {
             Ok(Some(tree)) => Ok(self.find_below(tree, path.as_bytes())),
             Ok(None) => Ok(None),
             Err(NoCommit) => Err(NoCommit),
@@ -78,19 +78,9 @@ impl<N: Naming + Drop> Store<N> {
         }
     }
 
-    /// The tree that the commit with an id names, if there is one.
-    fn commit_tree(&self, id: Id) -> Option<Id>
-        ensures { result ≡ tree_seen (find id self.now) }
-    {
-        match self.object(id) {
-            Some(object) => object.tree(),
-            None => None,
-        }
-    }
-
     /// The tree of a commit; the empty commit has none.
     #[tactic(auto, using(crate::proofs::TreeOf::seen_rows, crate::proofs::TreeOf::seen_tree))]
-    pub(crate) fn tree_of(&self, commit: Id) -> Result<Option<Id>, NoCommit>
+    pub(crate) fn root_tree(&self, commit: Id) -> Result<Option<Id>, NoCommit>
         ensures rows { commit_rows self.now commit ≡ rows_of_tree self.now result }
         ensures held { IsTreeOf self.now result }
     {
@@ -98,7 +88,7 @@ impl<N: Naming + Drop> Store<N> {
         if commit == Id::ZERO {
             return Ok(None);
         }
-        match self.commit_tree(commit) {
+        match self.tree_of(commit) {
             Some(tree) => Ok(Some(tree)),
             None => Err(NoCommit),
         }

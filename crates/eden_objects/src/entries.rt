@@ -1,0 +1,114 @@
+ghost use Rattle.std.specs.Prelude.{◌≡◌, ◌∷◌, ◌++◌, [], map, option_copied, Some, None, if◌then◌else◌, IfOk, OnOk};
+ghost use Rattle.eden_objects.specs.Objects.{find, same_word};
+ghost use Rattle.eden_objects.specs.Trees.{entries_of};
+ghost use Rattle.eden_objects.specs.Entries.{plain};
+ghost use Rattle.eden_objects.specs.Walks.{tree_seen};
+ghost use Rattle.eden_objects.specs.Readings.{tree_entries, tree_payload};
+ghost use Rattle.eden_objects.specs.Copies.{copied, copied_all};
+
+use crate::directory::next_entry;
+use crate::entry::RawEntry;
+use crate::store::{Object, Store};
+use crate::word::{Word, same_word};
+use eden_ids::{Id, Kind, Naming, NoMemory};
+use std::alloc::Global;
+
+/// An entry of a tree: a file or a directory.
+#[derive(Debug, PartialEq, Drop)]
+pub struct Entry {
+    /// The name, which has no slash.
+    pub name: Vec<u8>,
+    /// What the file is; `None` for a directory.
+    pub kind: Option<Kind>,
+    /// The file's blob, or the directory's tree.
+    pub id: Id,
+}
+
+/// The entry with a name of its own.
+fn copy_of(alloc: Global, entry: &RawEntry<'_>) -> Result<Entry, NoMemory>
+    ensures { IfOk result (λ copy. copied copy ≡ plain entry.now) }
+{
+    let Ok(name) = entry.name.to_vec(alloc) else {
+        return Err(NoMemory);
+    };
+    Ok(Entry {
+        name,
+        kind: entry.kind,
+        id: entry.id,
+    })
+}
+
+/// Puts an entry below the others.
+fn push_copy(alloc: Global, found: &mut Vec<Entry>, entry: &RawEntry<'_>) -> Result<(), NoMemory>
+    ensures { OnOk result (map copied found.new.items ≡ map copied found.old.items ++ plain entry.now ∷ []) }
+{
+    let copy = copy_of(alloc, entry)?;
+    match found.push(copy) {
+        Ok(()) => Ok(()),
+        Err(_) => Err(NoMemory),
+    }
+}
+
+/// The entries of a payload.
+fn copies_of(alloc: Global, payload: &[u8]) -> Result<Vec<Entry>, NoMemory>
+    ensures { IfOk result (λ found. map copied found.items ≡ entries_of payload.now) }
+{
+    let mut found = Vec::new(alloc);
+    let mut rest = payload;
+    'entries: while let Some((entry, after)) = next_entry(rest) {
+        push_copy(alloc, &mut found, &entry)?;
+        rest = after;
+    }
+    Ok(found)
+}
+
+impl Object {
+    /// The payload, if the object is a tree.
+    fn entries(&self) -> Option<&[u8]>
+        ensures { option_copied result ≡ (if same_word self.now.word Word.Tree then Some self.now.payload.items else None) }
+    {
+        if same_word(self.word, Word::Tree) {
+            Some(self.payload.as_slice())
+        } else {
+            None
+        }
+    }
+}
+
+impl<N: Naming + Drop> Store<N> {
+    /// The tree that the commit with an id names. None where the id is not that of a commit in the store; the empty commit has no
+    /// tree. This takes no memory.
+    pub fn tree_of(&self, commit: Id) -> Option<Id>
+        ensures { result ≡ tree_seen (find commit self.now) }
+    {
+        match self.object(commit) {
+            Some(object) => object.tree(),
+            None => None,
+        }
+    }
+
+    /// The payload of the tree with an id, which `next_entry` reads. None where the id is not that of a tree. This takes no memory.
+    pub fn tree(&self, id: Id) -> Option<&[u8]>
+        ensures { option_copied result ≡ tree_payload self.now id }
+    {
+        match self.object(id) {
+            Some(object) => object.entries(),
+            None => None,
+        }
+    }
+
+    /// The entries of the tree with an id, in the order in which they stand in it. None where the id is not that of a tree.
+    ///
+    /// `NoMemory` comes where a growth was refused.
+    pub fn entries(&self, tree: Id) -> Result<Option<Vec<Entry>>, NoMemory>
+        ensures { IfOk result (λ found. copied_all found ≡ tree_entries self.now tree) }
+    {
+        let Some(payload) = self.tree(tree) else {
+            return Ok(None);
+        };
+        match copies_of(self.allocator(), payload) {
+            Ok(found) => Ok(Some(found)),
+            Err(NoMemory) => Err(NoMemory),
+        }
+    }
+}

@@ -1,0 +1,46 @@
+-- The trees of two commits, and what differs between them.
+use Rattle.std.proofs.Common.{◌≡◌, ℕ, true, false, cond, List, [], ◌∷◌, ◌++◌, Option, Some, None, refl, sym, ap, ◌∙◌}
+use Rattle.eden_ids.specs.declared.id.Id.{Id}
+use Rattle.eden_objects.specs.Objects.{Held, find, same_id, zero_id}
+use Rattle.eden_objects.specs.Commits.{Row, commit_map, commit_rows, map_of_rows, rows_held}
+use Rattle.eden_objects.specs.Closed.{HasTree, IsClosed, AllNamed}
+use Rattle.eden_objects.specs.Walks.{tree_seen}
+use Rattle.eden_objects.proofs.TreeOf.{seen_rows, seen_tree}
+use Rattle.eden_treediff.specs.Merges.{differences, merge_rows}
+use Rattle.eden_treediff.specs.Walks.{behind, side_rows}
+use Rattle.eden_treediff.proofs.Listed.{listed_law}
+
+pub empty_side : (held : List Held) (commit : Id) → same_id commit zero_id ≡ true → commit_rows held commit ≡ Some []
+empty_side held commit t = ap (λ b. cond b (Some []) (rows_held held (find commit held))) t
+
+pub side_rows_are : (held : List Held) (commit tree : Id) → same_id commit zero_id ≡ false → Some tree ≡ tree_seen (find commit held) → commit_rows held commit ≡ Some (side_rows held (Some tree))
+side_rows_are held commit tree f is = seen_rows held commit (Some tree) f is
+
+pub side_held : (held : List Held) (commit tree : Id) → IsClosed held → Some tree ≡ tree_seen (find commit held) → HasTree held tree
+side_held held commit tree closed is = seen_tree held commit tree closed is
+
+pub no_side : (held : List Held) (commit : Id) → same_id commit zero_id ≡ false → None ≡ tree_seen (find commit held) → commit_rows held commit ≡ None
+no_side held commit f is = seen_rows held commit None f is
+
+pub no_first : (held : List Held) (first second : Id) → commit_rows held first ≡ None → differences (commit_map held first) (commit_map held second) ≡ None
+no_first held first second none = ap (λ o. differences (map_of_rows held o) (commit_map held second)) none
+
+right_none : (held : List Held) (o : Option (List Row)) → differences (map_of_rows held o) None ≡ None
+right_none held None = refl
+right_none held (Some rows) = refl
+
+pub no_second : (held : List Held) (first second : Id) → commit_rows held second ≡ None → differences (commit_map held first) (commit_map held second) ≡ None
+no_second held first second none = ap (λ o. differences (commit_map held first) (map_of_rows held o)) none ∙ right_none held (commit_rows held first)
+
+pub both_sides : (name : List ℕ → List ℕ → Id) (held : List Held) (first second : Id) (rs ss : List Row) (found : List (List ℕ)) → IsClosed held → AllNamed name held
+    → commit_rows held first ≡ Some rs → commit_rows held second ≡ Some ss → found ≡ merge_rows rs ss
+    → differences (commit_map held first) (commit_map held second) ≡ Some found
+both_sides name held first second rs ss found closed named one two is = listed_law name held closed named first second rs ss one two ∙ ap Some (sym is)
+
+behind_nothing : (ps : List (List ℕ)) → behind [] ps ≡ ps
+behind_nothing [] = refl
+behind_nothing (p ∷ ps) = ap (λ (qs : List (List ℕ)). p ∷ qs) (behind_nothing ps)
+
+pub all_found : (front : List ℕ) (done ps found : List (List ℕ)) → front ≡ [] → done ≡ [] → found ≡ done ++ behind front ps → found ≡ ps
+all_found front done ps found none nothing is =
+    is ∙ ap (λ (qs : List (List ℕ)). qs ++ behind front ps) nothing ∙ ap (λ (bytes : List ℕ). behind bytes ps) none ∙ behind_nothing ps

@@ -1,0 +1,122 @@
+use Rattle.std.proofs.Common.{rules, ◌≡◌, ◌++◌, ◌∷◌, [], ℕ, ◌+◌, ◌<◌, length, take, List, sym, ap, subst, ◌∙◌, arith}
+use Rattle.eden_objects.specs.Objects.{Held}
+use Rattle.eden_objects.specs.Trees.{Entry, entries_of}
+use Rattle.eden_treediff.specs.Columns.{common}
+use Rattle.eden_treediff.specs.Merges.{merge_rows}
+use Rattle.eden_treediff.specs.Pairs.{Directory, Next, name_of, next_of}
+use Rattle.eden_treediff.specs.Walks.{behind, directory_read, side_depth, side_entries, side_rows}
+use Rattle.eden_treediff.proofs.Rows.{tells_next}
+use Rattle.eden_treediff.proofs.Steps.{IsWay, merge_entries, same_sides, way_begins, way_goes_on, all_merged, skipped, file_found, directory_is, directory_walked, left}
+use Rattle.eden_treediff.proofs.walk.+walk.Goals as goal
+
+pub returns-then-same_side-clause-paths : goal.returns-then-same_side-clause-paths
+returns-then-same_side-clause-paths g t c =
+    same_sides c.args.store.now c.args.first c.args.second c.args.found.now.front.items c.args.found.now.paths.items (sym c.same_side.ensures ∙ c.if-same_side.true)
+
+pub pairs-init : goal.pairs-init
+pairs-init g t c =
+    let held : List Held = c.args.store.now in
+    let one : side_entries held c.args.first ≡ entries_of c.entries_of-left.result.now = ap entries_of (sym c.entries_of-left.ensures) in
+    let two : side_entries held c.args.second ≡ entries_of c.entries_of-right.result.now = ap entries_of (sym c.entries_of-right.ensures) in
+    record {
+      listed =
+          ap (λ ps. c.args.found.now.paths.items ++ behind c.args.found.now.front.items ps)
+          (all_merged held c.args.first c.args.second c.closed_law.ensures.closed c.requires.first c.requires.second
+          ∙ ap (λ es. merge_entries held es (side_entries held c.args.second)) one
+          ∙ ap (merge_entries held (entries_of c.entries_of-left.result.now)) two);
+      tells = c.of-changes.ensures.tells (common (entries_of c.entries_of-left.result.now) (entries_of c.entries_of-right.result.now)) c.in_ok-rows.ensures;
+      room = (let row = c.of-changes.ensures.row in let left = c.entries_of-left.type_inv in let right = c.entries_of-right.type_inv in omega (arith, row, left.1, right.1));
+      front = λ i. c.args.found.now.front.items;
+      way =
+          subst (λ fs. IsWay held (side_depth held c.args.first) (side_depth held c.args.second) (entries_of c.entries_of-left.result.now) fs) two
+          (subst (λ es. IsWay held (side_depth held c.args.first) (side_depth held c.args.second) es (side_entries held c.args.second)) one
+          (way_begins held c.args.first c.args.second c.closed_law.ensures.closed c.requires.first c.requires.second));
+    }
+
+pub pairs-preserved-then-not-is_changed : goal.pairs-preserved-then-not-is_changed
+pairs-preserved-then-not-is_changed g t c =
+    let held : List Held = c.args.store.now in
+    let m : ℕ = side_depth held c.args.first in
+    let n : ℕ = side_depth held c.args.second in
+    let es : List Entry = entries_of c.pairs.left.now in
+    let fs : List Entry = entries_of c.pairs.right.now in
+    let next : Next = next_of c.in-Some.pair in
+    let told = c.is_changed.ensures.tells (common next.2 next.3) (tells_next c.pairs.changes es fs next c.in-Some.ensures.next c.pairs.invariant.tells) in
+    record {
+      listed =
+          skipped held m n es fs next c.args.found.now.front.items
+          (c.args.found.now.paths.items ++ behind c.args.found.now.front.items (merge_rows (side_rows held c.args.first) (side_rows held c.args.second)))
+          c.pairs.found.paths.items c.pairs.invariant.way c.in-Some.ensures.next (sym told.0 ∙ c.if-not-is_changed.true) c.pairs.invariant.listed;
+      tells = told.1;
+      room = (let less = c.in-Some.ensures.shorter in let row = c.is_changed.ensures.row in let before = c.pairs.invariant.room in omega (arith, less, row, before));
+      front = c.pairs.invariant.front;
+      way = way_goes_on held m n es fs next c.pairs.invariant.way c.in-Some.ensures.next;
+    }
+
+pub pairs-preserved-in_default-directory : goal.pairs-preserved-in_default-directory
+pairs-preserved-in_default-directory g t c =
+    let held : List Held = c.args.store.now in
+    let m : ℕ = side_depth held c.args.first in
+    let n : ℕ = side_depth held c.args.second in
+    let es : List Entry = entries_of c.pairs.left.now in
+    let fs : List Entry = entries_of c.pairs.right.now in
+    let next : Next = next_of c.in-Some.pair in
+    let told = c.is_changed.ensures.tells (common next.2 next.3) (tells_next c.pairs.changes es fs next c.in-Some.ensures.next c.pairs.invariant.tells) in
+    let front : List ℕ = c.args.found.now.front.items in
+    let added : c.add.new.self.paths.items ≡ c.pairs.found.paths.items ++ (front ++ name_of next.0 next.1) ∷ [] =
+    c.in_ok-add.ensures.paths
+    ∙ ap (λ (bytes : List ℕ). c.pairs.found.paths.items ++ (bytes ++ c.name.result.now) ∷ []) c.pairs.invariant.front
+    ∙ ap (λ (bytes : List ℕ). c.pairs.found.paths.items ++ (front ++ bytes) ∷ []) c.name.ensures in
+    record {
+      listed =
+          file_found held m n es fs next front
+          (c.args.found.now.paths.items ++ behind front (merge_rows (side_rows held c.args.first) (side_rows held c.args.second)))
+          c.pairs.found.paths.items c.add.new.self.paths.items c.pairs.invariant.way c.in-Some.ensures.next
+          (sym told.0 ∙ c.if-not-is_changed.false) (sym c.directory.ensures ∙ ap directory_read c.in_default-directory.is) c.pairs.invariant.listed added;
+      tells = told.1;
+      room = (let less = c.in-Some.ensures.shorter in let row = c.is_changed.ensures.row in let before = c.pairs.invariant.room in omega (arith, less, row, before));
+      front = c.in_ok-add.ensures.front ∙ c.pairs.invariant.front;
+      way = way_goes_on held m n es fs next c.pairs.invariant.way c.in-Some.ensures.next;
+    }
+
+pub walk-requires : goal.walk-requires
+walk-requires g t c κs within =
+    let held : List Held = c.args.store.now in
+    let next : Next = next_of c.in-Some.pair in
+    let d : Directory = (c.in-Some-directory.name.now, c.in-Some-directory.tree, c.in-Some-directory.other) in
+    let known = directory_is held (side_depth held c.args.first) (side_depth held c.args.second) (entries_of c.pairs.left.now) (entries_of c.pairs.right.now) next d
+    c.pairs.invariant.way c.in-Some.ensures.next (sym c.directory.ensures ∙ ap directory_read c.in-Some-directory.is) in
+    let less : side_depth held c.in-Some-directory.tree + side_depth held c.in-Some-directory.other < side_depth held c.args.first + side_depth held c.args.second = known.3 in
+    (search rules, (search rules, (known.1, known.2)))
+
+pub pairs-preserved : goal.pairs-preserved
+pairs-preserved g t c =
+    let held : List Held = c.args.store.now in
+    let m : ℕ = side_depth held c.args.first in
+    let n : ℕ = side_depth held c.args.second in
+    let es : List Entry = entries_of c.pairs.left.now in
+    let fs : List Entry = entries_of c.pairs.right.now in
+    let next : Next = next_of c.in-Some.pair in
+    let told = c.is_changed.ensures.tells (common next.2 next.3) (tells_next c.pairs.changes es fs next c.in-Some.ensures.next c.pairs.invariant.tells) in
+    let front : List ℕ = c.args.found.now.front.items in
+    let d : Directory = (c.in-Some-directory.name.now, c.in-Some-directory.tree, c.in-Some-directory.other) in
+    let inside : List (List ℕ) = merge_rows (side_rows held c.in-Some-directory.tree) (side_rows held c.in-Some-directory.other) in
+    let entered : c.enter.new.self.front.items ≡ front ++ c.in-Some-directory.name.now ++ 47 ∷ [] =
+    c.in_ok-enter.ensures.front ∙ ap (λ bytes. bytes ++ c.in-Some-directory.name.now ++ 47 ∷ []) c.pairs.invariant.front in
+    let walked : c.walk.new.found.paths.items ≡ c.pairs.found.paths.items ++ behind c.enter.new.self.front.items inside =
+    c.in_ok-walk.ensures.paths ∙ ap (λ (ps : List (List ℕ)). ps ++ behind c.enter.new.self.front.items inside) c.in_ok-enter.ensures.paths in
+    let long : c.len-length.result ≡ length c.pairs.found.front.items = search rules in
+    let length_is : c.len-length.result ≡ length front = long ∙ ap length c.pairs.invariant.front in
+    record {
+      listed =
+          directory_walked held m n es fs next d front c.enter.new.self.front.items
+          (c.args.found.now.paths.items ++ behind front (merge_rows (side_rows held c.args.first) (side_rows held c.args.second)))
+          c.pairs.found.paths.items c.walk.new.found.paths.items c.pairs.invariant.way c.in-Some.ensures.next
+          (sym c.directory.ensures ∙ ap directory_read c.in-Some-directory.is) entered c.pairs.invariant.listed walked;
+      tells = told.1;
+      room = (let less = c.in-Some.ensures.shorter in let row = c.is_changed.ensures.row in let before = c.pairs.invariant.room in omega (arith, less, row, before));
+      front =
+          c.truncate.ensures.items ∙ ap (λ n. take n c.walk.new.found.front.items) length_is
+          ∙ left front c.walk.new.found.front.items c.in-Some-directory.name.now (c.in_ok-walk.ensures.front ∙ entered);
+      way = way_goes_on held m n es fs next c.pairs.invariant.way c.in-Some.ensures.next;
+    }

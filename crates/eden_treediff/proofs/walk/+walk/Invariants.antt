@@ -1,0 +1,23 @@
+use Rattle.std.proofs.Common.{◌≡◌, ◌+◌, ◌<◌, ◌++◌, length}
+use Rattle.eden_objects.specs.Trees.{entries_of}
+use Rattle.eden_treediff.specs.Columns.{Tells, common}
+use Rattle.eden_treediff.specs.Merges.{merge_rows}
+use Rattle.eden_treediff.specs.Walks.{behind, side_depth, side_rows}
+use Rattle.eden_treediff.proofs.Steps.{IsWay, merge_entries}
+use Rattle.eden_treediff.proofs.walk.+walk.Given as goal
+
+abbrev pub decreases-walk : goal.decreases-walk
+decreases-walk g l = side_depth l.store.now l.first + side_depth l.store.now l.second
+
+abbrev pub invariant-pairs : goal.invariant-pairs
+invariant-pairs g l = record {
+  listed : l.fn.found.paths.items ++ behind l.fn.found.front.items (merge_rows (side_rows l.store l.fn.first) (side_rows l.store l.fn.second))
+      ≡ l.found.paths.items ++ behind l.fn.found.front.items (merge_entries l.store (entries_of l.left) (entries_of l.right));
+  front : l.found.front.items ≡ l.fn.found.front.items;
+  tells : Tells l.changes (common (entries_of l.left) (entries_of l.right));
+  room : l.changes.row + (length l.left + length l.right) < 18446744073709551616;
+  way : IsWay l.store (side_depth l.store l.fn.first) (side_depth l.store l.fn.second) (entries_of l.left) (entries_of l.right);
+}
+
+abbrev pub decreases-pairs : goal.decreases-pairs
+decreases-pairs g l = length l.left + length l.right

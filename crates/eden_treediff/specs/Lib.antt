@@ -1,0 +1,5 @@
+pub mod Merges
+pub mod Laws
+pub mod Pairs
+pub mod Walks
+pub mod Columns

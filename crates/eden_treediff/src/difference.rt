@@ -1,0 +1,81 @@
+ghost use Rattle.std.specs.Prelude.{◌≡◌, ◌≢◌, Some, None, IfOk, IfErr};
+ghost use Rattle.eden_objects.specs.Commits.{commit_map, commit_rows};
+ghost use Rattle.eden_objects.specs.Objects.{find};
+ghost use Rattle.eden_treediff.specs.Merges.{differences, merge_rows};
+ghost use Rattle.eden_treediff.specs.Walks.{IsSide, IsSideOf, side_rows};
+
+use crate::walk::{Found, walk};
+use eden_ids::{Id, Naming, NoMemory, Path};
+use eden_objects::{NoCommit, Store};
+use thiserror::Error;
+
+/// Why no paths are named.
+#[derive(Clone, Copy, Debug, PartialEq, Eq, Error)]
+pub enum DiffFault {
+    /// One of the two ids is neither that of the empty commit nor that of a commit in the store.
+    #[error("NoCommit")]
+    NoCommit,
+    /// A growth was refused.
+    #[error("NoMemory")]
+    NoMemory,
+}
+
+/// The tree of a commit, of which the empty commit has none.
+#[tactic(auto, using(crate::proofs::Sides::empty_side, crate::proofs::Sides::side_rows_are, crate::proofs::Sides::side_held, crate::proofs::Sides::no_side))]
+fn side_of<N: Naming + Drop>(store: &Store<N>, commit: Id) -> Result<Option<Id>, NoCommit>
+    ensures { IsSideOf store.now commit result }
+{
+    store.closed_law();
+    if commit == Id::ZERO {
+        return Ok(None);
+    }
+    match store.tree_of(commit) {
+        Some(tree) => Ok(Some(tree)),
+        None => Err(NoCommit),
+    }
+}
+
+/// The paths on which two trees differ.
+fn paths_between<N: Naming + Drop>(
+    store: &Store<N>,
+    first: Option<Id>,
+    second: Option<Id>,
+) -> Result<Vec<Path>, NoMemory>
+    requires first { IsSide store.now first }
+    requires second { IsSide store.now second }
+    ensures { IfOk result (λ paths. paths.items ≡ merge_rows (side_rows store.now first) (side_rows store.now second)) }
+{
+    let mut found = Found {
+        front: Vec::new(store.allocator()),
+        paths: Vec::new(store.allocator()),
+    };
+    walk(store, first, second, &mut found)?;
+    Ok(found.paths)
+}
+
+/// The paths on which two commits differ, in byte order: those of a file that one of them alone has, and those at which they have
+/// files of other bytes or of another kind.
+///
+/// `NoCommit` comes where one of the ids is no commit's; `NoMemory` may stand in place of any answer where a growth was refused.
+/// Directories with one id on both sides are not read. Two trees with different ids may hold the same files: then nothing is named.
+#[tactic(auto, using(crate::proofs::Sides::no_first, crate::proofs::Sides::no_second))]
+pub fn diff<N: Naming + Drop>(
+    store: &Store<N>,
+    first: Id,
+    second: Id,
+) -> Result<Vec<Path>, DiffFault>
+    ensures paths { IfOk result (λ paths. differences (commit_map store.now first) (commit_map store.now second) ≡ Some paths.items) }
+    ensures fault { IfErr result (λ fault. fault ≢ DiffFault.NoMemory → differences (commit_map store.now first) (commit_map store.now second) ≡ None) }
+{
+    store.closed_law();
+    let Ok(tree) = side_of(store, first) else {
+        return Err(DiffFault::NoCommit);
+    };
+    let Ok(other) = side_of(store, second) else {
+        return Err(DiffFault::NoCommit);
+    };
+    match paths_between(store, tree, other) {
+        Ok(paths) => Ok(paths),
+        Err(NoMemory) => Err(DiffFault::NoMemory),
+    }
+}

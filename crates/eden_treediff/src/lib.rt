@@ -1,0 +1,14 @@
+//! The paths on which two commits of a store differ, found by one walk over both trees.
+#![tactic(auto)]
+
+mod changes;
+mod columns;
+mod difference;
+mod laws;
+mod pair;
+#[cfg(test)]
+mod tests;
+mod walk;
+
+pub use difference::{DiffFault, diff};
+pub use laws::merge_law;

@@ -1,0 +1,258 @@
+use crate::{DiffFault, diff};
+use eden_globs::Filter;
+use eden_ids::{GitNaming, Id, Kind, Path};
+use eden_objects::Store;
+use std::alloc::Global;
+use std::test::Fail;
+
+/// A store, and the ids of its objects by the names that a table gives them.
+#[derive(Drop)]
+struct World {
+    store: Store<GitNaming>,
+    ids: Vec<(&'static str, Id)>,
+}
+
+/// An object of a table: its word, its name, and a blob's bytes, a tree's entries `MODE NAME CHILD` or a commit's tree.
+type Row = (&'static str, &'static str, &'static str);
+
+/// Appends an entry of a tree.
+fn push_entry(payload: &mut Vec<u8>, mode: &str, name: &str, id: Id) -> Result<(), Fail> {
+    payload.extend_from_slice(mode.as_bytes())?;
+    payload.extend_from_slice(b" ".as_slice())?;
+    payload.extend_from_slice(name.as_bytes())?;
+    payload.extend_from_slice(b"\0".as_slice())?;
+    payload.extend_from_slice(id.0.as_slice())?;
+    Ok(())
+}
+
+/// The payload of a commit that names a tree.
+fn commit_of(alloc: Global, tree: Id) -> Result<Vec<u8>, Fail> {
+    let mut payload = b"tree ".to_vec(alloc)?;
+    payload.extend_from_slice(tree.to_hex().as_slice())?;
+    payload.extend_from_slice(b"\n".as_slice())?;
+    Ok(payload)
+}
+
+impl World {
+    /// The id with a name; no object has that of another name.
+    fn id(&self, name: &str) -> Id {
+        for (other, id) in self.ids.iter() {
+            if *other == name {
+                return *id;
+            }
+        }
+        Id([1; 20])
+    }
+
+    fn entries(&self, alloc: Global, text: &str) -> Result<Vec<u8>, Fail> {
+        let mut payload = Vec::new(alloc);
+        for entry in text.split(", ") {
+            let mut words = entry.split(' ');
+            let mode = words.next().unwrap_or("");
+            let name = words.next().unwrap_or("");
+            let child = words.next().unwrap_or("");
+            if !mode.is_empty() {
+                push_entry(&mut payload, mode, name, self.id(child))?;
+            }
+        }
+        Ok(payload)
+    }
+
+    fn put(&mut self, alloc: Global, row: Row) -> Result<(), Fail> {
+        let (word, name, text) = row;
+        let id = match word {
+            "blob" => self.store.put_blob(text.as_bytes())?,
+            "tree" => {
+                let payload = self.entries(alloc, text)?;
+                self.store.put_tree(payload.as_slice())?
+            }
+            _ => {
+                let payload = commit_of(alloc, self.id(text))?;
+                self.store.put_commit(payload.as_slice())?
+            }
+        };
+        self.ids.push((name, id))?;
+        Ok(())
+    }
+
+    /// The paths that two commits differ on, one a line.
+    fn diff(&self, alloc: Global, first: &str, second: &str) -> Result<Vec<u8>, Fail> {
+        let mut text = Vec::new(alloc);
+        for path in diff(&self.store, self.id(first), self.id(second))?.iter() {
+            text.extend_from_slice(path.as_bytes())?;
+            text.push(b'\n')?;
+        }
+        Ok(text)
+    }
+}
+
+/// A store of the objects of a table.
+fn world_of(alloc: Global, rows: &[Row]) -> Result<World, Fail> {
+    let mut world = World {
+        store: Store::new(alloc, GitNaming),
+        ids: Vec::new(alloc),
+    };
+    for row in rows.iter() {
+        world.put(alloc, *row)?;
+    }
+    Ok(world)
+}
+
+#[test]
+fn exec_bit_is_root(rt: HostRuntime) -> Result<(), Fail> {
+    let alloc = rt.alloc();
+    let rows = [
+        ("blob", "b", "x"),
+        ("tree", "t", "100644 f b"),
+        ("commit", "c", "t"),
+        ("tree", "u", "100755 f b"),
+        ("commit", "d", "u"),
+    ];
+    let world = world_of(alloc, rows.as_slice())?;
+    assert_eq!(rt; world.diff(alloc, "c", "d")?.as_slice(), b"f\n".as_slice());
+    Ok(())
+}
+
+#[test]
+fn file_becomes_directory(rt: HostRuntime) -> Result<(), Fail> {
+    let alloc = rt.alloc();
+    let rows = [
+        ("blob", "x", "x"),
+        ("tree", "t", "100644 a x, 100644 a.b x"),
+        ("commit", "c", "t"),
+        ("tree", "s", "100644 b x"),
+        ("tree", "u", "100644 a.b x, 40000 a s"),
+        ("commit", "d", "u"),
+    ];
+    let world = world_of(alloc, rows.as_slice())?;
+    assert_eq!(rt;
+        world.diff(alloc, "c", "d")?.as_slice(),
+        b"a\na/b\n".as_slice()
+    );
+    assert_eq!(rt;
+        world.diff(alloc, "d", "c")?.as_slice(),
+        b"a\na/b\n".as_slice()
+    );
+    Ok(())
+}
+
+/// A commit of a file, and of a tree with two to the fortieth files, which has one tree for each level.
+fn wide_commit(alloc: Global, world: &mut World, file: &str) -> Result<Id, Fail> {
+    let mut payload = world.entries(alloc, "100644 a x")?;
+    let mut tree = world.store.put_tree(payload.as_slice())?;
+    for _ in 0..40 {
+        payload = Vec::new(alloc);
+        push_entry(&mut payload, "40000", "a", tree)?;
+        push_entry(&mut payload, "40000", "b", tree)?;
+        tree = world.store.put_tree(payload.as_slice())?;
+    }
+    payload = world.entries(alloc, file)?;
+    push_entry(&mut payload, "40000", "z", tree)?;
+    let root = world.store.put_tree(payload.as_slice())?;
+    Ok(world.store.put_commit(commit_of(alloc, root)?.as_slice())?)
+}
+
+#[test]
+fn shared_subtrees(rt: HostRuntime) -> Result<(), Fail> {
+    let alloc = rt.alloc();
+    let rows = [("blob", "x", "x"), ("blob", "y", "y")];
+    let mut world = world_of(alloc, rows.as_slice())?;
+    let first = wide_commit(alloc, &mut world, "100644 f x")?;
+    let second = wide_commit(alloc, &mut world, "100644 f y")?;
+    let paths = diff(&world.store, first, second)?;
+    assert_eq!(rt; paths.len(), 1);
+    assert!(rt; paths.iter().all(|path| path.as_bytes() == b"f".as_slice()));
+    Ok(())
+}
+
+/// Whether one of the rows has this path, and where `whole` is set this kind and this blob too.
+fn has_row(rows: &[(Path, Kind, Id)], row: &(Path, Kind, Id), whole: bool) -> bool {
+    for other in rows.iter() {
+        if other.0 == row.0 {
+            return !whole || (other.1 == row.1 && other.2 == row.2);
+        }
+    }
+    false
+}
+
+/// The paths of two listings on which they differ, one by one.
+fn plain_diff(
+    alloc: Global,
+    first: &[(Path, Kind, Id)],
+    second: &[(Path, Kind, Id)],
+) -> Result<Vec<Path>, Fail> {
+    let mut paths = Vec::new(alloc);
+    for row in first.iter() {
+        if !has_row(second, row, true) {
+            paths.push(row.0.copy()?)?;
+        }
+    }
+    for row in second.iter() {
+        if !has_row(first, row, false) {
+            paths.push(row.0.copy()?)?;
+        }
+    }
+    paths.sort()?;
+    Ok(paths)
+}
+
+/// A commit for each of some trees, and the empty one.
+fn family(alloc: Global, world: &mut World) -> Result<Vec<Id>, Fail> {
+    let mut commits = vec![in alloc; Id::ZERO]?;
+    for (name, text) in [
+        ("empty", ""),
+        ("plain", "100644 a x"),
+        ("exec", "100755 a x"),
+        ("link", "120000 a x"),
+        ("other", "100644 a y"),
+        ("directory", "40000 a plain"),
+        ("no files", "40000 a empty"),
+        ("plain and no files", "100644 a x, 40000 b empty"),
+        ("around", "100644 a x, 100644 a.b x, 100644 a0 x"),
+        ("slash around", "100644 a.b x, 40000 a plain, 100644 a0 x"),
+        ("deep", "40000 a directory, 100644 a0 y"),
+        ("two", "40000 a other, 40000 b exec"),
+    ] {
+        world.put(alloc, ("tree", name, text))?;
+        world.put(alloc, ("commit", text, name))?;
+        commits.push(world.id(text))?;
+    }
+    Ok(commits)
+}
+
+#[test]
+fn each_pair_of_a_family(rt: HostRuntime) -> Result<(), Fail> {
+    let alloc = rt.alloc();
+    let rows = [("blob", "x", "x"), ("blob", "y", "y")];
+    let mut world = world_of(alloc, rows.as_slice())?;
+    let commits = family(alloc, &mut world)?;
+    let all = Filter::parse(alloc, &[])?;
+    for first in commits.iter() {
+        for second in commits.iter() {
+            let rows = world.store.list(*first, &all)?;
+            let others = world.store.list(*second, &all)?;
+            let wanted = plain_diff(alloc, rows.as_slice(), others.as_slice())?;
+            let found = diff(&world.store, *first, *second)?;
+            assert_eq!(rt; found.as_slice(), wanted.as_slice());
+        }
+    }
+    Ok(())
+}
+
+#[test]
+fn no_commit(rt: HostRuntime) -> Result<(), Fail> {
+    let alloc = rt.alloc();
+    let rows = [
+        ("blob", "b", "x"),
+        ("tree", "t", "100644 f b"),
+        ("commit", "c", "t"),
+    ];
+    let world = world_of(alloc, rows.as_slice())?;
+    for name in ["b", "t", "unknown"] {
+        for (first, second) in [("c", name), (name, "c"), (name, name)] {
+            let answer = diff(&world.store, world.id(first), world.id(second));
+            assert_eq!(rt; answer.err(), Some(DiffFault::NoCommit));
+        }
+    }
+    Ok(())
+}
