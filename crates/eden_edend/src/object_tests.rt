@@ -59,100 +59,103 @@ fn known_object_ids(rt: HostRuntime) -> Result<(), Fail> {
 /// Lines that make a blob, a tree, its commit and another tree.
 const OBJECTS: &str = "blob x x;tree t 100644 a x 100644 a.b x;commit c t;tree s 100644 b x;";
 
+/// What is refused after these, and why.
+const REFUSALS: [(&str, &str, &str); 25] = [
+    (
+        "names out of order",
+        "tree e 100644 b x 100644 a x",
+        "OutOfOrder",
+    ),
+    (
+        "a directory is compared with a slash behind its name",
+        "tree e 40000 a s 100644 a.b x",
+        "OutOfOrder",
+    ),
+    (
+        "a file and a directory of one name",
+        "tree e 100644 a x 40000 a s",
+        "Duplicate",
+    ),
+    ("a name again", "tree e 100644 a x 100755 a x", "Duplicate"),
+    ("a submodule's mode", "tree e 160000 a x", "BadMode"),
+    (
+        "a directory's mode with a zero",
+        "tree e 040000 a s",
+        "BadMode",
+    ),
+    ("no mode", "tree e \\e a x", "BadMode"),
+    ("no name", "tree e 100644 \\e x", "BadName"),
+    ("a name with a slash", "tree e 100644 a/b x", "BadName"),
+    ("a name of dots", "tree e 100644 .. x", "BadName"),
+    (
+        "a directory that is a blob",
+        "tree e 40000 a x",
+        "WrongChildKind",
+    ),
+    (
+        "a file that is a tree",
+        "tree e 100644 a s",
+        "WrongChildKind",
+    ),
+    (
+        "a file that is a commit",
+        "tree e 100644 a c",
+        "WrongChildKind",
+    ),
+    (
+        "the empty commit as a directory",
+        "tree e 40000 a empty",
+        "MissingChild",
+    ),
+    (
+        "NUL in a name, behind which the id is another one",
+        "tree e 100644 a\0 x",
+        "MissingChild",
+    ),
+    ("a commit of a blob", "commit e x", "WrongChildKind"),
+    ("a commit of a commit", "commit e c", "WrongChildKind"),
+    (
+        "a commit of the empty commit",
+        "commit e empty",
+        "MissingChild",
+    ),
+    (
+        "a label in an entry that is not bound",
+        "tree e 100644 a x 100644 b y",
+        "NoLabel",
+    ),
+    (
+        "a commit of a label that is not bound",
+        "commit e y",
+        "NoLabel",
+    ),
+    (
+        "a label is looked at before a fault of the tree",
+        "tree e 160000 a x 100644 b y",
+        "NoLabel",
+    ),
+    (
+        "the label that is to be bound is not looked for",
+        "tree e 40000 a e",
+        "NoLabel",
+    ),
+    (
+        "mounting what is no commit that can be",
+        "mount c 7 1",
+        "NoCommit",
+    ),
+    ("mounting a blob", "mount x 7 1", "NoCommit"),
+    (
+        "mounting a label that is not bound",
+        "mount y 7 1",
+        "NoLabel",
+    ),
+];
+
 #[test]
 fn tree_refusals(rt: HostRuntime) -> Result<(), Fail> {
     let alloc = rt.alloc();
-    for (name, line, text) in [
-        (
-            "names out of order",
-            "tree e 100644 b x 100644 a x",
-            "OutOfOrder",
-        ),
-        (
-            "a directory is compared with a slash behind its name",
-            "tree e 40000 a s 100644 a.b x",
-            "OutOfOrder",
-        ),
-        (
-            "a file and a directory of one name",
-            "tree e 100644 a x 40000 a s",
-            "Duplicate",
-        ),
-        ("a name again", "tree e 100644 a x 100755 a x", "Duplicate"),
-        ("a submodule's mode", "tree e 160000 a x", "BadMode"),
-        (
-            "a directory's mode with a zero",
-            "tree e 040000 a s",
-            "BadMode",
-        ),
-        ("no mode", "tree e \\e a x", "BadMode"),
-        ("no name", "tree e 100644 \\e x", "BadName"),
-        ("a name with a slash", "tree e 100644 a/b x", "BadName"),
-        ("a name of dots", "tree e 100644 .. x", "BadName"),
-        (
-            "a directory that is a blob",
-            "tree e 40000 a x",
-            "WrongChildKind",
-        ),
-        (
-            "a file that is a tree",
-            "tree e 100644 a s",
-            "WrongChildKind",
-        ),
-        (
-            "a file that is a commit",
-            "tree e 100644 a c",
-            "WrongChildKind",
-        ),
-        (
-            "the empty commit as a directory",
-            "tree e 40000 a empty",
-            "MissingChild",
-        ),
-        (
-            "NUL in a name, behind which the id is another one",
-            "tree e 100644 a\0 x",
-            "MissingChild",
-        ),
-        ("a commit of a blob", "commit e x", "WrongChildKind"),
-        ("a commit of a commit", "commit e c", "WrongChildKind"),
-        (
-            "a commit of the empty commit",
-            "commit e empty",
-            "MissingChild",
-        ),
-        (
-            "a label in an entry that is not bound",
-            "tree e 100644 a x 100644 b y",
-            "NoLabel",
-        ),
-        (
-            "a commit of a label that is not bound",
-            "commit e y",
-            "NoLabel",
-        ),
-        (
-            "a label is looked at before a fault of the tree",
-            "tree e 160000 a x 100644 b y",
-            "NoLabel",
-        ),
-        (
-            "the label that is to be bound is not looked for",
-            "tree e 40000 a e",
-            "NoLabel",
-        ),
-        (
-            "mounting what is no commit that can be",
-            "mount c 7 1",
-            "NoCommit",
-        ),
-        ("mounting a blob", "mount x 7 1", "NoCommit"),
-        (
-            "mounting a label that is not bound",
-            "mount y 7 1",
-            "NoLabel",
-        ),
-    ] {
+    for (name, line, text) in REFUSALS {
         let script = format!(in alloc; "{OBJECTS}{line};id e")?;
         let text = format!(in alloc; "ok;ok;ok;ok;refused {text};refused NoLabel")?;
         assert!(rt; prints(alloc, script.as_str(), text.as_str())?, "{name}");
