@@ -39,7 +39,7 @@ awk -v seed="$seed" 'BEGIN {
 while read -r word number rest; do
     if [ "$word" = blob ]; then
         id=$(printf 'text %s\n' "$rest" | git hash-object -w --stdin)
-        echo "blob b$number text\\s$rest\\n" >> "$work/script"
+        printf 'blob b%s text\\s%s\\n\n' "$number" "$rest" >> "$work/script"
         echo "$id b$number" >> "$work/labels"
         echo "$id" >> "$work/ids"
         echo "id b$number" >> "$work/script"
