@@ -12,6 +12,8 @@ pub use crate::word::Word;
 
 mod directory;
 mod entries;
+#[cfg(test)]
+mod entries_tests;
 mod entry;
 mod fault;
 mod judge;

@@ -1,0 +1,103 @@
+use crate::{Entry, RawEntry, Store, key_order, next_entry};
+use eden_ids::{GitNaming, Id, Kind};
+use std::alloc::Global;
+use std::cmp::Ordering;
+use std::test::Fail;
+
+/// The bytes of an entry of a tree.
+fn push_entry(payload: &mut Vec<u8>, front: &[u8], id: Id) -> Result<(), Fail> {
+    payload.extend_from_slice(front)?;
+    payload.push(0)?;
+    payload.extend_from_slice(id.0.as_slice())?;
+    Ok(())
+}
+
+/// Puts a tree of a file and a directory, and gives the tree, the file's blob and the directory's tree.
+fn put_two(alloc: Global, store: &mut Store<GitNaming>) -> Result<(Id, Id, Id), Fail> {
+    let blob = store.put_blob(b"x".as_slice())?;
+    let empty = store.put_tree(b"".as_slice())?;
+    let mut payload = Vec::new(alloc);
+    push_entry(&mut payload, b"100755 a.b".as_slice(), blob)?;
+    push_entry(&mut payload, b"40000 a".as_slice(), empty)?;
+    Ok((store.put_tree(payload.as_slice())?, blob, empty))
+}
+
+#[test]
+fn entries_in_their_order(rt: HostRuntime) -> Result<(), Fail> {
+    let alloc = rt.alloc();
+    let mut store = Store::new(alloc, GitNaming);
+    let (tree, blob, empty) = put_two(alloc, &mut store)?;
+    let wanted = vec![in alloc;
+        Entry {
+            name: b"a.b".to_vec(alloc)?,
+            kind: Some(Kind::Exec),
+            id: blob
+        },
+        Entry {
+            name: b"a".to_vec(alloc)?,
+            kind: None,
+            id: empty
+        },
+    ]?;
+    assert!(rt; store.entries(tree)? == Some(wanted));
+    assert!(rt; store.entries(empty)? == Some(Vec::new(alloc)));
+    assert!(rt; store.entries(blob)? == None);
+    Ok(())
+}
+
+#[test]
+fn entries_one_by_one(rt: HostRuntime) -> Result<(), Fail> {
+    let alloc = rt.alloc();
+    let mut store = Store::new(alloc, GitNaming);
+    let (tree, blob, empty) = put_two(alloc, &mut store)?;
+    let payload = store.tree(tree).unwrap_or(b"".as_slice());
+    let first = next_entry(payload);
+    let after = first.map_or(b"".as_slice(), |read| read.1);
+    let second = next_entry(after);
+    let end = second.map_or(b"x".as_slice(), |read| read.1);
+    assert_eq!(rt; first.map(|read| read.0.id), Some(blob));
+    assert_eq!(rt; second.map(|read| read.0.name), Some(b"a".as_slice()));
+    assert_eq!(rt; second.map(|read| read.0.id), Some(empty));
+    assert!(rt; end.is_empty() && next_entry(end).is_none());
+    assert_eq!(rt; store.tree(blob), None);
+    Ok(())
+}
+
+#[test]
+fn a_directory_is_compared_with_its_slash(rt: HostRuntime) -> Result<(), Fail> {
+    let id = Id([1; 20]);
+    for (name, order) in [
+        ("a.b", Ordering::Greater),
+        ("a0", Ordering::Less),
+        ("a", Ordering::Greater),
+    ] {
+        let directory = RawEntry {
+            name: b"a".as_slice(),
+            kind: None,
+            id,
+        };
+        let file = RawEntry {
+            name: name.as_bytes(),
+            kind: Some(Kind::Plain),
+            id,
+        };
+        assert_eq!(rt; key_order(&directory, &file), order);
+    }
+    Ok(())
+}
+
+#[test]
+fn tree_of_a_commit(rt: HostRuntime) -> Result<(), Fail> {
+    let alloc = rt.alloc();
+    let mut store = Store::new(alloc, GitNaming);
+    let (tree, blob, _) = put_two(alloc, &mut store)?;
+    let mut payload = b"tree ".to_vec(alloc)?;
+    payload.extend_from_slice(tree.to_hex().as_slice())?;
+    payload.push(b'\n')?;
+    let commit = store.put_commit(payload.as_slice())?;
+    assert_eq!(rt; store.tree_of(commit), Some(tree));
+    for id in [Id::ZERO, tree, blob, Id([1; 20])] {
+        assert_eq!(rt; store.tree_of(id), None);
+    }
+    Ok(())
+}
