@@ -8,6 +8,7 @@ pub mod Clashes
 pub mod Maps
 pub mod Blobs
 pub mod CommitLaws
+pub mod FilesOf
 mod Tables
 mod Putting
 mod Cuts

@@ -8,3 +8,4 @@ pub mod Walks
 pub mod Contents
 pub mod Entries
 pub mod Listings
+pub mod Files

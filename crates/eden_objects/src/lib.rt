@@ -6,6 +6,7 @@ pub use crate::laws::{commit_map_law, tree_law};
 pub use crate::store::Store;
 pub use crate::word::Word;
 
+mod beneath;
 mod directory;
 mod entry;
 mod fault;
