@@ -22,6 +22,8 @@ use Rattle.eden_world.specs.declared.change.ChangeFault.{ChangeFault}
 use Rattle.eden_world.specs.declared.change.ChangeFault.TheVariants.{NotADirectory, IsADirectory}
 use Rattle.eden_world.specs.Outcome.{first_fault, place_fault}
 use Rattle.eden_world.specs.Renames.{absent_fault, write_fault, rename_fault, same_place, moved, renamed}
+use Rattle.eden_workcopy.specs.declared.work.WorkCopy.{WorkCopy}
+use Rattle.eden_workcopy.specs.Meanings.{means, FitsIn}
 use Rattle.eden_workcopy.specs.Layers.{Layer, Entry, or_below, over}
 use Rattle.eden_workcopy.proofs.Overs.{file_at-over, over-nothing, over-insert, over-remove, over-move, any_none, any_some, here_below, left_below, some_above, none_above}
 
@@ -65,7 +67,7 @@ some_entry : (p : List ℕ) (es : List Entry) → list_any (λ e. is_some e.1 &&
 some_entry p [] e layer all = absurd (cc)
 some_entry p (x ∷ es) e layer all =
     elim (is_some x.1 && lies_below x.0 p) as (λ b. (is_some x.1 && lies_below x.0 p) ≡ b → (b || list_any (λ e. is_some e.1 && lies_below e.0 p) es) ≡ true
-        → (q : List ℕ) × (f : Content) × (fin.get layer q ≡ Some (Some f)) × (lies_below q p ≡ true)) [
+    → (q : List ℕ) × (f : Content) × (fin.get layer q ≡ Some (Some f)) × (lies_below q p ≡ true)) [
       | true ↦ λ here _. let it = found x.1 all.0 here in (x.0, it.0, it.1, it.2)
       | false ↦ λ _ more. some_entry p es more layer all.1
     ] refl e
@@ -198,3 +200,11 @@ rename_fits m old new ok e other =
     let free_place : place_fault m new ≡ None = sym (ap (λ b. cond b None (place_fault m new)) other) ∙ place in
     let free = place_free (has_file_above m new) (has_file_below m new) None (ap (λ o. first_fault o None) free_place) in
     subst IsFileMap (sym (ap (λ b. cond b m (moved m old new (file_at m old))) other)) (moved_fits m old new (file_at m old) ok free.0 free.1)
+
+-- ---- another store
+
+pub means_elsewhere : (held other : List Held) (work : WorkCopy) → commit_map held work.root ≡ commit_map other work.root → means held work ≡ means other work
+means_elsewhere held other work is = ap (λ o. over (files_of o) work.overlay) is
+
+pub fits_elsewhere : (held other : List Held) (work : WorkCopy) → commit_map held work.root ≡ commit_map other work.root → FitsIn held work → FitsIn other work
+fits_elsewhere held other work is fits = subst (λ o. IsSome o × IsFileMap (over (files_of o) work.overlay)) is fits

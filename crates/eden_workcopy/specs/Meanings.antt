@@ -14,7 +14,3 @@ means held work = over (commit_files held work.root) work.overlay
 -- the store has the root's commit, and root and overlay make a file map there
 abbrev pub FitsIn : List Held → WorkCopy → Type 0
 FitsIn held work = IsSome (commit_map held work.root) × IsFileMap (means held work)
-
--- a file map that may be there is this one
-abbrev pub files_are : Option FileMap → FileMap → Type 0
-files_are found files = found ≡ Some files

@@ -25,14 +25,24 @@ fn has_present(entries: &[(Path, Option<Content>)], path: &Path) -> bool
 
 impl WorkCopy {
     /// Whether the path of an entry stands below another, and the root's commit has a file there.
-    fn hides<N: Naming + Drop>(&self, store: &Store<N>, entry: &(Path, Option<Content>), path: &Path) -> bool
+    fn hides<N: Naming + Drop>(
+        &self,
+        store: &Store<N>,
+        entry: &(Path, Option<Content>),
+        path: &Path,
+    ) -> bool
         ensures { result ≡ (lies_below entry.now.0 path.now && is_some (file_at (commit_files store.now self.now.root) entry.now.0)) }
     {
         entry.0.is_below(path) && store.file(self.root, entry.0.as_bytes()).is_some()
     }
 
     /// How many files of the root's commit below the path these entries hide.
-    fn count_hidden<N: Naming + Drop>(&self, store: &Store<N>, entries: &[(Path, Option<Content>)], path: &Path) -> usize
+    fn count_hidden<N: Naming + Drop>(
+        &self,
+        store: &Store<N>,
+        entries: &[(Path, Option<Content>)],
+        path: &Path,
+    ) -> usize
         ensures within { result ≤ length entries.now }
         ensures count { result ≡ length (filter (λ e. lies_below e.0 path.now && is_some (file_at (commit_files store.now self.now.root) e.0)) entries.now) }
     {

@@ -15,7 +15,10 @@ fn content(alloc: Global, kind: Kind, bytes: &[u8]) -> Result<Content, NoMemory>
     ensures { IfOk result (λ content. content ≡ record { kind = kind; bytes = bytes.now }) }
 {
     match bytes.to_vec(alloc) {
-        Ok(bytes) => Ok(Content { kind, bytes: Sequence::from_vec(bytes) }),
+        Ok(bytes) => Ok(Content {
+            kind,
+            bytes: Sequence::from_vec(bytes),
+        }),
         Err(_) => Err(NoMemory),
     }
 }
@@ -24,7 +27,11 @@ impl WorkCopy {
     /// The kind and the bytes of the file at a path.
     ///
     /// Refused, in this order, as `NotADirectory`, `IsADirectory` or `NoEntry`. It takes no memory.
-    pub fn read<'a, N: Naming + Drop>(&'a self, store: &'a Store<N>, path: &Path) -> Result<(Kind, &'a [u8]), ChangeFault>
+    pub fn read<'a, N: Naming + Drop>(
+        &'a self,
+        store: &'a Store<N>,
+        path: &Path,
+    ) -> Result<(Kind, &'a [u8]), ChangeFault>
         requires { FitsIn store.now self.now }
         ensures accepts { IfOk result (λ _. absent_fault (means store.now self.now) path.now ≡ None) }
         ensures reads { IfOk result (λ seen. file_at (means store.now self.now) path.now ≡ Some (record { kind = seen.0; bytes = seen.1.now })) }
@@ -43,7 +50,13 @@ impl WorkCopy {
     ///
     /// Refused, in this order, as `NotADirectory`, `IsADirectory` or `TooLarge`; `NoMemory` comes where a growth was refused. After a
     /// refusal nothing has changed.
-    pub fn write<N: Naming + Drop>(&mut self, store: &Store<N>, path: &Path, kind: Kind, bytes: &[u8]) -> Result<(), ChangeFault>
+    pub fn write<N: Naming + Drop>(
+        &mut self,
+        store: &Store<N>,
+        path: &Path,
+        kind: Kind,
+        bytes: &[u8],
+    ) -> Result<(), ChangeFault>
         requires { FitsIn store.now self.old }
         ensures root { self.new.root ≡ self.old.root }
         ensures fits { FitsIn store.now self.new }
@@ -73,7 +86,11 @@ impl WorkCopy {
     ///
     /// Refused, in this order, as `NotADirectory`, `IsADirectory` or `NoEntry`; `NoMemory` comes where a growth was refused. After a
     /// refusal nothing has changed.
-    pub fn remove<N: Naming + Drop>(&mut self, store: &Store<N>, path: &Path) -> Result<(), ChangeFault>
+    pub fn remove<N: Naming + Drop>(
+        &mut self,
+        store: &Store<N>,
+        path: &Path,
+    ) -> Result<(), ChangeFault>
         requires { FitsIn store.now self.old }
         ensures root { self.new.root ≡ self.old.root }
         ensures fits { FitsIn store.now self.new }
@@ -100,7 +117,12 @@ impl WorkCopy {
     /// Refused, in this order, as `NotADirectory`, `IsADirectory` or `NoEntry` for the old path, and, where the two differ, as
     /// `NotADirectory` or `IsADirectory` for the new one, all judged before the change; `NoMemory` comes where a growth was refused. After
     /// a refusal nothing has changed. A rename of a file to itself changes nothing.
-    pub fn rename<N: Naming + Drop>(&mut self, store: &Store<N>, old: &Path, new: &Path) -> Result<(), ChangeFault>
+    pub fn rename<N: Naming + Drop>(
+        &mut self,
+        store: &Store<N>,
+        old: &Path,
+        new: &Path,
+    ) -> Result<(), ChangeFault>
         requires { FitsIn store.now self.old }
         ensures root { self.new.root ≡ self.old.root }
         ensures fits { FitsIn store.now self.new }
@@ -129,7 +151,11 @@ impl WorkCopy {
     }
 
     /// The file at a path, in memory of its own.
-    fn file_copy<N: Naming + Drop>(&self, store: &Store<N>, path: &Path) -> Result<Option<Content>, NoMemory>
+    fn file_copy<N: Naming + Drop>(
+        &self,
+        store: &Store<N>,
+        path: &Path,
+    ) -> Result<Option<Content>, NoMemory>
         ensures { IfOk result (λ file. file ≡ file_at (means store.now self.now) path.now) }
     {
         match self.file(store, path.as_bytes()) {
@@ -146,7 +172,10 @@ impl WorkCopy {
         ensures { IfOk result (λ work. work ≡ self.now) }
     {
         match self.overlay.copy() {
-            Ok(overlay) => Ok(WorkCopy { root: self.root, overlay }),
+            Ok(overlay) => Ok(WorkCopy {
+                root: self.root,
+                overlay,
+            }),
             Err(_) => Err(NoMemory),
         }
     }

@@ -29,7 +29,10 @@ pub(crate) fn is_there(entries: &[(Path, Option<Content>)], at: usize, path: &[u
 
 /// What the entries say of a path, if one of them is its.
 #[tactic(auto, using(crate::proofs::Placing::told_there, crate::proofs::Placing::not_told))]
-pub(crate) fn told<'a>(entries: &'a [(Path, Option<Content>)], path: &[u8]) -> Option<&'a Option<Content>>
+pub(crate) fn told<'a>(
+    entries: &'a [(Path, Option<Content>)],
+    path: &[u8],
+) -> Option<&'a Option<Content>>
     requires { T (is_sorted by_bytes entries.now) }
     ensures { option_copied result ≡ find by_bytes path.now entries.now }
 {
@@ -44,7 +47,11 @@ pub(crate) fn told<'a>(entries: &'a [(Path, Option<Content>)], path: &[u8]) -> O
 /// Puts an entry in its place, in that of the path's earlier entry if there is one. `NoMemory` changes nothing, and comes only where
 /// there is no room.
 #[tactic(auto, using(crate::proofs::Placing::still_sorted))]
-pub(crate) fn put(entries: &mut Vec<(Path, Option<Content>)>, path: Path, file: Option<Content>) -> Result<(), NoMemory>
+pub(crate) fn put(
+    entries: &mut Vec<(Path, Option<Content>)>,
+    path: Path,
+    file: Option<Content>,
+) -> Result<(), NoMemory>
     requires { T (is_sorted by_bytes entries.old.items) }
     ensures ok { OnOk result (entries.new.items ≡ put by_bytes path file entries.old.items) }
     ensures err { OnErr result (entries.new.items ≡ entries.old.items) }

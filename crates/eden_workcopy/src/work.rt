@@ -40,7 +40,11 @@ impl WorkCopy {
     ///
     /// `NoCommit` comes where the id is no commit's. It takes no memory.
     #[tactic(auto, using(crate::proofs::Works::new_files, crate::proofs::Works::new_fits, crate::proofs::Works::no_commit))]
-    pub fn new<N: Naming + Drop>(alloc: Global, store: &Store<N>, root: Id) -> Result<WorkCopy, NoCommit>
+    pub fn new<N: Naming + Drop>(
+        alloc: Global,
+        store: &Store<N>,
+        root: Id,
+    ) -> Result<WorkCopy, NoCommit>
         ensures root { IfOk result (λ work. work.root ≡ root) }
         ensures files { IfOk result (λ work. commit_map store.now root ≡ Some (means store.now work)) }
         ensures fits { IfOk result (λ work. FitsIn store.now work) }
@@ -48,7 +52,10 @@ impl WorkCopy {
     {
         store.closed_law();
         if store.has_commit(root) {
-            Ok(WorkCopy { root, overlay: Overlay::new(alloc) })
+            Ok(WorkCopy {
+                root,
+                overlay: Overlay::new(alloc),
+            })
         } else {
             Err(NoCommit)
         }
@@ -63,7 +70,11 @@ impl WorkCopy {
 
     /// The file at a path.
     #[tactic(auto, using(crate::proofs::Works::file_told, crate::proofs::Works::file_below))]
-    pub(crate) fn file<'a, N: Naming + Drop>(&'a self, store: &'a Store<N>, path: &[u8]) -> Option<(Kind, &'a [u8])>
+    pub(crate) fn file<'a, N: Naming + Drop>(
+        &'a self,
+        store: &'a Store<N>,
+        path: &[u8],
+    ) -> Option<(Kind, &'a [u8])>
         ensures { content_seen result ≡ file_at (means store.now self.now) path.now }
     {
         match self.overlay.get(path) {
@@ -101,7 +112,11 @@ impl WorkCopy {
     }
 
     /// Why no file can stand at a path.
-    pub(crate) fn place_fault<N: Naming + Drop>(&self, store: &Store<N>, path: &Path) -> Option<ChangeFault>
+    pub(crate) fn place_fault<N: Naming + Drop>(
+        &self,
+        store: &Store<N>,
+        path: &Path,
+    ) -> Option<ChangeFault>
         ensures { result ≡ place_fault (means store.now self.now) path.now }
     {
         if self.has_file_above(store, path.as_bytes()) {
@@ -114,7 +129,11 @@ impl WorkCopy {
     }
 
     /// Why no file at a path can be read, removed or renamed.
-    pub(crate) fn absent_fault<N: Naming + Drop>(&self, store: &Store<N>, path: &Path) -> Option<ChangeFault>
+    pub(crate) fn absent_fault<N: Naming + Drop>(
+        &self,
+        store: &Store<N>,
+        path: &Path,
+    ) -> Option<ChangeFault>
         ensures { result ≡ absent_fault (means store.now self.now) path.now }
     {
         match self.place_fault(store, path) {
@@ -135,7 +154,12 @@ impl WorkCopy {
     }
 
     /// Why bytes can't be written at a path.
-    pub(crate) fn write_fault<N: Naming + Drop>(&self, store: &Store<N>, path: &Path, bytes: &[u8]) -> Option<ChangeFault>
+    pub(crate) fn write_fault<N: Naming + Drop>(
+        &self,
+        store: &Store<N>,
+        path: &Path,
+        bytes: &[u8],
+    ) -> Option<ChangeFault>
         ensures { result ≡ write_fault (means store.now self.now) path.now bytes.now }
     {
         match self.place_fault(store, path) {
@@ -145,7 +169,12 @@ impl WorkCopy {
     }
 
     /// Why a file can't be renamed.
-    pub(crate) fn rename_fault<N: Naming + Drop>(&self, store: &Store<N>, old: &Path, new: &Path) -> Option<ChangeFault>
+    pub(crate) fn rename_fault<N: Naming + Drop>(
+        &self,
+        store: &Store<N>,
+        old: &Path,
+        new: &Path,
+    ) -> Option<ChangeFault>
         ensures { result ≡ rename_fault (means store.now self.now) old.now new.now }
     {
         match self.absent_fault(store, old) {
@@ -155,7 +184,12 @@ impl WorkCopy {
     }
 
     /// Why no file can be put at the new path of a rename.
-    fn target_fault<N: Naming + Drop>(&self, store: &Store<N>, old: &Path, new: &Path) -> Option<ChangeFault>
+    fn target_fault<N: Naming + Drop>(
+        &self,
+        store: &Store<N>,
+        old: &Path,
+        new: &Path,
+    ) -> Option<ChangeFault>
         ensures { result ≡ (if same_place old.now new.now then None else place_fault (means store.now self.now) new.now) }
     {
         if old == new {

@@ -13,8 +13,7 @@ returns-clause-files g c =
 
 pub returns-clause-fits : goal.returns-clause-fits
 returns-clause-fits g c =
-    let free : write_fault (means c.args.store.now c.args.self.now) c.args.path.now c.args.bytes.now ≡ None = search rules in
-    (
+    let free : write_fault (means c.args.store.now c.args.self.now) c.args.path.now c.args.bytes.now ≡ None = search rules in (
       c.requires.0,
       subst IsFileMap (sym (returns-clause-files g c))
           (write_fits (means c.args.store.now c.args.self.now) c.args.path.now c.args.bytes.now (record { kind = c.args.kind; bytes = c.args.bytes.now }) c.requires.1 free),
