@@ -10,4 +10,6 @@ mod dirty;
 mod entries;
 mod laws;
 mod overlay;
+#[cfg(test)]
+mod tests;
 mod work;
