@@ -9,6 +9,7 @@ pub mod Maps
 pub mod Blobs
 pub mod CommitLaws
 pub mod Naming
+pub mod FilesOf
 mod Tables
 mod Putting
 mod Cuts

@@ -10,3 +10,4 @@ pub mod Entries
 pub mod Listings
 pub mod Readings
 pub mod Copies
+pub mod Files

@@ -10,6 +10,7 @@ pub use crate::seen::key_order;
 pub use crate::store::Store;
 pub use crate::word::Word;
 
+mod beneath;
 mod directory;
 mod entries;
 #[cfg(test)]

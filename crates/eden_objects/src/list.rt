@@ -145,7 +145,7 @@ impl<N: Naming + Drop> Store<N> {
 
     /// The directory of a tree at a path.
     #[tactic(auto, using(crate::proofs::WalkSteps::rest_shorter))]
-    fn dir_below(&self, tree: Id, path: &[u8]) -> Option<Id>
+    pub(crate) fn dir_below(&self, tree: Id, path: &[u8]) -> Option<Id>
         requires { HasTree self.now tree }
         ensures { IsBelow self.now tree path.now result }
     {

@@ -96,7 +96,7 @@ impl<N: Naming + Drop> Store<N> {
 
     /// The file of a tree at a path.
     #[tactic(auto, using(crate::proofs::WalkSteps::rest_shorter))]
-    fn find_below(&self, tree: Id, path: &[u8]) -> Option<(Kind, Id)>
+    pub(crate) fn find_below(&self, tree: Id, path: &[u8]) -> Option<(Kind, Id)>
         requires { HasTree self.now tree }
         ensures { result ≡ find_row path.now (tree_rows self.now tree) }
     {

@@ -1,0 +1,4 @@
+pub mod Placing
+pub mod Overs
+pub mod Works
+pub mod Touched

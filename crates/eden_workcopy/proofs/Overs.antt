@@ -1,0 +1,280 @@
+-- What is seen where an overlay lies over a file map.
+use Rattle.std.proofs.Common.{◌≡◌, ℕ, suc, zero, ◌+◌, ◌<◌, Bool, true, false, cond, not, ◌&&◌, ◌||◌, nat_eq, nat_le, List, [], ◌∷◌, ◌++◌, map, take, length, Option, Some, None, is_some, refl, sym, ap, ◌∙◌, arith}
+use Rattle.std.specs.Prelude.{filter}
+use Rattle.std.specs.Ordering.{nat_cmp}
+use Rattle.std.specs.Cmp.Lexicographic.{slice_cmp, nat_list_cmp_total}
+use Rattle.std.specs.List.{list_any, starts_with, slice_index_or}
+use Rattle.std.specs.FinMap as fin
+use Rattle.std.specs.FinMap.Entries.{where_key, is_sorted-where_key, find-where_key}
+use Rattle.eden_ids.specs.declared.content.Content.{Content}
+use Rattle.eden_ids.specs.Paths.{lies_below}
+use Rattle.eden_ids.specs.FileMaps.{FileMap, file_at, paths, PathSet, has, listing, path_set, same_path, has_file_above, has_file_below}
+use Rattle.eden_ids.proofs.FileMapLemmas.{same_path-refl, same_path-is, file_at-tabulate, file_at-insert, file_at-remove, same_file_map, has-path_set}
+use Rattle.eden_ids.proofs.TreeMaps.{listing-same}
+use Rattle.eden_workcopy.specs.Layers.{Layer, or_below, over_rule, over}
+
+any-append : {A : Type 0} (test : A → Bool) (xs ys : List A) → list_any test (xs ++ ys) ≡ (list_any test xs || list_any test ys)
+any-append test [] ys = refl
+any-append test (x ∷ xs) ys = ap (λ b. test x || b) (any-append test xs ys) ∙ sym (assoc (test x) _ _)
+  where
+    assoc : (a b c : Bool) → (a || b) || c ≡ (a || (b || c))
+    assoc true b c = refl
+    assoc false b c = refl
+
+settled : (o : Option (Option Content)) (f : Option Content) → cond (is_some f || is_some o) (or_below o f) None ≡ or_below o f
+settled None None = refl
+settled None (Some f) = refl
+settled (Some g) None = refl
+settled (Some g) (Some f) = refl
+
+-- at every path
+pub file_at-over : (base : FileMap) (layer : Layer) (p : List ℕ) → file_at (over base layer) p ≡ over_rule base layer p
+unfolding over
+file_at-over base layer p =
+    file_at-tabulate (paths base ++ fin.keys layer) (over_rule base layer) p
+    ∙ ap (λ b. cond b (over_rule base layer p) None)
+    (any-append (λ q. same_path p q) (paths base) (fin.keys layer)
+    ∙ ap (λ b. b || list_any (λ q. same_path p q) (fin.keys layer)) (sym (fin.contains_key-keys base p))
+    ∙ ap (λ b. is_some (file_at base p) || b) (sym (fin.contains_key-keys layer p)))
+    ∙ settled (fin.get layer p) (file_at base p)
+
+or_below-cond : (b : Bool) (v o : Option (Option Content)) (f : Option Content) → or_below (cond b v o) f ≡ cond b (or_below v f) (or_below o f)
+or_below-cond true v o f = refl
+or_below-cond false v o f = refl
+
+over_set : (base : FileMap) (layer : Layer) (k : List ℕ) (v : Option Content) (p : List ℕ) → file_at (over base (fin.insert layer k v)) p ≡ cond (same_path p k) v (file_at (over base layer) p)
+over_set base layer k v p =
+    file_at-over base (fin.insert layer k v) p
+    ∙ ap (λ o. or_below o (file_at base p)) (fin.get-insert nat_list_cmp_total layer k v p)
+    ∙ or_below-cond (same_path p k) (Some v) (fin.get layer p) (file_at base p)
+    ∙ ap (cond (same_path p k) v) (sym (file_at-over base layer p))
+
+-- a file that is set
+pub over-insert : (base : FileMap) (layer : Layer) (k : List ℕ) (f : Content) → over base (fin.insert layer k (Some f)) ≡ fin.insert (over base layer) k f
+over-insert base layer k f = same_file_map _ _ (λ p. over_set base layer k (Some f) p ∙ sym (file_at-insert (over base layer) k f p))
+
+-- a path that is marked as without a file
+pub over-remove : (base : FileMap) (layer : Layer) (k : List ℕ) → over base (fin.insert layer k None) ≡ fin.remove (over base layer) k
+over-remove base layer k = same_file_map _ _ (λ p. over_set base layer k None p ∙ sym (file_at-remove (over base layer) k p))
+
+pub over-move : (base : FileMap) (layer : Layer) (old new : List ℕ) (f : Content)
+    → over base (fin.insert (fin.insert layer old None) new (Some f)) ≡ fin.insert (fin.remove (over base layer) old) new f
+over-move base layer old new f = over-insert base (fin.insert layer old None) new f ∙ ap (λ m. fin.insert m new f) (over-remove base layer old)
+
+-- without an overlay
+pub over-nothing : (base : FileMap) → over base fin.empty ≡ base
+over-nothing base = same_file_map _ _ (λ p. file_at-over base fin.empty p ∙ ap (λ o. or_below o (file_at base p)) (fin.get-empty (slice_cmp nat_cmp) p))
+
+-- ---- tests of the paths of a map
+
+true_or : (b : Bool) → (b || true) ≡ true
+true_or true = refl
+true_or false = refl
+
+pub any_some : (test : List ℕ → Bool) (ks : List (List ℕ)) (p : List ℕ) → list_any (λ q. same_path p q) ks ≡ true → test p ≡ true → list_any test ks ≡ true
+any_some test [] p listed e = absurd (cc)
+any_some test (k ∷ ks) p listed e =
+    elim (same_path p k) as (λ b. same_path p k ≡ b → (b || list_any (λ q. same_path p q) ks) ≡ true → (test k || list_any test ks) ≡ true) [
+      | true ↦ λ s _. ap (λ b. b || list_any test ks) (ap test (sym (same_path-is p k s)) ∙ e)
+      | false ↦ λ s more. ap (λ b. test k || b) (any_some test ks p more e) ∙ true_or (test k)
+    ] refl listed
+
+pub any_none : (test : List ℕ → Bool) (ks : List (List ℕ)) → ((p : List ℕ) → list_any (λ q. same_path p q) ks ≡ true → test p ≡ false) → list_any test ks ≡ false
+any_none test [] h = refl
+any_none test (k ∷ ks) h =
+    ap (λ b. b || list_any test ks) (h k (ap (λ b. b || list_any (λ q. same_path k q) ks) (same_path-refl k)))
+    ∙ any_none test ks (λ p listed. h p (ap (λ b. same_path p k || b) listed ∙ true_or (same_path p k)))
+
+pub any_witness : (test : List ℕ → Bool) (ks : List (List ℕ)) → list_any test ks ≡ true → (p : List ℕ) × (list_any (λ q. same_path p q) ks ≡ true) × (test p ≡ true)
+any_witness test [] e = absurd (cc)
+any_witness test (k ∷ ks) e =
+    elim (test k) as (λ b. test k ≡ b → (b || list_any test ks) ≡ true → (p : List ℕ) × (list_any (λ q. same_path p q) (k ∷ ks) ≡ true) × (test p ≡ true)) [
+      | true ↦ λ t _. (k, ap (λ b. b || list_any (λ q. same_path k q) ks) (same_path-refl k), t)
+      | false ↦ λ t more. let found = any_witness test ks more in (found.0, ap (λ b. same_path found.0 k || b) found.1 ∙ true_or (same_path found.0 k), found.2)
+    ] refl e
+
+listed : (m : FileMap) (p : List ℕ) (f : Content) → file_at m p ≡ Some f → list_any (λ q. same_path p q) (paths m) ≡ true
+listed m p f is = sym (fin.contains_key-keys m p) ∙ ap is_some is
+
+-- ---- a file above a path
+
+below_parts : (path top : List ℕ) → lies_below path top ≡ true → (take (length top) path ≡ top) × (length top < length path) × (slice_index_or path (length top) 0 ≡ 47)
+below_parts [] [] e = absurd (cc)
+below_parts [] (y ∷ ys) e = absurd (cc)
+below_parts (x ∷ xs) [] e =
+    (refl, omega arith, byte (nat_eq 47 x) refl e)
+  where
+    byte : (b : Bool) → nat_eq 47 x ≡ b → (b && starts_with nat_eq xs []) ≡ true → x ≡ 47
+    byte true is h = grind (arith, is)
+    byte false is h = absurd (cc)
+below_parts (x ∷ xs) (y ∷ ys) e = later (nat_eq y x) refl e (below_parts xs ys)
+  where
+    later : (b : Bool) → nat_eq y x ≡ b → (b && lies_below xs ys) ≡ true → (lies_below xs ys ≡ true → (take (length ys) xs ≡ ys) × (length ys < length xs) × (slice_index_or xs (length ys) 0 ≡ 47))
+        → (take (suc (length ys)) (x ∷ xs) ≡ y ∷ ys) × (suc (length ys) < suc (length xs)) × (slice_index_or xs (length ys) 0 ≡ 47)
+    later true is h more =
+        let rest = more h in
+        let same : x ≡ y = grind (arith, is) in
+        ((λ i. same i ∷ rest.0 i), omega (arith, rest.1), rest.2)
+    later false is h more = absurd (cc)
+
+parts_below : (path : List ℕ) (i : ℕ) → i < length path → slice_index_or path i 0 ≡ 47 → lies_below path (take i path) ≡ true
+parts_below [] i within is = absurd (omega arith)
+parts_below (x ∷ xs) zero within is = rest xs (nat_eq 47 x) (grind (arith, is))
+  where
+    rest : (ys : List ℕ) (b : Bool) → b ≡ true → (b && starts_with nat_eq ys []) ≡ true
+    rest [] b e = ap (λ c. c && true) e
+    rest (y ∷ ys) b e = ap (λ c. c && true) e
+parts_below (x ∷ xs) (suc i) within is =
+    let same : nat_eq x x ≡ true = grind arith in
+    ap (λ b. b && lies_below xs (take i xs)) same ∙ parts_below xs i (omega arith) is
+
+pub some_above : (m : FileMap) (path : List ℕ) (i : ℕ) (f : Content) → i < length path → slice_index_or path i 0 ≡ 47 → file_at m (take i path) ≡ Some f → has_file_above m path ≡ true
+some_above m path i f within slash is = any_some (λ top. lies_below path top) (paths m) (take i path) (listed m (take i path) f is) (parts_below path i within slash)
+
+pub none_above : (m : FileMap) (path : List ℕ) → ((i : ℕ) → i < length path → slice_index_or path i 0 ≡ 47 → file_at m (take i path) ≡ None) → has_file_above m path ≡ false
+none_above m path h =
+    any_none (λ top. lies_below path top) (paths m)
+    (λ top at. elim (lies_below path top) as (λ b. lies_below path top ≡ b → b ≡ false) [
+      | true ↦ λ e.
+          let parts = below_parts path top e in
+          let gone : file_at m top ≡ None = ap (file_at m) (sym parts.0) ∙ h (length top) parts.1 parts.2 in
+          let bad : true ≡ false = sym at ∙ sym (fin.contains_key-keys m top) ∙ ap is_some gone in cc
+      | false ↦ λ e. refl
+    ] refl)
+
+-- ---- files below a path
+
+module _ {X : Type 0} where
+  -- the entries of a map whose paths pass a test
+  abbrev sifted : fin.FinMap (slice_cmp nat_cmp) X → (List ℕ → Bool) → fin.FinMap (slice_cmp nat_cmp) X
+  sifted m test = fin.from_sorted (where_key (slice_cmp nat_cmp) test (fin.entries m))
+
+  keys-where : (test : List ℕ → Bool) (es : List (List ℕ × X)) → map (λ e. e.0) (where_key (slice_cmp nat_cmp) test es) ≡ filter test (map (λ e. e.0) es)
+  keys-where test [] = refl
+  keys-where test (e ∷ es) =
+      let rest = keys-where test es in
+      elim (test e.0) as (λ b. map (λ f. f.0) (cond b (e ∷ where_key (slice_cmp nat_cmp) test es) (where_key (slice_cmp nat_cmp) test es)) ≡ cond b (e.0 ∷ filter test (map (λ f. f.0) es)) (filter test (map (λ f. f.0) es))) [
+        | true ↦ ap (λ ks. e.0 ∷ ks) rest
+        | false ↦ rest
+      ]
+
+  keys-sifted : (m : fin.FinMap (slice_cmp nat_cmp) X) (test : List ℕ → Bool) → fin.keys (sifted m test) ≡ filter test (fin.keys m)
+  keys-sifted m test =
+      ap (map (λ e. e.0)) (fin.entries-from_sorted (slice_cmp nat_cmp) (where_key (slice_cmp nat_cmp) test (fin.entries m)) (is_sorted-where_key (slice_cmp nat_cmp) test (fin.entries m) (fin.entries_sorted m)))
+      ∙ keys-where test (fin.entries m)
+
+  has-sifted : (m : fin.FinMap (slice_cmp nat_cmp) X) (test : List ℕ → Bool) (q : List ℕ) → fin.contains_key (sifted m test) q ≡ (test q && fin.contains_key m q)
+  has-sifted m test q =
+      ap is_some (fin.get-from_sorted (slice_cmp nat_cmp) (where_key (slice_cmp nat_cmp) test (fin.entries m)) q (is_sorted-where_key (slice_cmp nat_cmp) test (fin.entries m) (fin.entries_sorted m))
+      ∙ find-where_key (slice_cmp nat_cmp) test q (λ x e. ap test (sym (fin.slice_cmp-IsAntisymmetric fin.nat_cmp-IsAntisymmetric q x e))) (fin.entries m)
+      ∙ ap (λ o. cond (test q) o None) (sym (fin.get-entries m q)))
+      ∙ apart (test q) (fin.get m q)
+    where
+      apart : (b : Bool) (o : Option X) → is_some (cond b o None) ≡ (b && is_some o)
+      apart true o = refl
+      apart false o = refl
+
+  -- a set whose members are the paths of a map that pass a test lists them
+  pub listing_of : (s : PathSet) (m : fin.FinMap (slice_cmp nat_cmp) X) (test : List ℕ → Bool) → ((p : List ℕ) → has s p ≡ (test p && fin.contains_key m p)) → listing s ≡ filter test (fin.keys m)
+  listing_of s m test h = listing-same s (sifted m test) (λ p. h p ∙ sym (has-sifted m test p)) ∙ keys-sifted m test
+
+-- paths of two maps that pass tests alike are as many
+same_keys : {X Y : Type 0} (m : fin.FinMap (slice_cmp nat_cmp) X) (n : fin.FinMap (slice_cmp nat_cmp) Y) (s t : List ℕ → Bool) → ((p : List ℕ) → (s p && fin.contains_key m p) ≡ (t p && fin.contains_key n p))
+    → filter s (fin.keys m) ≡ filter t (fin.keys n)
+same_keys m n s t alike =
+    sym (listing_of (path_set (filter s (fin.keys m))) m s (λ p. members p))
+    ∙ listing_of (path_set (filter s (fin.keys m))) n t (λ p. members p ∙ alike p)
+  where
+    members : (p : List ℕ) → has (path_set (filter s (fin.keys m))) p ≡ (s p && fin.contains_key m p)
+    members p =
+        has-path_set (filter s (fin.keys m)) p
+        ∙ ap (list_any (λ q. same_path p q)) (sym (keys-sifted m s))
+        ∙ sym (fin.contains_key-keys (sifted m s) p)
+        ∙ has-sifted m s p
+
+len_split : (s t : List ℕ → Bool) (ks : List (List ℕ)) → length (filter s ks) ≡ length (filter (λ q. s q && t q) ks) + length (filter (λ q. s q && not (t q)) ks)
+len_split s t [] = refl
+len_split s t (k ∷ ks) =
+    let rest = len_split s t ks in
+    elim (s k) as (λ a. length (cond a (k ∷ filter s ks) (filter s ks)) ≡ length (cond (a && t k) (k ∷ filter (λ q. s q && t q) ks) (filter (λ q. s q && t q) ks)) + length (cond (a && not (t k)) (k ∷ filter (λ q. s q && not (t q)) ks) (filter (λ q. s q && not (t q)) ks))) [
+      | true ↦ elim (t k) as (λ b. suc (length (filter s ks)) ≡ length (cond b (k ∷ filter (λ q. s q && t q) ks) (filter (λ q. s q && t q) ks)) + length (cond (not b) (k ∷ filter (λ q. s q && not (t q)) ks) (filter (λ q. s q && not (t q)) ks))) [
+        | true ↦ omega (arith, rest)
+        | false ↦ omega (arith, rest)
+      ]
+      | false ↦ rest
+    ]
+
+some_left : (test : List ℕ → Bool) (ks : List (List ℕ)) (n : ℕ) → nat_le (n + 1) (n + length (filter test ks)) ≡ list_any test ks
+some_left test [] n = grind arith
+some_left test (k ∷ ks) n =
+    elim (test k) as (λ b. nat_le (n + 1) (n + length (cond b (k ∷ filter test ks) (filter test ks))) ≡ (b || list_any test ks)) [
+      | true ↦ grind arith
+      | false ↦ some_left test ks n
+    ]
+
+pub here_below : (base : FileMap) (layer : Layer) (p q : List ℕ) (f : Content) → fin.get layer q ≡ Some (Some f) → lies_below q p ≡ true → has_file_below (over base layer) p ≡ true
+here_below base layer p q f is e =
+    any_some (λ r. lies_below r p) (paths (over base layer)) q (listed (over base layer) q f (file_at-over base layer q ∙ ap (λ o. or_below o (file_at base q)) is)) e
+
+-- the overlay has no file below a path: then one is left of the files that stand there below it, or all are hidden
+pub left_below : (base : FileMap) (layer : Layer) (p : List ℕ) (hidden : ℕ)
+    → ((q : List ℕ) (f : Content) → fin.get layer q ≡ Some (Some f) → lies_below q p ≡ false)
+    → hidden ≡ length (filter (λ q. lies_below q p && is_some (file_at base q)) (fin.keys layer))
+    → has_file_below (over base layer) p ≡ nat_le (hidden + 1) (length (filter (λ q. lies_below q p) (paths base)))
+left_below base layer p hidden none is =
+    let touched = λ (q : List ℕ). is_some (fin.get layer q) in
+    let many : length (filter (λ q. lies_below q p && touched q) (paths base)) ≡ hidden =
+    ap length (same_keys base layer (λ q. lies_below q p && touched q) (λ q. lies_below q p && is_some (file_at base q)) (λ q. swapped (lies_below q p) (touched q) (is_some (file_at base q)))) ∙ sym is in
+    any_left
+    ∙ sym (some_left (λ q. lies_below q p && not (touched q)) (paths base) hidden)
+    ∙ ap (nat_le (hidden + 1)) (ap (λ n. n + length (filter (λ q. lies_below q p && not (touched q)) (paths base))) (sym many) ∙ sym (len_split (λ q. lies_below q p) touched (paths base)))
+  where
+    swapped : (a b c : Bool) → ((a && b) && c) ≡ ((a && c) && b)
+    swapped true true true = refl
+    swapped true true false = refl
+    swapped true false true = refl
+    swapped true false false = refl
+    swapped false b c = refl
+
+    first : (a b : Bool) → (a && b) ≡ true → a ≡ true
+    first true b e = refl
+    first false b e = absurd (cc)
+
+    second : (a b : Bool) → (a && b) ≡ true → b ≡ true
+    second true b e = e
+    second false b e = absurd (cc)
+
+    untouched : (o : Option (Option Content)) → not (is_some o) ≡ true → o ≡ None
+    untouched None e = refl
+    untouched (Some x) e = absurd (cc)
+
+    none_left : (q : List ℕ) → list_any (λ q. lies_below q p && not (is_some (fin.get layer q))) (paths base) ≡ false → lies_below q p ≡ true → (o : Option (Option Content)) → fin.get layer q ≡ o
+        → (f : Content) → or_below o (file_at base q) ≡ Some f → ⊥
+    none_left q gone e None at f seen =
+        let t : (lies_below q p && not (is_some (fin.get layer q))) ≡ true = ap (λ b. b && not (is_some (fin.get layer q))) e ∙ ap (λ o. not (is_some o)) at in
+        let bad : true ≡ false = sym (any_some (λ q. lies_below q p && not (is_some (fin.get layer q))) (paths base) q (listed base q f seen) t) ∙ gone in absurd (cc)
+    none_left q gone e (Some None) at f seen = absurd (cc)
+    none_left q gone e (Some (Some g)) at f seen = let bad : true ≡ false = sym e ∙ none q g at in absurd (cc)
+
+    file_there : (m : FileMap) (q : List ℕ) (o : Option Content) → file_at m q ≡ o → list_any (λ r. same_path q r) (paths m) ≡ true → (f : Content) × (file_at m q ≡ Some f)
+    file_there m q None is at = let bad : false ≡ true = sym (ap is_some is) ∙ fin.contains_key-keys m q ∙ at in absurd (cc)
+    file_there m q (Some f) is at = (f, is)
+
+    by_any : (b : Bool) → list_any (λ q. lies_below q p && not (is_some (fin.get layer q))) (paths base) ≡ b → has_file_below (over base layer) p ≡ b
+    by_any true e =
+        let found = any_witness (λ q. lies_below q p && not (is_some (fin.get layer q))) (paths base) e in
+        let file = file_there base found.0 (file_at base found.0) refl found.1 in
+        let free = untouched (fin.get layer found.0) (second _ _ found.2) in
+        any_some (λ r. lies_below r p) (paths (over base layer)) found.0
+        (listed (over base layer) found.0 file.0 (file_at-over base layer found.0 ∙ ap (λ o. or_below o (file_at base found.0)) free ∙ file.1)) (first _ _ found.2)
+    by_any false e =
+        any_none (λ r. lies_below r p) (paths (over base layer))
+        (λ q at. elim (lies_below q p) as (λ b. lies_below q p ≡ b → b ≡ false) [
+          | true ↦ λ t.
+              let file = file_there (over base layer) q (file_at (over base layer) q) refl at in
+              absurd (none_left q e t (fin.get layer q) refl file.0 (sym (file_at-over base layer q) ∙ file.1))
+          | false ↦ λ t. refl
+        ] refl)
+
+    any_left : has_file_below (over base layer) p ≡ list_any (λ q. lies_below q p && not (is_some (fin.get layer q))) (paths base)
+    any_left = by_any (list_any (λ q. lies_below q p && not (is_some (fin.get layer q))) (paths base)) refl

@@ -1,0 +1,210 @@
+-- What a working copy means, as its calls have it.
+use Rattle.std.proofs.Common.{◌≡◌, ℕ, Bool, true, false, cond, ◌&&◌, ◌||◌, ◌+◌, ◌<◌, take, nat_eq, nat_le, List, [], ◌∷◌, map, length, Option, Some, None, is_some, refl, sym, ap, subst, ◌∙◌, arith}
+use Rattle.std.specs.Prelude.{IsSome, filter}
+use Rattle.std.specs.Borrow.{Bor}
+use Rattle.std.specs.List.{list_any, AllByRecursion, slice_index_or}
+use Rattle.std.specs.FinMap as fin
+use Rattle.eden_ids.specs.declared.id.Id.{Id}
+use Rattle.eden_ids.specs.declared.content.Kind.{Kind}
+use Rattle.eden_ids.specs.declared.content.Content.{Content}
+use Rattle.eden_ids.specs.Paths.{lies_below}
+use Rattle.eden_ids.specs.FileMaps.{FileMap, file_at, paths, has_file_above, has_file_below, same_path, IsFileMap}
+use Rattle.std.specs.Ordering.{nat_cmp}
+use Rattle.std.specs.Cmp.Lexicographic.{slice_cmp}
+use Rattle.eden_ids.proofs.FileMapLemmas.{same_path-is, file_at-remove, IsFileMap-insert, IsFileMap-remove}
+use Rattle.eden_ids.proofs.TreeMaps.{entries_found}
+use Rattle.eden_objects.specs.Objects.{Held}
+use Rattle.eden_objects.specs.Commits.{Row, commit_rows, commit_map, map_of_rows}
+use Rattle.eden_objects.specs.Closed.{IsClosed}
+use Rattle.eden_objects.specs.Files.{files_of, commit_files, content_seen}
+use Rattle.eden_objects.proofs.CommitLaws.{file_maps}
+use Rattle.eden_world.specs.declared.change.ChangeFault.{ChangeFault}
+use Rattle.eden_world.specs.declared.change.ChangeFault.TheVariants.{NotADirectory, IsADirectory}
+use Rattle.eden_world.specs.Outcome.{first_fault, place_fault}
+use Rattle.eden_world.specs.Renames.{absent_fault, write_fault, rename_fault, same_place, moved, renamed}
+use Rattle.eden_workcopy.specs.declared.work.WorkCopy.{WorkCopy}
+use Rattle.eden_workcopy.specs.Meanings.{means, FitsIn}
+use Rattle.eden_workcopy.specs.Layers.{Layer, Entry, or_below, over}
+use Rattle.eden_workcopy.proofs.Overs.{file_at-over, over-nothing, over-insert, over-remove, over-move, any_none, any_some, here_below, left_below, some_above, none_above}
+
+some_rows : (held : List Held) (o : Option (List Row)) → is_some o ≡ true → map_of_rows held o ≡ Some (files_of (map_of_rows held o))
+some_rows held None e = absurd (cc)
+some_rows held (Some rows) e = refl
+
+pub new_files : (held : List Held) (root : Id) (layer : Layer) → is_some (commit_rows held root) ≡ true → layer ≡ fin.empty
+    → commit_map held root ≡ Some (over (commit_files held root) layer)
+new_files held root layer e is =
+    some_rows held (commit_rows held root) e ∙ ap Some (sym (ap (over (commit_files held root)) is ∙ over-nothing (commit_files held root)))
+
+pub new_fits : (held : List Held) (root : Id) (layer : Layer) → IsClosed held → is_some (commit_rows held root) ≡ true → layer ≡ fin.empty
+    → IsSome (commit_map held root) × IsFileMap (over (commit_files held root) layer)
+new_fits held root layer closed e is =
+    let map = new_files held root layer e is in
+    (ap is_some map, file_maps held closed root (over (commit_files held root) layer) map)
+
+none_of : (held : List Held) (o : Option (List Row)) → is_some o ≡ false → map_of_rows held o ≡ None
+none_of held None e = refl
+none_of held (Some rows) e = absurd (cc)
+
+pub no_commit : (held : List Held) (root : Id) → is_some (commit_rows held root) ≡ false → commit_map held root ≡ None
+no_commit held root e = none_of held (commit_rows held root) e
+
+-- at a path of the overlay, and at another
+pub file_told : (base : FileMap) (layer : Layer) (p : List ℕ) (file : Option Content) → fin.get layer p ≡ Some file → file_at (over base layer) p ≡ file
+file_told base layer p file is = file_at-over base layer p ∙ ap (λ o. or_below o (file_at base p)) is
+
+pub file_below : (base : FileMap) (layer : Layer) (p : List ℕ) → fin.get layer p ≡ None → file_at (over base layer) p ≡ file_at base p
+file_below base layer p is = file_at-over base layer p ∙ ap (λ o. or_below o (file_at base p)) is
+
+pub some_seen : (seen : Option (Kind × Bor (List ℕ))) (file : Option Content) → content_seen seen ≡ file → is_some seen ≡ is_some file
+some_seen None file is = ap is_some is
+some_seen (Some x) file is = ap is_some is
+
+-- ---- files below a path
+
+some_entry : (p : List ℕ) (es : List Entry) → list_any (λ e. is_some e.1 && lies_below e.0 p) es ≡ true → (layer : Layer) → AllByRecursion (λ e. fin.get layer e.0 ≡ Some e.1) es
+    → (q : List ℕ) × (f : Content) × (fin.get layer q ≡ Some (Some f)) × (lies_below q p ≡ true)
+some_entry p [] e layer all = absurd (cc)
+some_entry p (x ∷ es) e layer all =
+    elim (is_some x.1 && lies_below x.0 p) as (λ b. (is_some x.1 && lies_below x.0 p) ≡ b → (b || list_any (λ e. is_some e.1 && lies_below e.0 p) es) ≡ true
+    → (q : List ℕ) × (f : Content) × (fin.get layer q ≡ Some (Some f)) × (lies_below q p ≡ true)) [
+      | true ↦ λ here _. let it = found x.1 all.0 here in (x.0, it.0, it.1, it.2)
+      | false ↦ λ _ more. some_entry p es more layer all.1
+    ] refl e
+  where
+    found : (o : Option Content) → fin.get layer x.0 ≡ Some o → (is_some o && lies_below x.0 p) ≡ true → (f : Content) × (fin.get layer x.0 ≡ Some (Some f)) × (lies_below x.0 p ≡ true)
+    found None is h = absurd (cc)
+    found (Some f) is h = (f, is, h)
+
+pub present_below : (base : FileMap) (layer : Layer) (p : List ℕ) → list_any (λ e. is_some e.1 && lies_below e.0 p) (fin.entries layer) ≡ true → has_file_below (over base layer) p ≡ true
+present_below base layer p e =
+    let it = some_entry p (fin.entries layer) e layer (entries_found layer) in here_below base layer p it.0 it.1 it.2 it.3
+
+no_entry : (q p : List ℕ) (f : Content) (es : List Entry) → fin.find (slice_cmp nat_cmp) q es ≡ Some (Some f) → list_any (λ e. is_some e.1 && lies_below e.0 p) es ≡ false → lies_below q p ≡ false
+no_entry q p f [] is none = absurd (cc)
+no_entry q p f (x ∷ es) is none =
+    elim (same_path q x.0) as (λ b. same_path q x.0 ≡ b → cond b (Some x.1) (fin.find (slice_cmp nat_cmp) q es) ≡ Some (Some f) → lies_below q p ≡ false) [
+      | true ↦ λ s it.
+          let value : x.1 ≡ Some f = cc in
+          ap (λ r. lies_below r p) (same_path-is q x.0 s) ∙ sym (ap (λ o. is_some o && lies_below x.0 p) value) ∙ (neither _ _ none).0
+      | false ↦ λ s it. no_entry q p f es it (neither _ _ none).1
+    ] refl is
+  where
+    neither : (a b : Bool) → (a || b) ≡ false → (a ≡ false) × (b ≡ false)
+    neither true b h = absurd (cc)
+    neither false b h = (refl, h)
+
+as_many : (test : List ℕ → Bool) (es : List Entry) → length (filter (λ e. test e.0) es) ≡ length (filter test (map (λ e. e.0) es))
+as_many test [] = refl
+as_many test (e ∷ es) =
+    let rest = as_many test es in
+    elim (test e.0) as (λ b. length (cond b (e ∷ filter (λ f. test f.0) es) (filter (λ f. test f.0) es)) ≡ length (cond b (e.0 ∷ filter test (map (λ f. f.0) es)) (filter test (map (λ f. f.0) es)))) [
+      | true ↦ omega (arith, rest)
+      | false ↦ rest
+    ]
+
+pub counted_below : (base : FileMap) (layer : Layer) (p : List ℕ) (hidden : ℕ) → list_any (λ e. is_some e.1 && lies_below e.0 p) (fin.entries layer) ≡ false
+    → hidden ≡ length (filter (λ e. lies_below e.0 p && is_some (file_at base e.0)) (fin.entries layer))
+    → nat_le (hidden + 1) (length (filter (λ q. lies_below q p) (paths base))) ≡ has_file_below (over base layer) p
+counted_below base layer p hidden none is =
+    sym (left_below base layer p hidden
+    (λ q f at. no_entry q p f (fin.entries layer) (sym (fin.get-entries layer q) ∙ at) none)
+    (is ∙ as_many (λ q. lies_below q p && is_some (file_at base q)) (fin.entries layer)))
+
+-- ---- files above a path
+
+abbrev pub stands : FileMap → List ℕ → ℕ → Bool
+stands m path i = nat_eq (slice_index_or path i 0) 47 && is_some (file_at m (take i path))
+
+split : (a b : Bool) → (a && b) ≡ true → (a ≡ true) × (b ≡ true)
+split true true e = (refl, refl)
+split true false e = absurd (cc)
+split false b e = absurd (cc)
+
+pub stands_above : (m : FileMap) (path : List ℕ) (i : ℕ) → i < length path → stands m path i ≡ true → has_file_above m path ≡ true
+stands_above m path i within e =
+    let both = split (nat_eq (slice_index_or path i 0) 47) (is_some (file_at m (take i path))) e in
+    at (file_at m (take i path)) refl both.1 (grind (arith, both.0))
+  where
+    at : (o : Option Content) → file_at m (take i path) ≡ o → is_some o ≡ true → slice_index_or path i 0 ≡ 47 → has_file_above m path ≡ true
+    at None is h slash = absurd (cc)
+    at (Some f) is h slash = some_above m path i f within slash is
+
+pub none_stands : (m : FileMap) (path : List ℕ) → ((i : ℕ) → i < length path → stands m path i ≡ false) → has_file_above m path ≡ false
+none_stands m path h =
+    none_above m path
+    (λ i within slash. at i (file_at m (take i path)) refl (sym (ap (λ b. b && is_some (file_at m (take i path))) (slash_is (slice_index_or path i 0) slash)) ∙ h i within))
+  where
+    slash_is : (b : ℕ) → b ≡ 47 → nat_eq b 47 ≡ true
+    slash_is b e = grind arith
+
+    at : (i : ℕ) (o : Option Content) → file_at m (take i path) ≡ o → is_some (file_at m (take i path)) ≡ false → file_at m (take i path) ≡ None
+    at i None is e = is
+    at i (Some f) is e = let bad : true ≡ false = sym (ap is_some is) ∙ e in absurd (cc)
+
+-- ---- changes
+
+pub written : (base : FileMap) (layer after : Layer) (k path : List ℕ) (f g : Content) → after ≡ fin.insert layer k (Some f) → k ≡ path → f ≡ g → over base after ≡ fin.insert (over base layer) path g
+written base layer after k path f g is key file =
+    ap (over base) is ∙ over-insert base layer k f ∙ ap (λ q. fin.insert (over base layer) q f) key ∙ ap (fin.insert (over base layer) path) file
+
+pub removed : (base : FileMap) (layer after : Layer) (k path : List ℕ) → after ≡ fin.insert layer k None → k ≡ path → over base after ≡ fin.remove (over base layer) path
+removed base layer after k path is key = ap (over base) is ∙ over-remove base layer k ∙ ap (fin.remove (over base layer)) key
+
+pub shifted : (base : FileMap) (layer after : Layer) (from to old new : List ℕ) (f : Content) → after ≡ fin.insert (fin.insert layer from None) to (Some f) → from ≡ old → to ≡ new
+    → Some f ≡ file_at (over base layer) old → same_place old new ≡ false → over base after ≡ renamed (over base layer) old new
+shifted base layer after from to old new f is source target file other =
+    ap (over base) is
+    ∙ over-move base layer from to f
+    ∙ ap (λ q. fin.insert (fin.remove (over base layer) q) to f) source
+    ∙ ap (λ q. fin.insert (fin.remove (over base layer) old) q f) target
+    ∙ ap (moved (over base layer) old new) file
+    ∙ sym (ap (λ b. cond b (over base layer) (moved (over base layer) old new (file_at (over base layer) old))) other)
+
+place_free : (above below : Bool) (later : Option ChangeFault) → first_fault (cond above (Some NotADirectory) (cond below (Some IsADirectory) None)) later ≡ None → (above ≡ false) × (below ≡ false)
+place_free true below later e = absurd (cc)
+place_free false true later e = absurd (cc)
+place_free false false later e = (refl, refl)
+
+pub write_fits : (m : FileMap) (k bytes : List ℕ) (f : Content) → IsFileMap m → write_fault m k bytes ≡ None → IsFileMap (fin.insert m k f)
+write_fits m k bytes f ok e =
+    let free = place_free (has_file_above m k) (has_file_below m k) _ e in IsFileMap-insert m k f ok free.0 free.1
+
+still_none : (m : FileMap) (k : List ℕ) (test : List ℕ → Bool) → list_any test (paths m) ≡ false → list_any test (paths (fin.remove m k)) ≡ false
+still_none m k test none =
+    any_none test (paths (fin.remove m k))
+    (λ p at. by p (before p (same_path p k) refl (sym (ap is_some (file_at-remove m k p)) ∙ fin.contains_key-keys (fin.remove m k) p ∙ at)))
+  where
+    before : (p : List ℕ) (b : Bool) → same_path p k ≡ b → is_some (cond (same_path p k) None (file_at m p)) ≡ true → list_any (λ q. same_path p q) (paths m) ≡ true
+    before p true is h = let bad : false ≡ true = sym (ap (λ b. is_some (cond b None (file_at m p))) is) ∙ h in absurd (cc)
+    before p false is h = sym (fin.contains_key-keys m p) ∙ sym (ap (λ b. is_some (cond b None (file_at m p))) is) ∙ h
+
+    by : (p : List ℕ) → list_any (λ q. same_path p q) (paths m) ≡ true → test p ≡ false
+    by p at = elim (test p) as (λ c. test p ≡ c → c ≡ false) [
+      | true ↦ λ t. let bad : true ≡ false = sym (any_some test (paths m) p at t) ∙ none in cc
+      | false ↦ λ t. refl
+    ] refl
+
+moved_fits : (m : FileMap) (old new : List ℕ) (file : Option Content) → IsFileMap m → has_file_above m new ≡ false → has_file_below m new ≡ false → IsFileMap (moved m old new file)
+moved_fits m old new None ok above below = ok
+moved_fits m old new (Some f) ok above below =
+    IsFileMap-insert (fin.remove m old) new f (IsFileMap-remove m old ok) (still_none m old (λ top. lies_below new top) above) (still_none m old (λ q. lies_below q new) below)
+
+later_none : (a b : Option ChangeFault) → first_fault a b ≡ None → b ≡ None
+later_none None b e = e
+later_none (Some f) b e = absurd (cc)
+
+pub rename_fits : (m : FileMap) (old new : List ℕ) → IsFileMap m → rename_fault m old new ≡ None → same_place old new ≡ false → IsFileMap (renamed m old new)
+rename_fits m old new ok e other =
+    let place : cond (same_place old new) None (place_fault m new) ≡ None = later_none (absent_fault m old) _ e in
+    let free_place : place_fault m new ≡ None = sym (ap (λ b. cond b None (place_fault m new)) other) ∙ place in
+    let free = place_free (has_file_above m new) (has_file_below m new) None (ap (λ o. first_fault o None) free_place) in
+    subst IsFileMap (sym (ap (λ b. cond b m (moved m old new (file_at m old))) other)) (moved_fits m old new (file_at m old) ok free.0 free.1)
+
+-- ---- another store
+
+pub means_elsewhere : (held other : List Held) (work : WorkCopy) → commit_map held work.root ≡ commit_map other work.root → means held work ≡ means other work
+means_elsewhere held other work is = ap (λ o. over (files_of o) work.overlay) is
+
+pub fits_elsewhere : (held other : List Held) (work : WorkCopy) → commit_map held work.root ≡ commit_map other work.root → FitsIn held work → FitsIn other work
+fits_elsewhere held other work is fits = subst (λ o. IsSome o × IsFileMap (over (files_of o) work.overlay)) is fits

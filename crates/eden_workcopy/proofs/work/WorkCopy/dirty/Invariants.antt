@@ -1,0 +1,7 @@
+use Rattle.std.proofs.Common.{◌≡◌, take}
+use Rattle.eden_objects.specs.Files.{commit_files}
+use Rattle.eden_workcopy.proofs.Touched.{kept, is_other}
+use Rattle.eden_workcopy.proofs.work.WorkCopy.dirty.Given as goal
+
+abbrev pub invariant-loop-entry : goal.invariant-loop-entry
+invariant-loop-entry g l = l.dirty.items ≡ kept (is_other (commit_files l.store l.self.root)) (take l.entry-index l.entries)

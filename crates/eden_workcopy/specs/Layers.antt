@@ -1,0 +1,42 @@
+-- An overlay: some paths, each with the file that is to stand there, or with none. Laid over a file map it gives another one.
+use Rattle.std.specs.Prelude.{◌≡◌, ◌≢◌, ℕ, suc, Bool, true, false, if◌then◌else◌, List, [], ◌∷◌, ◌++◌, Option, Some, None}
+use Rattle.std.specs.declared.cmp.Ordering.{Ordering}
+use Rattle.std.specs.Ordering.{nat_cmp, is_lt}
+use Rattle.std.specs.Cmp.Lexicographic.{slice_cmp}
+use Rattle.std.specs.List.{slice_get}
+use Rattle.std.specs.FinMap as fin
+use Rattle.eden_ids.specs.declared.content.Content.{Content}
+use Rattle.eden_ids.specs.FileMaps.{FileMap, file_at, paths, tabulate}
+
+-- some paths: the file there, or that there is none
+abbrev pub Layer : Type 0
+Layer = fin.FinMap (slice_cmp nat_cmp) (Option Content)
+
+abbrev pub or_below : Option (Option Content) → Option Content → Option Content
+or_below None below = below
+or_below (Some file) below = file
+
+-- at a path of the overlay what the overlay says, and elsewhere what stands below it
+abbrev pub over_rule : FileMap → Layer → List ℕ → Option Content
+over_rule base layer path = or_below (fin.get layer path) (file_at base path)
+
+-- the files that are seen where an overlay lies over a file map
+unfoldable pub over : FileMap → Layer → FileMap
+over base layer = tabulate (paths base ++ fin.keys layer) (over_rule base layer)
+
+-- byte order
+abbrev pub by_bytes : List ℕ → List ℕ → Ordering
+by_bytes = slice_cmp nat_cmp
+
+-- how many entries at the front have lesser paths
+abbrev pub place : {X : Type 0} → List ℕ → List (List ℕ × X) → ℕ
+place path [] = 0
+place path (e ∷ es) = if is_lt (by_bytes e.0 path) then suc (place path es) else 0
+
+abbrev pub Entry : Type 0
+Entry = List ℕ × Option Content
+
+-- whether the entry at a place is that of a path
+abbrev pub IsThere : Bool → List ℕ → List Entry → ℕ → Type 0
+IsThere true path es at = (file : Option Content) × (slice_get es at ≡ Some (path, file))
+IsThere false path es at = (file : Option Content) → slice_get es at ≢ Some (path, file)

@@ -1,0 +1,182 @@
+ghost use Rattle.std.specs.Prelude.{◌≡◌, ◌≢◌, None, Some, IfOk, IfErr, OnOk, OnErr};
+ghost use Rattle.std.specs.FinMap as fin;
+ghost use Rattle.eden_ids.specs.FileMaps.{file_at};
+ghost use Rattle.eden_world.specs.Renames.{absent_fault, rename_fault, renamed, write_fault};
+ghost use Rattle.eden_workcopy.specs.Meanings.{means, FitsIn};
+
+use crate::work::WorkCopy;
+use eden_ids::{Content, Kind, Naming, NoMemory, Path, Sequence};
+use eden_objects::Store;
+use eden_world::ChangeFault;
+use std::alloc::Global;
+
+/// A file of this kind, that holds these bytes.
+fn content(alloc: Global, kind: Kind, bytes: &[u8]) -> Result<Content, NoMemory>
+    ensures { IfOk result (λ content. content ≡ record { kind = kind; bytes = bytes.now }) }
+{
+    match bytes.to_vec(alloc) {
+        Ok(bytes) => Ok(Content {
+            kind,
+            bytes: Sequence::from_vec(bytes),
+        }),
+        Err(_) => Err(NoMemory),
+    }
+}
+
+impl WorkCopy {
+    /// The kind and the bytes of the file at a path.
+    ///
+    /// Refused, in this order, as `NotADirectory`, `IsADirectory` or `NoEntry`. It takes no memory.
+    pub fn read<'a, N: Naming + Drop>(
+        &'a self,
+        store: &'a Store<N>,
+        path: &Path,
+    ) -> Result<(Kind, &'a [u8]), ChangeFault>
+        requires { FitsIn store.now self.now }
+        ensures accepts { IfOk result (λ _. absent_fault (means store.now self.now) path.now ≡ None) }
+        ensures reads { IfOk result (λ seen. file_at (means store.now self.now) path.now ≡ Some (record { kind = seen.0; bytes = seen.1.now })) }
+        ensures refuses { IfErr result (λ fault. absent_fault (means store.now self.now) path.now ≡ Some fault) }
+    {
+        if let Some(fault) = self.place_fault(store, path) {
+            return Err(fault);
+        }
+        match self.file(store, path.as_bytes()) {
+            Some(file) => Ok(file),
+            None => Err(ChangeFault::NoEntry),
+        }
+    }
+
+    /// Puts a file at a path, in place of the one that stands there.
+    ///
+    /// Refused, in this order, as `NotADirectory`, `IsADirectory` or `TooLarge`; `NoMemory` comes where a growth was refused. After a
+    /// refusal nothing has changed.
+    pub fn write<N: Naming + Drop>(
+        &mut self,
+        store: &Store<N>,
+        path: &Path,
+        kind: Kind,
+        bytes: &[u8],
+    ) -> Result<(), ChangeFault>
+        requires { FitsIn store.now self.old }
+        ensures root { self.new.root ≡ self.old.root }
+        ensures fits { FitsIn store.now self.new }
+        ensures accepts { IfOk result (λ _. write_fault (means store.now self.old) path.now bytes.now ≡ None) }
+        ensures files { OnOk result (means store.now self.new
+            ≡ fin.insert (means store.now self.old) path.now (record { kind = kind; bytes = bytes.now })) }
+        ensures refuses { IfErr result (λ fault. fault ≢ ChangeFault.NoMemory
+            → write_fault (means store.now self.old) path.now bytes.now ≡ Some fault) }
+        ensures same { OnErr result (self.new ≡ self.old) }
+    {
+        if let Some(fault) = self.write_fault(store, path, bytes) {
+            return Err(fault);
+        }
+        let Ok(content) = content(self.overlay.allocator(), kind, bytes) else {
+            return Err(ChangeFault::NoMemory);
+        };
+        let Ok(key) = path.copy() else {
+            return Err(ChangeFault::NoMemory);
+        };
+        let Ok(()) = self.overlay.set(key, Some(content)) else {
+            return Err(ChangeFault::NoMemory);
+        };
+        Ok(())
+    }
+
+    /// Takes the file at a path away.
+    ///
+    /// Refused, in this order, as `NotADirectory`, `IsADirectory` or `NoEntry`; `NoMemory` comes where a growth was refused. After a
+    /// refusal nothing has changed.
+    pub fn remove<N: Naming + Drop>(
+        &mut self,
+        store: &Store<N>,
+        path: &Path,
+    ) -> Result<(), ChangeFault>
+        requires { FitsIn store.now self.old }
+        ensures root { self.new.root ≡ self.old.root }
+        ensures fits { FitsIn store.now self.new }
+        ensures accepts { IfOk result (λ _. absent_fault (means store.now self.old) path.now ≡ None) }
+        ensures files { OnOk result (means store.now self.new ≡ fin.remove (means store.now self.old) path.now) }
+        ensures refuses { IfErr result (λ fault. fault ≢ ChangeFault.NoMemory
+            → absent_fault (means store.now self.old) path.now ≡ Some fault) }
+        ensures same { OnErr result (self.new ≡ self.old) }
+    {
+        if let Some(fault) = self.absent_fault(store, path) {
+            return Err(fault);
+        }
+        let Ok(key) = path.copy() else {
+            return Err(ChangeFault::NoMemory);
+        };
+        let Ok(()) = self.overlay.set(key, None) else {
+            return Err(ChangeFault::NoMemory);
+        };
+        Ok(())
+    }
+
+    /// Takes the file at a path away and puts it at another, in place of the one that stands there.
+    ///
+    /// Refused, in this order, as `NotADirectory`, `IsADirectory` or `NoEntry` for the old path, and, where the two differ, as
+    /// `NotADirectory` or `IsADirectory` for the new one, all judged before the change; `NoMemory` comes where a growth was refused. After
+    /// a refusal nothing has changed. A rename of a file to itself changes nothing.
+    pub fn rename<N: Naming + Drop>(
+        &mut self,
+        store: &Store<N>,
+        old: &Path,
+        new: &Path,
+    ) -> Result<(), ChangeFault>
+        requires { FitsIn store.now self.old }
+        ensures root { self.new.root ≡ self.old.root }
+        ensures fits { FitsIn store.now self.new }
+        ensures accepts { IfOk result (λ _. rename_fault (means store.now self.old) old.now new.now ≡ None) }
+        ensures files { OnOk result (means store.now self.new ≡ renamed (means store.now self.old) old.now new.now) }
+        ensures refuses { IfErr result (λ fault. fault ≢ ChangeFault.NoMemory
+            → rename_fault (means store.now self.old) old.now new.now ≡ Some fault) }
+        ensures same { OnErr result (self.new ≡ self.old) }
+    {
+        if let Some(fault) = self.rename_fault(store, old, new) {
+            return Err(fault);
+        }
+        if old == new {
+            return Ok(());
+        }
+        let Ok(Some(content)) = self.file_copy(store, old) else {
+            return Err(ChangeFault::NoMemory);
+        };
+        let (Ok(from), Ok(to)) = (old.copy(), new.copy()) else {
+            return Err(ChangeFault::NoMemory);
+        };
+        let Ok(()) = self.overlay.shift(from, to, content) else {
+            return Err(ChangeFault::NoMemory);
+        };
+        Ok(())
+    }
+
+    /// The file at a path, in memory of its own.
+    fn file_copy<N: Naming + Drop>(
+        &self,
+        store: &Store<N>,
+        path: &Path,
+    ) -> Result<Option<Content>, NoMemory>
+        ensures { IfOk result (λ file. file ≡ file_at (means store.now self.now) path.now) }
+    {
+        match self.file(store, path.as_bytes()) {
+            Some((kind, bytes)) => match content(self.overlay.allocator(), kind, bytes) {
+                Ok(content) => Ok(Some(content)),
+                Err(_) => Err(NoMemory),
+            },
+            None => Ok(None),
+        }
+    }
+
+    /// A working copy that is equal to this one. `NoMemory` comes where a growth was refused.
+    pub fn copy(&self) -> Result<WorkCopy, NoMemory>
+        ensures { IfOk result (λ work. work ≡ self.now) }
+    {
+        match self.overlay.copy() {
+            Ok(overlay) => Ok(WorkCopy {
+                root: self.root,
+                overlay,
+            }),
+            Err(_) => Err(NoMemory),
+        }
+    }
+}

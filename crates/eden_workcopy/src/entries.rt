@@ -1,0 +1,72 @@
+ghost use Rattle.std.specs.Prelude.{◌≡◌, ◌≤◌, ◌<◌, ◌+◌, T, Some, None, IsOk, IfOk, OnOk, OnErr, length, option_copied, vec_len, vec_capacity};
+ghost use Rattle.std.specs.Ordering.{is_lt};
+ghost use Rattle.std.specs.FinMap.{is_sorted, put, find};
+ghost use Rattle.eden_workcopy.specs.Layers.{by_bytes, place, IsThere, Entry};
+
+use eden_ids::{Content, NoMemory, Path};
+
+/// Whether the entry's path comes before another in byte order.
+fn is_before(entry: &(Path, Option<Content>), path: &[u8]) -> bool
+    ensures { result ≡ is_lt (by_bytes entry.now.0 path.now) }
+{
+    entry.0.as_bytes().cmp(path).is_lt()
+}
+
+/// How many entries have paths before this one; that is where an entry of the path stands or would stand.
+pub(crate) fn place(entries: &[(Path, Option<Content>)], path: &[u8]) -> usize
+    requires { T (is_sorted by_bytes entries.now) }
+    ensures { result ≡ place path.now entries.now }
+{
+    entries.partition_point(|entry| is_before(entry, path))
+}
+
+/// Whether the entry at a place is that of a path.
+pub(crate) fn is_there(entries: &[(Path, Option<Content>)], at: usize, path: &[u8]) -> bool
+    ensures { IsThere result path.now entries.now at }
+{
+    at < entries.len() && entries[at].0.as_bytes() == path
+}
+
+/// What the entries say of a path, if one of them is its.
+#[tactic(auto, using(crate::proofs::Placing::told_there, crate::proofs::Placing::not_told))]
+pub(crate) fn told<'a>(
+    entries: &'a [(Path, Option<Content>)],
+    path: &[u8],
+) -> Option<&'a Option<Content>>
+    requires { T (is_sorted by_bytes entries.now) }
+    ensures { option_copied result ≡ find by_bytes path.now entries.now }
+{
+    let at = place(entries, path);
+    if is_there(entries, at, path) {
+        Some(&entries[at].1)
+    } else {
+        None
+    }
+}
+
+/// Puts an entry in its place, in that of the path's earlier entry if there is one. `NoMemory` changes nothing, and comes only where
+/// there is no room.
+#[tactic(auto, using(crate::proofs::Placing::still_sorted))]
+pub(crate) fn put(
+    entries: &mut Vec<(Path, Option<Content>)>,
+    path: Path,
+    file: Option<Content>,
+) -> Result<(), NoMemory>
+    requires { T (is_sorted by_bytes entries.old.items) }
+    ensures ok { OnOk result (entries.new.items ≡ put by_bytes path file entries.old.items) }
+    ensures err { OnErr result (entries.new.items ≡ entries.old.items) }
+    ensures sorted { T (is_sorted by_bytes entries.new.items) }
+    ensures succeeds { vec_len entries.old < vec_capacity entries.old → IsOk result }
+    ensures grows { vec_len entries.new ≤ vec_len entries.old + 1 }
+    ensures room { vec_capacity entries.old ≤ vec_capacity entries.new }
+{
+    let at = place(entries, path.as_bytes());
+    if is_there(entries, at, path.as_bytes()) {
+        entries[at] = (path, file);
+        return Ok(());
+    }
+    let Ok(_) = entries.insert(at, (path, file)) else {
+        return Err(NoMemory);
+    };
+    Ok(())
+}

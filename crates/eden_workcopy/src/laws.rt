@@ -1,0 +1,31 @@
+//! What the definitions of overlays promise, each as the contract of a function with no work to do.
+
+ghost use Rattle.std.specs.Prelude.{◌≡◌, ℕ, List, None, Some};
+ghost use Rattle.std.specs.FinMap as fin;
+ghost use Rattle.eden_ids.specs.declared.content.Content.{Content};
+ghost use Rattle.eden_ids.specs.FileMaps.{FileMap, file_at};
+ghost use Rattle.eden_objects.specs.Objects.{Held};
+ghost use Rattle.eden_objects.specs.Commits.{commit_map};
+ghost use Rattle.eden_workcopy.specs.declared.work.WorkCopy.{WorkCopy};
+ghost use Rattle.eden_workcopy.specs.Meanings.{means, FitsIn};
+ghost use Rattle.eden_workcopy.specs.Layers.{Layer, over, over_rule};
+
+/// What is seen where an overlay lies over a file map.
+pub fn over_law()
+    // At each path of the overlay what the overlay says, and at each other path what stands below.
+    ensures at { (base : FileMap) (layer : Layer) (p : List ℕ) → file_at (over base layer) p ≡ over_rule base layer p }
+    // To set a path in the overlay is to set it in the files that are seen.
+    ensures insert { (base : FileMap) (layer : Layer) (p : List ℕ) (file : Content)
+        → over base (fin.insert layer p (Some file)) ≡ fin.insert (over base layer) p file }
+    ensures remove { (base : FileMap) (layer : Layer) (p : List ℕ)
+        → over base (fin.insert layer p None) ≡ fin.remove (over base layer) p }
+{}
+
+/// A working copy means the same, and fits, over each two stores in which its root's commit holds the same files.
+#[tactic(auto, using(crate::proofs::Works::means_elsewhere, crate::proofs::Works::fits_elsewhere))]
+pub fn elsewhere_law()
+    ensures means { (held other : List Held) (work : WorkCopy) → commit_map held work.root ≡ commit_map other work.root
+        → means held work ≡ means other work }
+    ensures fits { (held other : List Held) (work : WorkCopy) → commit_map held work.root ≡ commit_map other work.root
+        → FitsIn held work → FitsIn other work }
+{}

@@ -1,0 +1,212 @@
+ghost use Rattle.std.specs.Prelude.{◌≡◌, ◌≢◌, None, Some, IfOk, IfErr, OnOk, OnErr, is_some, if◌then◌else◌, nat_lt, nat_eq, ◌<◌, ◌&&◌, take, length};
+ghost use Rattle.std.specs.List.{slice_index_or};
+ghost use Rattle.std.specs.FinMap as fin;
+ghost use Rattle.eden_ids.specs.FileMaps.{differ, file_at, has_file_above, has_file_below, listing, paths};
+ghost use Rattle.eden_objects.specs.Commits.{commit_map};
+ghost use Rattle.eden_objects.specs.Files.{commit_files, content_seen};
+ghost use Rattle.eden_world.specs.Outcome.{place_fault};
+ghost use Rattle.eden_world.specs.Renames.{absent_fault, rename_fault, renamed, same_place, write_fault};
+ghost use Rattle.eden_workcopy.specs.Meanings.{means, FitsIn};
+
+use crate::overlay::Overlay;
+use eden_ids::{Content, Id, Kind, Naming, NoMemory, Path, Sequence};
+use eden_objects::{NoCommit, Store};
+use eden_world::ChangeFault;
+use std::alloc::Global;
+
+/// The files of a commit, and over them those that were written, renamed or removed since.
+///
+/// It keeps the commit's id, its root, and what became of each path that a change touched. What it holds is told over a store that has
+/// the root's commit. Condition of each call that takes a store: the store has it, and there root and changes make a file map, as they do
+/// in the store over which the working copy was made and changed, and in each that has all objects of that one.
+#[derive(Drop)]
+pub struct WorkCopy {
+    pub(crate) root: Id,
+    pub(crate) overlay: Overlay,
+}
+
+/// The kind and the bytes of a file.
+fn seen(file: &Option<Content>) -> Option<(Kind, &[u8])>
+    ensures { content_seen result ≡ file.now }
+{
+    match file {
+        Some(content) => Some((content.kind, content.bytes.as_slice())),
+        None => None,
+    }
+}
+
+impl WorkCopy {
+    /// A working copy that holds the files of a commit.
+    ///
+    /// `NoCommit` comes where the id is no commit's. It takes no memory.
+    #[tactic(auto, using(crate::proofs::Works::new_files, crate::proofs::Works::new_fits, crate::proofs::Works::no_commit))]
+    pub fn new<N: Naming + Drop>(
+        alloc: Global,
+        store: &Store<N>,
+        root: Id,
+    ) -> Result<WorkCopy, NoCommit>
+        ensures root { IfOk result (λ work. work.root ≡ root) }
+        ensures files { IfOk result (λ work. commit_map store.now root ≡ Some (means store.now work)) }
+        ensures fits { IfOk result (λ work. FitsIn store.now work) }
+        ensures refuses { IfErr result (λ _. commit_map store.now root ≡ None) }
+    {
+        store.closed_law();
+        if store.has_commit(root) {
+            Ok(WorkCopy {
+                root,
+                overlay: Overlay::new(alloc),
+            })
+        } else {
+            Err(NoCommit)
+        }
+    }
+
+    /// The commit over which the changes were made.
+    pub fn root(&self) -> Id
+        ensures { result ≡ self.now.root }
+    {
+        self.root
+    }
+
+    /// The file at a path.
+    #[tactic(auto, using(crate::proofs::Works::file_told, crate::proofs::Works::file_below))]
+    pub(crate) fn file<'a, N: Naming + Drop>(
+        &'a self,
+        store: &'a Store<N>,
+        path: &[u8],
+    ) -> Option<(Kind, &'a [u8])>
+        ensures { content_seen result ≡ file_at (means store.now self.now) path.now }
+    {
+        match self.overlay.get(path) {
+            Some(file) => seen(file),
+            None => store.file(self.root, path),
+        }
+    }
+
+    /// Whether a slash stands at a place of the path, and a file at what is before it.
+    fn stands_at<N: Naming + Drop>(&self, store: &Store<N>, path: &[u8], at: usize) -> bool
+        requires { at < length path.now }
+        ensures { result ≡ (nat_eq (slice_index_or path.now at 0) 47 && is_some (file_at (means store.now self.now) (take at path.now))) }
+    {
+        path[at] == b'/' && self.has_file(store, &path[..at])
+    }
+
+    /// Whether a file stands at a proper prefix of the path's components.
+    fn has_file_above<N: Naming + Drop>(&self, store: &Store<N>, path: &[u8]) -> bool
+        ensures { result ≡ has_file_above (means store.now self.now) path.now }
+    {
+        for at in 0..path.len() {
+            if self.stands_at(store, path, at) {
+                return true;
+            }
+        }
+        false
+    }
+
+    /// Whether a file stands at a path.
+    #[tactic(auto, using(crate::proofs::Works::some_seen))]
+    fn has_file<N: Naming + Drop>(&self, store: &Store<N>, path: &[u8]) -> bool
+        ensures { result ≡ is_some (file_at (means store.now self.now) path.now) }
+    {
+        self.file(store, path).is_some()
+    }
+
+    /// Why no file can stand at a path.
+    pub(crate) fn place_fault<N: Naming + Drop>(
+        &self,
+        store: &Store<N>,
+        path: &Path,
+    ) -> Option<ChangeFault>
+        ensures { result ≡ place_fault (means store.now self.now) path.now }
+    {
+        if self.has_file_above(store, path.as_bytes()) {
+            Some(ChangeFault::NotADirectory)
+        } else if self.has_file_below(store, path) {
+            Some(ChangeFault::IsADirectory)
+        } else {
+            None
+        }
+    }
+
+    /// Why no file at a path can be read, removed or renamed.
+    pub(crate) fn absent_fault<N: Naming + Drop>(
+        &self,
+        store: &Store<N>,
+        path: &Path,
+    ) -> Option<ChangeFault>
+        ensures { result ≡ absent_fault (means store.now self.now) path.now }
+    {
+        match self.place_fault(store, path) {
+            Some(fault) => Some(fault),
+            None => self.missing_fault(store, path),
+        }
+    }
+
+    /// That no file stands at a path.
+    fn missing_fault<N: Naming + Drop>(&self, store: &Store<N>, path: &Path) -> Option<ChangeFault>
+        ensures { result ≡ (if is_some (file_at (means store.now self.now) path.now) then None else Some ChangeFault.NoEntry) }
+    {
+        if self.has_file(store, path.as_bytes()) {
+            None
+        } else {
+            Some(ChangeFault::NoEntry)
+        }
+    }
+
+    /// Why bytes can't be written at a path.
+    pub(crate) fn write_fault<N: Naming + Drop>(
+        &self,
+        store: &Store<N>,
+        path: &Path,
+        bytes: &[u8],
+    ) -> Option<ChangeFault>
+        ensures { result ≡ write_fault (means store.now self.now) path.now bytes.now }
+    {
+        match self.place_fault(store, path) {
+            Some(fault) => Some(fault),
+            None => size_fault(bytes),
+        }
+    }
+
+    /// Why a file can't be renamed.
+    pub(crate) fn rename_fault<N: Naming + Drop>(
+        &self,
+        store: &Store<N>,
+        old: &Path,
+        new: &Path,
+    ) -> Option<ChangeFault>
+        ensures { result ≡ rename_fault (means store.now self.now) old.now new.now }
+    {
+        match self.absent_fault(store, old) {
+            Some(fault) => Some(fault),
+            None => self.target_fault(store, old, new),
+        }
+    }
+
+    /// Why no file can be put at the new path of a rename.
+    fn target_fault<N: Naming + Drop>(
+        &self,
+        store: &Store<N>,
+        old: &Path,
+        new: &Path,
+    ) -> Option<ChangeFault>
+        ensures { result ≡ (if same_place old.now new.now then None else place_fault (means store.now self.now) new.now) }
+    {
+        if old == new {
+            None
+        } else {
+            self.place_fault(store, new)
+        }
+    }
+}
+
+/// Why a file can't hold these bytes.
+fn size_fault(bytes: &[u8]) -> Option<ChangeFault>
+    ensures { result ≡ (if nat_lt 8388608 (length bytes.now) then Some ChangeFault.TooLarge else None) }
+{
+    if bytes.len() > Content::LIMIT {
+        Some(ChangeFault::TooLarge)
+    } else {
+        None
+    }
+}
