@@ -39,7 +39,7 @@ impl<N: Naming + Drop> Store<N> {
     fn row(&self, commit: Id, path: &[u8]) -> Option<(Kind, Id)>
         ensures { result ≡ find_row path.now (rows_or_none (commit_rows self.now commit)) }
     {
-        match self.tree_of(commit) {
+        match self.root_tree(commit) {
             Ok(Some(tree)) => self.find_below(tree, path),
             Ok(None) => None,
             Err(_) => None,
@@ -50,7 +50,7 @@ impl<N: Naming + Drop> Store<N> {
     fn missing_below(&self, commit: Id, top: &[u8], count: usize) -> usize
         ensures { result ≡ count - length (filter (λ row. lies_below row.0 top.now) (rows_or_none (commit_rows self.now commit))) }
     {
-        match self.tree_of(commit) {
+        match self.root_tree(commit) {
             Ok(Some(tree)) => self.missing_in_dir(tree, top, count),
             Ok(None) => count,
             Err(_) => count,
