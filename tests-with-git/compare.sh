@@ -78,12 +78,14 @@ cmp "$work/ids" "$work/printed-ids"
 refused=$(grep -c '^refused' "$work/printed" || true)
 [ "$refused" = 0 ] || { echo "$refused lines were refused"; exit 1; }
 
-# The files of each commit.
+# The files of each commit, whose tree stands before it.
 while read -r id; do
     word=$(git cat-file -t "$id")
     echo "$word $id"
-    if [ "$word" = commit ]; then
-        git ls-tree -r "$id"
+    if [ "$word" = tree ]; then
+        tree=$id
+    elif [ "$word" = commit ]; then
+        git ls-tree -r "$tree"
     fi
 done < "$work/ids" > "$work/listed-by-git"
 git cat-file --batch < "$work/ids" > "$work/batch"
