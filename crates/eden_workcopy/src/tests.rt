@@ -22,20 +22,6 @@ fn write(
     Ok(work.write(store, &path, Kind::Plain, text.as_bytes()).err())
 }
 
-/// What is answered to a removal.
-fn remove(
-    alloc: Global,
-    store: &Store<GitNaming>,
-    work: &mut WorkCopy,
-    path: &str,
-) -> Result<Option<ChangeFault>, Fail>
-    requires { FitsIn store.now work.old }
-    ensures { FitsIn store.now work.new }
-{
-    let path = Path::parse(alloc, path.as_bytes())?;
-    Ok(work.remove(store, &path).err())
-}
-
 /// What is answered to a rename.
 fn rename(
     alloc: Global,
