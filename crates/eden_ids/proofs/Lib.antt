@@ -3,3 +3,5 @@ pub mod FileMapLemmas
 pub mod TreeMaps
 mod HexTexts
 pub mod ColumnLemmas
+pub mod Sifted
+pub mod Tables

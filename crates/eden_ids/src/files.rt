@@ -1,13 +1,15 @@
 ghost use Rattle.std.specs.Prelude.{◌≡◌, IfOk, OnOk, OnErr};
 ghost use Rattle.std.specs.Option.{option_copied};
 ghost use Rattle.std.specs.FinMap as fin;
-ghost use Rattle.eden_ids.specs.FileMaps.{file_at, no_files, has_file_above, has_file_below};
+ghost use Rattle.std.specs.Map.Iter.{deref, ShowsInOrder};
+ghost use Rattle.eden_ids.specs.FileMaps.{file_at, no_files, has_file_above, has_file_below, paths};
 
 use crate::content::Content;
 use crate::memory::NoMemory;
 use crate::path::Path;
 use std::alloc::Global;
 use std::collections::BTreeMap;
+use std::collections::btree_map::Keys;
 use std::marker::Model;
 
 /// What a working copy or a commit holds: paths, each with a file, in byte order of the paths.
@@ -64,6 +66,15 @@ impl Files {
         ensures { self.new ≡ fin.remove self.old path.now }
     {
         let _ = self.entries.remove(path);
+    }
+
+    /// The paths that hold a file, in byte order. This takes no memory.
+    pub fn paths(&self) -> Keys<'_, Path, Content>
+        ensures rest { result ≡ paths self.now }
+        ensures runs { ShowsInOrder (deref {X = Path}) }
+    {
+        let keys = self.entries.keys();
+        keys
     }
 
     /// Whether a file stands at a proper prefix of the path's components. The time grows with the map.

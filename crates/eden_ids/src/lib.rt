@@ -10,6 +10,7 @@ pub use crate::laws::{file_map_law, path_set_law};
 pub use crate::memory::NoMemory;
 pub use crate::naming::{GitNaming, Naming};
 pub use crate::path::{Path, PathFault, is_component};
+pub use crate::path_table::PathTable;
 pub use crate::sequence::Sequence;
 
 mod column;
@@ -25,6 +26,7 @@ mod laws;
 mod memory;
 mod naming;
 mod path;
+mod path_table;
 mod sequence;
 #[cfg(test)]
 mod tests;

@@ -1,4 +1,4 @@
-use crate::{Content, Files, Id, Kind, Path, PathFault, Sequence};
+use crate::{Content, Files, Id, Kind, Path, PathFault, PathTable, Sequence};
 use std::alloc::Global;
 use std::test::Fail;
 
@@ -127,5 +127,26 @@ fn contents_are_copied_whole(rt: HostRuntime) -> Result<(), Fail> {
     assert!(rt; copy.bytes.into_vec().as_slice() == b"hello".as_slice());
     assert!(rt; Sequence::<u8>::new(rt.alloc()).is_empty());
     assert!(rt; Id::ZERO == Id([0; 20]));
+    Ok(())
+}
+
+#[test]
+fn tables_list_each_path_once(rt: HostRuntime) -> Result<(), Fail> {
+    let alloc = rt.alloc();
+    let mut files = Files::new(alloc);
+    files.insert(Path::parse(alloc, b"b".as_slice())?, plain(alloc, "x")?)?;
+    let given = [
+        Path::parse(alloc, b"c".as_slice())?,
+        Path::parse(alloc, b"a".as_slice())?,
+    ];
+    let mut table = PathTable::new(alloc);
+    table.add(&given[0])?;
+    table.add_all(&given)?;
+    table.add_files(&files)?;
+    let listed = table.list(alloc)?;
+    assert_eq!(rt; listed.len(), 3);
+    for (path, text) in listed.iter().zip(["a", "b", "c"]) {
+        assert!(rt; path.as_bytes() == text.as_bytes());
+    }
     Ok(())
 }

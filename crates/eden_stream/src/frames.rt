@@ -62,8 +62,9 @@ enum Turn {
 
 /// Answers the first frame that is held, where all of it is there. With no
 /// memory the text is as it was.
-fn answer_next<S: FrameServer>(held: &mut Held, server: &mut S, text: &mut Vec<u8>) -> Turn
+fn answer_next<T, S: FrameServer<T>>(held: &mut Held, server: &mut T, text: &mut Vec<u8>) -> Turn
     ensures kept { (answers : List ℕ → Result (List ℕ) FrameFault) → S.stands_for server.old answers → S.stands_for server.new answers }
+    ensures becomes { (before : T) → S.becomes before server.old → S.becomes before server.new }
     ensures turn { (answers : List ℕ → Result (List ℕ) FrameFault) → S.stands_for server.old answers
         → TakesTurn answers held.old held.new text.old.items text.new.items result }
     ensures shrinks { result ≡ Turn.Answered → length held.new < length held.old }
@@ -75,7 +76,7 @@ fn answer_next<S: FrameServer>(held: &mut Held, server: &mut S, text: &mut Vec<u
         Front::TooLong => return Turn::Faulty(FrameFault::TooLarge),
     };
     let before = text.len();
-    match server.answer(body_of(held.as_slice(), size), text) {
+    match S::answer(server, body_of(held.as_slice(), size), text) {
         Served::Reply => {
             held.drop_first(4 + size);
             Turn::Answered
@@ -119,15 +120,16 @@ fn end_in(rest: &[u8], count: u64) -> Result<u64, ServeFault>
 }
 
 /// The serving, with a buffer for one read.
-fn serve_with<R: CountedRead, W: CountedWrite, S: FrameServer>(
+fn serve_with<R: CountedRead, W: CountedWrite, T, S: FrameServer<T>>(
     alloc: Global,
     reader: &mut R,
     writer: &mut W,
-    server: &mut S,
+    server: &mut T,
     buffer: &mut [u8],
 ) -> Result<u64, ServeFault>
     requires { length buffer.old ≡ 65536 }
     ensures kept { (answers : List ℕ → Result (List ℕ) FrameFault) → S.stands_for server.old answers → S.stands_for server.new answers }
+    ensures becomes { (before : T) → S.becomes before server.old → S.becomes before server.new }
     ensures ends { (answers : List ℕ → Result (List ℕ) FrameFault) → S.stands_for server.old answers
         → Serves answers (R.remaining reader.old) (R.remaining reader.new) (W.contents writer.old) (W.contents writer.new) result }
     ensures read { IsErrOf result ServeFault.Read → Rose (R.failed reader.old) (R.failed reader.new) }
@@ -140,7 +142,7 @@ fn serve_with<R: CountedRead, W: CountedWrite, S: FrameServer>(
     let mut count: u64 = 0;
     let mut reads: u64 = 0;
     loop {
-        let turn = answer_next(&mut held, server, &mut text);
+        let turn = answer_next::<T, S>(&mut held, server, &mut text);
         if !send_after(turn, writer, &mut text) {
             return Err(ServeFault::Write);
         }
@@ -197,13 +199,14 @@ fn serve_with<R: CountedRead, W: CountedWrite, S: FrameServer>(
 /// - `NoMemory`: a growth was refused, of the buffer of 64 KiB, of the held
 ///   bytes, or in the server. The replies to some of the first frames are
 ///   written.
-pub fn serve_frames<R: CountedRead, W: CountedWrite, S: FrameServer>(
+pub fn serve_frames<R: CountedRead, W: CountedWrite, T, S: FrameServer<T>>(
     alloc: Global,
     reader: &mut R,
     writer: &mut W,
-    server: &mut S,
+    server: &mut T,
 ) -> Result<u64, ServeFault>
     ensures kept { (answers : List ℕ → Result (List ℕ) FrameFault) → S.stands_for server.old answers → S.stands_for server.new answers }
+    ensures becomes { (before : T) → S.becomes before server.old → S.becomes before server.new }
     ensures ends { (answers : List ℕ → Result (List ℕ) FrameFault) → S.stands_for server.old answers
         → Serves answers (R.remaining reader.old) (R.remaining reader.new) (W.contents writer.old) (W.contents writer.new) result }
     ensures read { IsErrOf result ServeFault.Read → Rose (R.failed reader.old) (R.failed reader.new) }
@@ -212,7 +215,7 @@ pub fn serve_frames<R: CountedRead, W: CountedWrite, S: FrameServer>(
     ensures turns { R.called reader.new ≤ R.called reader.old + 1000000 }
 {
     match vec![in alloc; 0; READ_SIZE] {
-        Ok(mut buffer) => serve_with(alloc, reader, writer, server, &mut buffer),
+        Ok(mut buffer) => serve_with::<R, W, T, S>(alloc, reader, writer, server, &mut buffer),
         Err(_) => Err(ServeFault::NoMemory),
     }
 }

@@ -44,19 +44,23 @@ pub enum Served {
     NoMemory,
 }
 
-/// A server that answers the bodies of frames, each by itself.
-pub trait FrameServer {
+/// Answers the bodies of frames for a server, each by itself.
+pub trait FrameServer<T> {
     ghost use Rattle.eden_stream.specs.FrameAnswers.{AnswersBody};
     ghost use Rattle.eden_stream.specs.declared.server.FrameFault.{FrameFault};
 
     // The server stands for these answers: the whole reply to each body, as
     // it is written, or the fault of one that can't be read.
-    ghost stands_for: { Self → (List ℕ → Result (List ℕ) FrameFault) → Type 0 };
+    ghost stands_for: { T → (List ℕ → Result (List ℕ) FrameFault) → Type 0 };
+
+    // What a server may become by answering.
+    ghost becomes: { T → T → Type 0 };
 
     /// Answers one body, of at most 16,777,216 bytes, and appends its reply to
     /// `text`.
-    fn answer(&mut self, body: &[u8], text: &mut Vec<u8>) -> Served
-        ensures kept { (answers : List ℕ → Result (List ℕ) FrameFault) → stands_for self.old answers → stands_for self.new answers }
-        ensures answered { (answers : List ℕ → Result (List ℕ) FrameFault) → stands_for self.old answers
+    fn answer(server: &mut T, body: &[u8], text: &mut Vec<u8>) -> Served
+        ensures kept { (answers : List ℕ → Result (List ℕ) FrameFault) → stands_for server.old answers → stands_for server.new answers }
+        ensures becomes { (before : T) → becomes before server.old → becomes before server.new }
+        ensures answered { (answers : List ℕ → Result (List ℕ) FrameFault) → stands_for server.old answers
             → AnswersBody answers body.now text.old.items text.new.items result };
 }

@@ -1,5 +1,5 @@
 //! Servings by an echoing server over devices that give and take little at a time.
-ghost use Rattle.std.specs.Prelude.{◌≡◌, ℕ, List};
+ghost use Rattle.std.specs.Prelude.{◌≡◌, ℕ, List, ⊤};
 ghost use Rattle.eden_stream.specs.EchoFrames.{echo_body};
 
 use super::super::{Counted, Faults, FrameFault, FrameServer, ServeFault, Served, serve_frames};
@@ -12,10 +12,12 @@ use std::test::*;
 #[derive(Drop)]
 struct EchoServer;
 
-impl FrameServer for EchoServer {
+impl FrameServer<EchoServer> for EchoServer {
     ghost stands_for = { λ _ answers. (body : List ℕ) → answers body ≡ echo_body body };
 
-    fn answer(&mut self, body: &[u8], text: &mut Vec<u8>) -> Served {
+    ghost becomes = { λ _ _. ⊤ };
+
+    fn answer(_server: &mut EchoServer, body: &[u8], text: &mut Vec<u8>) -> Served {
         if matches!(body, [b'!', ..]) {
             return Served::Fault(FrameFault::BadTag);
         }
@@ -31,7 +33,7 @@ impl FrameServer for EchoServer {
 
 // Serves what the source gives, and gives how it ended.
 fn serve(alloc: Global, source: &mut Source<'_>, sink: &mut Sink) -> Result<u64, ServeFault> {
-    serve_frames(
+    serve_frames::<_, _, EchoServer, EchoServer>(
         alloc,
         &mut Counted::new(source),
         &mut Counted::new(sink),
@@ -174,7 +176,7 @@ fn a_failed_writer_has_a_part_of_the_replies(rt: HostRuntime) -> Result<(), Fail
 fn endless_frames_spend_the_reads(rt: HostRuntime) -> Result<(), Fail> {
     let mut reader = Counted::new(Endless(0));
     let mut sink = Sink::new(rt.alloc());
-    let outcome = serve_frames(
+    let outcome = serve_frames::<_, _, EchoServer, EchoServer>(
         rt.alloc(),
         &mut reader,
         &mut Counted::new(&mut sink),

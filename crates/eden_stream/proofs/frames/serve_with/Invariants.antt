@@ -14,6 +14,7 @@ invariant-loop-turn g l = record {
   read_grew : Grew (g.R.Faults.failed l.initial.reader) (g.R.Faults.failed l.reader);
   write_grew : Grew (g.W.Faults.failed l.initial.writer) (g.W.Faults.failed l.writer);
   kept : (answers : List ℕ → Result (List ℕ) FrameFault) → g.S.FrameServer.stands_for l.initial.server answers → g.S.FrameServer.stands_for l.server answers;
+  becomes : (before : _) → g.S.FrameServer.becomes before l.initial.server → g.S.FrameServer.becomes before l.server;
   ran : (answers : List ℕ → Result (List ℕ) FrameFault) → g.S.FrameServer.stands_for l.initial.server answers
       → Ran answers (g.R.Read.remaining l.initial.reader) (g.R.Read.remaining l.reader) l.held
       (g.W.Write.contents l.initial.writer) (g.W.Write.contents l.writer) l.text.items l.count;
