@@ -1,51 +1,80 @@
 -- No change makes two paths clash.
-use Rattle.std.proofs.Common.{◌≡◌, Bool, true, false, List, [], ◌∷◌, Option, Some, None, refl, sym, subst, ◌∙◌, if◌then◌else◌}
-use Rattle.eden_ids.specs.FileMaps.{FileMap, IsFileMap, has_file_above, has_file_below}
-use Rattle.eden_ids.proofs.FileMapLemmas.{IsFileMap-insert, IsFileMap-remove}
+use Rattle.std.proofs.Common.{◌≡◌, Bool, true, false, List, [], ◌∷◌, Option, Some, None, is_some, refl, sym, ap, subst, ◌∙◌, if◌then◌else◌}
+use Rattle.std.specs.FinMap as fin
+use Rattle.eden_ids.specs.declared.id.Id.{Id}
+use Rattle.eden_ids.specs.declared.content.Content.{Content}
+use Rattle.eden_ids.specs.FileMaps.{FileMap, IsFileMap, file_at, has_file_above, has_file_below}
+use Rattle.eden_ids.proofs.FileMapLemmas.{IsFileMap-insert, IsFileMap-none, IsFileMap-remove}
+use Rattle.eden_objects.specs.Objects.{Held}
+use Rattle.eden_objects.specs.Closed.{IsClosed}
+use Rattle.eden_objects.specs.Commits.{commit_map}
+use Rattle.eden_objects.specs.Files.{files_of}
+use Rattle.eden_objects.proofs.CommitLaws.{file_maps}
+use Rattle.eden_world.specs.declared.change.Mode.{Mode}
+use Rattle.eden_world.specs.declared.change.Mode.TheVariants.{Normal, Dry, Force}
 use Rattle.eden_world.specs.declared.change.Change.{Change}
-use Rattle.eden_world.specs.declared.change.Change.TheVariants.{Write, Remove}
+use Rattle.eden_world.specs.declared.change.Change.TheVariants.{Write, Remove, Rename, Checkout, Reset, Flush, Remount}
 use Rattle.eden_world.specs.declared.change.ChangeFault.{ChangeFault}
 use Rattle.eden_world.specs.declared.change.ChangeFault.TheVariants.{NotADirectory, IsADirectory}
 use Rattle.eden_world.specs.declared.row.Row.{Row}
 use Rattle.eden_world.specs.declared.row.Event.{Event}
-use Rattle.eden_world.specs.Worlds.{Commits, WorldState, last_row, now}
-use Rattle.eden_world.specs.Outcome.{first_fault, place_fault, files_fault, refusal, next_files, next_row}
+use Rattle.eden_world.specs.Worlds.{Commits, WorldState, commits_of, last_row, now}
+use Rattle.eden_world.specs.Renames.{absent_fault, first_fault, moved, place_fault, rename_fault, renamed, same_place}
+use Rattle.eden_world.specs.Named.{held_files}
+use Rattle.eden_world.specs.Outcome.{change_fault, checked_out, next_files, next_row, refusal}
 use Rattle.eden_world.specs.Legal.{AreMade, IsLegal}
+use Rattle.eden_world.proofs.CheckoutLaws.{force_no_clash, normal_no_clash}
+use Rattle.eden_world.proofs.RenameLaws.{first-none, rename_fits, write_fits}
 use Rattle.eden_world.proofs.Steps.{is_made}
 
-first-none : (a b : Option ChangeFault) → first_fault a b ≡ None → a ≡ None
-first-none None b e = refl
-first-none (Some fault) b e = let bad : ◌≡◌ {A = Option ChangeFault} (Some fault) None = e in cc
+-- each commit that is there holds a file map
+abbrev pub AreFileMaps : Commits → Type 0
+AreFileMaps commits = (id : Id) (files : FileMap) → commits id ≡ Some files → IsFileMap files
 
-free : (above below : Bool) → (if above then Some NotADirectory else (if below then Some IsADirectory else None)) ≡ None → (above ≡ false) × (below ≡ false)
-free true below e = let bad : ◌≡◌ {A = Option ChangeFault} (Some NotADirectory) None = e in cc
-free false true e = let bad : ◌≡◌ {A = Option ChangeFault} (Some IsADirectory) None = e in cc
-free false false e = (refl, refl)
+held_fits : (commits : Commits) → AreFileMaps commits → (id : Id) → IsFileMap (held_files commits id)
+held_fits commits fits id = by (commits id) refl
+  where
+    by : (found : Option FileMap) → commits id ≡ found → IsFileMap (files_of found)
+    by None e = IsFileMap-none
+    by (Some files) e = fits id files e
 
-next-files : (files : FileMap) (change : Change) → files_fault files change ≡ None → IsFileMap files → IsFileMap (next_files files change)
+checked_out_fits : (mode : Mode) (work root target : FileMap) → IsFileMap work → IsFileMap target → IsFileMap (checked_out mode work root target)
+checked_out_fits Normal work root target fits other = normal_no_clash work root target fits other
+checked_out_fits Dry work root target fits other = fits
+checked_out_fits Force work root target fits other = force_no_clash work root target fits other
+
+next_fits : (commits : Commits) (row : Row) (change : Change) → AreFileMaps commits → change_fault commits row change ≡ None → IsFileMap row.files → IsFileMap (next_files commits row change)
 unfolding next_files
-next-files files (Write path kind bytes) e ok =
-    let place = free (has_file_above files path) (has_file_below files path) (first-none (place_fault files path) _ e) in
-    IsFileMap-insert files path _ ok place.0 place.1
-next-files files (Remove path) e ok = IsFileMap-remove files path ok
+next_fits commits row (Write path kind bytes) maps e fits = write_fits row.files path bytes _ fits e
+next_fits commits row (Remove path) maps e fits = IsFileMap-remove row.files path fits
+next_fits commits row (Rename old new) maps e fits = rename_fits row.files old new fits e
+next_fits commits row (Checkout commit mode) maps e fits =
+    checked_out_fits mode row.files (held_files commits row.root) (held_files commits commit) fits (held_fits commits maps commit)
+next_fits commits row (Reset commit) maps e fits = fits
+next_fits commits row Flush maps e fits = fits
+next_fits commits row (Remount generation) maps e fits = fits
 
-allowed-files : (commits : Commits) (row : Row) (change : Change) → refusal commits row change ≡ None → files_fault row.files change ≡ None
+allowed_files : (commits : Commits) (row : Row) (change : Change) → refusal commits row change ≡ None → change_fault commits row change ≡ None
 unfolding refusal
-allowed-files commits row change e = first-none (files_fault row.files change) _ e
+allowed_files commits row change e = (first-none (change_fault commits row change) _ e).0
 
-next-row-files : (commits : Commits) (row : Row) (change : Change) → (next_row commits row change).files ≡ next_files row.files change
+next_row_files : (commits : Commits) (row : Row) (change : Change) → (next_row commits row change).files ≡ next_files commits row change
 unfolding next_row
-next-row-files commits row change = refl
+next_row_files commits row change = refl
 
-made-files : (commits : Commits) (opening : Row) (past : List Event) → IsFileMap opening.files → AreMade commits opening past → IsFileMap (last_row opening past).files
-made-files commits opening [] ok made = ok
-made-files commits opening (event ∷ past) ok made =
+made_fits : (commits : Commits) (opening : Row) (past : List Event) → AreFileMaps commits → IsFileMap opening.files → AreMade commits opening past → IsFileMap (last_row opening past).files
+made_fits commits opening [] maps fits made = fits
+made_fits commits opening (event ∷ past) maps fits made =
     let one = is_made commits (last_row opening past) event made.0 in
-    let row = one.row in
-    subst IsFileMap (sym ((λ i. (row i).files) ∙ next-row-files commits (last_row opening past) event.change))
-    (next-files (last_row opening past).files event.change (allowed-files commits (last_row opening past) event.change one.allowed)
-    (made-files commits opening past ok made.1))
+    let parts = one.made in
+    subst IsFileMap (sym ((λ i. (parts i).row.files) ∙ next_row_files commits (last_row opening past) event.change))
+    (next_fits commits (last_row opening past) event.change maps (allowed_files commits (last_row opening past) event.change one.allowed)
+    (made_fits commits opening past maps fits made.1))
 
--- the files of each row of a legal world are a file map
-pub legal_files : (commits : Commits) (world : WorldState) → IsLegal commits world → IsFileMap (now world).files
-legal_files commits world legal = made-files commits world.opening world.past legal.0 legal.1
+-- the files of each row of a legal world over a closed store are a file map
+pub legal_files : (world : WorldState) → IsClosed world.held → IsLegal world → IsFileMap (now world).files
+legal_files world closed legal = made_fits (commits_of world) world.opening world.past (file_maps world.held closed) legal.0 legal.1
+
+-- the files of a commit are a file map
+pub commit_fits : (held : List Held) → IsClosed held → (id : Id) → IsFileMap (held_files (commit_map held) id)
+commit_fits held closed id = held_fits (commit_map held) (file_maps held closed) id

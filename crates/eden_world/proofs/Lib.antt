@@ -1,8 +1,9 @@
+pub mod CheckoutLaws
+pub mod RenameLaws
+pub mod Committed
 pub mod Steps
 pub mod LegalFiles
 pub mod Touched
-mod Spelling
-pub mod Replying
+pub mod Ranges
 pub mod Floors
-pub mod Told
-pub mod Greatest
+mod Spelling

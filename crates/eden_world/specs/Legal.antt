@@ -3,7 +3,7 @@ use Rattle.std.specs.Prelude.{◌≡◌, List, [], ◌∷◌}
 use Rattle.eden_ids.specs.FileMaps.{IsFileMap}
 use Rattle.eden_world.specs.declared.row.Row.{Row}
 use Rattle.eden_world.specs.declared.row.Event.{Event}
-use Rattle.eden_world.specs.Worlds.{Commits, WorldState, last_row}
+use Rattle.eden_world.specs.Worlds.{Commits, WorldState, commits_of, last_row}
 use Rattle.eden_world.specs.Outcome.{outcome}
 use Rattle.eden_world.specs.Outcome.Outcome.{Next}
 
@@ -11,5 +11,5 @@ abbrev pub AreMade : Commits → Row → List Event → Type 0
 AreMade commits opening [] = Unit {0}
 AreMade commits opening (event ∷ past) = (outcome commits (last_row opening past) event.change ≡ Next event) × AreMade commits opening past
 
-abbrev pub IsLegal : Commits → WorldState → Type 0
-IsLegal commits world = IsFileMap world.opening.files × AreMade commits world.opening world.past
+abbrev pub IsLegal : WorldState → Type 0
+IsLegal world = IsFileMap world.opening.files × AreMade (commits_of world) world.opening world.past

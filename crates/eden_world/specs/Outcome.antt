@@ -1,81 +1,136 @@
 -- What a change does to a row: it is refused, or makes no event, or makes the next row.
-use Rattle.std.specs.Prelude.{ℕ, ◌+◌, ◌-◌, ◌^◌, Bool, true, not, ◌&&◌, nat_lt, if◌then◌else◌, List, ◌∷◌, length, Option, Some, None, is_some}
+use Rattle.std.specs.Prelude.{ℕ, ◌+◌, ◌-◌, ◌^◌, Bool, true, false, not, ◌&&◌, nat_lt, if◌then◌else◌, List, ◌∷◌, Option, Some, None}
 use Rattle.std.specs.FinMap as fin
-use Rattle.eden_ids.specs.FileMaps.{FileMap, file_at, has_file_above, has_file_below}
+use Rattle.eden_ids.specs.declared.id.Id.{Id}
+use Rattle.eden_ids.specs.FileMaps.{FileMap, listing}
 use Rattle.eden_world.specs.declared.answer.Answer.{Answer}
-use Rattle.eden_world.specs.declared.answer.Answer.TheVariants.{At, Refused}
+use Rattle.eden_world.specs.declared.answer.Answer.TheVariants.{At, Checked, Refused}
+use Rattle.eden_world.specs.declared.change.Mode.{Mode}
+use Rattle.eden_world.specs.declared.change.Mode.TheVariants.{Normal, Dry, Force}
 use Rattle.eden_world.specs.declared.change.Change.{Change}
-use Rattle.eden_world.specs.declared.change.Change.TheVariants.{Write, Remove}
+use Rattle.eden_world.specs.declared.change.Change.TheVariants.{Write, Remove, Rename, Checkout, Reset, Flush, Remount}
 use Rattle.eden_world.specs.declared.change.ChangeFault.{ChangeFault}
-use Rattle.eden_world.specs.declared.change.ChangeFault.TheVariants.{NotADirectory, IsADirectory, NoEntry, TooLarge, SequenceExhausted}
+use Rattle.eden_world.specs.declared.change.ChangeFault.TheVariants.{NoCommit, SequenceExhausted, GenerationNotNew}
+use Rattle.eden_world.specs.declared.position.Position.{Position}
 use Rattle.eden_world.specs.declared.row.Row.{Row}
 use Rattle.eden_world.specs.declared.row.Event.{Event}
-use Rattle.eden_world.specs.Worlds.{Commits, WorldState, now, position_of}
-use Rattle.eden_world.specs.Named.{named}
+use Rattle.eden_world.specs.Worlds.{Commits, WorldState, commits_of, now, position_of}
+use Rattle.eden_world.specs.Renames.{first_fault, absent_fault, write_fault, same_place, rename_fault, renamed}
+use Rattle.eden_world.specs.Checkouts.{normal_files, force_files, conflicts}
+use Rattle.eden_world.specs.Named.{held_files, unclean_paths, named}
 
--- the first of two causes that stands
-abbrev pub first_fault : Option ChangeFault → Option ChangeFault → Option ChangeFault
-first_fault None second = second
-first_fault (Some fault) second = Some fault
+-- a commit has to be there
+abbrev pub commit_fault : Option FileMap → Option ChangeFault
+commit_fault None = Some NoCommit
+commit_fault (Some files) = None
 
--- why no file can stand at a path: one of its directories is a file, or it is a directory itself
-abbrev pub place_fault : FileMap → List ℕ → Option ChangeFault
-place_fault files path =
-    if has_file_above files path then Some NotADirectory else
-    if has_file_below files path then Some IsADirectory else None
+-- why the files, the commits or the generation refuse a change
+abbrev pub change_fault : Commits → Row → Change → Option ChangeFault
+change_fault commits row (Write path kind bytes) = write_fault row.files path bytes
+change_fault commits row (Remove path) = absent_fault row.files path
+change_fault commits row (Rename old new) = rename_fault row.files old new
+change_fault commits row (Checkout commit mode) = commit_fault (commits commit)
+change_fault commits row (Reset commit) = commit_fault (commits commit)
+change_fault commits row Flush = None
+change_fault commits row (Remount generation) = if nat_lt row.generation generation then None else Some GenerationNotNew
 
--- the refusals of the working copy; a file holds 8 MiB at the most
-abbrev pub files_fault : FileMap → Change → Option ChangeFault
-files_fault files (Write path kind bytes) = first_fault (place_fault files path) (if nat_lt 8388608 (length bytes) then Some TooLarge else None)
-files_fault files (Remove path) = first_fault (place_fault files path) (if is_some (file_at files path) then None else Some NoEntry)
+abbrev pub is_dry : Mode → Bool
+is_dry Normal = false
+is_dry Dry = true
+is_dry Force = false
 
--- whether the change, where nothing refuses it, makes an event; each write and each removal does
-abbrev pub is_event : Commits → Row → Change → Bool
-is_event commits row change = true
+-- whether the change, where nothing refuses it, makes an event: all do but the rename of a file to itself and a checkout that is tried
+abbrev pub is_event : Change → Bool
+is_event (Rename old new) = not (same_place old new)
+is_event (Checkout commit mode) = not (is_dry mode)
+is_event change = true
+
+-- whether the change, where nothing refuses it, takes the next number: a remount begins anew with number 1
+abbrev pub takes_number : Change → Bool
+takes_number (Remount generation) = false
+takes_number change = is_event change
 
 -- the first cause of a refusal that stands. Sequence numbers end at 2 ^ 64 - 1
 unfoldable pub refusal : Commits → Row → Change → Option ChangeFault
 refusal commits row change =
-    first_fault (files_fault row.files change)
-    (if is_event commits row change && not (nat_lt row.sequence (2 ^ 64 - 1)) then Some SequenceExhausted else None)
+    first_fault (change_fault commits row change)
+    (if takes_number change && not (nat_lt row.sequence (2 ^ 64 - 1)) then Some SequenceExhausted else None)
+
+-- the files after a checkout of a target over a root
+abbrev pub checked_out : Mode → FileMap → FileMap → FileMap → FileMap
+checked_out Normal work root target = normal_files work root target
+checked_out Dry work root target = work
+checked_out Force work root target = force_files work root target
+
+-- the files after a change of files
+abbrev pub files_changed : FileMap → Change → FileMap
+files_changed files (Write path kind bytes) = fin.insert files path (record { kind = kind; bytes = bytes })
+files_changed files (Remove path) = fin.remove files path
+files_changed files (Rename old new) = renamed files old new
+files_changed files change = files
 
 -- the files after a change that is not refused
-unfoldable pub next_files : FileMap → Change → FileMap
-next_files files (Write path kind bytes) = fin.insert files path (record { kind = kind; bytes = bytes })
-next_files files (Remove path) = fin.remove files path
+unfoldable pub next_files : Commits → Row → Change → FileMap
+next_files commits row (Checkout commit mode) = checked_out mode row.files (held_files commits row.root) (held_files commits commit)
+next_files commits row change = files_changed row.files change
+
+abbrev pub next_generation : Row → Change → ℕ
+next_generation row (Remount generation) = generation
+next_generation row change = row.generation
+
+abbrev pub next_sequence : Row → Change → ℕ
+next_sequence row (Remount generation) = 1
+next_sequence row change = row.sequence + 1
+
+abbrev pub next_root : Row → Change → Id
+next_root row (Checkout commit mode) = commit
+next_root row (Reset commit) = commit
+next_root row change = row.root
 
 unfoldable pub next_row : Commits → Row → Change → Row
-next_row commits row change =
-    record { generation = row.generation; sequence = row.sequence + 1; root = row.root; files = next_files row.files change }
+next_row commits row change = record {
+  generation = next_generation row change;
+  sequence = next_sequence row change;
+  root = next_root row change;
+  files = next_files commits row change;
+}
 
 pub data Outcome : Type 0 where
   Refuses : ChangeFault → Outcome
   NoEvent : Outcome
   Next : Event → Outcome
 
+-- the event that a change makes, with the row after it
+abbrev pub event_at : Commits → Row → Change → Row → Event
+event_at commits before change after =
+    record { change = change; row = after; names = named commits before change after; unclean = unclean_paths commits before change after }
+
 abbrev pub judged : Commits → Row → Change → Option ChangeFault → Outcome
 judged commits row change (Some fault) = Refuses fault
-judged commits row change None =
-    if is_event commits row change
-    then Next (record { change = change; row = next_row commits row change; names = named commits row change (next_row commits row change) })
-    else NoEvent
+judged commits row change None = if is_event change then Next (event_at commits row change (next_row commits row change)) else NoEvent
 
 abbrev pub outcome : Commits → Row → Change → Outcome
 outcome commits row change = judged commits row change (refusal commits row change)
 
-abbrev pub answered : Row → Outcome → Answer
-answered row (Refuses fault) = Refused fault
-answered row NoEvent = At (position_of row)
-answered row (Next event) = At (position_of event.row)
+-- a checkout, also one that is only tried, is answered with its conflicts
+abbrev pub answer_at : Commits → Row → Change → Position → Answer
+answer_at commits row (Checkout commit mode) position =
+    Checked position (listing (conflicts row.files (held_files commits row.root) (held_files commits commit)))
+answer_at commits row change position = At position
+
+abbrev pub answered : Commits → Row → Change → Outcome → Answer
+answered commits row change (Refuses fault) = Refused fault
+answered commits row change NoEvent = answer_at commits row change (position_of row)
+answered commits row change (Next event) = answer_at commits row change (position_of event.row)
 
 -- the answer to a change, and the world after it
-abbrev pub answer_of : Commits → WorldState → Change → Answer
-answer_of commits world change = answered (now world) (outcome commits (now world) change)
+abbrev pub answer_of : WorldState → Change → Answer
+answer_of world change = answered (commits_of world) (now world) change (outcome (commits_of world) (now world) change)
 
 abbrev pub extended : WorldState → Outcome → WorldState
 extended world (Refuses fault) = world
 extended world NoEvent = world
-extended world (Next event) = record { limit = world.limit; opening = world.opening; past = event ∷ world.past }
+extended world (Next event) = record world { past = event ∷ world.past }
 
-abbrev pub world_after : Commits → WorldState → Change → WorldState
-world_after commits world change = extended world (outcome commits (now world) change)
+abbrev pub world_after : WorldState → Change → WorldState
+world_after world change = extended world (outcome (commits_of world) (now world) change)

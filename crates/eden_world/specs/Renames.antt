@@ -1,12 +1,22 @@
--- Reading, writing and renaming single files: why each is refused, and the files after a rename.
+-- Reading, writing, removing and renaming single files: why each is refused, and the files after a rename.
 use Rattle.std.specs.Prelude.{ℕ, Bool, nat_eq, nat_lt, if◌then◌else◌, List, length, Option, Some, None, is_some}
 use Rattle.std.specs.Cmp.Lexicographic.{pointwise}
 use Rattle.std.specs.FinMap as fin
 use Rattle.eden_ids.specs.declared.content.Content.{Content}
-use Rattle.eden_ids.specs.FileMaps.{FileMap, file_at}
+use Rattle.eden_ids.specs.FileMaps.{FileMap, file_at, has_file_above, has_file_below}
 use Rattle.eden_world.specs.declared.change.ChangeFault.{ChangeFault}
-use Rattle.eden_world.specs.declared.change.ChangeFault.TheVariants.{NoEntry, TooLarge}
-use Rattle.eden_world.specs.Outcome.{first_fault, place_fault}
+use Rattle.eden_world.specs.declared.change.ChangeFault.TheVariants.{NotADirectory, IsADirectory, NoEntry, TooLarge}
+
+-- the first of two causes that stands
+abbrev pub first_fault : Option ChangeFault → Option ChangeFault → Option ChangeFault
+first_fault None second = second
+first_fault (Some fault) second = Some fault
+
+-- why no file can stand at a path: one of its directories is a file, or it is a directory itself
+abbrev pub place_fault : FileMap → List ℕ → Option ChangeFault
+place_fault files path =
+    if has_file_above files path then Some NotADirectory else
+    if has_file_below files path then Some IsADirectory else None
 
 -- why there is no file at a path to be read, removed or renamed
 abbrev pub absent_fault : FileMap → List ℕ → Option ChangeFault

@@ -14,7 +14,7 @@ use Rattle.eden_world.specs.declared.message.Request.TheVariants.{Poll}
 use Rattle.eden_world.specs.Worlds.{WorldState, now, position_of}
 use Rattle.eden_world.specs.Status.{status}
 use Rattle.eden_world.specs.Marks.{marked_since}
-use Rattle.eden_world.specs.Runs.{floor_of}
+use Rattle.eden_world.specs.Recorded.{floor_of}
 use Rattle.eden_world.specs.Spells.{reply_bytes, body_limit}
 
 -- the cause with its number; no status is a want of memory

@@ -1,14 +1,36 @@
+ghost use Rattle.std.specs.Prelude.{◌≡◌, IfOk};
+
 use crate::change::ChangeFault;
 use crate::position::Position;
+use eden_ids::{NoMemory, Path, Sequence};
 use thiserror::Error;
 
 /// What a change is answered with.
-#[derive(Clone, Copy, Debug, PartialEq, Eq)]
+#[derive(Clone, Debug, PartialEq, Drop)]
 pub enum Answer {
     /// It was made, or there was nothing to make: the position after it.
     At(Position),
+    /// A checkout was made or, where that was asked for, only tried.
+    Checked {
+        /// The position after it.
+        position: Position,
+        /// The paths at which files that were changed stood against files of the new commit, ascending.
+        conflicts: Sequence<Path>,
+    },
     /// It was refused, and nothing has changed.
     Refused(ChangeFault),
+}
+
+impl Answer {
+    /// An answer that is equal to this one. `NoMemory` comes where a growth was refused.
+    pub fn copy(&self) -> Result<Answer, NoMemory>
+        ensures { IfOk result (λ answer. answer ≡ self.now) }
+    {
+        match self.clone() {
+            Ok(answer) => Ok(answer),
+            Err(_) => Err(NoMemory),
+        }
+    }
 }
 
 /// Why the paths that changed since a position can't be told. The first cause in this order is told.
@@ -23,6 +45,17 @@ pub enum SinceFault {
     /// The position's number is below the floor, which is told: changes after it aren't held any more.
     #[error("Truncated {0}")]
     Truncated(u64),
+    /// A growth was refused.
+    #[error("NoMemory")]
+    NoMemory,
+}
+
+/// Why a commit can't be mounted.
+#[derive(Clone, Copy, Debug, PartialEq, Eq, Error)]
+pub enum MountFault {
+    /// The id is no commit's.
+    #[error("NoCommit")]
+    NoCommit,
     /// A growth was refused.
     #[error("NoMemory")]
     NoMemory,

@@ -1,7 +1,18 @@
 ghost use Rattle.std.specs.Prelude.{◌≡◌, IfOk};
 
-use eden_ids::{Kind, NoMemory, Path, Sequence};
+use eden_ids::{Id, Kind, NoMemory, Path, Sequence};
 use thiserror::Error;
+
+/// How a checkout treats files that were changed since the commit that it leaves.
+#[derive(Clone, Copy, Debug, PartialEq, Eq)]
+pub enum Mode {
+    /// They stay, and a file of the new commit that can't stand beside them is left out.
+    Normal,
+    /// Nothing is changed: only the conflicts are told.
+    Dry,
+    /// They give way to the files of the new commit.
+    Force,
+}
 
 /// What is done to a mount.
 #[derive(Clone, Debug, Drop)]
@@ -19,6 +30,33 @@ pub enum Change {
     Remove {
         /// Where.
         path: Path,
+    },
+    /// Takes the file at one path away and puts it at another, in place of the one that stands there. A file may be renamed to itself:
+    /// that changes nothing and takes no number.
+    Rename {
+        /// Where the file stands.
+        old: Path,
+        /// Where it is to stand.
+        new: Path,
+    },
+    /// Goes over to another commit, and makes the files those of that commit as far as the mode says.
+    Checkout {
+        /// The commit.
+        commit: Id,
+        /// What becomes of files that were changed.
+        mode: Mode,
+    },
+    /// Goes over to another commit, and leaves the files as they are.
+    Reset {
+        /// The commit.
+        commit: Id,
+    },
+    /// Forgets what changed so far: since an earlier position it can't be told any more.
+    Flush,
+    /// Begins anew under another generation, with the same commit and the same files, as number 1.
+    Remount {
+        /// The generation, above the present one.
+        generation: u64,
     },
 }
 
@@ -49,9 +87,15 @@ pub enum ChangeFault {
     /// The file would hold more than 8 MiB.
     #[error("TooLarge")]
     TooLarge,
+    /// The id is no commit's.
+    #[error("NoCommit")]
+    NoCommit,
     /// The sequence number is the greatest that there is, 2^64 - 1.
     #[error("SequenceExhausted")]
     SequenceExhausted,
+    /// The generation is not above the present one.
+    #[error("GenerationNotNew")]
+    GenerationNotNew,
     /// A growth was refused.
     #[error("NoMemory")]
     NoMemory,

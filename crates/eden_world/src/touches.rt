@@ -2,6 +2,7 @@ ghost use Rattle.std.specs.Prelude.{◌≡◌, IfOk, OnOk, OnErr, Some};
 ghost use Rattle.eden_world.specs.Marks.{mark_by};
 
 use crate::mark::{Mark, Marked};
+use eden_deltas::FileTouch;
 use eden_ids::{NoMemory, Path, Sequence};
 use std::alloc::Global;
 use std::collections::BTreeMap;
@@ -29,17 +30,6 @@ impl Touch {
     }
 }
 
-/// One change of files: its path, and whether a file was there before it and after it.
-#[derive(Drop)]
-pub struct FileTouch {
-    /// The path.
-    pub path: Path,
-    /// A file was there before.
-    pub before: bool,
-    /// A file is there after.
-    pub after: bool,
-}
-
 /// What changes of files did to the paths that they name, told in the order in which they were made.
 ///
 /// From it comes the answer to what changed since a position: each path once, ascending, with its mark.
@@ -63,7 +53,7 @@ impl Model for Touches {
 
 impl Touches {
     ghost use Rattle.std.specs.FinMap as fin;
-    ghost use Rattle.eden_world.specs.Touches.{untouched, touched, marked_of, first_before};
+    ghost use Rattle.eden_world.specs.Touches.{untouched, touched, touched_by, marked_of, marked_at, mark_told, first_before, listed};
 
     /// No change. It takes no memory.
     pub fn new(alloc: Global) -> Self
@@ -103,6 +93,62 @@ impl Touches {
         let before = self.first_before(&touch.path, touch.before);
         let after = touch.after;
         self.put(touch.path.copy()?, Touch { before, after })
+    }
+
+    /// Notes changes at some paths, in this order.
+    pub fn touch_all(&mut self, touches: &[FileTouch]) -> Result<(), NoMemory>
+        ensures { OnOk result (self.new ≡ touched_by touches.now self.old) }
+    {
+        for touch in touches {
+            self.touch(touch)?;
+        }
+        Ok(())
+    }
+
+    /// What became of a path; one at which no change was noted was named by the root.
+    fn mark(&self, path: &Path) -> Mark
+        ensures { result ≡ mark_told (fin.get self.now path.now) }
+    {
+        match self.paths.get(path) {
+            Some(touch) => touch.mark(),
+            None => Mark::Root,
+        }
+    }
+
+    /// These paths, in their order, each with what became of it.
+    pub fn marks_of(&self, alloc: Global, paths: &[Path]) -> Result<Sequence<Marked>, NoMemory>
+        ensures { IfOk result (λ marked. marked ≡ marked_at self.now paths.now) }
+    {
+        let mut list = Vec::new(alloc);
+        for path in paths {
+            let mark = self.mark(path);
+            let path = path.copy()?;
+            match list.push(Marked { mark, path }) {
+                Ok(()) => {}
+                Err(_) => return Err(NoMemory),
+            }
+        }
+        Ok(Sequence::from_vec(list))
+    }
+
+    /// The paths, ascending, each with whether a file was there before its first change and is there after its last.
+    pub fn listed(&self, alloc: Global) -> Result<Sequence<FileTouch>, NoMemory>
+        ensures { IfOk result (λ touches. touches ≡ listed self.now) }
+    {
+        let mut list = Vec::new(alloc);
+        for (path, touch) in self.paths.iter() {
+            let path = path.copy()?;
+            let touch = FileTouch {
+                path,
+                before: touch.before,
+                after: touch.after,
+            };
+            match list.push(touch) {
+                Ok(()) => {}
+                Err(_) => return Err(NoMemory),
+            }
+        }
+        Ok(Sequence::from_vec(list))
     }
 
     /// The paths, ascending, each with what became of it.

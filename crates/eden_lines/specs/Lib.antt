@@ -1,0 +1,4 @@
+pub mod LabelWords
+pub mod Labels
+pub mod ScriptLines
+pub mod ScriptText

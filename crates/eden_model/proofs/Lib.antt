@@ -1,0 +1,5 @@
+mod Listed
+mod Tabulating
+mod SideLaws
+mod Walk
+mod Replying

@@ -1,0 +1,25 @@
+use Rattle.std.proofs.Common.{[], ◌≡◌, length, get_or, rules, sym, ap, ◌∙◌, subst, arith}
+use Rattle.eden_ids.specs.FileMaps.{no_files}
+use Rattle.eden_model.specs.Sides.{rule_of}
+use Rattle.eden_model.proofs.Tabulating.{Follows, begins, goes_on-at, ends}
+use Rattle.eden_model.proofs.SideLaws.{checked_out-listed}
+use Rattle.eden_model.proofs.sides.Sides.files_after.Goals as goal
+
+pub loop-path-init : goal.loop-path-init
+loop-path-init c =
+    subst (Follows (rule_of c.args.mode c.args.work.now c.args.self.now.root c.args.self.now.target) []) (sym c.new-files.ensures)
+    (begins (rule_of c.args.mode c.args.work.now c.args.self.now.root c.args.self.now.target))
+
+pub loop-path-preserved : goal.loop-path-preserved
+loop-path-preserved c =
+    let same : c.deref-path-items.result.now ≡ c.args.self.now.paths.items = search rules in
+    let at : c.path-item.result ≡ get_or c.args.self.now.paths.items c.loop-path.path-index c.path-item.result =
+    c.path-item.is ∙ ap (λ ps. get_or ps c.loop-path.path-index c.path-item.result) same in
+    subst (Follows (rule_of c.args.mode c.args.work.now c.args.self.now.root c.args.self.now.target) _) (sym c.in_ok-put_file.ensures)
+    (goes_on-at (rule_of c.args.mode c.args.work.now c.args.self.now.root c.args.self.now.target) c.args.self.now.paths.items c.loop-path.path-index c.loop-path.files
+    c.path-item.result c.in_ok-file.file (omega arith) at c.loop-path.invariant (c.in_ok-file.ensures ∙ c.file_after.ensures))
+
+pub returns : goal.returns
+returns c =
+    checked_out-listed c.args.mode c.args.work.now c.args.self.now.root c.args.self.now.target c.loop-path.files c.args.self.now.paths.items c.requires
+    (ends (rule_of c.args.mode c.args.work.now c.args.self.now.root c.args.self.now.target) c.args.self.now.paths.items c.loop-path.path-index c.loop-path.files (omega arith) c.loop-path.invariant)

@@ -1,0 +1,3 @@
+pub mod Sides
+pub mod Stepped
+pub mod Paid
