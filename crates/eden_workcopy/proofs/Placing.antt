@@ -1,43 +1,46 @@
 -- Where an entry stands, or would stand, in a list in byte order of paths.
-use Rattle.std.proofs.Common.{◌≡◌, ◌≢◌, ℕ, suc, zero, ◌<◌, ◌≤◌, Bool, true, false, cond, T, ◌&&◌, List, [], ◌∷◌, length, nat_eq, Option, Some, None, refl, sym, ap, subst, ◌∙◌, arith}
+use Rattle.std.proofs.Common.{◌≡◌, ◌≢◌, ℕ, suc, zero, ◌<◌, ◌≤◌, Bool, true, false, cond, not, T, ◌&&◌, List, [], ◌∷◌, take, length, nat_eq, Option, Some, None, refl, sym, ap, subst, ◌∙◌, arith}
+use Rattle.std.specs.Prelude.{filter}
 use Rattle.std.specs.declared.cmp.Ordering.{Ordering}
 use Rattle.std.specs.declared.cmp.Ordering.TheVariants.{Less, Equal, Greater}
 use Rattle.std.specs.Ordering.{is_lt, is_eq, ordering_reverse}
 use Rattle.std.specs.Cmp.{tied_itself}
 use Rattle.std.specs.Cmp.Lexicographic.{nat_list_cmp_total}
-use Rattle.std.specs.List.{insert, slice_index_or, slice_get, slice_set}
+use Rattle.std.specs.List.{insert, remove, slice_index_or, slice_get, slice_set}
 use Rattle.std.specs.List.Sorted.{IsPartitionPoint, IsPartitionedBy}
 use Rattle.std.specs.FinMap as fin
 use Rattle.std.specs.FinMap.{find, put, is_sorted}
-use Rattle.std.specs.FinMap.Entries.{below_all, by_order, is_sorted-put}
+use Rattle.std.specs.FinMap.Entries.{below_all, by_order, is_sorted-put, is_sorted-where_key, find-where_key}
 use Rattle.std.specs.Cmp.Lexicographic.{pointwise}
 use Rattle.std.proofs.lemmas.Slice.Eq.{bytes_eq-Decides}
 use Rattle.eden_workcopy.specs.Layers.{by_bytes, place, Entry, IsThere}
+use Rattle.eden_ids.specs.FileMaps.{same_path}
+use Rattle.eden_ids.proofs.FileMapLemmas.{same_path-turned}
 use Rattle.eden_ids.specs.declared.content.Content.{Content}
 
-first : (a b : Bool) → T (a && b) → T a
+pub first : (a b : Bool) → T (a && b) → T a
 first true b p = tt
 first false b p = p
 
-second : (a b : Bool) → T (a && b) → T b
+pub second : (a b : Bool) → T (a && b) → T b
 second true b p = p
 second false b p = absurd p
 
-less : (r : Ordering) → T (is_lt r) → r ≡ Less
+pub less : (r : Ordering) → T (is_lt r) → r ≡ Less
 less Less p = refl
 less Equal p = absurd p
 less Greater p = absurd p
 
-is_less : (p q : List ℕ) → by_bytes p q ≡ Less → T (is_lt (by_bytes p q))
+pub is_less : (p q : List ℕ) → by_bytes p q ≡ Less → T (is_lt (by_bytes p q))
 is_less p q e = subst (λ r. T (is_lt r)) (sym e) tt
 
-turned : (p q : List ℕ) (r : Ordering) → by_bytes p q ≡ r → by_bytes q p ≡ ordering_reverse r
+pub turned : (p q : List ℕ) (r : Ordering) → by_bytes p q ≡ r → by_bytes q p ≡ ordering_reverse r
 turned p q r e = nat_list_cmp_total.antisymm q p ∙ ap ordering_reverse e
 
-trans : (p q r : List ℕ) → T (is_lt (by_bytes p q)) → T (is_lt (by_bytes q r)) → T (is_lt (by_bytes p r))
+pub trans : (p q r : List ℕ) → T (is_lt (by_bytes p q)) → T (is_lt (by_bytes q r)) → T (is_lt (by_bytes p r))
 trans p q r a b = is_less p r (nat_list_cmp_total.trans p q r (less _ a) (less _ b))
 
-not_itself : (k : List ℕ) (r : Ordering) → by_bytes k k ≡ r → r ≢ Equal → ⊥
+pub not_itself : (k : List ℕ) (r : Ordering) → by_bytes k k ≡ r → r ≢ Equal → ⊥
 not_itself k r e apart = apart (sym e ∙ tied_itself nat_list_cmp_total k)
 
 module _ {X : Type 0} where
@@ -70,7 +73,7 @@ module _ {X : Type 0} where
   none_above k [] h = refl
   none_above k (e ∷ es) h = ap (λ r. cond (is_eq r) (Some e.1) (find by_bytes k es)) (less _ (first _ _ h)) ∙ none_above k es (second _ _ h)
 
-  below_later : (k q : List ℕ) (es : List (List ℕ × X)) → T (is_lt (by_bytes k q)) → T (below_all by_bytes q es) → T (below_all by_bytes k es)
+  pub below_later : (k q : List ℕ) (es : List (List ℕ × X)) → T (is_lt (by_bytes k q)) → T (below_all by_bytes q es) → T (below_all by_bytes k es)
   below_later k q [] p h = tt
   below_later k q (e ∷ es) p h = both _ _ (trans k q e.0 p (first _ _ h)) (below_later k q es p (second _ _ h))
     where
@@ -153,6 +156,66 @@ module _ {X : Type 0} where
       (fin.entries-from_sorted by_bytes (put by_bytes k v es) (is_sorted-put by_bytes nat_list_cmp_total k v es h)
       ∙ sym (fin.entries-insert nat_list_cmp_total (fin.from_sorted es) k v ∙ ap (put by_bytes k v) (fin.entries-from_sorted by_bytes es h)))
 
+-- ---- an entry that is taken out
+
+abbrev pub without : List ℕ → List Entry → List Entry
+without k es = filter (λ e. not (same_path k e.0)) es
+
+-- the path is not among them
+pub without_none : (k : List ℕ) (es : List Entry) → find by_bytes k es ≡ None → es ≡ without k es
+without_none k [] none = refl
+without_none k (e ∷ es) none =
+    elim (same_path k e.0) as (λ b. cond b (Some e.1) (find by_bytes k es) ≡ None → e ∷ es ≡ cond (not b) (e ∷ without k es) (without k es)) [
+      | true ↦ λ h. absurd (cc)
+      | false ↦ λ h. ap (λ fs. e ∷ fs) (without_none k es h)
+    ] none
+
+pub taken_out : (k : List ℕ) (w : Option Content) (es : List Entry) → T (is_sorted by_bytes es) → slice_get es (place k es) ≡ Some (k, w) → remove es (place k es) ≡ without k es
+taken_out k w [] h there = absurd (cc)
+taken_out k w (e ∷ es) h there =
+    elim (by_bytes k e.0) as (λ r. by_bytes k e.0 ≡ r → remove (e ∷ es) (place k (e ∷ es)) ≡ without k (e ∷ es)) [
+      | Less ↦ λ p.
+          let at : slice_get (e ∷ es) 0 ≡ Some (k, w) = subst (λ n. slice_get (e ∷ es) n ≡ Some (k, w)) (ap (λ r. cond (is_lt r) (suc (place k es)) 0) (turned k e.0 Less p)) there in
+          let path : e.0 ≡ k = cc in
+          absurd (not_itself k Less (ap (by_bytes k) (sym path) ∙ p) (λ (x : Less ≡ Equal). (cc)))
+      | Equal ↦ λ p.
+          let path : k ≡ e.0 = fin.slice_cmp-IsAntisymmetric fin.nat_cmp-IsAntisymmetric k e.0 p in
+          ap (λ r. remove (e ∷ es) (cond (is_lt r) (suc (place k es)) 0)) (turned k e.0 Equal p)
+          ∙ without_none k es (none_above k es (subst (λ q. T (below_all by_bytes q es)) (sym path) (first _ _ h)))
+          ∙ sym (ap (λ r. cond (not (is_eq r)) (e ∷ without k es) (without k es)) p)
+      | Greater ↦ λ p.
+          ap (λ r. remove (e ∷ es) (cond (is_lt r) (suc (place k es)) 0)) (turned k e.0 Greater p)
+          ∙ ap (λ fs. e ∷ fs) (taken_out k w es (second _ _ h) (subst (λ n. slice_get (e ∷ es) n ≡ Some (k, w)) (ap (λ r. cond (is_lt r) (suc (place k es)) 0) (turned k e.0 Greater p)) there))
+          ∙ sym (ap (λ r. cond (not (is_eq r)) (e ∷ without k es) (without k es)) p)
+    ] refl
+
+pub out_there : (k : List ℕ) (es : List Entry) (i : ℕ) → T (is_sorted by_bytes es) → i ≡ place k es → IsThere true k es i → remove es i ≡ without k es
+out_there k es i h is there = ap (remove es) is ∙ taken_out k there.0 es h (ap (slice_get es) (sym is) ∙ there.1)
+
+pub not_there : (k : List ℕ) (es : List Entry) (i : ℕ) → T (is_sorted by_bytes es) → i ≡ place k es → IsThere false k es i → es ≡ without k es
+not_there k es i h is apart = without_none k es (missing_there k es h (λ v at. apart v (ap (slice_get es) is ∙ at)))
+
+pub sorted_without : (k : List ℕ) (es fs : List Entry) → T (is_sorted by_bytes es) → fs ≡ without k es → T (is_sorted by_bytes fs)
+sorted_without k es fs h is = subst (λ gs. T (is_sorted by_bytes gs)) (sym is) (is_sorted-where_key by_bytes (λ q. not (same_path k q)) es h)
+
+-- the map of a list after an entry is taken out
+pub seen_without : (k : List ℕ) (es fs : List Entry) → T (is_sorted by_bytes es) → fs ≡ without k es
+    → fin.from_sorted {R = by_bytes} fs ≡ fin.remove (fin.from_sorted {R = by_bytes} es) k
+seen_without k es fs h is =
+    fin.same_map nat_list_cmp_total (fin.slice_cmp-IsAntisymmetric fin.nat_cmp-IsAntisymmetric) _ _
+    (λ q.
+    fin.get-from_sorted by_bytes fs q (sorted_without k es fs h is)
+    ∙ ap (find by_bytes q) is
+    ∙ find-where_key by_bytes (λ p. not (same_path k p)) q (λ x e. ap (λ p. not (same_path k p)) (sym (fin.slice_cmp-IsAntisymmetric fin.nat_cmp-IsAntisymmetric q x e))) es
+    ∙ swapped (same_path k q) (find by_bytes q es)
+    ∙ ap (λ b. cond b None (find by_bytes q es)) (same_path-turned k q)
+    ∙ ap (cond (same_path q k) None) (sym (fin.get-from_sorted by_bytes es q h))
+    ∙ sym (fin.get-remove nat_list_cmp_total (fin.from_sorted {R = by_bytes} es) k q))
+  where
+    swapped : (b : Bool) (o : Option (Option Content)) → cond (not b) o None ≡ cond b None o
+    swapped true o = refl
+    swapped false o = refl
+
 pub told_there : (k : List ℕ) (es : List Entry) → IsThere true k es (place k es) → (file : Option Content) × (find by_bytes k es ≡ Some file) × (slice_get es (place k es) ≡ Some (k, file))
 told_there k es there = (there.0, found_there k there.0 es there.1, there.1)
 
@@ -231,3 +294,9 @@ still_sorted k v es fs h is = subst (λ gs. T (is_sorted by_bytes gs)) (sym is) 
 pub seen_put : (k : List ℕ) (v : Option Content) (es fs : List Entry) → T (is_sorted by_bytes es) → fs ≡ put by_bytes k v es
     → fin.from_sorted {R = by_bytes} fs ≡ fin.insert (fin.from_sorted {R = by_bytes} es) k v
 seen_put k v es fs h is = ap (λ gs. fin.from_sorted {R = by_bytes} gs) is ∙ from_sorted-put k v es h
+
+pub taken : (es : List Entry) (n : ℕ) → n ≤ length es → n ≡ length (take n es)
+taken [] zero h = refl
+taken [] (suc n) h = absurd (omega arith)
+taken (e ∷ es) zero h = refl
+taken (e ∷ es) (suc n) h = ap suc (taken es n (omega arith))

@@ -4,11 +4,12 @@ use Rattle.std.specs.Prelude.{filter}
 use Rattle.std.specs.List.{AllByRecursion, slice_index_or}
 use Rattle.std.specs.FinMap as fin
 use Rattle.eden_ids.specs.declared.content.Content.{Content}
-use Rattle.eden_ids.specs.FileMaps.{FileMap, file_at, same_file, differ, listing, has}
-use Rattle.eden_ids.proofs.FileMapLemmas.{has-differ, same_file-refl}
-use Rattle.eden_ids.proofs.TreeMaps.{entries_found}
-use Rattle.eden_workcopy.specs.Layers.{Layer, Entry, over}
-use Rattle.eden_workcopy.proofs.Overs.{listing_of}
+use Rattle.eden_ids.specs.FileMaps.{FileMap, file_at, same_file, differ, listing, has, path_set, put_option}
+use Rattle.eden_ids.proofs.FileMapLemmas.{has-differ, same_file-refl, has-path_set}
+use Rattle.eden_ids.proofs.TreeMaps.{entries_found, listing-same}
+use Rattle.eden_workcopy.specs.Layers.{Layer, Entry, over, marks, marked}
+use Rattle.eden_ids.proofs.Sifted.{listing_of}
+use Rattle.eden_workcopy.proofs.Overs.{over-insert, over-remove}
 use Rattle.eden_workcopy.proofs.Works.{file_told, file_below}
 
 -- the paths of the entries that pass a test
@@ -75,3 +76,45 @@ take_whole [] zero h = refl
 take_whole [] (suc n) h = refl
 take_whole (e ∷ es) zero h = absurd (omega arith)
 take_whole (e ∷ es) (suc n) h = ap (λ fs. e ∷ fs) (take_whole es n (omega arith))
+
+-- ---- the touched paths
+
+pub seen_more : (es : List Entry) (i : ℕ) (e : Entry) → i < length es → e ≡ slice_index_or es i e
+    → marks (take (i + 1) es) ≡ marks (take i es) ++ ((e.0, is_some e.1) ∷ [])
+seen_more es i e within is = ap (λ n. marks (take n es)) (add-one i) ∙ by es i within is
+  where
+    by : (es : List Entry) (i : ℕ) → i < length es → e ≡ slice_index_or es i e
+        → marks (take (suc i) es) ≡ marks (take i es) ++ ((e.0, is_some e.1) ∷ [])
+    by [] i within is = absurd (omega arith)
+    by (x ∷ xs) zero within is = ap (λ f. marks (f ∷ [])) (sym is)
+    by (x ∷ xs) (suc i) within is = ap (λ ps. (x.0, is_some x.1) ∷ ps) (by xs i (omega arith) is)
+
+seen_keys : (es : List Entry) → marked (marks es) ≡ map {A = Entry} (λ e. e.0) es
+seen_keys [] = refl
+seen_keys (e ∷ es) = ap (λ ps. e.0 ∷ ps) (seen_keys es)
+
+pub has-touched : (layer : Layer) (p : List ℕ) → has (path_set (fin.keys layer)) p ≡ is_some (fin.get layer p)
+has-touched layer p = has-path_set (fin.keys layer) p ∙ sym (fin.contains_key-keys layer p)
+
+pub touched_listed : (layer : Layer) → marked (marks (fin.entries layer)) ≡ listing (path_set (fin.keys layer))
+touched_listed layer = seen_keys (fin.entries layer) ∙ sym (listing-same (path_set (fin.keys layer)) layer (λ p. has-touched layer p))
+
+pub touched_present : (base : FileMap) (layer : Layer) → AllByRecursion {X = List ℕ × Bool} (λ e. is_some (file_at (over base layer) e.0) ≡ e.1) (marks (fin.entries layer))
+touched_present base layer = by (fin.entries layer) (entries_found layer)
+  where
+    by : (es : List Entry) → AllByRecursion (λ e. fin.get layer e.0 ≡ Some e.1) es → AllByRecursion {X = List ℕ × Bool} (λ e. is_some (file_at (over base layer) e.0) ≡ e.1) (marks es)
+    by [] all = tt
+    by (e ∷ es) all = (ap is_some (file_told base layer e.0 e.1 all.0), by es all.1)
+
+pub touched_elsewhere : (base : FileMap) (layer : Layer) (p : List ℕ) → has (path_set (fin.keys layer)) p ≡ false → file_at (over base layer) p ≡ file_at base p
+touched_elsewhere base layer p none = file_below base layer p (absent (fin.get layer p) (sym (has-touched layer p) ∙ none))
+  where
+    absent : (o : Option (Option Content)) → is_some o ≡ false → o ≡ None
+    absent None e = refl
+    absent (Some f) e = absurd (cc)
+
+-- ---- a path that is set
+
+pub set_over : (base : FileMap) (layer after : Layer) (p : List ℕ) (file : Option Content) → after ≡ fin.insert layer p file → over base after ≡ put_option (over base layer) p file
+set_over base layer after p None is = ap (over base) is ∙ over-remove base layer p
+set_over base layer after p (Some f) is = ap (over base) is ∙ over-insert base layer p f

@@ -20,14 +20,14 @@ use Rattle.eden_objects.specs.Files.{files_of, commit_files, content_seen}
 use Rattle.eden_objects.proofs.CommitLaws.{file_maps}
 use Rattle.eden_world.specs.declared.change.ChangeFault.{ChangeFault}
 use Rattle.eden_world.specs.declared.change.ChangeFault.TheVariants.{NotADirectory, IsADirectory}
-use Rattle.eden_world.specs.Outcome.{first_fault, place_fault}
+use Rattle.eden_world.specs.Renames.{first_fault, place_fault}
 use Rattle.eden_world.specs.Renames.{absent_fault, write_fault, rename_fault, same_place, moved, renamed}
 use Rattle.eden_workcopy.specs.declared.work.WorkCopy.{WorkCopy}
 use Rattle.eden_workcopy.specs.Meanings.{means, FitsIn}
 use Rattle.eden_workcopy.specs.Layers.{Layer, Entry, or_below, over}
 use Rattle.eden_workcopy.proofs.Overs.{file_at-over, over-nothing, over-insert, over-remove, over-move, any_none, any_some, here_below, left_below, some_above, none_above}
 
-some_rows : (held : List Held) (o : Option (List Row)) → is_some o ≡ true → map_of_rows held o ≡ Some (files_of (map_of_rows held o))
+pub some_rows : (held : List Held) (o : Option (List Row)) → is_some o ≡ true → map_of_rows held o ≡ Some (files_of (map_of_rows held o))
 some_rows held None e = absurd (cc)
 some_rows held (Some rows) e = refl
 
@@ -161,45 +161,10 @@ shifted base layer after from to old new f is source target file other =
     ∙ ap (moved (over base layer) old new) file
     ∙ sym (ap (λ b. cond b (over base layer) (moved (over base layer) old new (file_at (over base layer) old))) other)
 
-place_free : (above below : Bool) (later : Option ChangeFault) → first_fault (cond above (Some NotADirectory) (cond below (Some IsADirectory) None)) later ≡ None → (above ≡ false) × (below ≡ false)
+pub place_free : (above below : Bool) (later : Option ChangeFault) → first_fault (cond above (Some NotADirectory) (cond below (Some IsADirectory) None)) later ≡ None → (above ≡ false) × (below ≡ false)
 place_free true below later e = absurd (cc)
 place_free false true later e = absurd (cc)
 place_free false false later e = (refl, refl)
-
-pub write_fits : (m : FileMap) (k bytes : List ℕ) (f : Content) → IsFileMap m → write_fault m k bytes ≡ None → IsFileMap (fin.insert m k f)
-write_fits m k bytes f ok e =
-    let free = place_free (has_file_above m k) (has_file_below m k) _ e in IsFileMap-insert m k f ok free.0 free.1
-
-still_none : (m : FileMap) (k : List ℕ) (test : List ℕ → Bool) → list_any test (paths m) ≡ false → list_any test (paths (fin.remove m k)) ≡ false
-still_none m k test none =
-    any_none test (paths (fin.remove m k))
-    (λ p at. by p (before p (same_path p k) refl (sym (ap is_some (file_at-remove m k p)) ∙ fin.contains_key-keys (fin.remove m k) p ∙ at)))
-  where
-    before : (p : List ℕ) (b : Bool) → same_path p k ≡ b → is_some (cond (same_path p k) None (file_at m p)) ≡ true → list_any (λ q. same_path p q) (paths m) ≡ true
-    before p true is h = let bad : false ≡ true = sym (ap (λ b. is_some (cond b None (file_at m p))) is) ∙ h in absurd (cc)
-    before p false is h = sym (fin.contains_key-keys m p) ∙ sym (ap (λ b. is_some (cond b None (file_at m p))) is) ∙ h
-
-    by : (p : List ℕ) → list_any (λ q. same_path p q) (paths m) ≡ true → test p ≡ false
-    by p at = elim (test p) as (λ c. test p ≡ c → c ≡ false) [
-      | true ↦ λ t. let bad : true ≡ false = sym (any_some test (paths m) p at t) ∙ none in cc
-      | false ↦ λ t. refl
-    ] refl
-
-moved_fits : (m : FileMap) (old new : List ℕ) (file : Option Content) → IsFileMap m → has_file_above m new ≡ false → has_file_below m new ≡ false → IsFileMap (moved m old new file)
-moved_fits m old new None ok above below = ok
-moved_fits m old new (Some f) ok above below =
-    IsFileMap-insert (fin.remove m old) new f (IsFileMap-remove m old ok) (still_none m old (λ top. lies_below new top) above) (still_none m old (λ q. lies_below q new) below)
-
-later_none : (a b : Option ChangeFault) → first_fault a b ≡ None → b ≡ None
-later_none None b e = e
-later_none (Some f) b e = absurd (cc)
-
-pub rename_fits : (m : FileMap) (old new : List ℕ) → IsFileMap m → rename_fault m old new ≡ None → same_place old new ≡ false → IsFileMap (renamed m old new)
-rename_fits m old new ok e other =
-    let place : cond (same_place old new) None (place_fault m new) ≡ None = later_none (absent_fault m old) _ e in
-    let free_place : place_fault m new ≡ None = sym (ap (λ b. cond b None (place_fault m new)) other) ∙ place in
-    let free = place_free (has_file_above m new) (has_file_below m new) None (ap (λ o. first_fault o None) free_place) in
-    subst IsFileMap (sym (ap (λ b. cond b m (moved m old new (file_at m old))) other)) (moved_fits m old new (file_at m old) ok free.0 free.1)
 
 -- ---- another store
 

@@ -1,5 +1,5 @@
 -- An overlay: some paths, each with the file that is to stand there, or with none. Laid over a file map it gives another one.
-use Rattle.std.specs.Prelude.{◌≡◌, ◌≢◌, ℕ, suc, Bool, true, false, if◌then◌else◌, List, [], ◌∷◌, ◌++◌, Option, Some, None}
+use Rattle.std.specs.Prelude.{◌≡◌, ◌≢◌, ℕ, suc, Bool, true, false, if◌then◌else◌, List, [], ◌∷◌, ◌++◌, map, Option, Some, None, is_some}
 use Rattle.std.specs.declared.cmp.Ordering.{Ordering}
 use Rattle.std.specs.Ordering.{nat_cmp, is_lt}
 use Rattle.std.specs.Cmp.Lexicographic.{slice_cmp}
@@ -40,3 +40,11 @@ Entry = List ℕ × Option Content
 abbrev pub IsThere : Bool → List ℕ → List Entry → ℕ → Type 0
 IsThere true path es at = (file : Option Content) × (slice_get es at ≡ Some (path, file))
 IsThere false path es at = (file : Option Content) → slice_get es at ≢ Some (path, file)
+
+-- the paths of entries, each with whether a file stands there
+abbrev pub marks : List Entry → List (List ℕ × Bool)
+marks es = map (λ e. (e.0, is_some e.1)) es
+
+-- these paths alone
+abbrev pub marked : List (List ℕ × Bool) → List (List ℕ)
+marked ms = map (λ m. m.0) ms

@@ -1,2 +1,5 @@
+pub mod Agreements
 pub mod Layers
+pub mod Listings
 pub mod Meanings
+pub mod Reverts

@@ -1,10 +1,11 @@
 -- What a working copy means over a store: the files of its root's commit, and over them its overlay.
-use Rattle.std.specs.Prelude.{◌≡◌, List, Option, Some, IsSome}
-use Rattle.eden_ids.specs.FileMaps.{FileMap, IsFileMap}
+use Rattle.std.specs.Prelude.{ℕ, Bool, List, IsSome}
+use Rattle.std.specs.FinMap as fin
+use Rattle.eden_ids.specs.FileMaps.{FileMap, IsFileMap, PathSet, path_set}
 use Rattle.eden_objects.specs.Objects.{Held}
 use Rattle.eden_objects.specs.Commits.{commit_map}
 use Rattle.eden_objects.specs.Files.{commit_files}
-use Rattle.eden_workcopy.specs.Layers.{over}
+use Rattle.eden_workcopy.specs.Layers.{marks, over}
 use Rattle.eden_workcopy.specs.declared.work.WorkCopy.{WorkCopy}
 
 -- the files that a working copy holds
@@ -14,3 +15,11 @@ means held work = over (commit_files held work.root) work.overlay
 -- the store has the root's commit, and root and overlay make a file map there
 abbrev pub FitsIn : List Held → WorkCopy → Type 0
 FitsIn held work = IsSome (commit_map held work.root) × IsFileMap (means held work)
+
+-- the paths that a change touched, each once and ascending, with whether a file stands there now
+abbrev pub touched_of : WorkCopy → List (List ℕ × Bool)
+touched_of work = marks (fin.entries work.overlay)
+
+-- the set of these paths
+abbrev pub touched_set : WorkCopy → PathSet
+touched_set work = path_set (fin.keys work.overlay)

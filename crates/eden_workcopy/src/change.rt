@@ -151,7 +151,7 @@ impl WorkCopy {
     }
 
     /// The file at a path, in memory of its own.
-    fn file_copy<N: Naming + Drop>(
+    pub(crate) fn file_copy<N: Naming + Drop>(
         &self,
         store: &Store<N>,
         path: &Path,

@@ -8,7 +8,7 @@ use eden_ids::{Content, Kind, Naming, NoMemory, Path};
 use eden_objects::Store;
 
 /// Whether two kinds are one.
-fn is_same_kind(kind: Kind, other: Kind) -> bool
+pub(crate) fn is_same_kind(kind: Kind, other: Kind) -> bool
     ensures { result ≡ same_kind kind other }
 {
     match kind {
@@ -32,7 +32,7 @@ fn is_same(file: &Option<Content>, below: Option<(Kind, &[u8])>) -> bool
 }
 
 /// Adds a path, if it is wanted.
-fn add_if(paths: &mut Vec<Path>, path: &Path, wanted: bool) -> Result<(), NoMemory>
+pub(crate) fn add_if(paths: &mut Vec<Path>, path: &Path, wanted: bool) -> Result<(), NoMemory>
     ensures { OnOk result (paths.new.items ≡ paths.old.items ++ (if wanted then path.now ∷ [] else [])) }
 {
     if !wanted {

@@ -1,7 +1,8 @@
 //! A working copy: the files of a commit, and those that were changed since.
 #![tactic(auto)]
 
-pub use crate::laws::{elsewhere_law, over_law};
+pub use crate::laws::{elsewhere_law, over_law, touched_law};
+pub use crate::reroot::RerootFault;
 pub use crate::work::WorkCopy;
 
 mod beneath;
@@ -9,7 +10,11 @@ mod change;
 mod dirty;
 mod entries;
 mod laws;
+mod list;
 mod overlay;
+mod reroot;
+mod revert;
 #[cfg(test)]
 mod tests;
+mod touch;
 mod work;

@@ -1,7 +1,7 @@
 ghost use Rattle.std.specs.Prelude.{◌≡◌, None, Some, IfOk, OnOk, OnErr, option_copied};
 ghost use Rattle.std.specs.FinMap as fin;
 
-use crate::entries::{put, told};
+use crate::entries::{put, take_out, told};
 use eden_ids::{Content, NoMemory, Path};
 use std::alloc::Global;
 use std::marker::Model;
@@ -65,6 +65,13 @@ impl Overlay {
     {
         put(&mut self.entries, path, file)?;
         Ok(())
+    }
+
+    /// Says no longer what stands at a path. It takes no memory.
+    pub(crate) fn forget(&mut self, path: &[u8])
+        ensures { self.new ≡ fin.remove self.old path.now }
+    {
+        take_out(&mut self.entries, path);
     }
 
     /// Says that no file stands at one path, and what stands at another. `NoMemory` changes nothing.

@@ -4,7 +4,7 @@ ghost use Rattle.std.specs.FinMap as fin;
 ghost use Rattle.eden_ids.specs.FileMaps.{differ, file_at, has_file_above, has_file_below, listing, paths};
 ghost use Rattle.eden_objects.specs.Commits.{commit_map};
 ghost use Rattle.eden_objects.specs.Files.{commit_files, content_seen};
-ghost use Rattle.eden_world.specs.Outcome.{place_fault};
+ghost use Rattle.eden_world.specs.Renames.{place_fault};
 ghost use Rattle.eden_world.specs.Renames.{absent_fault, rename_fault, renamed, same_place, write_fault};
 ghost use Rattle.eden_workcopy.specs.Meanings.{means, FitsIn};
 
@@ -68,9 +68,11 @@ impl WorkCopy {
         self.root
     }
 
-    /// The file at a path.
+    /// The kind and the bytes of the file at a path, if one stands there.
+    ///
+    /// Unlike `read` it does not tell why none does. It takes no memory.
     #[tactic(auto, using(crate::proofs::Works::file_told, crate::proofs::Works::file_below))]
-    pub(crate) fn file<'a, N: Naming + Drop>(
+    pub fn file<'a, N: Naming + Drop>(
         &'a self,
         store: &'a Store<N>,
         path: &[u8],
@@ -111,8 +113,8 @@ impl WorkCopy {
         self.file(store, path).is_some()
     }
 
-    /// Why no file can stand at a path.
-    pub(crate) fn place_fault<N: Naming + Drop>(
+    /// Why no file can stand at a path: a file stands above it, or files stand below it. It takes no memory.
+    pub fn place_fault<N: Naming + Drop>(
         &self,
         store: &Store<N>,
         path: &Path,
@@ -128,8 +130,8 @@ impl WorkCopy {
         }
     }
 
-    /// Why no file at a path can be read, removed or renamed.
-    pub(crate) fn absent_fault<N: Naming + Drop>(
+    /// Why no file at a path can be read, removed or renamed. It takes no memory.
+    pub fn absent_fault<N: Naming + Drop>(
         &self,
         store: &Store<N>,
         path: &Path,
@@ -153,8 +155,8 @@ impl WorkCopy {
         }
     }
 
-    /// Why bytes can't be written at a path.
-    pub(crate) fn write_fault<N: Naming + Drop>(
+    /// Why bytes can't be written at a path. It takes no memory.
+    pub fn write_fault<N: Naming + Drop>(
         &self,
         store: &Store<N>,
         path: &Path,
@@ -168,8 +170,8 @@ impl WorkCopy {
         }
     }
 
-    /// Why a file can't be renamed.
-    pub(crate) fn rename_fault<N: Naming + Drop>(
+    /// Why a file can't be renamed: the old path is judged first, and where the two are one, the new one is not. It takes no memory.
+    pub fn rename_fault<N: Naming + Drop>(
         &self,
         store: &Store<N>,
         old: &Path,

@@ -3,7 +3,8 @@ use Rattle.eden_ids.specs.FileMaps.{IsFileMap, file_at}
 use Rattle.eden_objects.specs.Files.{commit_files}
 use Rattle.eden_world.specs.Renames.{rename_fault, same_place}
 use Rattle.eden_workcopy.specs.Meanings.{means}
-use Rattle.eden_workcopy.proofs.Works.{shifted, rename_fits}
+use Rattle.eden_world.proofs.RenameLaws.{rename_fits}
+use Rattle.eden_workcopy.proofs.Works.{shifted}
 use Rattle.eden_workcopy.proofs.work.WorkCopy.rename.Goals as goal
 
 pub returns-clause-files : goal.returns-clause-files
@@ -15,6 +16,5 @@ returns-clause-files g c =
 
 pub returns-clause-fits : goal.returns-clause-fits
 returns-clause-fits g c =
-    let other : same_place c.args.old.now c.args.new.now ≡ false = search rules in
     let free : rename_fault (means c.args.store.now c.args.self.now) c.args.old.now c.args.new.now ≡ None = search rules in
-    (c.requires.0, subst IsFileMap (sym (returns-clause-files g c)) (rename_fits (means c.args.store.now c.args.self.now) c.args.old.now c.args.new.now c.requires.1 free other))
+    (c.requires.0, subst IsFileMap (sym (returns-clause-files g c)) (rename_fits (means c.args.store.now c.args.self.now) c.args.old.now c.args.new.now c.requires.1 free))

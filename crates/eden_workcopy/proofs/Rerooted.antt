@@ -1,0 +1,164 @@
+-- The same files over another commit.
+use Rattle.std.proofs.Common.{◌≡◌, ◌≢◌, ℕ, suc, zero, ◌+◌, ◌<◌, ◌≤◌, Bool, true, false, cond, not, List, [], ◌∷◌, ◌||◌, map, take, drop, length, Option, Some, None, is_some, refl, sym, ap, subst, ◌∙◌, arith, add-one}
+use Rattle.std.specs.Prelude.{IsSome}
+use Rattle.std.specs.List.{list_any, slice_index_or}
+use Rattle.std.specs.Ordering.{nat_cmp}
+use Rattle.std.specs.Cmp.Lexicographic.{slice_cmp, nat_list_cmp_total}
+use Rattle.std.specs.FinMap as fin
+use Rattle.eden_ids.specs.declared.content.Content.{Content}
+use Rattle.eden_ids.specs.FileMaps.{FileMap, file_at, same_file, same_path, differ, has, listing, path_set, put_option}
+use Rattle.eden_ids.proofs.FileMapLemmas.{same_path-is, same_path-refl, same_file-is, same_file_map, file_at-insert, file_at-remove, has-differ, has-listing}
+use Rattle.eden_objects.specs.Files.{files_of}
+use Rattle.eden_treediff.specs.declared.difference.DiffFault.{DiffFault}
+use Rattle.eden_treediff.specs.declared.difference.DiffFault.TheVariants.{NoCommit, NoMemory}
+use Rattle.eden_treediff.specs.Merges.{differences}
+use Rattle.eden_workcopy.specs.Agreements.{Agrees, AllAgree, IsLean, IsNearer}
+use Rattle.eden_workcopy.specs.Layers.{Layer, Entry, over}
+use Rattle.eden_workcopy.proofs.Overs.{over-nothing}
+use Rattle.eden_workcopy.proofs.Touched.{has-touched}
+use Rattle.eden_workcopy.proofs.Works.{file_below}
+
+-- ---- one path
+
+pub same_here : (wanted files : FileMap) (p : List ℕ) → same_file (file_at wanted p) (file_at files p) ≡ true → Agrees wanted files p
+same_here wanted files p e = sym (same_file-is (file_at wanted p) (file_at files p) e)
+
+pub at_put : (files : FileMap) (p : List ℕ) (file : Option Content) (q : List ℕ) → file_at (put_option files p file) q ≡ cond (same_path q p) file (file_at files q)
+at_put files p None q = file_at-remove files p q
+at_put files p (Some f) q = file_at-insert files p f q
+
+pub put_here : (wanted before after : FileMap) (p : List ℕ) (file : Option Content) → after ≡ put_option before p file → file ≡ file_at wanted p → Agrees wanted after p
+put_here wanted before after p file is file_is =
+    ap (λ m. file_at m p) is ∙ at_put before p file p ∙ ap (λ b. cond b file (file_at before p)) (same_path-refl p) ∙ file_is
+
+pub put_nearer : (wanted before after : FileMap) (p : List ℕ) (file : Option Content) → after ≡ put_option before p file → file ≡ file_at wanted p → IsNearer wanted before after
+put_nearer wanted before after p file is file_is q agrees =
+    ap (λ m. file_at m q) is
+    ∙ at_put before p file q
+    ∙ (elim (same_path q p) as (λ b. same_path q p ≡ b → cond b file (file_at before q) ≡ file_at wanted q) [
+      | true ↦ λ e. file_is ∙ ap (file_at wanted) (sym (same_path-is q p e))
+      | false ↦ λ e. agrees
+    ] refl)
+
+pub put_lean : (wanted base : FileMap) (before after : Layer) (p : List ℕ) (file : Option Content) → after ≡ fin.insert before p file
+    → same_file (file_at wanted p) (file_at (over base before) p) ≡ false → IsLean wanted base before → IsLean wanted base after
+put_lean wanted base before after p file is other lean q touched =
+    by (same_path q p) refl (sym (ap is_some (ap (λ l. fin.get l q) is ∙ fin.get-insert nat_list_cmp_total before p file q)) ∙ touched)
+  where
+    here : (o : Option (Option Content)) → fin.get before p ≡ o → same_file (file_at wanted p) (file_at base p) ≡ false
+    here None e = sym (ap (same_file (file_at wanted p)) (file_below base before p e)) ∙ other
+    here (Some f) e = lean p (ap is_some e)
+
+    by : (b : Bool) → same_path q p ≡ b → is_some (cond (same_path q p) (Some file) (fin.get before q)) ≡ true → same_file (file_at wanted q) (file_at base q) ≡ false
+    by true e there = ap (λ r. same_file (file_at wanted r) (file_at base r)) (same_path-is q p e) ∙ here (fin.get before p) refl
+    by false e there = lean q (sym (ap (λ b. is_some (cond b (Some file) (fin.get before q))) e) ∙ there)
+
+pub none_lean : (wanted base : FileMap) (layer : Layer) → layer ≡ fin.empty → IsLean wanted base layer
+none_lean wanted base layer none p there = let bad : false ≡ true = sym (ap is_some (ap (λ l. fin.get l p) none ∙ fin.get-empty (slice_cmp nat_cmp) p)) ∙ there in absurd (cc)
+
+pub lean_differs : (wanted next base : FileMap) (layer : Layer) → next ≡ wanted → IsLean wanted base layer → (p : List ℕ) → has (path_set (fin.keys layer)) p ≡ true → has (differ next base) p ≡ true
+lean_differs wanted next base layer is lean p touched =
+    has-differ next base p
+    ∙ ap (λ m. not (same_file (file_at m p) (file_at base p))) is
+    ∙ ap not (lean p (sym (has-touched layer p) ∙ touched))
+
+-- ---- many paths
+
+pub all_nearer : (wanted before after : FileMap) (ps : List (List ℕ)) → IsNearer wanted before after → AllAgree wanted before ps → AllAgree wanted after ps
+all_nearer wanted before after [] nearer all = tt
+all_nearer wanted before after (p ∷ ps) nearer all = (nearer p all.0, all_nearer wanted before after ps nearer all.1)
+
+pub nearer_still : (wanted a b c : FileMap) → IsNearer wanted a b → IsNearer wanted b c → IsNearer wanted a c
+nearer_still wanted a b c first second p agrees = second p (first p agrees)
+
+push : (wanted files : FileMap) (es : List Entry) (i : ℕ) (e : Entry) → i < length es → e ≡ slice_index_or es i e → AllAgree wanted files (map (λ e. e.0) (take i es)) → Agrees wanted files e.0
+    → AllAgree wanted files (map (λ e. e.0) (take (suc i) es))
+push wanted files [] i e within is all here = absurd (omega arith)
+push wanted files (x ∷ xs) zero e within is all here = (subst (λ (y : Entry). Agrees wanted files y.0) is here, tt)
+push wanted files (x ∷ xs) (suc i) e within is all here = (all.0, push wanted files xs i e (omega arith) is all.1 here)
+
+pub one_more : (wanted before after : FileMap) (es : List Entry) (i : ℕ) (e : Entry) → i < length es → e ≡ slice_index_or es i e → AllAgree wanted before (map (λ e. e.0) (take i es))
+    → IsNearer wanted before after → Agrees wanted after e.0 → AllAgree wanted after (map (λ e. e.0) (take (i + 1) es))
+one_more wanted before after es i e within is all nearer here =
+    subst (λ n. AllAgree wanted after (map {A = Entry} (λ e. e.0) (take n es))) (sym (add-one i))
+    (push wanted after es i e within is (all_nearer wanted before after (map (λ e. e.0) (take i es)) nearer all) here)
+
+joined : (wanted files : FileMap) (n : ℕ) (es : List Entry) → AllAgree wanted files (map (λ e. e.0) (take n es)) → AllAgree wanted files (map (λ e. e.0) (drop n es)) → AllAgree wanted files (map (λ e. e.0) es)
+joined wanted files zero [] front back = back
+joined wanted files zero (e ∷ es) front back = back
+joined wanted files (suc n) [] front back = back
+joined wanted files (suc n) (e ∷ es) front back = (front.0, joined wanted files n es front.1 back)
+
+-- ---- the loop: what agrees at the entries and the paths that are left agrees at all of them
+
+abbrev pub Leaves : FileMap → FileMap → List (List ℕ) → List (List ℕ) → Type 0
+Leaves wanted files left all = (next : FileMap) → IsNearer wanted files next → AllAgree wanted next left → AllAgree wanted next all
+
+pub leaves_entries : (wanted before after : FileMap) (es left whole : List Entry) (n : ℕ) → Leaves wanted before (map (λ e. e.0) es) (map (λ e. e.0) whole)
+    → IsNearer wanted before after → AllAgree wanted after (map (λ e. e.0) (take n es)) → left ≡ drop n es → Leaves wanted after (map (λ e. e.0) left) (map (λ e. e.0) whole)
+leaves_entries wanted before after es left whole n leaves nearer here is next later all =
+    leaves next (nearer_still wanted before after next nearer later)
+    (joined wanted next n es (all_nearer wanted after next (map (λ e. e.0) (take n es)) later here) (subst (λ (fs : List Entry). AllAgree wanted next (map (λ e. e.0) fs)) is all))
+
+cut : (ps : List (List ℕ)) (i : ℕ) (p : List ℕ) → i < length ps → p ≡ slice_index_or ps i p → drop i ps ≡ p ∷ drop (suc i) ps
+cut [] i p within is = absurd (omega arith)
+cut (x ∷ xs) zero p within is = ap (λ y. y ∷ xs) (sym is)
+cut (x ∷ xs) (suc i) p within is = cut xs i p (omega arith) is
+
+pub leaves_paths : (wanted before after : FileMap) (ps : List (List ℕ)) (i : ℕ) (p : List ℕ) → i < length ps → p ≡ slice_index_or ps i p → Leaves wanted before (drop i ps) ps
+    → IsNearer wanted before after → Agrees wanted after p → Leaves wanted after (drop (i + 1) ps) ps
+leaves_paths wanted before after ps i p within is leaves nearer here next later all =
+    leaves next (nearer_still wanted before after next nearer later)
+    (subst (AllAgree wanted next) (sym (cut ps i p within is)) (later p here, subst (λ n. AllAgree wanted next (drop n ps)) (add-one i) all))
+
+past : (ps : List (List ℕ)) (n : ℕ) → length ps ≤ n → drop n ps ≡ []
+past [] zero h = refl
+past [] (suc n) h = refl
+past (p ∷ ps) zero h = absurd (omega arith)
+past (p ∷ ps) (suc n) h = past ps n (omega arith)
+
+pub no_paths_left : (wanted files next : FileMap) (ps : List (List ℕ)) (n : ℕ) → length ps ≤ n → Leaves wanted files (drop n ps) ps → IsNearer wanted files next → AllAgree wanted next ps
+no_paths_left wanted files next ps n within leaves nearer = leaves next nearer (subst (AllAgree wanted next) (sym (past ps n within)) tt)
+
+-- ---- the whole
+
+at_all : (wanted files : FileMap) (ps : List (List ℕ)) (p : List ℕ) → list_any (λ q. same_path p q) ps ≡ true → AllAgree wanted files ps → Agrees wanted files p
+at_all wanted files [] p e all = absurd (cc)
+at_all wanted files (q ∷ qs) p e all =
+    elim (same_path p q) as (λ b. same_path p q ≡ b → (b || list_any (λ q. same_path p q) qs) ≡ true → Agrees wanted files p) [
+      | true ↦ λ s _. subst (Agrees wanted files) (sym (same_path-is p q s)) all.0
+      | false ↦ λ s more. at_all wanted files qs p more all.1
+    ] refl e
+
+pub listed_differ : (first second : Option FileMap) (ps : List (List ℕ)) → differences first second ≡ Some ps → IsSome second × (ps ≡ listing (differ (files_of first) (files_of second)))
+listed_differ None second ps e = absurd (cc)
+listed_differ (Some f) None ps e = absurd (cc)
+listed_differ (Some f) (Some g) ps e = (refl, cc)
+
+pub no_second : (first second : Option FileMap) → IsSome first → differences first second ≡ None → second ≡ None
+no_second None second some e = absurd (cc)
+no_second (Some f) None some e = refl
+no_second (Some f) (Some g) some e = absurd (cc)
+
+pub same_files : (base target next : FileMap) (layer nothing : Layer) (ps : List (List ℕ)) → ps ≡ listing (differ base target) → nothing ≡ fin.empty
+    → AllAgree (over base layer) next (fin.keys layer) → AllAgree (over base layer) next ps → IsNearer (over base layer) (over target nothing) next → next ≡ over base layer
+same_files base target next layer nothing ps is none touched differing nearer =
+    same_file_map next (over base layer) (λ p. at p (fin.get layer p) refl)
+  where
+    here : (p : List ℕ) (b : Bool) → has (differ base target) p ≡ b → file_at (over base layer) p ≡ file_at base p → Agrees (over base layer) next p
+    here p true e below =
+        at_all (over base layer) next ps p (ap (list_any (λ q. same_path p q)) is ∙ sym (has-listing (differ base target) p) ∙ e) differing
+    here p false e below =
+        let same : same_file (file_at base p) (file_at target p) ≡ true = unsaid _ (sym (has-differ base target p) ∙ e) in
+        nearer p (ap (λ l. file_at (over target l) p) none ∙ ap (λ m. file_at m p) (over-nothing target) ∙ sym (same_file-is (file_at base p) (file_at target p) same) ∙ sym below)
+      where
+        unsaid : (b : Bool) → not b ≡ false → b ≡ true
+        unsaid true e = refl
+        unsaid false e = absurd (cc)
+
+    at : (p : List ℕ) (o : Option (Option Content)) → fin.get layer p ≡ o → Agrees (over base layer) next p
+    at p None e = here p (has (differ base target) p) refl (file_below base layer p e)
+    at p (Some file) e = at_all (over base layer) next (fin.keys layer) p (sym (fin.contains_key-keys layer p) ∙ ap is_some e) touched
+
+pub no_memory_else : (fault : DiffFault) → fault ≡ NoCommit → fault ≢ NoMemory
+no_memory_else fault is other = let bad : NoCommit ≡ NoMemory = sym is ∙ other in absurd (cc)

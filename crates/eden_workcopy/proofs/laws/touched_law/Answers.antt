@@ -1,0 +1,12 @@
+use Rattle.eden_objects.specs.Files.{commit_files}
+use Rattle.eden_workcopy.proofs.Touched.{touched_listed, touched_present, touched_elsewhere}
+use Rattle.eden_workcopy.proofs.laws.touched_law.Goals as goal
+
+pub returns-clause-listed : goal.returns-clause-listed
+returns-clause-listed c = λ work. touched_listed work.overlay
+
+pub returns-clause-present : goal.returns-clause-present
+returns-clause-present c = λ held work. touched_present (commit_files held work.root) work.overlay
+
+pub returns-clause-elsewhere : goal.returns-clause-elsewhere
+returns-clause-elsewhere c = λ held work. touched_elsewhere (commit_files held work.root) work.overlay

@@ -1,0 +1,99 @@
+ghost use Rattle.std.specs.Prelude.{◌≡◌, ◌++◌, ◌&&◌, not, T, map, filter, take, drop, is_some, IfOk, OnOk};
+ghost use Rattle.std.specs.FinMap as fin;
+ghost use Rattle.std.specs.FinMap.{is_sorted};
+ghost use Rattle.eden_globs.specs.Filters.{admits};
+ghost use Rattle.eden_ids.specs.FileMaps.{FileMap};
+ghost use Rattle.eden_workcopy.specs.Layers.{Entry, by_bytes, over, place};
+ghost use Rattle.eden_workcopy.specs.Listings.{admitted};
+ghost use Rattle.eden_workcopy.specs.Meanings.{means, FitsIn};
+
+use crate::dirty::add_if;
+use crate::entries::place;
+use crate::work::WorkCopy;
+use eden_globs::Filter;
+use eden_ids::{Content, Id, Kind, Naming, NoMemory, Path};
+use eden_objects::Store;
+
+/// Whether a file stands at the entry's path and the filter admits it.
+fn is_shown(entry: &(Path, Option<Content>), wanted: &Filter) -> bool
+    ensures { result ≡ (is_some entry.now.1 && admits wanted.now entry.now.0) }
+{
+    entry.1.is_some() && wanted.admits(&entry.0)
+}
+
+/// Adds the paths of entries at which a file stands and that the filter admits.
+fn add_shown(
+    paths: &mut Vec<Path>,
+    entries: &[(Path, Option<Content>)],
+    wanted: &Filter,
+) -> Result<(), NoMemory>
+    ensures { OnOk result (paths.new.items
+        ≡ paths.old.items ++ map (λ (e : Entry). e.0) (filter (λ e. is_some e.1 && admits wanted.now e.0) entries.now)) }
+{
+    for entry in entries {
+        add_if(paths, &entry.0, is_shown(entry, wanted))?;
+    }
+    Ok(())
+}
+
+/// Adds these paths of the entries before another path, and gives the entries that are left.
+#[tactic(auto, using(crate::proofs::Placing::place_within))]
+fn add_before<'a>(
+    paths: &mut Vec<Path>,
+    entries: &'a [(Path, Option<Content>)],
+    path: &Path,
+    wanted: &Filter,
+) -> Result<&'a [(Path, Option<Content>)], NoMemory>
+    requires { T (is_sorted by_bytes entries.now) }
+    ensures added { OnOk result (paths.new.items ≡ paths.old.items
+        ++ map (λ (e : Entry). e.0) (filter (λ e. is_some e.1 && admits wanted.now e.0) (take (place path.now entries.now) entries.now))) }
+    ensures left { IfOk result (λ left. left.now ≡ drop (place path.now entries.now) entries.now) }
+{
+    let at = place(entries, path.as_bytes());
+    add_shown(paths, &entries[..at], wanted)?;
+    Ok(&entries[at..])
+}
+
+impl WorkCopy {
+    /// Whether no change touched a path.
+    fn is_untouched(&self, path: &[u8]) -> bool
+        ensures { result ≡ not (is_some (fin.get self.now.overlay path.now)) }
+    {
+        self.overlay.get(path).is_none()
+    }
+
+    /// The paths that a filter admits, where these rows are those of the files below the overlay that it admits.
+    fn weave(&self, rows: &[(Path, Kind, Id)], wanted: &Filter) -> Result<Vec<Path>, NoMemory>
+        ensures { (base : FileMap) → map (λ row. row.0) rows.now ≡ admitted wanted.now base
+            → IfOk result (λ paths. paths.items ≡ admitted wanted.now (over base self.now.overlay)) }
+    {
+        let mut paths = Vec::new(self.overlay.allocator());
+        let mut entries = self.overlay.entries();
+        for row in rows {
+            entries = add_before(&mut paths, entries, &row.0, wanted)?;
+            add_if(&mut paths, &row.0, self.is_untouched(row.0.as_bytes()))?;
+        }
+        add_shown(&mut paths, entries, wanted)?;
+        Ok(paths)
+    }
+
+    /// The paths of the files that a filter admits, in byte order.
+    ///
+    /// `NoMemory` comes where a growth was refused. The files of the root's commit are listed once, and each of them is looked for among
+    /// the changes.
+    pub fn list<N: Naming + Drop>(
+        &self,
+        store: &Store<N>,
+        wanted: &Filter,
+    ) -> Result<Vec<Path>, NoMemory>
+        requires { FitsIn store.now self.now }
+        ensures { IfOk result (λ paths. paths.items ≡ admitted wanted.now (means store.now self.now)) }
+    {
+        store.closed_law();
+        // The store has the root, so that only memory can be wanting.
+        let Ok(rows) = store.list(self.root, wanted) else {
+            return Err(NoMemory);
+        };
+        self.weave(&rows, wanted)
+    }
+}

@@ -1,0 +1,162 @@
+ghost use Rattle.std.specs.Prelude.{◌≡◌, ◌≢◌, ℕ, true, List, Some, None, T, map, take, drop, IfOk, IfErr, OnOk};
+ghost use Rattle.std.specs.FinMap as fin;
+ghost use Rattle.std.specs.FinMap.{is_sorted};
+ghost use Rattle.eden_ids.specs.FileMaps.{differ, has, same_file};
+ghost use Rattle.eden_objects.specs.Commits.{commit_map};
+ghost use Rattle.eden_objects.specs.Files.{commit_files, content_seen};
+ghost use Rattle.eden_workcopy.specs.Agreements.{Agrees, AllAgree, IsNearer, StaysLean};
+ghost use Rattle.eden_workcopy.specs.Layers.{Entry, by_bytes, place};
+ghost use Rattle.eden_workcopy.specs.Meanings.{means, touched_set, FitsIn};
+
+use crate::dirty::is_same_kind;
+use crate::entries::place;
+use crate::overlay::Overlay;
+use crate::work::WorkCopy;
+use eden_ids::{Content, Id, Kind, Naming, NoMemory, Path};
+use eden_objects::Store;
+use eden_treediff::{DiffFault, diff};
+use thiserror::Error;
+
+/// Why a working copy is not put over another commit.
+#[derive(Clone, Copy, Debug, PartialEq, Eq, Error)]
+pub enum RerootFault {
+    /// The id is neither that of the empty commit nor that of a commit in the store.
+    #[error("NoCommit")]
+    NoCommit,
+    /// A growth was refused.
+    #[error("NoMemory")]
+    NoMemory,
+}
+
+/// Whether two files are one, where that there is none counts as a file.
+fn is_same_seen(file: Option<(Kind, &[u8])>, other: Option<(Kind, &[u8])>) -> bool
+    ensures { result ≡ same_file (content_seen file.entry) (content_seen other.entry) }
+{
+    match file {
+        None => other.is_none(),
+        Some(file) => match other {
+            None => false,
+            Some(other) => is_same_kind(file.0, other.0) && file.1 == other.1,
+        },
+    }
+}
+
+impl WorkCopy {
+    /// Gives another working copy the file that this one has at a path, unless it has it.
+    #[tactic(auto, using(crate::proofs::Rerooted::same_here, crate::proofs::Rerooted::put_here, crate::proofs::Rerooted::put_nearer, crate::proofs::Rerooted::put_lean))]
+    fn keep<N: Naming + Drop>(
+        &self,
+        store: &Store<N>,
+        next: &mut WorkCopy,
+        path: &Path,
+    ) -> Result<(), NoMemory>
+        ensures root { next.new.root ≡ next.old.root }
+        ensures here { OnOk result (Agrees (means store.now self.now) (means store.now next.new) path.now) }
+        ensures there { OnOk result (IsNearer (means store.now self.now) (means store.now next.old) (means store.now next.new)) }
+        ensures lean { OnOk result (StaysLean store.now (means store.now self.now) next.old next.new) }
+    {
+        let file = self.file(store, path.as_bytes());
+        if is_same_seen(file, next.file(store, path.as_bytes())) {
+            return Ok(());
+        }
+        let file = self.file_copy(store, path)?;
+        next.put(path.copy()?, file)?;
+        Ok(())
+    }
+
+    /// The same at the path of each of these entries.
+    fn keep_all<N: Naming + Drop>(
+        &self,
+        store: &Store<N>,
+        next: &mut WorkCopy,
+        entries: &[(Path, Option<Content>)],
+    ) -> Result<(), NoMemory>
+        ensures root { next.new.root ≡ next.old.root }
+        ensures here { OnOk result (AllAgree (means store.now self.now) (means store.now next.new) (map (λ (e : Entry). e.0) entries.now)) }
+        ensures there { OnOk result (IsNearer (means store.now self.now) (means store.now next.old) (means store.now next.new)) }
+        ensures lean { OnOk result (StaysLean store.now (means store.now self.now) next.old next.new) }
+    {
+        for entry in entries {
+            self.keep(store, next, &entry.0)?;
+        }
+        Ok(())
+    }
+
+    /// The same at the path of each of these entries that comes before another path, and at that one. Gives the entries that are left.
+    #[tactic(auto, using(crate::proofs::Placing::place_within))]
+    fn keep_through<'a, N: Naming + Drop>(
+        &self,
+        store: &Store<N>,
+        next: &mut WorkCopy,
+        entries: &'a [(Path, Option<Content>)],
+        path: &Path,
+    ) -> Result<&'a [(Path, Option<Content>)], NoMemory>
+        requires { T (is_sorted by_bytes entries.now) }
+        ensures root { next.new.root ≡ next.old.root }
+        ensures entries { OnOk result (AllAgree (means store.now self.now) (means store.now next.new)
+            (map (λ (e : Entry). e.0) (take (place path.now entries.now) entries.now))) }
+        ensures here { OnOk result (Agrees (means store.now self.now) (means store.now next.new) path.now) }
+        ensures there { OnOk result (IsNearer (means store.now self.now) (means store.now next.old) (means store.now next.new)) }
+        ensures lean { OnOk result (StaysLean store.now (means store.now self.now) next.old next.new) }
+        ensures left { IfOk result (λ left. left.now ≡ drop (place path.now entries.now) entries.now) }
+    {
+        let at = place(entries, path.as_bytes());
+        self.keep_all(store, next, &entries[..at])?;
+        self.keep(store, next, path)?;
+        Ok(&entries[at..])
+    }
+
+    /// The same at each path that a change touched, and at each of these.
+    fn keep_at<N: Naming + Drop>(
+        &self,
+        store: &Store<N>,
+        next: &mut WorkCopy,
+        paths: &[Path],
+    ) -> Result<(), NoMemory>
+        ensures root { next.new.root ≡ next.old.root }
+        ensures touched { OnOk result (AllAgree (means store.now self.now) (means store.now next.new) (fin.keys self.now.overlay)) }
+        ensures here { OnOk result (AllAgree (means store.now self.now) (means store.now next.new) paths.now) }
+        ensures there { OnOk result (IsNearer (means store.now self.now) (means store.now next.old) (means store.now next.new)) }
+        ensures lean { OnOk result (StaysLean store.now (means store.now self.now) next.old next.new) }
+    {
+        let mut entries = self.overlay.entries();
+        for path in paths {
+            entries = self.keep_through(store, next, entries, path)?;
+        }
+        self.keep_all(store, next, entries)?;
+        Ok(())
+    }
+
+    /// A working copy that holds the same files over another commit. Of its paths those alone count as touched at which it differs from
+    /// that commit.
+    ///
+    /// `NoCommit` comes where the id is no commit's, `NoMemory` where a growth was refused. Only the paths that a change touched and those
+    /// on which the two commits differ are looked at, and bytes are copied only where the new commit has another file.
+    pub fn reroot<N: Naming + Drop>(
+        &self,
+        store: &Store<N>,
+        commit: Id,
+    ) -> Result<WorkCopy, RerootFault>
+        requires { FitsIn store.now self.now }
+        ensures root { IfOk result (λ next. next.root ≡ commit) }
+        ensures files { IfOk result (λ next. means store.now next ≡ means store.now self.now) }
+        ensures fits { IfOk result (λ next. FitsIn store.now next) }
+        ensures lean { IfOk result (λ next. (p : List ℕ) → has (touched_set next) p ≡ true
+            → has (differ (means store.now next) (commit_files store.now commit)) p ≡ true) }
+        ensures refuses { IfErr result (λ fault. fault ≢ RerootFault.NoMemory → commit_map store.now commit ≡ None) }
+    {
+        let paths = match diff(store, self.root, commit) {
+            Ok(paths) => paths,
+            Err(DiffFault::NoCommit) => return Err(RerootFault::NoCommit),
+            Err(DiffFault::NoMemory) => return Err(RerootFault::NoMemory),
+        };
+        let mut next = WorkCopy {
+            root: commit,
+            overlay: Overlay::new(self.overlay.allocator()),
+        };
+        match self.keep_at(store, &mut next, &paths) {
+            Ok(()) => Ok(next),
+            Err(NoMemory) => Err(RerootFault::NoMemory),
+        }
+    }
+}

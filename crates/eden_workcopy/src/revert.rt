@@ -1,0 +1,56 @@
+ghost use Rattle.std.specs.Prelude.{◌≡◌, None, Some, is_some, IfOk, IfErr, OnOk, OnErr};
+ghost use Rattle.eden_ids.specs.FileMaps.{file_at, put_option};
+ghost use Rattle.eden_objects.specs.Files.{commit_files};
+ghost use Rattle.eden_workcopy.specs.Meanings.{means, FitsIn};
+ghost use Rattle.eden_workcopy.specs.Reverts.{revert_fault};
+
+use crate::work::WorkCopy;
+use eden_ids::{Naming, Path};
+use eden_objects::Store;
+use eden_world::ChangeFault;
+
+impl WorkCopy {
+    /// Whether the root's commit has a file at a path.
+    #[tactic(auto, using(crate::proofs::Works::some_seen))]
+    fn has_root_file<N: Naming + Drop>(&self, store: &Store<N>, path: &Path) -> bool
+        ensures { result ≡ is_some (file_at (commit_files store.now self.now.root) path.now) }
+    {
+        store.file(self.root, path.as_bytes()).is_some()
+    }
+
+    /// Why the root's file can't stand at a path.
+    fn revert_fault<N: Naming + Drop>(&self, store: &Store<N>, path: &Path) -> Option<ChangeFault>
+        ensures { result ≡ revert_fault (means store.now self.now) (commit_files store.now self.now.root) path.now }
+    {
+        if self.has_root_file(store, path) {
+            self.place_fault(store, path)
+        } else {
+            None
+        }
+    }
+
+    /// Takes every change at a path back: the file of the root's commit stands there again, or none where it has none.
+    ///
+    /// Where the root's commit has a file there, it is refused, in this order, as `NotADirectory` or `IsADirectory`. After a refusal
+    /// nothing has changed. It takes no memory.
+    pub fn revert<N: Naming + Drop>(
+        &mut self,
+        store: &Store<N>,
+        path: &Path,
+    ) -> Result<(), ChangeFault>
+        requires { FitsIn store.now self.old }
+        ensures root { self.new.root ≡ self.old.root }
+        ensures fits { FitsIn store.now self.new }
+        ensures accepts { IfOk result (λ _. revert_fault (means store.now self.old) (commit_files store.now self.old.root) path.now ≡ None) }
+        ensures files { OnOk result (means store.now self.new
+            ≡ put_option (means store.now self.old) path.now (file_at (commit_files store.now self.old.root) path.now)) }
+        ensures refuses { IfErr result (λ fault. revert_fault (means store.now self.old) (commit_files store.now self.old.root) path.now ≡ Some fault) }
+        ensures same { OnErr result (self.new ≡ self.old) }
+    {
+        if let Some(fault) = self.revert_fault(store, path) {
+            return Err(fault);
+        }
+        self.overlay.forget(path.as_bytes());
+        Ok(())
+    }
+}
