@@ -1,0 +1,5 @@
+mod Dirty
+mod ByteOrder
+mod Settling
+mod Unions
+mod Planning
