@@ -1,0 +1,6 @@
+pub mod Histories
+pub mod Standing
+pub mod Changing
+pub mod Rooting
+pub mod Seen
+pub mod Ranging

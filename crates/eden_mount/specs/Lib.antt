@@ -1,0 +1,3 @@
+pub mod Mounts
+pub mod Snapshots
+pub mod Ranges

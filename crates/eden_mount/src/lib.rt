@@ -1,0 +1,19 @@
+//! A mount: a working copy of a commit, and the journal of what changed in it.
+#![tactic(auto)]
+
+pub use crate::mount::Mount;
+pub use crate::root::Checked;
+pub use crate::snapshot::Snapshot;
+pub use eden_world::{ChangeFault, Mode, MountFault, Position};
+
+mod change;
+#[cfg(test)]
+mod generated_tests;
+mod mount;
+mod parts;
+mod range;
+mod root;
+mod snapshot;
+mod stands_law;
+#[cfg(test)]
+mod tests;

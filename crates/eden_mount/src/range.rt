@@ -1,0 +1,29 @@
+ghost use Rattle.std.specs.Prelude.{◌≡◌, ◌≢◌, None, Some, IfOk, IfErr};
+ghost use Rattle.eden_mount.specs.Ranges.{EndsNow, IsStatus, PassesCommits, Tells};
+
+use crate::mount::Mount;
+use eden_accumulate::{Range, accumulate};
+use eden_ids::Naming;
+use eden_world::{Position, SinceFault};
+use std::alloc::Global;
+
+impl<N: Naming + Drop> Mount<N> {
+    /// What changed since a position, up to the present one: `expand`, over the mount's objects, makes paths of it.
+    ///
+    /// A position is refused as `Stale` where its generation isn't the mount's, as `Ahead` where its number is above the present one, and
+    /// as `Truncated` where the journal no longer holds what changed since; the first cause that stands is told. Its root decides nothing.
+    /// `NoMemory` may stand in place of any answer where a growth was refused. Only what changed after the position is looked at.
+    #[tactic(auto, using(crate::proofs::Ranging::ends_now, crate::proofs::Ranging::is_status, crate::proofs::Ranging::tells, crate::proofs::Ranging::passes_commits))]
+    pub fn range_since(&self, alloc: Global, position: &Position) -> Result<Range, SinceFault>
+        ensures accepts { IfOk result (λ _. IsStatus self.now position.now None) }
+        ensures ends { IfOk result (λ range. EndsNow self.now range) }
+        ensures tells { IfOk result (λ range. Tells self.now position.now range) }
+        ensures passes { IfOk result (λ range. PassesCommits self.now range) }
+        ensures refuses { IfErr result (λ fault. fault ≢ SinceFault.NoMemory → IsStatus self.now position.now (Some fault)) }
+    {
+        match accumulate(alloc, &self.journal, position) {
+            Ok(range) => Ok(range),
+            Err(fault) => Err(fault),
+        }
+    }
+}
