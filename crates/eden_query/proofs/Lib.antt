@@ -5,3 +5,4 @@ mod BodyLaws
 mod Filters
 mod Lists
 mod ReplyFits
+mod Telling

@@ -1,5 +1,5 @@
 -- Reading and spelling undo each other.
-use Rattle.std.specs.Prelude.{◌≡◌, ℕ, ◌<◌, ◌↔◌, List, length, slice_index, Ok}
+use Rattle.std.specs.Prelude.{◌≡◌, ℕ, ◌<◌, List, slice_index, Ok}
 use Rattle.eden_query.specs.Reading.{read_request, read_reply}
 use Rattle.eden_world.specs.declared.message.Reply.{Reply}
 use Rattle.eden_world.specs.declared.message.Request.{Request}

@@ -2,4 +2,7 @@ pub mod Reading
 pub mod Listing
 pub mod Lengths
 pub mod Answers
+pub mod Raws
+pub mod Mounting
+pub mod Servers
 pub mod Laws

@@ -2,20 +2,27 @@
 //! read, and a world is served over any reader and writer.
 #![tactic(auto)]
 
+pub use crate::answering::answer;
 pub use crate::decoding::{decode_reply, decode_request};
 pub use crate::encoding::{encode_reply, encode_request};
 pub use crate::fault::{DecodeFault, EncodeFault};
 pub use crate::laws::{reply_law, request_law};
 pub use crate::limit::BODY_LIMIT;
+pub use crate::raw::{AnswerFault, Raw};
+pub use crate::served::Served;
 pub use crate::serving::serve;
 pub use eden_stream::{FrameFault, ServeFault};
 
+mod answering;
 mod decoding;
 mod encoding;
 mod fault;
 mod fields;
 mod laws;
 mod limit;
+mod mounting;
+mod raw;
+mod served;
 mod serving;
 #[cfg(test)]
 mod serving_tests;

@@ -1,25 +1,35 @@
-//! A world that answers polls over any reader and writer.
+//! A server that answers polls over any reader and writer.
 
-ghost use Rattle.std.specs.Prelude.{◌≡◌, ◌≢◌, ◌+◌, ◌≤◌, ℕ, List, IsErrOf, IfSome};
+ghost use Rattle.std.specs.Prelude.{◌≡◌, ◌≢◌, ◌+◌, ◌≤◌, ℕ, List, length, IsErrOf, IfOk, IfSome};
 ghost use Rattle.eden_stream.specs.FrameAnswers.{AnswersBody};
 ghost use Rattle.eden_stream.specs.Counts.{Rose, RoseBy};
 ghost use Rattle.eden_stream.specs.FrameEnds.{Serves};
+ghost use Rattle.eden_world.specs.Worlds.{WorldState};
+ghost use Rattle.eden_world.specs.Replies.{reply_of};
+ghost use Rattle.eden_world.specs.Spells.{reply_bytes};
 ghost use Rattle.eden_query.specs.Answers.{answer_to, frame_fault};
 
+use crate::answering::answer;
 use crate::decoding::decode_request;
 use crate::encoding::encode_reply;
 use crate::fault::{DecodeFault, EncodeFault};
+use crate::raw::AnswerFault;
+use crate::served::Served;
+use eden_ids::{Naming, NoMemory};
 use eden_stream::{
-    CountedRead, CountedWrite, FrameFault, FrameServer, ServeFault, Served, serve_frames,
+    CountedRead, CountedWrite, FrameFault, FrameServer, ServeFault, Served as Told, serve_frames,
 };
-use eden_world::World;
+use eden_world::{Reply, Request};
 use std::alloc::Global;
+use std::marker::PhantomData;
 
-/// A world that is lent for the time of a call.
+/// As which caller frames are answered.
+const STREAM: u64 = 0;
+
+/// Answers bodies by the requests that they spell.
 #[derive(Drop)]
-struct WorldServer<'a> {
-    alloc: Global,
-    world: &'a World,
+struct Bodies<N> {
+    naming: PhantomData<N>,
 }
 
 /// A body's fault as its frame's.
@@ -37,48 +47,80 @@ fn fault_of_frame(fault: DecodeFault) -> Option<FrameFault>
     }
 }
 
-/// What the world answers to a body.
-#[tactic(auto, using(crate::proofs::ReplyFits::reply_fits))]
-fn answer_body(alloc: Global, world: &World, body: &[u8], text: &mut Vec<u8>) -> Served
-    ensures { AnswersBody (answer_to world.now) body.now text.old.items text.new.items result }
+/// What the server replies to a request.
+fn reply_to<N: Naming + Drop, T: Served<N>>(
+    server: &mut T,
+    request: &Request,
+) -> Result<Reply, NoMemory>
+    ensures reply { IfOk result (λ reply. (world : WorldState) → T.stands_for server.old world → reply ≡ reply_of world request.now) }
+    ensures fits { IfOk result (λ reply. length (reply_bytes reply) ≤ 16777216) }
+    ensures stands { (world : WorldState) → T.stands_for server.old world → T.stands_for server.new world }
 {
+    let raw = match server.hold(STREAM, request) {
+        Ok(raw) => raw,
+        Err(_) => return Err(NoMemory),
+    };
+    let Request::Poll { filter, .. } = request;
+    let store = server.store();
+    match answer(store.allocator(), &raw, store, filter) {
+        Ok(reply) => Ok(reply),
+        // What a server holds can be answered over its objects.
+        Err(AnswerFault::NoCommit) => unreachable!(),
+        Err(AnswerFault::NoMemory) => Err(NoMemory),
+    }
+}
+
+/// What the server answers to a body.
+fn answer_body<N: Naming + Drop, T: Served<N>>(
+    server: &mut T,
+    body: &[u8],
+    text: &mut Vec<u8>,
+) -> Told
+    ensures answered { (world : WorldState) → T.stands_for server.old world
+        → AnswersBody (answer_to world) body.now text.old.items text.new.items result }
+    ensures stands { (world : WorldState) → T.stands_for server.old world → T.stands_for server.new world }
+{
+    let alloc = server.store().allocator();
     let request = match decode_request(alloc, body) {
         Ok(request) => request,
         Err(fault) => {
             return match fault_of_frame(fault) {
-                Some(fault) => Served::Fault(fault),
-                None => Served::NoMemory,
+                Some(fault) => Told::Fault(fault),
+                None => Told::NoMemory,
             };
         }
     };
-    let reply = match world.reply(alloc, &request) {
+    let reply = match reply_to(server, &request) {
         Ok(reply) => reply,
-        Err(_) => return Served::NoMemory,
+        Err(_) => return Told::NoMemory,
     };
     let frame = match encode_reply(alloc, &reply) {
         Ok(frame) => frame,
-        // What a world replies fits a frame.
+        // What is replied fits a frame.
         Err(EncodeFault::TooLarge) => unreachable!(),
-        Err(EncodeFault::NoMemory) => return Served::NoMemory,
+        Err(EncodeFault::NoMemory) => return Told::NoMemory,
     };
     match text.extend_from_slice(frame.as_slice()) {
-        Ok(()) => Served::Reply,
-        Err(_) => Served::NoMemory,
+        Ok(()) => Told::Reply,
+        Err(_) => Told::NoMemory,
     }
 }
 
-impl FrameServer for WorldServer<'_> {
+impl<N: Naming + Drop, T: Served<N>> FrameServer<T> for Bodies<N> {
+    ghost use Rattle.eden_world.specs.Worlds.{WorldState};
     ghost use Rattle.eden_query.specs.Answers.{answer_to};
 
-    ghost stands_for = { λ server answers. (body : List ℕ) → answers body ≡ answer_to server.world.now body };
+    ghost stands_for = { λ server answers. (world : WorldState) × T.stands_for server world × ((body : List ℕ) → answers body ≡ answer_to world body) };
 
-    fn answer(&mut self, body: &[u8], text: &mut Vec<u8>) -> Served {
-        answer_body(self.alloc, self.world, body, text)
+    ghost becomes = { λ before now. (world : WorldState) → T.stands_for before world → T.stands_for now world };
+
+    fn answer(server: &mut T, body: &[u8], text: &mut Vec<u8>) -> Told {
+        answer_body(server, body, text)
     }
 }
 
-/// Serves a world: reads frames of requests from `reader`, and writes the frames of the right replies to `writer`, in order.
-/// Gives the number of frames. The world stays as it is.
+/// Serves requests: reads their frames from `reader`, and writes the frames of the right replies to `writer`, in order. Gives the
+/// number of frames. The server is asked as caller 0, and stays the present of each history whose present it was.
 ///
 /// Whole frames are answered before the next read, of 64 KiB each; replies are gathered, and written before the next read and
 /// whenever there are 64 KiB of them.
@@ -92,20 +134,19 @@ impl FrameServer for WorldServer<'_> {
 ///   after `Write`, the first bytes of the replies to some first frames.
 /// - `TurnsSpent`, after 1,000,000 reads in this call: the replies to all whole frames that were read are written.
 /// - `NoMemory`, where a growth was refused: the replies to some first frames are written.
-pub fn serve<R: CountedRead, W: CountedWrite>(
+pub fn serve<N: Naming + Drop, T: Served<N>, R: CountedRead, W: CountedWrite>(
     alloc: Global,
     reader: &mut R,
     writer: &mut W,
-    server: &mut World,
+    server: &mut T,
 ) -> Result<u64, ServeFault>
-    ensures ends { Serves (answer_to server.old) (R.remaining reader.old) (R.remaining reader.new) (W.contents writer.old) (W.contents writer.new) result }
-    ensures kept { server.new ≡ server.old }
+    ensures ends { (world : WorldState) → T.stands_for server.old world
+        → Serves (answer_to world) (R.remaining reader.old) (R.remaining reader.new) (W.contents writer.old) (W.contents writer.new) result }
+    ensures stands { (world : WorldState) → T.stands_for server.old world → T.stands_for server.new world }
     ensures read { IsErrOf result ServeFault.Read → Rose (R.failed reader.old) (R.failed reader.new) }
     ensures write { IsErrOf result ServeFault.Write → Rose (W.failed writer.old) (W.failed writer.new) }
     ensures turns_spent { IsErrOf result ServeFault.TurnsSpent → RoseBy 1000000 (R.called reader.old) (R.called reader.new) }
     ensures turns { R.called reader.new ≤ R.called reader.old + 1000000 }
 {
-    let world: &World = server;
-    let mut lent = WorldServer { alloc, world };
-    serve_frames(alloc, reader, writer, &mut lent)
+    serve_frames::<R, W, T, Bodies<N>>(alloc, reader, writer, server)
 }

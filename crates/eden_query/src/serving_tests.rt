@@ -1,13 +1,21 @@
-//! Frames of polls and what a world replies, in whatever pieces they come.
+//! Frames of polls and what a mount replies, in whatever pieces they come.
 
-use crate::{FrameFault, ServeFault, serve};
-use eden_ids::{Kind, Path, Sequence};
+use crate::{FrameFault, ServeFault, Served, serve};
+use eden_ids::{GitNaming, Id, Kind, Path, Sequence};
+use eden_mount::Mount;
+use eden_objects::Store;
 use eden_stream::Counted;
-use eden_world::{Change, World};
+use eden_world::Change;
 use std::alloc::Global;
 use std::io;
 use std::io::Read;
+use std::sync::Arc;
 use std::test::Fail;
+
+/// What a byte is changed to: the least and the greatest values, the bits, and those around the greatest number of patterns.
+const VALUES: [u8; 16] = [
+    0, 1, 2, 3, 4, 8, 16, 31, 32, 33, 64, 127, 128, 129, 254, 255,
+];
 
 /// Three times the number 1.
 const Q: [u8; 24] = [
@@ -101,14 +109,20 @@ impl<'a> Read for Endless<'a> {
     }
 }
 
-/// What an opened world writes to these bytes, and how the serving ends.
+/// A mount of the empty commit, in generation 7.
+fn opened(alloc: Global, limit: u64) -> Result<Mount<GitNaming>, Fail> {
+    let store = Arc::new(alloc, Store::new(alloc, GitNaming))?;
+    Ok(Mount::mount(alloc, store, Id::ZERO, 7, limit)?)
+}
+
+/// What a mount writes to these bytes, and how the serving ends.
 fn served(
     alloc: Global,
+    mount: &mut Mount<GitNaming>,
     bytes: &[u8],
     most: usize,
     cut: usize,
 ) -> (Vec<u8>, Result<u64, ServeFault>) {
-    let mut world = World::empty(alloc, 7, 1000);
     let at = 0;
     let mut pieces = Pieces {
         bytes,
@@ -119,7 +133,7 @@ fn served(
     let mut written = Vec::new(alloc);
     let mut reader = Counted::new(&mut pieces);
     let mut writer = Counted::new(&mut written);
-    let ended = serve(alloc, &mut reader, &mut writer, &mut world);
+    let ended = serve(alloc, &mut reader, &mut writer, mount);
     (written, ended)
 }
 
@@ -130,6 +144,7 @@ fn stops(number: u64, fault: FrameFault) -> Result<u64, ServeFault> {
 #[test]
 fn poll_frames(rt: HostRuntime) -> Result<(), Fail> {
     let alloc = rt.alloc();
+    let mut mount = opened(alloc, 1000)?;
     let one = poll(alloc, 7, 1)?;
     let mut trailing = joined(alloc, &[&one, &[0]])?;
     if let Some(length) = trailing.get_mut(3) {
@@ -176,7 +191,7 @@ fn poll_frames(rt: HostRuntime) -> Result<(), Fail> {
             ways.push((usize::MAX, cut))?;
         }
         for &(most, cut) in &ways {
-            let (written, ended) = served(alloc, frames.as_slice(), most, cut);
+            let (written, ended) = served(alloc, &mut mount, frames.as_slice(), most, cut);
             assert!(rt;
                 written.as_slice() == text.as_slice(),
                 "at most {most}, cut at {cut}"
@@ -190,9 +205,10 @@ fn poll_frames(rt: HostRuntime) -> Result<(), Fail> {
 #[test]
 fn frames_cut_short(rt: HostRuntime) -> Result<(), Fail> {
     let alloc = rt.alloc();
+    let mut mount = opened(alloc, 1000)?;
     let one = poll(alloc, 7, 1)?;
     for left in 1..one.len() {
-        let (written, ended) = served(alloc, &one[..left], usize::MAX, usize::MAX);
+        let (written, ended) = served(alloc, &mut mount, &one[..left], usize::MAX, usize::MAX);
         assert!(rt; written.is_empty(), "{left} bytes");
         assert!(rt; ended == stops(1, FrameFault::CutShort), "{left} bytes");
     }
@@ -207,11 +223,11 @@ fn reads_spent(rt: HostRuntime) -> Result<(), Fail> {
         bytes: one.as_slice(),
         at: 0,
     };
-    let mut world = World::empty(alloc, 7, 1000);
+    let mut mount = opened(alloc, 1000)?;
     let mut written = Vec::new(alloc);
     let mut reader = Counted::new(&mut endless);
     let mut writer = Counted::new(&mut written);
-    let ended = serve(alloc, &mut reader, &mut writer, &mut world);
+    let ended = serve(alloc, &mut reader, &mut writer, &mut mount);
     assert_eq!(rt; ended, Err(ServeFault::TurnsSpent));
     assert_eq!(rt; written.len(), 14_925 * 70);
     Ok(())
@@ -252,10 +268,11 @@ fn expected(
 #[test]
 fn single_byte_changes(rt: HostRuntime) -> Result<(), Fail> {
     let alloc = rt.alloc();
+    let mut mount = opened(alloc, 1000)?;
     let one = poll(alloc, 7, 1)?;
     let reply = no_changes(alloc)?;
     for (place, byte) in one.iter().enumerate() {
-        for value in 0..=u8::MAX {
+        for value in VALUES {
             if value == *byte {
                 continue;
             }
@@ -263,7 +280,13 @@ fn single_byte_changes(rt: HostRuntime) -> Result<(), Fail> {
             if let Some(changed) = frame.get_mut(place) {
                 *changed = value;
             }
-            let (written, ended) = served(alloc, frame.as_slice(), usize::MAX, usize::MAX);
+            let (written, ended) = served(
+                alloc,
+                &mut mount,
+                frame.as_slice(),
+                usize::MAX,
+                usize::MAX,
+            );
             match expected(alloc, place, value, reply.as_slice())? {
                 Ok(text) => {
                     assert!(rt; written.as_slice() == text.as_slice(), "{value} at {place}");
@@ -282,14 +305,14 @@ fn single_byte_changes(rt: HostRuntime) -> Result<(), Fail> {
 #[test]
 fn small_limit(rt: HostRuntime) -> Result<(), Fail> {
     let alloc = rt.alloc();
-    let mut world = World::empty(alloc, 7, 200);
+    let mut mount = opened(alloc, 200)?;
     for at in [b"a", b"b", b"c", b"d"] {
         let change = Change::Write {
             path: Path::parse(alloc, at.as_slice())?,
             kind: Kind::Plain,
             bytes: Sequence::from_vec(b"1".to_vec(alloc)?),
         };
-        let _ = world.apply(&change)?;
+        let _ = mount.apply(0, &change)?;
     }
     let frames = joined(alloc, &[&poll(alloc, 7, 1)?, &poll(alloc, 7, 2)?])?;
     let head = [0, 0, 0, 0x4e, 1, 0x82];
@@ -302,7 +325,7 @@ fn small_limit(rt: HostRuntime) -> Result<(), Fail> {
     let mut written = Vec::new(alloc);
     let mut reader = Counted::new(frames.as_slice());
     let mut writer = Counted::new(&mut written);
-    assert_eq!(rt; serve(alloc, &mut reader, &mut writer, &mut world), Ok(2));
+    assert_eq!(rt; serve(alloc, &mut reader, &mut writer, &mut mount), Ok(2));
     assert!(rt; written.as_slice() == replies.as_slice());
     Ok(())
 }

@@ -1,0 +1,113 @@
+//! A mount answers requests.
+
+ghost use Rattle.std.specs.Prelude.{◌≡◌, None, IfOk, true};
+ghost use Rattle.eden_objects.specs.Commits.{commit_map};
+ghost use Rattle.eden_mount.specs.Mounts.{StandsFor};
+ghost use Rattle.eden_world.specs.declared.answer.Answer.TheVariants as answer;
+ghost use Rattle.eden_world.specs.Worlds.{WorldState};
+ghost use Rattle.eden_world.specs.Replies.{reply_of};
+ghost use Rattle.eden_query.specs.Mounting.{Applies, refusal_of, told_as};
+ghost use Rattle.eden_query.specs.Raws.{is_answerable, patterns_of, told};
+
+use crate::raw::Raw;
+use crate::served::Served;
+use eden_ids::{Naming, NoMemory};
+use eden_model::cause_of;
+use eden_mount::{Checked, Mount};
+use eden_objects::Store;
+use eden_world::{Answer, Change, ChangeFault, Position, Request};
+use std::sync::Arc;
+
+/// A refusal as an answer. A want of memory is none.
+fn refusal_of(fault: ChangeFault) -> Option<Answer>
+    ensures { result ≡ refusal_of fault }
+{
+    match fault {
+        ChangeFault::NoMemory => None,
+        fault => Some(Answer::Refused(fault)),
+    }
+}
+
+/// A call's result as an answer.
+fn at(told: Result<Position, ChangeFault>) -> Option<Answer>
+    ensures { result ≡ told_as answer.At told }
+{
+    match told {
+        Ok(position) => Some(Answer::At(position)),
+        Err(fault) => refusal_of(fault),
+    }
+}
+
+/// A checkout's result as an answer.
+fn checked(told: Result<Checked, ChangeFault>) -> Option<Answer>
+    ensures { result ≡ told_as (λ c. answer.Checked c.position c.conflicts) told }
+{
+    match told {
+        Ok(checked) => Some(Answer::Checked {
+            position: checked.position,
+            conflicts: checked.conflicts,
+        }),
+        Err(fault) => refusal_of(fault),
+    }
+}
+
+/// Makes a change. With no memory it is not made.
+fn apply_to<N: Naming + Drop>(mount: &mut Mount<N>, change: &Change) -> Option<Answer>
+    ensures { Applies mount.old change.now result mount.new }
+{
+    match change {
+        Change::Write { path, kind, bytes } => at(mount.write(path, *kind, bytes.as_slice())),
+        Change::Remove { path } => at(mount.remove(path)),
+        Change::Rename { old, new } => at(mount.rename(old, new)),
+        Change::Checkout { commit, mode } => checked(mount.checkout(*commit, *mode)),
+        Change::Reset { commit } => at(mount.reset(*commit)),
+        Change::Flush => at(mount.flush()),
+        Change::Remount { generation } => at(mount.remount(*generation)),
+    }
+}
+
+/// What a request asks for.
+fn raw_of<N: Naming + Drop>(mount: &Mount<N>, request: &Request) -> Result<Raw, NoMemory>
+    ensures replies { IfOk result (λ raw. (world : WorldState) → StandsFor mount.now world
+        → told mount.now.held (patterns_of request.now) raw ≡ reply_of world request.now) }
+    ensures answerable { IfOk result (λ raw. is_answerable (commit_map mount.now.held) raw ≡ true) }
+{
+    mount.stands_law();
+    let Request::Poll { query, since, .. } = request;
+    match mount.range_since(mount.store().allocator(), since) {
+        Ok(range) => Ok(Raw::Ranged(*query, range)),
+        Err(fault) => match cause_of(fault) {
+            Ok(cause) => Ok(Raw::Refused(*query, cause)),
+            Err(_) => Err(NoMemory),
+        },
+    }
+}
+
+impl<N: Naming + Drop> Served<N> for Mount<N> {
+    ghost use Rattle.eden_mount.specs.Mounts.{StandsFor};
+
+    ghost stands_for = { λ mount world. StandsFor mount world };
+
+    ghost held = { λ mount. mount.held };
+
+    ghost stored = { λ _. None };
+
+    fn store(&self) -> &Arc<Store<N>> {
+        self.store()
+    }
+
+    fn taken(&self) -> Option<u64> {
+        None
+    }
+
+    fn hold(&mut self, _caller: u64, request: &Request) -> Result<Raw, NoMemory> {
+        raw_of(self, request)
+    }
+
+    fn apply(&mut self, _caller: u64, change: &Change) -> Result<Answer, NoMemory> {
+        match apply_to(self, change) {
+            Some(answer) => Ok(answer),
+            None => Err(NoMemory),
+        }
+    }
+}

@@ -1,0 +1,61 @@
+//! Whatever answers requests and makes changes.
+
+ghost use Rattle.std.specs.Prelude.{◌≡◌, ℕ, List, Option, true, IfOk, OnOk, OnErr};
+ghost use Rattle.std.specs.Arc.{arc_value};
+ghost use Rattle.eden_objects.specs.Objects.{Held};
+ghost use Rattle.eden_objects.specs.Commits.{commit_map};
+ghost use Rattle.eden_world.specs.Worlds.{WorldState};
+ghost use Rattle.eden_world.specs.Replies.{reply_of};
+ghost use Rattle.eden_world.specs.Outcome.{answer_of, world_after};
+ghost use Rattle.eden_query.specs.Raws.{is_answerable, patterns_of, told};
+ghost use Rattle.eden_query.specs.Servers.{raised};
+
+use crate::raw::Raw;
+use eden_ids::{Naming, NoMemory};
+use eden_objects::Store;
+use eden_world::{Answer, Change, Request};
+use std::sync::Arc;
+
+/// A server of requests and changes: the present of some history of a mount.
+///
+/// Each call names its caller, by a number of the caller's own, which a server may note.
+pub trait Served<N: Naming + Drop> {
+    // The histories whose present it is.
+    ghost stands_for: { Self → WorldState → Type 0 };
+
+    // The objects under it.
+    ghost held: { Self → List Held };
+
+    // The length of its stored history, where it stores one.
+    ghost stored: { Self → Option ℕ };
+
+    /// The objects. This takes no memory.
+    fn store(&self) -> &Arc<Store<N>>
+        ensures held { arc_value result.now ≡ held self.now }
+        ensures worlds { (world : WorldState) → stands_for self.now world → held self.now ≡ world.held };
+
+    /// How many entries the stored history has, or `None` where none is stored. This takes no memory.
+    fn taken(&self) -> Option<u64>
+        ensures { result ≡ stored self.now };
+
+    /// What a request asks for, as it stands now: `answer`, with the request's filter and the objects, makes the reply of it.
+    ///
+    /// `NoMemory` comes where a growth was refused.
+    fn hold(&mut self, caller: u64, request: &Request) -> Result<Raw, NoMemory>
+        ensures replies { IfOk result (λ raw. (world : WorldState) → stands_for self.old world
+            → told (held self.old) (patterns_of request.now) raw ≡ reply_of world request.now) }
+        ensures answerable { IfOk result (λ raw. is_answerable (commit_map (held self.old)) raw ≡ true) }
+        ensures stands { (world : WorldState) → stands_for self.old world → stands_for self.new world }
+        ensures held { held self.new ≡ held self.old }
+        ensures noted { OnOk result (stored self.new ≡ raised (stored self.old)) }
+        ensures unchanged { OnErr result (self.new ≡ self.old) };
+
+    /// Makes a change, and answers the position after it, of a checkout its conflicts too, or why it is refused.
+    ///
+    /// `NoMemory` comes where a growth was refused; nothing has changed then.
+    fn apply(&mut self, caller: u64, change: &Change) -> Result<Answer, NoMemory>
+        ensures answer { IfOk result (λ answer. (world : WorldState) → stands_for self.old world → answer ≡ answer_of world change.now) }
+        ensures stands { OnOk result ((world : WorldState) → stands_for self.old world → stands_for self.new (world_after world change.now)) }
+        ensures noted { OnOk result (stored self.new ≡ raised (stored self.old)) }
+        ensures unchanged { OnErr result (self.new ≡ self.old) };
+}
