@@ -1,7 +1,8 @@
 mod PayloadLemmas
-mod EntryLemmas
 mod LabelLemmas
-mod PlainSteps
 mod PutSteps
+mod Changed
+mod Asking
+mod Mounted
+mod SessionLines
 mod LineAnswers
-mod SessionSteps

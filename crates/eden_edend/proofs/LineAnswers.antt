@@ -4,13 +4,13 @@ use Rattle.std.specs.Prelude.{option_and_then, option_map}
 use Rattle.eden_script.specs.Words.{words_of}
 use Rattle.eden_stream.specs.Scripts.{in_front}
 use Rattle.eden_stream.specs.Answers.{TakesLine, RefusesLine}
-use Rattle.eden_world.specs.declared.command.Command.{Command}
-use Rattle.eden_world.specs.ScriptLines.{command_of}
-use Rattle.eden_world.specs.ScriptText.{Told, told, is_skipped, before_text, continued, script_text}
-use Rattle.eden_edend.specs.declared.plain_mount.PlainMount.{PlainMount}
+use Rattle.eden_lines.specs.declared.command.Command.{Command}
+use Rattle.eden_lines.specs.ScriptLines.{command_of}
+use Rattle.eden_lines.specs.ScriptText.{Told, told, is_skipped, before_text, continued, script_text}
+use Rattle.eden_mount.specs.Mounts.{State}
 use Rattle.eden_edend.specs.SessionScript.{skipped-text, long-text, read-text}
 use Rattle.eden_edend.specs.declared.objects.Objects.{Objects}
-use Rattle.eden_edend.specs.Told.{SessionStands, Tells, session_at}
+use Rattle.eden_edend.specs.Told.{SessionStands, Tells, session_of}
 
 before-front : (text : List ℕ) (more : Option (List ℕ)) → before_text text more ≡ in_front text more
 before-front text None = refl
@@ -20,41 +20,41 @@ nothing-front : (more : Option (List ℕ)) → more ≡ in_front [] more
 nothing-front None = refl
 nothing-front (Some more) = refl
 
-pub takes_skipped : (mount : Option PlainMount) (objects : Objects) (script : List (List ℕ) → Option (List ℕ)) (line text : List ℕ) → SessionStands mount objects script → is_skipped line ≡ true
+pub takes_skipped : (mount : Option State) (objects : Objects) (script : List (List ℕ) → Option (List ℕ)) (line text : List ℕ) → SessionStands mount objects script → is_skipped line ≡ true
     → TakesLine (SessionStands mount objects) script line text text
 takes_skipped mount objects script line text stands e = record {
   printed = [];
   next = script;
   stands = stands;
   appended = sym (append-nil text);
-  goes_on = λ more. stands.2 (line ∷ more) ∙ skipped-text (session_at stands.0 objects) line more e ∙ sym (stands.2 more) ∙ nothing-front (script more);
+  goes_on = λ more. stands.4 (line ∷ more) ∙ skipped-text (session_of stands.0 stands.1 objects.labels) line more e ∙ sym (stands.4 more) ∙ nothing-front (script more);
 }
 
-pub refuses_long : (mount : Option PlainMount) (objects : Objects) (script : List (List ℕ) → Option (List ℕ)) (line : List ℕ) → SessionStands mount objects script → is_skipped line ≡ false
+pub refuses_long : (mount : Option State) (objects : Objects) (script : List (List ℕ) → Option (List ℕ)) (line : List ℕ) → SessionStands mount objects script → is_skipped line ≡ false
     → 65536 < length line → RefusesLine script line
-refuses_long mount objects script line stands e long = λ more. stands.2 (line ∷ more) ∙ long-text (session_at stands.0 objects) line more e long
+refuses_long mount objects script line stands e long = λ more. stands.4 (line ∷ more) ∙ long-text (session_of stands.0 stands.1 objects.labels) line more e long
 
-pub refuses_unread : (mount : Option PlainMount) (objects : Objects) (script : List (List ℕ) → Option (List ℕ)) (line : List ℕ) → SessionStands mount objects script → is_skipped line ≡ false
+pub refuses_unread : (mount : Option State) (objects : Objects) (script : List (List ℕ) → Option (List ℕ)) (line : List ℕ) → SessionStands mount objects script → is_skipped line ≡ false
     → nat_lt 65536 (length line) ≡ false → None ≡ option_and_then command_of (words_of line) → RefusesLine script line
 refuses_unread mount objects script line stands e short unread = λ more.
-    stands.2 (line ∷ more) ∙ read-text (session_at stands.0 objects) line more e short
-    ∙ ap (λ command. continued (option_map (told (session_at stands.0 objects)) command) (λ next. script_text next more)) (sym unread)
+    stands.4 (line ∷ more) ∙ read-text (session_of stands.0 stands.1 objects.labels) line more e short
+    ∙ ap (λ command. continued (option_map (told (session_of stands.0 stands.1 objects.labels)) command) (λ next. script_text next more)) (sym unread)
 
-pub takes_command : (mount next : Option PlainMount) (objects after : Objects) (script : List (List ℕ) → Option (List ℕ)) (line old new printed : List ℕ) (command : Command)
+pub takes_command : (mount next : Option State) (objects after : Objects) (script : List (List ℕ) → Option (List ℕ)) (line old new printed : List ℕ) (command : Command)
     → (stands : SessionStands mount objects script) → is_skipped line ≡ false → nat_lt 65536 (length line) ≡ false
     → Some command ≡ option_and_then command_of (words_of line)
-    → Tells (told (session_at stands.0 objects) command) next after [] printed → new ≡ old ++ printed
+    → Tells (told (session_of stands.0 stands.1 objects.labels) command) next after [] printed → new ≡ old ++ printed
     → TakesLine (SessionStands next after) script line old new
 takes_command mount next objects after script line old new printed command stands e short read tells grown = record {
   printed = step.1;
   next = script_text step.0;
-  stands = (step.0.mounted, tells.0, λ lines. (λ i. script_text (record { mounted = step.0.mounted; held = sym tells.1 i; bindings = sym tells.2 i }) lines));
+  stands = (step.0.mounted, step.0.held, tells.0, tells.1, λ lines. ap (λ bindings. script_text (session_of step.0.mounted step.0.held bindings) lines) (sym tells.2));
   appended = grown ∙ ap (λ text. old ++ text) tells.3;
   goes_on = λ more.
-      stands.2 (line ∷ more) ∙ read-text (session_at stands.0 objects) line more e short
-      ∙ ap (λ o. continued (option_map (told (session_at stands.0 objects)) o) (λ at. script_text at more)) (sym read)
+      stands.4 (line ∷ more) ∙ read-text (session_of stands.0 stands.1 objects.labels) line more e short
+      ∙ ap (λ o. continued (option_map (told (session_of stands.0 stands.1 objects.labels)) o) (λ at. script_text at more)) (sym read)
       ∙ before-front step.1 (script_text step.0 more);
 }
   where
     step : Told
-    step = told (session_at stands.0 objects) command
+    step = told (session_of stands.0 stands.1 objects.labels) command

@@ -1,5 +1,3 @@
-pub mod Asked
 pub mod BoundMaps
-pub mod StandsFor
 pub mod Told
 pub mod SessionScript

@@ -5,11 +5,11 @@ use Rattle.std.proofs.lemmas.Bool.{lt-ltb, eq-eqb, eqb-true}
 use Rattle.eden_script.specs.Words.{words_of}
 use Rattle.eden_stream.specs.Lines.{IsSkipped, IsComment}
 use Rattle.eden_stream.specs.Scripts.{IsScript}
-use Rattle.eden_world.specs.ScriptLines.{command_of}
-use Rattle.eden_world.specs.ScriptText.{Session, told, is_skipped, line_told, before_text, continued, script_text}
-use Rattle.eden_edend.specs.declared.plain_mount.PlainMount.{PlainMount}
+use Rattle.eden_lines.specs.ScriptLines.{command_of}
+use Rattle.eden_lines.specs.ScriptText.{Session, told, is_skipped, line_told, before_text, continued, script_text}
+use Rattle.eden_mount.specs.Mounts.{State}
 use Rattle.eden_edend.specs.declared.objects.Objects.{Objects}
-use Rattle.eden_edend.specs.Told.{SessionStands, session_at}
+use Rattle.eden_edend.specs.Told.{SessionStands, session_of}
 
 pub script_text-cons : (session : Session) (line : List ℕ) (more : List (List ℕ)) → script_text session (line ∷ more) ≡ continued (line_told session line) (λ next. script_text next more)
 unfolding script_text
@@ -52,12 +52,12 @@ read-text session line more e short =
     ∙ ap (λ b. continued (if b then Some (session, []) else (if nat_lt 65536 (length line) then None else option_map (told session) (option_and_then command_of (words_of line)))) (λ next. script_text next more)) e
     ∙ ap (λ b. continued (if b then None else option_map (told session) (option_and_then command_of (words_of line))) (λ next. script_text next more)) short
 
-pub session_script : (mount : Option PlainMount) (objects : Objects) (script : List (List ℕ) → Option (List ℕ)) → SessionStands mount objects script → IsScript script
+pub session_script : (mount : Option State) (objects : Objects) (script : List (List ℕ) → Option (List ℕ)) → SessionStands mount objects script → IsScript script
 session_script mount objects script stands = record {
-  ends = stands.2 [] ∙ script_text-nil at;
-  skips = λ line more h. stands.2 (line ∷ more) ∙ skipped-text at line more (skips line h) ∙ sym (stands.2 more);
-  bounded = λ line more h. stands.2 (line ∷ more) ∙ long-text at line more (keeps line h.0 h.1) h.0;
+  ends = stands.4 [] ∙ script_text-nil at;
+  skips = λ line more h. stands.4 (line ∷ more) ∙ skipped-text at line more (skips line h) ∙ sym (stands.4 more);
+  bounded = λ line more h. stands.4 (line ∷ more) ∙ long-text at line more (keeps line h.0 h.1) h.0;
 }
   where
     at : Session
-    at = session_at stands.0 objects
+    at = session_of stands.0 stands.1 objects.labels

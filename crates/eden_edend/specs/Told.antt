@@ -1,30 +1,41 @@
 -- What a session holds of the script's, and what it makes of a line.
-use Rattle.std.specs.Prelude.{◌≡◌, ℕ, List, ◌++◌, Option, Some, None, Result, Ok, Err}
+use Rattle.std.specs.Prelude.{◌≡◌, ℕ, false, is_some, List, ◌++◌, Option, Some, None, Result, Ok, Err}
 use Rattle.eden_ids.specs.declared.id.Id.{Id}
 use Rattle.eden_objects.specs.declared.fault.PutFault.{PutFault}
 use Rattle.eden_objects.specs.declared.fault.PutFault.TheVariants.{NoMemory}
 use Rattle.eden_objects.specs.Objects.{Held}
 use Rattle.eden_objects.specs.Puts.{Outcome}
-use Rattle.eden_edend.specs.declared.plain_mount.PlainMount.{PlainMount}
+use Rattle.eden_mount.specs.declared.root.Checked.{Checked}
+use Rattle.eden_mount.specs.Mounts.{State, StandsFor}
 use Rattle.eden_edend.specs.declared.objects.Objects.{Objects}
-use Rattle.eden_edend.specs.StandsFor.{StandsFor}
-use Rattle.eden_world.specs.declared.label.Binding.{Binding}
+use Rattle.eden_lines.specs.declared.label.Binding.{Binding}
+use Rattle.eden_world.specs.declared.answer.Answer.{Answer}
+use Rattle.eden_world.specs.declared.answer.Answer.TheVariants as answer
+use Rattle.eden_world.specs.declared.change.ChangeFault.{ChangeFault}
+use Rattle.eden_world.specs.declared.position.Position.{Position}
 use Rattle.eden_world.specs.Worlds.{WorldState}
-use Rattle.eden_world.specs.ScriptText.{Session, Told, MountTold, script_text}
+use Rattle.eden_lines.specs.ScriptText.{Session, Told, MountTold, script_text}
 
 -- there is a mount where the script has one, and it stands for the script's
-abbrev pub MountStands : Option PlainMount → Option WorldState → Type 0
+abbrev pub MountStands : Option State → Option WorldState → Type 0
 MountStands None None = Unit {0}
 MountStands (Some mount) (Some world) = StandsFor mount world
 MountStands _ _ = ⊥
 
--- the script's session with this mount and these objects
+-- the script's session with this mount, these objects and bindings
+abbrev pub session_of : Option WorldState → List Held → List Binding → Session
+session_of mounted held bindings = record { mounted = mounted; held = held; bindings = bindings }
+
 abbrev pub session_at : Option WorldState → Objects → Session
-session_at mounted objects = record { mounted = mounted; held = objects.store; bindings = objects.labels }
+session_at mounted objects = session_of mounted objects.store objects.labels
+
+-- until there is a mount, which takes the store, the store has the script's objects
+abbrev pub Holds : Option State → List Held → List Held → Type 0
+Holds mount store held = is_some mount ≡ false → store ≡ held
 
 -- the mount and the text after a line of the mount are those that the line tells
-abbrev pub MountTells : MountTold → Option PlainMount → List ℕ → List ℕ → Type 0
-MountTells told mount old new = MountStands mount told.0 × (new ≡ old ++ told.1)
+abbrev pub MountTells : MountTold → State → List ℕ → List ℕ → Type 0
+MountTells told mount old new = MountStands (Some mount) told.0 × (new ≡ old ++ told.1)
 
 -- a put gave its outcome; nothing is said where memory ran out
 abbrev pub Gave : Result Id PutFault → List Held → List Held → Outcome → Type 0
@@ -38,11 +49,26 @@ ObjectTells told mounted held bindings old new =
     (told.0.mounted ≡ mounted) × (held ≡ told.0.held) × (bindings ≡ told.0.bindings) × (new ≡ old ++ told.1)
 
 -- all that is there after a line is what the line tells
-abbrev pub Tells : Told → Option PlainMount → Objects → List ℕ → List ℕ → Type 0
+abbrev pub Tells : Told → Option State → Objects → List ℕ → List ℕ → Type 0
 Tells told mount objects old new =
-    MountStands mount told.0.mounted × (objects.store ≡ told.0.held) × (objects.labels ≡ told.0.bindings) × (new ≡ old ++ told.1)
+    MountStands mount told.0.mounted × Holds mount objects.store told.0.held × (objects.labels ≡ told.0.bindings) × (new ≡ old ++ told.1)
+
+-- what is there after a line where there is a mount: the bindings are the same
+abbrev pub MountedTells : Told → State → List Binding → List ℕ → List ℕ → Type 0
+MountedTells told mount bindings old new = MountStands (Some mount) told.0.mounted × (bindings ≡ told.0.bindings) × (new ≡ old ++ told.1)
 
 -- the session stands for a script: for what is printed by the lines that follow on a session of the definitions
-abbrev pub SessionStands : Option PlainMount → Objects → (List (List ℕ) → Option (List ℕ)) → Type 0
+abbrev pub SessionStands : Option State → Objects → (List (List ℕ) → Option (List ℕ)) → Type 0
 SessionStands mount objects script =
-    (mounted : Option WorldState) × MountStands mount mounted × ((lines : List (List ℕ)) → script lines ≡ script_text (session_at mounted objects) lines)
+    (mounted : Option WorldState) × (held : List Held) × MountStands mount mounted × Holds mount objects.store held
+    × ((lines : List (List ℕ)) → script lines ≡ script_text (session_of mounted held objects.labels) lines)
+
+-- ---- what a mount's calls give, as answers
+
+abbrev pub answer_made : Result Position ChangeFault → Answer
+answer_made (Ok position) = answer.At position
+answer_made (Err fault) = answer.Refused fault
+
+abbrev pub answer_checked : Result Checked ChangeFault → Answer
+answer_checked (Ok checked) = answer.Checked checked.position checked.conflicts
+answer_checked (Err fault) = answer.Refused fault

@@ -3,10 +3,10 @@
 ghost use Rattle.std.specs.Prelude.{◌≡◌, ◌∷◌, [], OnOk, OnErr, find, reverse};
 ghost use Rattle.std.specs.Option.{option_copied};
 ghost use Rattle.std.specs.FinMap as fin;
-ghost use Rattle.eden_world.specs.Labels.{newest, bound, still_binds, label_of, is_id};
+ghost use Rattle.eden_lines.specs.Labels.{newest, bound, still_binds, label_of, is_id};
 
 use eden_ids::Id;
-use eden_world::{Binding, Label};
+use eden_lines::{Binding, Label};
 use std::alloc::{AllocError, Global};
 use std::collections::BTreeMap;
 use std::marker::Model;
@@ -67,7 +67,7 @@ pub(crate) struct Labels {
 
 impl Model for Labels {
     ghost use Rattle.std.specs.Prelude.{◌≡◌, List, reverse};
-    ghost use Rattle.eden_world.specs.declared.label.Binding.{Binding};
+    ghost use Rattle.eden_lines.specs.declared.label.Binding.{Binding};
     ghost use Rattle.eden_edend.specs.BoundMaps.{bound_map};
 
     ghost Value = { List Binding };

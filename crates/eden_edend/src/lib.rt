@@ -4,16 +4,17 @@
 pub use crate::script::run;
 pub use eden_stream::RunFault;
 
-mod commands;
+mod changes;
 mod labels;
+#[cfg(test)]
+mod mount_tests;
 mod mounting;
 #[cfg(test)]
 mod object_tests;
 mod objects;
-mod plain_mount;
+mod questions;
 mod script;
 mod session;
 #[cfg(test)]
 mod tests;
 mod texts;
-mod unread;

@@ -6,7 +6,7 @@ use std::alloc::Global;
 use std::test::Fail;
 
 /// A script, in which a semicolon ends a line, prints this text, in which it does too.
-fn prints(alloc: Global, script: &str, text: &str) -> Result<bool, Fail> {
+pub(crate) fn prints(alloc: Global, script: &str, text: &str) -> Result<bool, Fail> {
     let (printed, ended) = told(alloc, lines(alloc, script)?.as_slice());
     Ok(ended.is_ok() && printed.as_slice() == lines(alloc, text)?.as_slice())
 }
@@ -139,11 +139,7 @@ const REFUSALS: [(&str, &str, &str); 25] = [
         "tree e 40000 a e",
         "NoLabel",
     ),
-    (
-        "mounting what is no commit that can be",
-        "mount c 7 1",
-        "NoCommit",
-    ),
+    ("mounting a tree", "mount t 7 1", "NoCommit"),
     ("mounting a blob", "mount x 7 1", "NoCommit"),
     (
         "mounting a label that is not bound",

@@ -4,21 +4,22 @@ ghost use Rattle.std.specs.Prelude.{◌≡◌, ◌++◌, ◌∷◌, [], IfOk, On
 ghost use Rattle.std.specs.Option.{option_map};
 ghost use Rattle.eden_objects.specs.Objects.{Held};
 ghost use Rattle.eden_objects.specs.Puts.{Outcome, blob_outcome, tree_outcome, commit_outcome};
-ghost use Rattle.eden_world.specs.Labels.{bound};
+ghost use Rattle.eden_lines.specs.Labels.{bound};
 ghost use Rattle.eden_world.specs.Worlds.{WorldState};
 ghost use Rattle.eden_ids.specs.Naming.{git_name};
-ghost use Rattle.eden_world.specs.ScriptText.{put_told, tried, entry_bytes, tree_payload, commit_payload, id_told};
+ghost use Rattle.eden_lines.specs.ScriptText.{put_told, tried, entry_bytes, tree_payload, commit_payload, id_told};
 ghost use Rattle.eden_edend.specs.Told.{session_at, ObjectTells, Gave};
 
 use crate::labels::Labels;
 use crate::texts::{push_id, push_id_line, push_ok, push_refused, put_fault_name};
 use eden_ids::{GitNaming, Id};
+use eden_lines::{Label, TreeEntry};
 use eden_objects::{PutFault, Store};
 use eden_script::{Word, push_bytes};
-use eden_world::{Label, TreeEntry};
 use std::alloc::{AllocError, Global};
+use std::mem;
 
-/// The objects, and the labels that are bound to them.
+/// The objects, and the labels that are bound to them. A mount takes the store: the one that is left has no object.
 #[derive(Drop)]
 pub(crate) struct Objects {
     pub(crate) store: Store<GitNaming>,
@@ -37,6 +38,14 @@ impl Objects {
             store: Store::new(alloc, GitNaming),
             labels: Labels::new(alloc),
         }
+    }
+
+    /// Takes the store, and leaves one with no object.
+    pub(crate) fn take_store(&mut self, alloc: Global) -> Store<GitNaming>
+        ensures store { result ≡ self.old.store }
+        ensures labels { self.new.labels ≡ self.old.labels }
+    {
+        mem::replace(&mut self.store, Store::new(alloc, GitNaming))
     }
 }
 

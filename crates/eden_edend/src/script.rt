@@ -3,7 +3,7 @@
 ghost use Rattle.std.specs.Prelude.{ℕ, ◌+◌, ◌≤◌, IsErrOf};
 ghost use Rattle.eden_stream.specs.Counts.{Rose, RoseBy};
 ghost use Rattle.eden_stream.specs.Ends.{Ends};
-ghost use Rattle.eden_world.specs.ScriptText.{script_text, first_session};
+ghost use Rattle.eden_lines.specs.ScriptText.{script_text, first_session};
 
 use crate::session::Session;
 use eden_stream::{CountedRead, CountedWrite, RunFault, run_lines};
@@ -14,7 +14,9 @@ use std::alloc::Global;
 /// A line ends with LF or CR LF; the last may lack its end, and then a CR counts as its byte. Empty lines and lines that begin
 /// with `#` are skipped and counted. The other lines are those of the script's table, with words parted by single spaces:
 /// `blob L TEXT`, `tree L` and any number of `MODE NAME LABEL`, `commit L TREE` and `id L` for objects, and
-/// `mount L GENERATION LIMIT`, `write PATH KIND TEXT`, `remove PATH` and `since GENERATION SEQUENCE` for the mount.
+/// `mount L GENERATION LIMIT` for the mount, once; for what changes it `write PATH KIND TEXT`, `remove PATH`, `rename OLD NEW`,
+/// `reset L`, `checkout L MODE`, `flush` and `remount GENERATION`; and for what is asked of it `position`, `list` and any number of
+/// patterns, `dirty`, `read PATH` and `since GENERATION SEQUENCE`. Objects are put before the mount.
 ///
 /// Whole lines are answered before the next read, of 64 KiB each; what they print is gathered, and written before the next
 /// read and whenever there are 64 KiB of it.

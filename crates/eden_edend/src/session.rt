@@ -1,23 +1,27 @@
 //! A session of a script: the objects, the mount once there is one, and what each line makes of them.
 
-ghost use Rattle.std.specs.Prelude.{◌≡◌, ◌≢◌, ◌++◌, ℕ, Option, OnOk, IfOk, option_and_then};
+ghost use Rattle.std.specs.Prelude.{◌≡◌, List, Option, None, Some, OnOk, IfOk, option_and_then};
 ghost use Rattle.eden_script.specs.Words.{words_of};
+ghost use Rattle.eden_objects.specs.Objects.{Held};
 ghost use Rattle.eden_world.specs.Worlds.{WorldState};
-ghost use Rattle.eden_world.specs.ScriptLines.{command_of};
-ghost use Rattle.eden_world.specs.ScriptText as script;
-ghost use Rattle.eden_ids.specs.Naming.{git_name};
-ghost use Rattle.eden_objects.specs.Puts.{blob_outcome, tree_outcome, commit_outcome};
-ghost use Rattle.eden_world.specs.Labels.{bound};
-ghost use Rattle.eden_edend.specs.Told.{MountStands, Tells, SessionStands, session_at};
+ghost use Rattle.eden_mount.specs.Mounts.{StandsFor};
+ghost use Rattle.eden_lines.specs.ScriptLines.{command_of};
+ghost use Rattle.eden_lines.specs.ScriptText as script;
+ghost use Rattle.eden_edend.specs.Told.{Holds, MountStands, MountedTells, SessionStands, Tells, session_at, session_of};
 
-use crate::commands::read_command;
-use crate::mounting::{tell_mount, tell_remove, tell_since, tell_write};
+use crate::changes::{
+    tell_checkout, tell_flush, tell_remount, tell_remove, tell_rename, tell_reset, tell_write,
+};
+use crate::labels::Labels;
+use crate::mounting::tell_mount;
 use crate::objects::{Objects, tell_blob, tell_commit, tell_id, tell_tree};
-use crate::plain_mount::PlainMount;
+use crate::questions::{tell_dirty, tell_list, tell_position, tell_read, tell_since};
 use crate::texts::push_refused;
-use eden_script::{Word, push_bytes, words};
+use eden_ids::GitNaming;
+use eden_lines::Command;
+use eden_mount::Mount;
+use eden_script::{push_bytes, words};
 use eden_stream::{Answered, LineMachine};
-use eden_world::{Command, Label, TreeEntry};
 use std::alloc::{AllocError, Global};
 
 /// A line of more bytes can't be read, unless it is a comment.
@@ -27,89 +31,101 @@ const LINE_LIMIT: usize = 65_536;
 #[derive(Drop)]
 pub(crate) struct Session {
     alloc: Global,
-    mount: Option<PlainMount>,
+    mount: Option<Mount<GitNaming>>,
     objects: Objects,
 }
 
 impl Session {
-    fn tell_blob(
-        &mut self,
-        label: Label,
-        bytes: &Word,
-        text: &mut Vec<u8>,
-    ) -> Result<(), AllocError>
-        ensures { (mounted : Option WorldState) → MountStands self.old.mount mounted
-            → OnOk result (Tells (script.before_mount (session_at mounted self.old.objects) mounted (script.put_told (session_at mounted self.old.objects) label (blob_outcome git_name bytes.now self.old.objects.store))) self.new.mount self.new.objects text.old.items text.new.items) }
+    /// Does what a line asks for where there is no mount.
+    #[tactic(auto, unfolding(eden_lines::specs::ScriptText::told))]
+    fn tell_unmounted(&mut self, command: Command, text: &mut Vec<u8>) -> Result<(), AllocError>
+        requires { self.old.mount ≡ None }
+        ensures { OnOk result (Tells (script.told (session_at None self.old.objects) command) self.new.mount self.new.objects text.old.items text.new.items) }
     {
-        match &self.mount {
-            Some(_) => push_refused(text, b"Mounted".as_slice()),
-            None => tell_blob(&mut self.objects, label, bytes, text),
-        }
-    }
-
-    fn tell_tree(
-        &mut self,
-        label: Label,
-        entries: &[TreeEntry],
-        text: &mut Vec<u8>,
-    ) -> Result<(), AllocError>
-        ensures { (mounted : Option WorldState) → MountStands self.old.mount mounted
-            → OnOk result (Tells (script.before_mount (session_at mounted self.old.objects) mounted (script.tried (session_at mounted self.old.objects) label (λ payload. tree_outcome git_name payload self.old.objects.store) (script.tree_payload self.old.objects.labels entries.now))) self.new.mount self.new.objects text.old.items text.new.items) }
-    {
-        match &self.mount {
-            Some(_) => push_refused(text, b"Mounted".as_slice()),
-            None => tell_tree(self.alloc, &mut self.objects, label, entries, text),
-        }
-    }
-
-    fn tell_commit(
-        &mut self,
-        label: Label,
-        tree: &Label,
-        text: &mut Vec<u8>,
-    ) -> Result<(), AllocError>
-        ensures { (mounted : Option WorldState) → MountStands self.old.mount mounted
-            → OnOk result (Tells (script.before_mount (session_at mounted self.old.objects) mounted (script.tried (session_at mounted self.old.objects) label (λ payload. commit_outcome git_name payload self.old.objects.store) (script.commit_payload (bound self.old.objects.labels tree.now)))) self.new.mount self.new.objects text.old.items text.new.items) }
-    {
-        match &self.mount {
-            Some(_) => push_refused(text, b"Mounted".as_slice()),
-            None => tell_commit(self.alloc, &mut self.objects, label, tree, text),
+        let alloc = self.alloc;
+        let objects = &mut self.objects;
+        match command {
+            Command::Blob { label, bytes } => tell_blob(objects, label, &bytes, text),
+            Command::Tree { label, entries } => {
+                tell_tree(alloc, objects, label, entries.as_slice(), text)
+            }
+            Command::Commit { label, tree } => tell_commit(alloc, objects, label, &tree, text),
+            Command::Id { label } => tell_id(&objects.labels, &label, text),
+            Command::Mount {
+                label,
+                generation,
+                limit,
+            } => tell_mount(
+                alloc,
+                &mut self.mount,
+                objects,
+                &label,
+                generation,
+                limit,
+                text,
+            ),
+            Command::Write { .. }
+            | Command::Remove { .. }
+            | Command::Rename { .. }
+            | Command::Reset { .. }
+            | Command::Flush
+            | Command::Remount { .. }
+            | Command::Checkout { .. }
+            | Command::Position
+            | Command::ListFiles { .. }
+            | Command::Dirty
+            | Command::Read { .. }
+            | Command::Since { .. } => push_refused(text, b"NotMounted".as_slice()),
         }
     }
 
     /// Does what a line asks for, and adds what it prints to the text.
-    #[tactic(auto, unfolding(eden_world::specs::ScriptText::told))]
     fn tell(&mut self, command: Command, text: &mut Vec<u8>) -> Result<(), AllocError>
-        ensures { (mounted : Option WorldState) → MountStands self.old.mount mounted
-            → OnOk result (Tells (script.told (session_at mounted self.old.objects) command) self.new.mount self.new.objects text.old.items text.new.items) }
+        ensures { (mounted : Option WorldState) (held : List Held) → MountStands self.old.mount mounted → Holds self.old.mount self.old.objects.store held
+            → OnOk result (Tells (script.told (session_of mounted held self.old.objects.labels) command) self.new.mount self.new.objects text.old.items text.new.items) }
     {
-        let alloc = self.alloc;
-        let labels = &self.objects.labels;
-        match command {
-            Command::Blob { label, bytes } => self.tell_blob(label, &bytes, text),
-            Command::Tree { label, entries } => self.tell_tree(label, entries.as_slice(), text),
-            Command::Commit { label, tree } => self.tell_commit(label, &tree, text),
-            Command::Id { label } => tell_id(labels, &label, text),
-            Command::Mount {
-                label,
-                generation,
-                ..
-            } => tell_mount(alloc, &mut self.mount, labels, &label, generation, text),
-            Command::Write { path, kind, bytes } => tell_write(
-                alloc,
-                &mut self.mount,
-                labels,
-                &path,
-                kind,
-                bytes,
-                text,
-            ),
-            Command::Remove { path } => tell_remove(alloc, &mut self.mount, labels, &path, text),
-            Command::Since {
-                generation,
-                sequence,
-            } => tell_since(alloc, &self.mount, labels, generation, sequence, text),
+        match &mut self.mount {
+            Some(mount) => tell_mounted(self.alloc, mount, &self.objects.labels, command, text),
+            None => self.tell_unmounted(command, text),
         }
+    }
+}
+
+/// Does what a line asks for where there is a mount.
+#[tactic(auto, unfolding(eden_lines::specs::ScriptText::told))]
+fn tell_mounted(
+    alloc: Global,
+    mount: &mut Mount<GitNaming>,
+    labels: &Labels,
+    command: Command,
+    text: &mut Vec<u8>,
+) -> Result<(), AllocError>
+    ensures { (world : WorldState) (held : List Held) → StandsFor mount.old world
+        → OnOk result (MountedTells (script.told (session_of (Some world) held labels.now) command) mount.new labels.now text.old.items text.new.items) }
+{
+    match command {
+        Command::Blob { .. }
+        | Command::Tree { .. }
+        | Command::Commit { .. }
+        | Command::Mount { .. } => push_refused(text, b"Mounted".as_slice()),
+        Command::Id { label } => tell_id(labels, &label, text),
+        Command::Write { path, kind, bytes } => {
+            tell_write(alloc, mount, labels, &path, kind, &bytes, text)
+        }
+        Command::Remove { path } => tell_remove(alloc, mount, labels, &path, text),
+        Command::Rename { old, new } => tell_rename(alloc, mount, labels, &old, &new, text),
+        Command::Reset { label } => tell_reset(mount, labels, &label, text),
+        Command::Flush => tell_flush(mount, labels, text),
+        Command::Remount { generation } => tell_remount(mount, labels, generation, text),
+        Command::Checkout { label, mode } => tell_checkout(mount, labels, &label, mode, text),
+        Command::Position => tell_position(mount, labels, text),
+        Command::ListFiles { patterns } => tell_list(alloc, mount, patterns.as_slice(), text),
+        Command::Dirty => tell_dirty(mount, text),
+        Command::Read { path } => tell_read(alloc, mount, &path, text),
+        Command::Since {
+            generation,
+            sequence,
+        } => tell_since(alloc, mount, labels, generation, sequence, text),
     }
 }
 
@@ -128,7 +144,7 @@ fn read_line(alloc: Global, line: &[u8]) -> Result<Option<Command>, AllocError>
     ensures { IfOk result (λ command. command ≡ option_and_then command_of (words_of line.now)) }
 {
     match words(alloc, line)? {
-        Some(words) => read_command(alloc, words),
+        Some(words) => Command::read(alloc, words),
         None => Ok(None),
     }
 }

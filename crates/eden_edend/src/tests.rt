@@ -167,7 +167,7 @@ fn scripts_and_their_texts(rt: HostRuntime) {
         ),
         (
             "kinds and marks",
-            "mount empty 18446744073709551615 0\nwrite a exec 1\nwrite a link 2\nremove a\nwrite b plain 1\nwrite b plain 2\nsince 18446744073709551615 1\nsince 18446744073709551615 2\n",
+            "mount empty 18446744073709551615 1000\nwrite a exec 1\nwrite a link 2\nremove a\nwrite b plain 1\nwrite b plain 2\nsince 18446744073709551615 1\nsince 18446744073709551615 2\n",
             "at 18446744073709551615 1 empty\nat 18446744073709551615 2 empty\nat 18446744073709551615 3 empty\nat 18446744073709551615 4 empty\nat 18446744073709551615 5 empty\nat 18446744073709551615 6 empty\nchanges 2 to 18446744073709551615 6 empty\nChanged a\nCreated b\nchanges 2 to 18446744073709551615 6 empty\nRemoved a\nCreated b\n",
         ),
         ("an empty script", "", ""),
@@ -197,7 +197,11 @@ fn scripts_and_their_texts(rt: HostRuntime) {
 fn bad_lines(rt: HostRuntime) {
     let alloc = rt.alloc();
     for line in [
-        "list",
+        "lists",
+        "flush 1",
+        "rename a",
+        "checkout empty",
+        "checkout empty soft",
         "mount",
         "mount empty 7",
         "mount empty 7 1 1",

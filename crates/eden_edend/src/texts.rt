@@ -1,15 +1,19 @@
 //! What the lines of a script print.
 
-ghost use Rattle.std.specs.Prelude.{◌≡◌, ◌++◌, ◌∷◌, [], length, OnOk, codes};
+ghost use Rattle.std.specs.Prelude.{◌≡◌, ◌≢◌, ◌++◌, ◌∷◌, [], length, OnOk, codes, Err};
+ghost use Rattle.std.specs.Fmt.{decimal};
 ghost use Rattle.std.specs.List.{flat_map};
 ghost use Rattle.hex.specs.Hex.{encode_lower};
-ghost use Rattle.eden_world.specs.ScriptText.{root_text, position_text, at_text, ok_text, id_text, refused_text, put_fault_text, path_fault_text, change_fault_text, since_fault_text, mark_text, marked_text, changes_text, answer_text};
+ghost use Rattle.eden_lines.specs.ScriptText.{root_text, position_text, at_text, ok_text, id_text, refused_text, put_fault_text, path_fault_text, change_fault_text, since_fault_text, filter_fault_text, mark_text, marked_text, changes_text, path_text, paths_text, conflicts_text, answer_text, kind_text, content_text};
+ghost use Rattle.eden_edend.specs.Told.{answer_made, answer_checked};
 
 use crate::labels::Labels;
-use eden_ids::{Id, PathFault};
+use eden_globs::FilterFault;
+use eden_ids::{Id, Kind, Path, PathFault};
+use eden_mount::Checked;
 use eden_objects::PutFault;
 use eden_script::{push_bytes, push_escaped, push_number};
-use eden_world::{Answer, ChangeFault, Mark, Marked, Position, SinceFault};
+use eden_world::{ChangeFault, Mark, Marked, Position, SinceFault};
 use std::alloc::AllocError;
 
 /// An id in hexadecimal.
@@ -114,7 +118,8 @@ pub(crate) fn path_fault_name(fault: PathFault) -> &'static [u8]
     }
 }
 
-fn change_fault_name(fault: ChangeFault) -> &'static [u8]
+/// The name of a change's fault.
+pub(crate) fn change_fault_name(fault: ChangeFault) -> &'static [u8]
     ensures { result.now ≡ change_fault_text fault }
 {
     match fault {
@@ -122,23 +127,137 @@ fn change_fault_name(fault: ChangeFault) -> &'static [u8]
         ChangeFault::IsADirectory => b"IsADirectory".as_slice(),
         ChangeFault::NoEntry => b"NoEntry".as_slice(),
         ChangeFault::TooLarge => b"TooLarge".as_slice(),
+        ChangeFault::NoCommit => b"NoCommit".as_slice(),
         ChangeFault::SequenceExhausted => b"SequenceExhausted".as_slice(),
+        ChangeFault::GenerationNotNew => b"GenerationNotNew".as_slice(),
         ChangeFault::NoMemory => b"NoMemory".as_slice(),
     }
 }
 
-/// The line of a change's answer.
-pub(crate) fn push_answer(
+/// A path on a line of its own.
+fn push_path(text: &mut Vec<u8>, path: &Path) -> Result<(), AllocError>
+    ensures { OnOk result (text.new.items ≡ text.old.items ++ path_text path.now) }
+{
+    push_escaped(text, path.as_bytes())?;
+    push_bytes(text, b"\n".as_slice())
+}
+
+fn push_paths(text: &mut Vec<u8>, paths: &[Path]) -> Result<(), AllocError>
+    ensures { OnOk result (text.new.items ≡ text.old.items ++ flat_map path_text paths.now) }
+{
+    for path in paths {
+        push_path(text, path)?;
+    }
+    Ok(())
+}
+
+/// What some paths are, how many there are, and then each of them.
+pub(crate) fn push_listed(text: &mut Vec<u8>, name: &[u8], paths: &[Path]) -> Result<(), AllocError>
+    ensures { OnOk result (text.new.items ≡ text.old.items ++ paths_text name.now paths.now) }
+{
+    push_bytes(text, name)?;
+    push_number(text, paths.len() as u64)?;
+    push_bytes(text, b"\n".as_slice())?;
+    push_paths(text, paths)
+}
+
+/// The line of a change that is refused. Where memory ran out there is none.
+fn push_unmade(text: &mut Vec<u8>, fault: ChangeFault) -> Result<(), AllocError>
+    ensures { OnOk result ((fault ≢ ChangeFault.NoMemory) × (text.new.items ≡ text.old.items ++ refused_text (change_fault_text fault))) }
+{
+    match fault {
+        ChangeFault::NoMemory => Err(AllocError),
+        fault => push_refused(text, change_fault_name(fault)),
+    }
+}
+
+/// The line of what a change came to. Where memory ran out there is none.
+#[tactic(auto, using(crate::proofs::Changed::refused_apart))]
+pub(crate) fn push_made(
     text: &mut Vec<u8>,
     labels: &Labels,
-    answer: &Answer,
+    made: &Result<Position, ChangeFault>,
 ) -> Result<(), AllocError>
-    ensures { OnOk result (text.new.items ≡ text.old.items ++ answer_text labels.now answer.now) }
+    ensures { OnOk result ((made.now ≢ Err ChangeFault.NoMemory) × (text.new.items ≡ text.old.items ++ answer_text labels.now (answer_made made.now))) }
 {
-    match answer {
-        Answer::At(position) => push_at(text, labels, position),
-        Answer::Refused(fault) => push_refused(text, change_fault_name(*fault)),
+    match made {
+        Ok(position) => push_at(text, labels, position),
+        Err(fault) => push_unmade(text, *fault),
     }
+}
+
+fn push_position_and_conflicts(
+    text: &mut Vec<u8>,
+    labels: &Labels,
+    checked: &Checked,
+) -> Result<(), AllocError>
+    ensures { OnOk result (text.new.items ≡ text.old.items ++ (at_text labels.now checked.now.position ++ conflicts_text checked.now.conflicts)) }
+{
+    push_at(text, labels, &checked.position)?;
+    push_listed(text, b"conflicts ".as_slice(), checked.conflicts.as_slice())
+}
+
+/// The lines of what a checkout came to. Where memory ran out there is none.
+#[tactic(auto, using(crate::proofs::Changed::refused_apart))]
+pub(crate) fn push_checked(
+    text: &mut Vec<u8>,
+    labels: &Labels,
+    checked: &Result<Checked, ChangeFault>,
+) -> Result<(), AllocError>
+    ensures { OnOk result ((checked.now ≢ Err ChangeFault.NoMemory) × (text.new.items ≡ text.old.items ++ answer_text labels.now (answer_checked checked.now))) }
+{
+    match checked {
+        Ok(checked) => push_position_and_conflicts(text, labels, checked),
+        Err(fault) => push_unmade(text, *fault),
+    }
+}
+
+/// The bytes at this place of a list of patterns are no pattern.
+fn push_bad_pattern(text: &mut Vec<u8>, place: usize) -> Result<(), AllocError>
+    ensures { OnOk result (text.new.items ≡ text.old.items ++ (codes "BadPattern " ++ decimal place)) }
+{
+    push_bytes(text, b"BadPattern ".as_slice())?;
+    push_number(text, place as u64)
+}
+
+fn push_filter_fault(text: &mut Vec<u8>, fault: &FilterFault) -> Result<(), AllocError>
+    ensures { OnOk result (text.new.items ≡ text.old.items ++ filter_fault_text fault.now) }
+{
+    match fault {
+        FilterFault::TooMany => push_bytes(text, b"TooMany".as_slice()),
+        FilterFault::PatternTooLong => push_bytes(text, b"PatternTooLong".as_slice()),
+        FilterFault::BadPattern(place) => push_bad_pattern(text, *place),
+        FilterFault::NoMemory => push_bytes(text, b"NoMemory".as_slice()),
+    }
+}
+
+/// The line of patterns that are refused.
+pub(crate) fn push_refused_filter(text: &mut Vec<u8>, fault: &FilterFault) -> Result<(), AllocError>
+    ensures { OnOk result (text.new.items ≡ text.old.items ++ refused_text (filter_fault_text fault.now)) }
+{
+    push_bytes(text, b"refused ".as_slice())?;
+    push_filter_fault(text, fault)?;
+    push_bytes(text, b"\n".as_slice())
+}
+
+fn kind_name(kind: Kind) -> &'static [u8]
+    ensures { result.now ≡ kind_text kind }
+{
+    match kind {
+        Kind::Plain => b"plain".as_slice(),
+        Kind::Exec => b"exec".as_slice(),
+        Kind::Link => b"link".as_slice(),
+    }
+}
+
+/// The line of a file: its kind, and what it holds.
+pub(crate) fn push_content(text: &mut Vec<u8>, kind: Kind, bytes: &[u8]) -> Result<(), AllocError>
+    ensures { OnOk result (text.new.items ≡ text.old.items ++ content_text (record { kind = kind; bytes = bytes.now })) }
+{
+    push_bytes(text, kind_name(kind))?;
+    push_bytes(text, b" ".as_slice())?;
+    push_escaped(text, bytes)?;
+    push_bytes(text, b"\n".as_slice())
 }
 
 fn push_since_fault(text: &mut Vec<u8>, fault: &SinceFault) -> Result<(), AllocError>

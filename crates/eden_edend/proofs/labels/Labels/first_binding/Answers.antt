@@ -2,7 +2,7 @@ use Rattle.std.proofs.Common.{rules, tests, reverse, sym, ap, ◌∙◌}
 use Rattle.std.specs.Prelude.{find}
 use Rattle.std.proofs.lemmas.Iterator.{YieldsList-from_slice}
 use Rattle.std.proofs.lemmas.Iterator.Search.{find_from_yields_List}
-use Rattle.eden_world.specs.Labels.{still_binds}
+use Rattle.eden_lines.specs.Labels.{still_binds}
 use Rattle.eden_edend.proofs.LabelLemmas.{turned_twice}
 use Rattle.eden_edend.proofs.labels.Labels.first_binding.Goals as goal
 

@@ -1,9 +1,7 @@
-use Rattle.std.proofs.Common.{refl}
-use Rattle.std.proofs.lemmas.Result.{on_ok_weaker}
-use Rattle.eden_world.specs.ScriptText.{told}
+use Rattle.eden_edend.proofs.SessionLines.{some_tells}
 use Rattle.eden_edend.proofs.session.Session.tell.Goals as goal
 
-pub returns-in-Mount : goal.returns-in-Mount
-unfolding told
-returns-in-Mount c = λ mounted stands.
-    rw c.in-Mount.is (on_ok_weaker c.tell_mount.result (λ tells. (tells.0, refl, refl, tells.1)) (c.tell_mount.ensures c.in-Mount.limit mounted stands))
+pub returns-in-Some : goal.returns-in-Some
+returns-in-Some c = λ mounted held stands holds.
+    some_tells c.args.self.now.mount c.in-Some.mount c.tell_mounted.new.mount mounted held c.args.self.now.objects.store c.args.self.now.objects.labels c.args.command
+    c.args.text.now.items c.tell_mounted.new.text.items c.tell_mounted.result c.in-Some.is stands c.tell_mounted.ensures

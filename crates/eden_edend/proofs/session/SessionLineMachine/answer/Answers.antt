@@ -1,7 +1,7 @@
 use Rattle.std.proofs.Common.{◌++◌, [], length, refl, sym, ap, subst, ◌∙◌, append-nil}
 use Rattle.std.proofs.lemmas.Bool.{le-ltb}
-use Rattle.eden_world.specs.ScriptText.{told}
-use Rattle.eden_edend.specs.Told.{Tells, session_at}
+use Rattle.eden_lines.specs.ScriptText.{told}
+use Rattle.eden_edend.specs.Told.{Tells, session_of}
 use Rattle.eden_edend.proofs.LineAnswers.{takes_skipped, refuses_long, refuses_unread, takes_command}
 use Rattle.eden_edend.proofs.session.SessionLineMachine.answer.Goals as goal
 
@@ -25,8 +25,8 @@ returns-in-Ok-push_bytes c = λ script stands.
     takes_command c.args.self.now.mount c.tell.new.self.mount c.args.self.now.objects c.tell.new.self.objects script c.args.line.now c.args.text.now.items c.push_bytes.new.text.items c.tell.new.text.items c.in-Ok-Some.command
     stands (sym c.if-is_skipped.ensures) (le-ltb 65536 (length c.args.line.now) c.if-line-gt-LINE_LIMIT.false)
     (sym c.in-Ok-Some.field-0-is ∙ c.in-Ok-Some.ensures)
-    (subst (λ old. Tells (told (session_at stands.0 c.args.self.now.objects) c.in-Ok-Some.command) c.tell.new.self.mount c.tell.new.self.objects old c.tell.new.text.items)
-    c.new-printed.ensures.items (c.in-Ok.ensures stands.0 stands.1))
+    (subst (λ old. Tells (told (session_of stands.0 stands.1 c.args.self.now.objects.labels) c.in-Ok-Some.command) c.tell.new.self.mount c.tell.new.self.objects old c.tell.new.text.items)
+    c.new-printed.ensures.items (c.in-Ok.ensures stands.0 stands.1 stands.2 stands.3))
     (c.in-Ok-push_bytes.ensures.ok ∙ ap (λ printed. c.args.text.now.items ++ printed) c.as_slice.ensures.value)
 
 pub returns : goal.returns

@@ -1,0 +1,210 @@
+//! What the lines that change a mount make of it.
+
+ghost use Rattle.std.specs.Prelude.{◌≡◌, OnOk};
+ghost use Rattle.eden_ids.specs.Paths.{path_fault};
+ghost use Rattle.eden_world.specs.declared.change.Change.TheVariants as change;
+ghost use Rattle.eden_world.specs.Worlds.{WorldState};
+ghost use Rattle.eden_mount.specs.Mounts.{StandsFor};
+ghost use Rattle.eden_lines.specs.Labels.{bound};
+ghost use Rattle.eden_lines.specs.ScriptText as script;
+ghost use Rattle.eden_edend.specs.Told.{MountTells};
+
+use crate::labels::Labels;
+use crate::texts::{path_fault_name, push_checked, push_made, push_refused};
+use eden_ids::{GitNaming, Id, Kind, Path, PathFault};
+use eden_lines::Label;
+use eden_mount::{Mode, Mount};
+use eden_script::Word;
+use std::alloc::{AllocError, Global};
+
+fn write(
+    mount: &mut Mount<GitNaming>,
+    labels: &Labels,
+    path: &Path,
+    kind: Kind,
+    bytes: &[u8],
+    text: &mut Vec<u8>,
+) -> Result<(), AllocError>
+    ensures { (world : WorldState) → StandsFor mount.old world → OnOk result (MountTells (script.made labels.now world (change.Write path.now kind bytes.now)) mount.new text.old.items text.new.items) }
+{
+    let made = mount.write(path, kind, bytes);
+    push_made(text, labels, &made)
+}
+
+/// Sets the file at a path.
+pub(crate) fn tell_write(
+    alloc: Global,
+    mount: &mut Mount<GitNaming>,
+    labels: &Labels,
+    path: &Word,
+    kind: Kind,
+    bytes: &Word,
+    text: &mut Vec<u8>,
+) -> Result<(), AllocError>
+    ensures { (world : WorldState) → StandsFor mount.old world → OnOk result (MountTells (script.changed labels.now world (path_fault path.now) (change.Write path.now kind bytes.now)) mount.new text.old.items text.new.items) }
+{
+    match Path::parse(alloc, path.as_bytes()) {
+        Ok(path) => write(mount, labels, &path, kind, bytes.as_bytes(), text),
+        Err(PathFault::NoMemory) => Err(AllocError),
+        Err(fault) => push_refused(text, path_fault_name(fault)),
+    }
+}
+
+fn remove(
+    mount: &mut Mount<GitNaming>,
+    labels: &Labels,
+    path: &Path,
+    text: &mut Vec<u8>,
+) -> Result<(), AllocError>
+    ensures { (world : WorldState) → StandsFor mount.old world → OnOk result (MountTells (script.made labels.now world (change.Remove path.now)) mount.new text.old.items text.new.items) }
+{
+    let made = mount.remove(path);
+    push_made(text, labels, &made)
+}
+
+/// Takes the file at a path away.
+pub(crate) fn tell_remove(
+    alloc: Global,
+    mount: &mut Mount<GitNaming>,
+    labels: &Labels,
+    path: &Word,
+    text: &mut Vec<u8>,
+) -> Result<(), AllocError>
+    ensures { (world : WorldState) → StandsFor mount.old world → OnOk result (MountTells (script.changed labels.now world (path_fault path.now) (change.Remove path.now)) mount.new text.old.items text.new.items) }
+{
+    match Path::parse(alloc, path.as_bytes()) {
+        Ok(path) => remove(mount, labels, &path, text),
+        Err(PathFault::NoMemory) => Err(AllocError),
+        Err(fault) => push_refused(text, path_fault_name(fault)),
+    }
+}
+
+fn rename(
+    mount: &mut Mount<GitNaming>,
+    labels: &Labels,
+    old: &Path,
+    new: &Path,
+    text: &mut Vec<u8>,
+) -> Result<(), AllocError>
+    ensures { (world : WorldState) → StandsFor mount.old world → OnOk result (MountTells (script.made labels.now world (change.Rename old.now new.now)) mount.new text.old.items text.new.items) }
+{
+    let made = mount.rename(old, new);
+    push_made(text, labels, &made)
+}
+
+fn tell_rename_to(
+    alloc: Global,
+    mount: &mut Mount<GitNaming>,
+    labels: &Labels,
+    old: &Path,
+    new: &Word,
+    text: &mut Vec<u8>,
+) -> Result<(), AllocError>
+    ensures { (world : WorldState) → StandsFor mount.old world → OnOk result (MountTells (script.changed labels.now world (path_fault new.now) (change.Rename old.now new.now)) mount.new text.old.items text.new.items) }
+{
+    match Path::parse(alloc, new.as_bytes()) {
+        Ok(new) => rename(mount, labels, old, &new, text),
+        Err(PathFault::NoMemory) => Err(AllocError),
+        Err(fault) => push_refused(text, path_fault_name(fault)),
+    }
+}
+
+/// Takes the file at one path away and puts it at another. Of two paths the first that is none is told.
+pub(crate) fn tell_rename(
+    alloc: Global,
+    mount: &mut Mount<GitNaming>,
+    labels: &Labels,
+    old: &Word,
+    new: &Word,
+    text: &mut Vec<u8>,
+) -> Result<(), AllocError>
+    ensures { (world : WorldState) → StandsFor mount.old world → OnOk result (MountTells (script.changed labels.now world (script.first_path_fault (path_fault old.now) (path_fault new.now)) (change.Rename old.now new.now)) mount.new text.old.items text.new.items) }
+{
+    match Path::parse(alloc, old.as_bytes()) {
+        Ok(old) => tell_rename_to(alloc, mount, labels, &old, new, text),
+        Err(PathFault::NoMemory) => Err(AllocError),
+        Err(fault) => push_refused(text, path_fault_name(fault)),
+    }
+}
+
+/// Forgets what changed so far.
+pub(crate) fn tell_flush(
+    mount: &mut Mount<GitNaming>,
+    labels: &Labels,
+    text: &mut Vec<u8>,
+) -> Result<(), AllocError>
+    ensures { (world : WorldState) → StandsFor mount.old world → OnOk result (MountTells (script.made labels.now world change.Flush) mount.new text.old.items text.new.items) }
+{
+    let made = mount.flush();
+    push_made(text, labels, &made)
+}
+
+/// Begins anew under another generation.
+pub(crate) fn tell_remount(
+    mount: &mut Mount<GitNaming>,
+    labels: &Labels,
+    generation: u64,
+    text: &mut Vec<u8>,
+) -> Result<(), AllocError>
+    ensures { (world : WorldState) → StandsFor mount.old world → OnOk result (MountTells (script.made labels.now world (change.Remount generation)) mount.new text.old.items text.new.items) }
+{
+    let made = mount.remount(generation);
+    push_made(text, labels, &made)
+}
+
+fn reset(
+    mount: &mut Mount<GitNaming>,
+    labels: &Labels,
+    commit: Id,
+    text: &mut Vec<u8>,
+) -> Result<(), AllocError>
+    ensures { (world : WorldState) → StandsFor mount.old world → OnOk result (MountTells (script.made labels.now world (change.Reset commit)) mount.new text.old.items text.new.items) }
+{
+    let made = mount.reset(commit);
+    push_made(text, labels, &made)
+}
+
+/// Goes over to the commit that the label is bound to, and leaves the files as they are.
+pub(crate) fn tell_reset(
+    mount: &mut Mount<GitNaming>,
+    labels: &Labels,
+    label: &Label,
+    text: &mut Vec<u8>,
+) -> Result<(), AllocError>
+    ensures { (world : WorldState) → StandsFor mount.old world → OnOk result (MountTells (script.moved labels.now world (bound labels.now label.now) (λ commit. change.Reset commit)) mount.new text.old.items text.new.items) }
+{
+    match labels.get(label) {
+        Some(commit) => reset(mount, labels, commit, text),
+        None => push_refused(text, b"NoLabel".as_slice()),
+    }
+}
+
+#[tactic(auto, using(crate::proofs::Changed::checked_tells))]
+fn checkout(
+    mount: &mut Mount<GitNaming>,
+    labels: &Labels,
+    commit: Id,
+    mode: Mode,
+    text: &mut Vec<u8>,
+) -> Result<(), AllocError>
+    ensures { (world : WorldState) → StandsFor mount.old world → OnOk result (MountTells (script.made labels.now world (change.Checkout commit mode)) mount.new text.old.items text.new.items) }
+{
+    let checked = mount.checkout(commit, mode);
+    push_checked(text, labels, &checked)
+}
+
+/// Goes over to the commit that the label is bound to, and makes the files those of that commit as far as the mode says.
+pub(crate) fn tell_checkout(
+    mount: &mut Mount<GitNaming>,
+    labels: &Labels,
+    label: &Label,
+    mode: Mode,
+    text: &mut Vec<u8>,
+) -> Result<(), AllocError>
+    ensures { (world : WorldState) → StandsFor mount.old world → OnOk result (MountTells (script.moved labels.now world (bound labels.now label.now) (λ commit. change.Checkout commit mode)) mount.new text.old.items text.new.items) }
+{
+    match labels.get(label) {
+        Some(commit) => checkout(mount, labels, commit, mode, text),
+        None => push_refused(text, b"NoLabel".as_slice()),
+    }
+}
