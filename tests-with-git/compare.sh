@@ -1,13 +1,16 @@
 #!/bin/sh
 # Makes 600 blobs, 300 trees and 300 commits at random with git, and compares with Git what Railburnet says of them: the ids that
-# `edend run` prints for a script with the same objects, and the files that the store lists of each commit.
+# `edend run` prints for a script with the same objects, and the files that the store lists of each commit. Then makes 300 pairs of
+# commits, and compares what `edend run` lists on a mount of the first of each pair, and the paths that are dirty there after a reset
+# to the second. It exits with 1 at the first difference.
 #
 # usage: tests-with-git/compare.sh [SEED]
 #
-# It needs git, and the programs edend and beside_git, which `rt run` builds where they are not built yet. What it makes lies in a
-# folder of its own, which it takes away again.
+# It needs git, and the programs edend and beside_git, which `rt run` builds where they are not built yet. With HOW=try, `rt try` runs
+# edend, without a proof of it. What it makes lies in a folder of its own, which it takes away again.
 set -eu
 
+how=${HOW:-run}
 seed=${1:-1}
 root=$(cd "$(dirname "$0")/.." && pwd)
 work=$(mktemp -d)
@@ -72,7 +75,7 @@ while read -r word number rest; do
 done < "$work/plan"
 
 # The ids of a script.
-(cd "$root/crates/edend" && rt run -- run < "$work/script") > "$work/printed"
+(cd "$root/crates/edend" && rt "$how" -- run < "$work/script") > "$work/printed"
 grep '^id ' "$work/printed" | cut -d ' ' -f 2 > "$work/printed-ids"
 cmp "$work/ids" "$work/printed-ids"
 refused=$(grep -c '^refused' "$work/printed" || true)
@@ -94,3 +97,148 @@ cmp "$work/listed-by-git" "$work/listed"
 
 echo "$(wc -l < "$work/ids") ids and $(grep -c '^commit ' "$work/listed") listings are those of Git, \
 with $(grep -c ' blob ' "$work/listed") files"
+
+# 300 pairs of commits at random: the second has the files of the first with some changes, or in one pair of five files of its own.
+# Files give way to directories and directories to files, and kinds change.
+git -C "$work" init -q --bare pairs.git
+export GIT_DIR="$work/pairs.git"
+awk -v seed="$seed" '
+    function any(n) { return int(rand() * n) }
+    function new_path(  path, depth) {
+        path = name[any(names) + 1]
+        for (depth = any(4); depth > 0; depth--) path = path "/" name[any(names) + 1]
+        return path
+    }
+    # Takes away what stands at the path and below it.
+    function clear(path,  other) {
+        for (other in files) if (other == path || index(other, path "/") == 1) delete files[other]
+    }
+    # Takes away the files at which a directory has to stand for this path.
+    function clear_above(path,  part, parts, above, p) {
+        parts = split(path, part, "/")
+        for (p = 1; p < parts; p++) {
+            above = above part[p]
+            delete files[above]
+            above = above "/"
+        }
+    }
+    function put(path) {
+        clear(path)
+        clear_above(path)
+        files[path] = mode[any(3) + 1] " :" (any(40) + 1)
+    }
+    function any_file(  path, at, count) {
+        for (path in files) count++
+        at = any(count)
+        for (path in files) if (at-- == 0) return path
+        return new_path()
+    }
+    function change(  path, how) {
+        path = any_file()
+        how = any(6)
+        if (how == 0) put(path)
+        else if (how == 1) sub(/^[0-9]+/, mode[any(3) + 1], files[path])
+        else if (how == 2) delete files[path]
+        else if (how == 3) { put(path "/" name[any(names) + 1]); put(path "/" name[any(names) + 1]) }
+        else if (how == 4) { while (any(2) && match(path, /\/[^\/]*$/)) path = substr(path, 1, RSTART - 1); put(path) }
+        else put(new_path())
+    }
+    function tell(ref,  path) {
+        print "commit refs/heads/" ref "\ncommitter a <a> 0 +0000\ndata 0\ndeleteall"
+        for (path in files) print "M " files[path] " \"" path "\""
+        print ""
+    }
+    BEGIN {
+        srand(seed + 1)
+        names = split("a a.b a-b a0 ab b lib lib.rs two\\040words back\\\\slash new\\nline caf\\303\\251", name, " ")
+        split("100644 100755 120000", mode, " ")
+        for (b = 1; b <= 40; b++) print "blob\nmark :" b "\ndata <<.\ntext " b "\n.\n"
+        for (p = 100; p < 400; p++) {
+            split("", files)
+            for (f = any(30); f >= 0; f--) put(new_path())
+            tell("one-" p)
+            if (any(5) == 0) {
+                split("", files)
+                for (f = any(30); f >= 0; f--) put(new_path())
+            } else for (f = any(8); f >= 0; f--) change()
+            tell("two-" p)
+        }
+    }' > "$work/import"
+git fast-import --quiet --export-marks="$work/marks" < "$work/import"
+
+# The names that git prints with -z, as lines of a script have them, in byte order of the names.
+mark=$(printf '\001')
+tab=$(printf '\t')
+escaped() {
+    LC_ALL=C sed "s/\\\\/\\\\\\\\/g; s/ /\\\\s/g; s/$mark/\\\\n/g"
+}
+names() {
+    tr '\n\000' '\001\n' | LC_ALL=C sort | escaped
+}
+
+# The files and directories of a tree, a directory before what it holds: lines MODE:WORD:ID:PATH, behind one of the tree itself.
+tree_of() {
+    echo "root:tree:$1"
+    git ls-tree -r -t -z "$1" | tr '\n\000' '\001\n' | sed "s/ /:/; s/ /:/; s/$tab/:/" | escaped
+}
+
+# The lines of a script that put what such lines tell. A label is the first digits of an id.
+object_lines() {
+    LC_ALL=C awk -F : -v marks="$work/marks" '
+        BEGIN { while ((getline line < marks) > 0) { split(line, part, "[: ]"); number[part[3]] = part[2] } }
+        {
+            label = substr($2, 1, 1) substr($3, 1, 31)
+            if ($1 == "root") key = root = NR
+            else {
+                key = root "/" $4
+                match(key, /\/[^\/]*$/)
+                above = substr(key, 1, RSTART - 1)
+                sub(/^0/, "", $1)
+                entries[above] = entries[above] " " $1 " " substr(key, RSTART + 1) " " label
+            }
+            if ($2 == "tree") { trees[++count] = label; keys[count] = key }
+            else if (!seen[label]++) print "blob " label " text\\s" number[$3] "\\n"
+        }
+        END { for (t = count; t > 0; t--) if (!seen[trees[t]]++) print "tree " trees[t] entries[keys[t]] }'
+}
+
+# A script for each pair, and what it prints by Git. Git makes no empty directory of itself: in one pair of twenty the second tree is
+# the first one with an empty directory more, and in another it has one beside its other changes.
+mkdir "$work/cases"
+nothing=$(git mktree < /dev/null)
+for pair in $(seq 100 399); do
+    one=$(git rev-parse "one-$pair^{tree}")
+    two=$(git rev-parse "two-$pair^{tree}")
+    [ $((pair % 20)) != 0 ] || two=$one
+    [ $((pair % 10)) != 0 ] || two=$({ git ls-tree -z "$two"; printf '040000 tree %s\tvoid\000' "$nothing"; } | git mktree -z)
+    root_of_two=two
+    [ "$one" != "$two" ] || root_of_two=one
+    {
+        { tree_of "$one"; tree_of "$two"; } | object_lines
+        printf 'commit one t%.31s\ncommit two t%.31s\nmount one 1 1000000\nlist\nreset two\ndirty\n' "$one" "$two"
+    } > "$work/cases/$pair"
+    git ls-tree -r -z --name-only "$one" | names > "$work/files"
+    git diff-tree -r -z --name-only "$one" "$two" | names > "$work/dirty"
+    {
+        sed -n '/^blob \|^tree \|^commit /s/.*/ok/p' "$work/cases/$pair"
+        echo "at 1 1 one"
+        echo "files $(wc -l < "$work/files")"
+        cat "$work/files"
+        echo "at 1 2 $root_of_two"
+        echo "dirty $(wc -l < "$work/dirty")"
+        cat "$work/dirty"
+    } > "$work/cases/$pair.stdout"
+done
+
+if [ "$how" = try ]; then
+    (cd "$root/crates/edend" && rt try --cases "$work/cases" -- run) > "$work/tried" 2>&1 || { cat "$work/tried"; exit 1; }
+else
+    for pair in $(seq 100 399); do
+        "$root/crates/edend/out/edend" run < "$work/cases/$pair" > "$work/printed"
+        diff "$work/cases/$pair.stdout" "$work/printed" || { echo "in pair $pair, Git above edend"; exit 1; }
+    done
+fi
+cat "$work/cases/"*.stdout | awk '
+    $1 == "files" { lists++; files += $2 }
+    $1 == "dirty" { pairs++; paths += $2 }
+    END { print lists " lists and " pairs " pairs are those of Git, with " files " files and " paths " paths" }'

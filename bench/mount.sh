@@ -1,0 +1,170 @@
+#!/bin/bash
+# Measures edend on a mount of 100,000 files beside one of 1,000 files, and a poll over a change of the root beside `git diff-tree`.
+# README.md says what is measured, and how. It needs git and the kit.
+#
+# usage: bench/mount.sh [TRIES]
+set -euo pipefail
+
+tries=${1:-5}
+root=$(cd "$(dirname "$0")/.." && pwd)
+work=$(mktemp -d)
+trap 'rm -rf "$work"' EXIT
+(cd "$root/crates/edend" && rt run -- run < /dev/null) > "$work/built" 2>&1 || { cat "$work/built"; exit 1; }
+edend=$root/crates/edend/out/edend
+
+# The path of file F of directory D of a shape: 1,000 directories side by side, or ten in each of ten in each of ten.
+path='
+    function path(shape, d, f) {
+        if (shape == "wide") return sprintf("dir%03d/file%02d", d, f)
+        return sprintf("dir%d/dir%d/dir%d/file%02d", int(d / 100), int(d / 10) % 10, d % 10, f)
+    }'
+
+# Commit `one` of 100,000 files, `two` in which a file of each tenth directory has another content, and `small`, which has the first
+# ten directories of `one`: in git, and as lines of a script.
+make_commits() {
+    awk -v shape="$1" "$path"'
+        function blob(d, f, changed) { return (d + f + (changed && d % 10 == 0 && f == 50) * 500) % 1000 }
+        function commit(name, count, changed,  d, f) {
+            print "commit refs/heads/" name "\ncommitter a <a> 0 +0000\ndata 0\ndeleteall"
+            for (d = 0; d < count; d++)
+                for (f = 0; f < 100; f++) print "M 100644 :" blob(d, f, changed) + 1, path(shape, d, f)
+            print ""
+        }
+        BEGIN {
+            for (b = 0; b < 1000; b++) print "blob\nmark :" b + 1 "\ndata <<.\ntext " b "\n.\n"
+            commit("one", 1000, 0)
+            commit("two", 1000, 1)
+            commit("small", 10, 0)
+        }' | git fast-import --quiet --export-marks="$work/marks"
+    for name in one two small; do
+        echo "root:tree:$(git rev-parse "$name^{tree}")"
+        git ls-tree -r -t "$name" | tr ' \t' '::'
+    done | awk -F : -v marks="$work/marks" '
+        BEGIN { while ((getline line < marks) > 0) { split(line, part, "[: ]"); number[part[3]] = part[2] - 1 } }
+        {
+            label = substr($2, 1, 1) substr($3, 1, 31)
+            if ($1 == "root") { key = root = NR; roots = roots " " label }
+            else {
+                key = root "/" $4
+                match(key, /\/[^\/]*$/)
+                above = substr(key, 1, RSTART - 1)
+                sub(/^0/, "", $1)
+                entries[above] = entries[above] " " $1 " " substr(key, RSTART + 1) " " label
+            }
+            if ($2 == "tree") { trees[++count] = label; keys[count] = key }
+            else if (!seen[label]++) print "blob " label " text\\s" number[$3] "\\n"
+        }
+        END {
+            for (t = count; t > 0; t--) if (!seen[trees[t]]++) print "tree " trees[t] entries[keys[t]]
+            split(roots, tree, " ")
+            print "commit one " tree[1] "\ncommit two " tree[2] "\ncommit small " tree[3]
+        }' > "$work/objects"
+    { cat "$work/objects"; sed -n 's/^commit [a-z]* /id /p' "$work/objects"; } | "$edend" run | sed -n 's/^id //p' > "$work/ids"
+    git rev-parse 'one^{tree}' 'two^{tree}' 'small^{tree}' | cmp - "$work/ids"
+}
+
+# 10,000 lines of changes of 1,000 files on a mount of so many directories: each file is written ten times, or renamed five times and
+# back, or removed five times and written again.
+changes() {
+    awk -v kind="$1" -v shape="$2" -v count="$3" "$path"'
+        BEGIN {
+            for (round = 0; round < 10; round++)
+                for (n = 0; n < 1000; n++) {
+                    old = path(shape, n % count, count == 10 ? int(n / 10) : n % 100)
+                    new = old
+                    sub(/file/, "moved", new)
+                    if (kind == "rename") print "rename", round % 2 ? new : old, round % 2 ? old : new
+                    else if (kind == "remove" && round % 2 == 0) print "remove", old
+                    else print "write", old, "plain new" n
+                }
+        }'
+}
+# So many times the lines that are told.
+repeat() {
+    local lines=$2
+    for ((n = 0; n < $1; n++)); do printf "$lines"; done
+}
+
+# The milliseconds of processor time that a command takes: the least of the tries, since other work makes a run longer and never shorter.
+least() {
+    local TIMEFORMAT='%3U %3S'
+    for ((try = 0; try < tries; try++)); do
+        { time "$@" > "$work/printed" 2> "$work/failed"; } 2>&1 | awk '{ print ($1 + $2) * 1000 }'
+        if grep -q '^refused' "$work/printed" || [ -s "$work/failed" ]; then
+            echo "a line was refused" >&2
+            exit 1
+        fi
+    done | sort -n | sed -n 1p
+}
+from_script() {
+    "$edend" run < "$work/script"
+}
+# What a script takes that puts the objects, mounts a commit and has the lines of standard input.
+script() {
+    { cat "$work/objects"; echo "mount $1 1 1000000000"; cat; } > "$work/script"
+    least from_script
+}
+git_many() {
+    git diff-tree -r --stdin < "$work/pairs"
+}
+git_alone() {
+    for ((n = 0; n < 100; n++)); do git diff-tree -r one two; done
+}
+
+# Microseconds of one of N, from milliseconds of all and of none.
+each() {
+    awk -v all="$1" -v none="$2" -v count="$3" 'BEGIN { printf "%.1f", (all - none) * 1000 / count }'
+}
+ratio() {
+    awk -v a="$1" -v b="$2" 'BEGIN { if (b > 0) printf "%.2f", a / b; else printf "none" }'
+}
+
+# Commits `one` and `two`: the mount and the checkout, and the poll beside git.
+measure_root() {
+    local objects mounted once checkouts checked polls poll many alone
+    cp "$work/objects" "$work/script"
+    objects=$(least from_script)
+    mounted=$(script one < /dev/null)
+    once=$(printf 'checkout two normal\nsince 1 1\n' | script one)
+    # Both tell the same paths.
+    sed -n 's/^Root //p' "$work/printed" | cmp - <(git diff-tree -r --name-only one two)
+    checkouts=$(repeat 50 'checkout two normal\ncheckout one normal\n' | script one)
+    checked=$(echo 'checkout two normal' | script one)
+    polls=$({ echo 'checkout two normal'; repeat 1000 'since 1 1\n'; } | script one)
+    repeat 1000 "$(git rev-parse 'one^{tree}') $(git rev-parse 'two^{tree}')\n" > "$work/pairs"
+    poll=$(each "$polls" "$checked" 1000)
+    many=$(each "$(least git_many)" 0 1000)
+    alone=$(each "$(least git_alone)" 0 100)
+    echo "objects $objects ms; and a mount $mounted ms; and a checkout and a poll $once ms"
+    echo "a checkout, 100 files differ: $(each "$checkouts" "$mounted" 100) us"
+    echo "a poll over it: $poll us"
+    echo "git diff-tree -r: $many us each of 1,000 in a process, ratio $(ratio "$many" "$poll"); $alone us as a process, ratio $(ratio "$alone" "$poll")"
+}
+
+# What each of 10,000 lines of a kind takes, on the large mount and on the small one: of `position`, which changes nothing and is
+# answered as a change is, of changes, and of polls over ten writes.
+measure_lines() {
+    local large small
+    large=$(each "$(lines "$1" 1000 | script one)" "$(script one < /dev/null)" 10000)
+    small=$(each "$(lines "$1" 10 | script small)" "$(script small < /dev/null)" 10000)
+    echo "$1: $large us on 100,000 files; $small us on 1,000; ratio $(ratio "$large" "$small")"
+}
+lines() {
+    if [ "$1" = position ]; then
+        repeat 10000 'position\n'
+    elif [ "$1" = poll ]; then
+        changes write "$shape" "$2" | sed -n 1,10p
+        repeat 10000 'since 1 1\n'
+    else
+        changes "$1" "$shape" "$2"
+    fi
+}
+
+for shape in wide deep; do
+    echo "$shape:"
+    export GIT_DIR="$work/$shape"
+    git init -q --bare "$GIT_DIR"
+    make_commits "$shape"
+    measure_root
+    for kind in position write rename remove poll; do measure_lines "$kind"; done
+done
