@@ -1,18 +1,18 @@
 -- The files of a commit, looked up and counted by its rows.
-use Rattle.std.proofs.Common.{◌≡◌, ℕ, ◌+◌, ◌-◌, ◌≤◌, ◌<◌, ◌++◌, Bool, true, false, cond, nat_eq, nat_le, List, [], ◌∷◌, map, length, Option, Some, None, refl, sym, ap, subst, ◌∙◌, arith, length-append}
+use Rattle.std.proofs.Common.{◌≡◌, ℕ, ◌+◌, ◌-◌, Bool, true, false, cond, nat_eq, nat_le, List, [], ◌∷◌, map, length, Option, Some, None, refl, sym, ap, ◌∙◌, arith, length-append}
 use Rattle.std.proofs.lemmas.List.{length-map}
 use Rattle.std.specs.Prelude.{filter}
 use Rattle.eden_ids.specs.declared.id.Id.{Id}
 use Rattle.eden_ids.specs.declared.content.Kind.{Kind}
-use Rattle.eden_ids.specs.FileMaps.{FileMap, file_at, paths, no_files}
+use Rattle.eden_ids.specs.FileMaps.{file_at, paths, no_files}
 use Rattle.eden_ids.specs.Paths.{lies_below}
 use Rattle.eden_ids.proofs.FileMapLemmas.{file_at-none}
-use Rattle.eden_objects.specs.Objects.{Held, find, payload_of}
+use Rattle.eden_objects.specs.Objects.{Held}
 use Rattle.eden_objects.specs.Trees.{Entry}
-use Rattle.eden_objects.specs.Commits.{Row, under, rows_of_kind, entry_rows, entries_rows, find_row, commit_rows, commit_map, map_of_rows}
+use Rattle.eden_objects.specs.Commits.{Row, under, rows_of_kind, entry_rows, entries_rows, find_row, commit_rows, map_of_rows}
 use Rattle.eden_objects.specs.Closed.{IsClosed}
 use Rattle.eden_objects.specs.Walks.{content_found}
-use Rattle.eden_objects.specs.Files.{files_of, commit_files, rows_or_none, content_seen}
+use Rattle.eden_objects.specs.Files.{files_of, commit_files, rows_or_none}
 use Rattle.eden_objects.proofs.Maps.{file_at-map_of, paths-map_of}
 use Rattle.eden_objects.proofs.CommitLaws.{rows_rise}
 use Rattle.std.specs.FinMap as fin

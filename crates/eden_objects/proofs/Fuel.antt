@@ -1,16 +1,13 @@
 -- The entries of some bytes are the first one, and those of the bytes behind it.
-use Rattle.std.proofs.Common.{◌≡◌, ℕ, zero, suc, ◌<◌, ◌≤◌, List, [], ◌∷◌, length, Option, Some, None, Result, Ok, Err, refl, sym, ap, ◌∙◌, arith}
+use Rattle.std.proofs.Common.{◌≡◌, ℕ, zero, suc, ◌<◌, ◌≤◌, List, [], ◌∷◌, length, Result, Ok, Err, refl, sym, ap, ◌∙◌, arith}
 use Rattle.std.specs.Prelude.{IfOk, IfSome}
 use Rattle.std.specs.Result.{result_ok}
 use Rattle.std.specs.Borrow.{Bor}
-use Rattle.eden_ids.specs.declared.id.Id.{Id}
-use Rattle.eden_ids.specs.declared.content.Kind.{Kind}
 use Rattle.eden_objects.specs.declared.entry.RawEntry.{RawEntry}
 use Rattle.eden_objects.specs.declared.fault.PutFault.{PutFault}
-use Rattle.eden_objects.specs.Objects.{same_bytes}
 use Rattle.eden_objects.specs.Entries.{plain, reading_of}
 use Rattle.eden_objects.specs.Trees.{Entry, read_entry, entries, entries_after, entries_of}
-use Rattle.eden_objects.specs.Walks.{or_later, file_if, file_named, dir_if, dir_named, entries_read}
+use Rattle.eden_objects.specs.Walks.{entries_read}
 use Rattle.eden_objects.proofs.Reading.{read_shorter}
 
 same_after : (n m : ℕ) (bytes : List ℕ) (r : Result (Entry × List ℕ) PutFault) → read_entry bytes ≡ r
@@ -44,6 +41,12 @@ after_one bytes (suc n) e rest long is =
 one_read : (bytes : List ℕ) (e : RawEntry) (rest : Bor (List ℕ)) → Ok (plain e, rest.now) ≡ read_entry bytes → entries_of bytes ≡ plain e ∷ entries_of rest.now
 one_read bytes e rest is = after_one bytes (length bytes) (plain e) rest.now (omega arith) (sym is)
 
+pub after_read : (bytes : List ℕ) (e : Entry) (rest : List ℕ) → read_entry bytes ≡ Ok (e, rest) → entries_of bytes ≡ e ∷ entries_of rest
+after_read bytes e rest is = after_one bytes (length bytes) e rest (omega arith) is
+
+pub none_left : (bytes : List ℕ) (fault : PutFault) → read_entry bytes ≡ Err fault → entries_of bytes ≡ []
+none_left bytes fault is = none_read bytes fault (sym is)
+
 pub all_read : (bytes : List ℕ) (r : Result (RawEntry × Bor (List ℕ)) PutFault) → reading_of r ≡ read_entry bytes → entries_of bytes ≡ entries_read (result_ok r)
 all_read bytes (Err fault) is = none_read bytes fault is
 all_read bytes (Ok read) is = one_read bytes read.0 read.1 is
@@ -51,16 +54,3 @@ all_read bytes (Ok read) is = one_read bytes read.0 read.1 is
 pub still_shorter : (bytes : List ℕ) (r : Result (RawEntry × Bor (List ℕ)) PutFault) → IfOk r (λ read. length read.1.now < length bytes) → IfSome (result_ok r) (λ read. length read.1.now < length bytes)
 still_shorter bytes (Err fault) less = tt
 still_shorter bytes (Ok read) less = less
-
--- one step of a search for a name
-pub file_skipped : (name : List ℕ) (e : Entry) (es all : List Entry) → all ≡ e ∷ es → None ≡ file_if e.kind e.id (same_bytes e.name name) → file_named name all ≡ file_named name es
-file_skipped name e es all is other = ap (file_named name) is ∙ ap (λ (o : Option (Kind × Id)). or_later o (file_named name es)) (sym other)
-
-pub file_hit : (name : List ℕ) (e : Entry) (es all : List Entry) (found : Kind × Id) → all ≡ e ∷ es → Some found ≡ file_if e.kind e.id (same_bytes e.name name) → Some found ≡ file_named name all
-file_hit name e es all found is this = sym (ap (file_named name) is ∙ ap (λ (o : Option (Kind × Id)). or_later o (file_named name es)) (sym this))
-
-pub dir_skipped : (name : List ℕ) (e : Entry) (es all : List Entry) → all ≡ e ∷ es → None ≡ dir_if e.kind e.id (same_bytes e.name name) → dir_named name all ≡ dir_named name es
-dir_skipped name e es all is other = ap (dir_named name) is ∙ ap (λ (o : Option Id). or_later o (dir_named name es)) (sym other)
-
-pub dir_hit : (name : List ℕ) (e : Entry) (es all : List Entry) (found : Id) → all ≡ e ∷ es → Some found ≡ dir_if e.kind e.id (same_bytes e.name name) → Some found ≡ dir_named name all
-dir_hit name e es all found is this = sym (ap (dir_named name) is ∙ ap (λ (o : Option Id). or_later o (dir_named name es)) (sym this))

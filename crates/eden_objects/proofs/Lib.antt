@@ -23,3 +23,5 @@ mod Refusals
 mod Order
 mod Judging
 mod Judged
+mod Starts
+mod Searching

@@ -1,6 +1,6 @@
 -- An entry that was read leaves fewer bytes.
-use Rattle.std.proofs.Common.{◌≡◌, ◌∙◌, sym, refl, ap, ℕ, suc, ◌<◌, ◌≤◌, Bool, true, false, cond, not, List, [], ◌∷◌, take, drop, length, Option, Some, None, Result, Ok, Err, nat_eq, nat_lt, IfOk, ◌&&◌, if◌then◌else◌, codes, drop_of_length-le, arith}
-use Rattle.std.proofs.lemmas.List.{length-drop}
+use Rattle.std.proofs.Common.{◌≡◌, ◌∙◌, sym, refl, ap, ℕ, suc, ◌<◌, ◌≤◌, Bool, true, false, cond, not, List, [], ◌∷◌, take, drop, length, Option, Some, None, Result, Ok, Err, nat_eq, nat_lt, IfOk, ◌&&◌, if◌then◌else◌, codes, drop_of_length-le, arith, ◌++◌, append_assoc}
+use Rattle.std.proofs.lemmas.List.{length-drop, take-append-drop}
 use Rattle.eden_ids.specs.declared.content.Kind.{Kind}
 use Rattle.eden_objects.specs.declared.fault.PutFault.{PutFault}
 use Rattle.eden_objects.specs.declared.fault.PutFault.TheVariants.{BadName, CutShort}
@@ -75,6 +75,54 @@ shorter_mode bytes r (Some parts) is h =
 
 pub read_shorter : (bytes : List ℕ) (r : Entry × List ℕ) → read_entry bytes ≡ Ok r → length r.1 < length bytes
 read_shorter bytes r h = shorter_mode bytes r (cut 32 bytes) refl h
+
+-- an entry that was read stands before what is left
+
+cut_front : (b : ℕ) (bytes : List ℕ) (p : List ℕ × List ℕ) → cut b bytes ≡ Some p → (front : List ℕ) × (bytes ≡ front ++ p.1)
+cut_front b [] p h = cc h
+cut_front b (x ∷ rest) p h = by (nat_eq x b) h (cut_front b rest) where
+  second : Option (List ℕ × List ℕ) → List ℕ
+  second None = []
+  second (Some parts) = parts.1
+
+  by : (t : Bool) → cond t (Some ([], rest)) (before_more x (cut b rest)) ≡ Some p
+      → ((q : List ℕ × List ℕ) → cut b rest ≡ Some q → (front : List ℕ) × (rest ≡ front ++ q.1)) → (front : List ℕ) × (x ∷ rest ≡ front ++ p.1)
+  by true is more = (x ∷ [], ap (λ (bytes : List ℕ). x ∷ bytes) (ap second is))
+  by false is more =
+      let inner = none_before x (cut b rest) p is in
+      let before = more inner.0 inner.1 in
+      (x ∷ before.0, ap (λ (bytes : List ℕ). x ∷ bytes) (before.1 ∙ ap (λ bytes. before.0 ++ bytes) inner.2))
+
+front_id : (kind : Option Kind) (name rest : List ℕ) (r : Entry × List ℕ) → read_id kind name rest ≡ Ok r → (front : List ℕ) × (rest ≡ front ++ r.1)
+front_id kind name rest r h = by (not (is_name name)) (nat_lt (length rest) 20) h where
+  by : (bad short : Bool) → cond bad (Err BadName) (cond short (Err CutShort)
+      (Ok (record { name = name; kind = kind; id = record { 0 = take 20 rest } }, drop 20 rest))) ≡ Ok r → (front : List ℕ) × (rest ≡ front ++ r.1)
+  by true short is = cc is
+  by false true is = cc is
+  by false false is = (take 20 rest, sym (take-append-drop 20 rest) ∙ ap (λ bytes. take 20 rest ++ bytes) (ap rest_of is))
+
+front_named : (kind : Option Kind) (bytes : List ℕ) (r : Entry × List ℕ) (parts : Option (List ℕ × List ℕ)) → cut 0 bytes ≡ parts
+    → read_named kind parts ≡ Ok r → (front : List ℕ) × (bytes ≡ front ++ r.1)
+front_named kind bytes r None is h = cc h
+front_named kind bytes r (Some parts) is h =
+    let first = cut_front 0 bytes parts is in
+    let second = front_id kind parts.0 parts.1 r h in
+    (first.0 ++ second.0, first.1 ∙ ap (λ rest. first.0 ++ rest) second.1 ∙ sym (append_assoc first.0 second.0 r.1))
+
+front_kind : (kind : Option (Option Kind)) (bytes : List ℕ) (r : Entry × List ℕ) → read_kind kind bytes ≡ Ok r → (front : List ℕ) × (bytes ≡ front ++ r.1)
+front_kind None bytes r h = cc h
+front_kind (Some kind) bytes r h = front_named kind bytes r (cut 0 bytes) refl h
+
+front_mode : (bytes : List ℕ) (r : Entry × List ℕ) (parts : Option (List ℕ × List ℕ)) → cut 32 bytes ≡ parts
+    → read_mode parts ≡ Ok r → (front : List ℕ) × (bytes ≡ front ++ r.1)
+front_mode bytes r None is h = cc h
+front_mode bytes r (Some parts) is h =
+    let first = cut_front 32 bytes parts is in
+    let second = front_kind (kind_of_mode parts.0) parts.1 r h in
+    (first.0 ++ second.0, first.1 ∙ ap (λ rest. first.0 ++ rest) second.1 ∙ sym (append_assoc first.0 second.0 r.1))
+
+pub read_behind : (bytes : List ℕ) (r : Entry × List ℕ) → read_entry bytes ≡ Ok r → (front : List ℕ) × (bytes ≡ front ++ r.1)
+read_behind bytes r h = front_mode bytes r (cut 32 bytes) refl h
 
 pub is_shorter : (bytes : List ℕ) (r : Result (RawEntry × Bor (List ℕ)) PutFault) → reading_of r ≡ read_entry bytes
     → IfOk r (λ read. length read.1.now < length bytes)

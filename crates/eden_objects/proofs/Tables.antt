@@ -10,7 +10,7 @@ use Rattle.eden_objects.specs.declared.word.Word.TheVariants.{Tree}
 use Rattle.eden_objects.specs.Objects.{Held, find, same_id, word_text}
 use Rattle.eden_objects.specs.Trees.{Entry, tree_fold, entries_of, entries_depth, entries_reach}
 use Rattle.eden_objects.specs.Closed.{IsClosed, IsSound, IsTree, AllNamed}
-use Rattle.eden_objects.specs.Contents.{held_of, option_held, helds, Measures, AreMeasured, TellsSize}
+use Rattle.eden_objects.specs.Contents.{held_of, option_held, helds, Measures, AreMeasured, TellsOutline}
 
 pub same_id-is : (a b : Id) → same_id a b ≡ true → a ≡ b
 same_id-is a b h = ap (λ bytes. record { 0 = bytes }) (same_text a.0 b.0 (sym h))
@@ -82,43 +82,45 @@ fold_past : {A : Type 0} (none : A) (step : (Id → A) → List Entry → A) (h 
 unfolding tree_fold
 fold_past none step h earlier id is = rw is refl
 
-sized_further : (h : Held) (earlier : List Held) (id : Id) (object : Option Object) → same_id id h.id ≡ false
-    → TellsSize earlier id object → TellsSize (h ∷ earlier) id object
-sized_further h earlier id None past tells = tells
-sized_further h earlier id (Some object) past tells = λ is_tree. (
+outlined_further : (h : Held) (earlier : List Held) (id : Id) (object : Option Object) → same_id id h.id ≡ false
+    → TellsOutline earlier id object → TellsOutline (h ∷ earlier) id object
+outlined_further h earlier id None past tells = tells
+outlined_further h earlier id (Some object) past tells = λ is_tree. (
   (tells is_tree).0 ∙ sym (fold_past 0 entries_depth h earlier id past),
   (tells is_tree).1 ∙ sym (fold_past 0 entries_reach h earlier id past),
   (tells is_tree).2,
   (tells is_tree).3,
+  (tells is_tree).4,
 )
 
 small_tree : (word : Word) (payload : List ℕ) (earlier : List Held) → word ≡ Tree → IsSound word payload earlier
     → IsTree earlier (entries_of payload)
 small_tree word payload earlier is sound = rw is at sound
 
-pub sized_in_table : (table : List (Id × Object)) (id : Id) → IsClosed (helds table) → AreMeasured table
-    → TellsSize (helds table) id (lookup (same_id id) table)
-sized_in_table [] id closed measured = tt
-sized_in_table (e ∷ table) id closed measured = by (same_id id e.0) refl (sized_in_table table id closed.2 measured.1) where
+pub outlined_in_table : (table : List (Id × Object)) (id : Id) → IsClosed (helds table) → AreMeasured table
+    → TellsOutline (helds table) id (lookup (same_id id) table)
+outlined_in_table [] id closed measured = tt
+outlined_in_table (e ∷ table) id closed measured = by (same_id id e.0) refl (outlined_in_table table id closed.2 measured.1) where
   h : Held
   h = held_of e.0 e.1
 
-  by : (t : Bool) → same_id id e.0 ≡ t → TellsSize (helds table) id (lookup (same_id id) table)
-      → TellsSize (h ∷ helds table) id (cond t (Some e.1) (lookup (same_id id) table))
+  by : (t : Bool) → same_id id e.0 ≡ t → TellsOutline (helds table) id (lookup (same_id id) table)
+      → TellsOutline (h ∷ helds table) id (cond t (Some e.1) (lookup (same_id id) table))
   by true is rest = λ is_tree.
       let tree = small_tree e.1.word e.1.payload.items (helds table) is_tree closed.1 in (
-        (measured.0 is_tree).0 ∙ sym (fold_here 0 entries_depth h (helds table) id is),
-        (measured.0 is_tree).1 ∙ sym (fold_here 0 entries_reach h (helds table) id is),
-        rw (measured.0 is_tree).0 tree.3,
-        rw (measured.0 is_tree).1 tree.4,
+        (measured.0.0 is_tree).0 ∙ sym (fold_here 0 entries_depth h (helds table) id is),
+        (measured.0.0 is_tree).1 ∙ sym (fold_here 0 entries_reach h (helds table) id is),
+        rw (measured.0.0 is_tree).0 tree.3,
+        rw (measured.0.0 is_tree).1 tree.4,
+        measured.0.1 is_tree,
       )
-  by false is rest = sized_further h (helds table) id (lookup (same_id id) table) is rest
+  by false is rest = outlined_further h (helds table) id (lookup (same_id id) table) is rest
 
-pub sized_in : (entries : List (Id × Object)) (id : Id) → IsClosed (helds (reverse entries)) → AreMeasured (reverse entries)
-    → TellsSize (helds (reverse entries)) id (lookup (same_id id) entries)
-sized_in entries id closed measured =
+pub outlined_in : (entries : List (Id × Object)) (id : Id) → IsClosed (helds (reverse entries)) → AreMeasured (reverse entries)
+    → TellsOutline (helds (reverse entries)) id (lookup (same_id id) entries)
+outlined_in entries id closed measured =
     rw (ap (lookup (same_id id)) (sym (reverse-reverse entries)) ∙ turned (reverse entries) id closed)
-    (sized_in_table (reverse entries) id closed measured)
+    (outlined_in_table (reverse entries) id closed measured)
 
 -- a new object stands first
 

@@ -7,6 +7,7 @@ use Rattle.eden_objects.specs.Objects.{Held, find, payload_of, same_bytes}
 use Rattle.eden_objects.specs.Trees.{Entry, cut, entries_of}
 use Rattle.eden_objects.specs.Commits.{find_row, tree_rows, entries_rows}
 use Rattle.eden_objects.specs.Puts.{word_wanted}
+use Rattle.eden_objects.specs.Starts.{AreInOrder}
 use Rattle.eden_objects.specs.Closed.{IsHeld, HasTree, IsTree, IsClosed}
 use Rattle.eden_objects.specs.Walks.{or_later, file_named, dir_if, dir_named, then_find}
 use Rattle.eden_objects.proofs.Closed.{tree_in, rows_of_tree}
@@ -54,3 +55,7 @@ dir_held held c child (e ∷ es) all found = held_if held e.kind e.id child (sam
 
 pub child_here : (held : List Held) (id : Id) (c : List ℕ) (child : Id) → IsClosed held → HasTree held id → Some child ≡ dir_named c (entries_in held id) → HasTree held child
 child_here held id c child closed has found = dir_held held c child (entries_in held id) (tree_here held closed id has).0 found
+
+-- the entries of a tree that is held stand in order
+pub order_here : (held : List Held) (id : Id) (h : Option Held) → IsClosed held → HasTree held id → h ≡ find id held → AreInOrder (payload_of h)
+order_here held id h closed has is = subst (λ o. AreInOrder (payload_of o)) (sym is) (tree_here held closed id has).1

@@ -4,10 +4,12 @@ use Rattle.eden_ids.specs.declared.id.Id.{Id}
 use Rattle.eden_objects.specs.declared.word.Word.{Word}
 use Rattle.eden_objects.specs.declared.word.Word.TheVariants.{Tree}
 use Rattle.eden_objects.specs.declared.size.Size.{Size}
+use Rattle.eden_objects.specs.declared.outline.Outline.{Outline}
 use Rattle.eden_objects.specs.declared.store.Object.{Object}
 use Rattle.eden_objects.specs.declared.fault.PutFault.{PutFault}
 use Rattle.eden_objects.specs.declared.fault.PutFault.TheVariants.{IdTaken}
 use Rattle.eden_objects.specs.Objects.{Held, same_word, same_bytes}
+use Rattle.eden_objects.specs.Starts.{AreStarts}
 use Rattle.eden_objects.specs.Trees.{entries_of, entries_depth, entries_reach, tree_depth, tree_reach}
 
 abbrev pub held_of : Id → Object → Held
@@ -32,16 +34,21 @@ SizeFits earlier word payload size = word ≡ Tree
     → (size.depth ≡ entries_depth (tree_depth earlier) (entries_of payload))
     × (size.reach ≡ entries_reach (tree_reach earlier) (entries_of payload))
 
+-- and the places at which its entries begin
+abbrev pub OutlineFits : List Held → Word → List ℕ → Outline → Type 0
+OutlineFits earlier word payload outline = SizeFits earlier word payload outline.size × (word ≡ Tree → AreStarts payload outline.starts.items)
+
 -- they are kept beside it
 abbrev pub Measures : List Held → Object → Type 0
-Measures earlier object = SizeFits earlier object.word object.payload.items object.size
+Measures earlier object = OutlineFits earlier object.word object.payload.items object.outline
 
 abbrev pub AreMeasured : List (Id × Object) → Type 0
 AreMeasured [] = Unit {0}
 AreMeasured (e ∷ earlier) = Measures (helds earlier) e.1 × AreMeasured earlier
 
-abbrev pub TellsSize : List Held → Id → Option Object → Type 0
-TellsSize held id None = Unit {0}
-TellsSize held id (Some object) = object.word ≡ Tree
-    → (object.size.depth ≡ tree_depth held id) × (object.size.reach ≡ tree_reach held id)
-    × (object.size.depth ≤ 64) × (object.size.reach ≤ 1024)
+abbrev pub TellsOutline : List Held → Id → Option Object → Type 0
+TellsOutline held id None = Unit {0}
+TellsOutline held id (Some object) = object.word ≡ Tree
+    → (object.outline.size.depth ≡ tree_depth held id) × (object.outline.size.reach ≡ tree_reach held id)
+    × (object.outline.size.depth ≤ 64) × (object.outline.size.reach ≤ 1024)
+    × AreStarts object.payload.items object.outline.starts.items

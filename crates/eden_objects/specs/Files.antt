@@ -6,7 +6,7 @@ use Rattle.eden_ids.specs.declared.content.Kind.{Kind}
 use Rattle.eden_ids.specs.declared.content.Content.{Content}
 use Rattle.eden_ids.specs.FileMaps.{FileMap, no_files}
 use Rattle.eden_objects.specs.Objects.{Held}
-use Rattle.eden_objects.specs.Commits.{Row, commit_map, commit_rows}
+use Rattle.eden_objects.specs.Commits.{Row, commit_map}
 
 abbrev pub files_of : Option FileMap → FileMap
 files_of None = no_files

@@ -11,3 +11,4 @@ pub mod Listings
 pub mod Readings
 pub mod Copies
 pub mod Files
+pub mod Starts

@@ -13,7 +13,7 @@ use eden_ids::{Id, Kind, Naming};
 impl<N: Naming + Drop> Store<N> {
     /// The file of a commit at a path: its kind and its bytes. There is none where the id is no commit's.
     ///
-    /// This takes no memory, and reads one directory for each component of the path.
+    /// This takes no memory, and searches one directory for each component of the path.
     #[tactic(auto, using(crate::proofs::FilesOf::file_by_row))]
     pub fn file(&self, commit: Id, path: &[u8]) -> Option<(Kind, &[u8])>
         ensures { content_seen result ≡ file_at (commit_files self.now commit) path.now }
@@ -26,8 +26,8 @@ impl<N: Naming + Drop> Store<N> {
 
     /// Whether a commit has at least so many files below a path. It has none where the id is no commit's.
     ///
-    /// This takes no memory. It reads the directories on the way to the path, and of those below it no more than it takes to come to
-    /// that many files, or to the end.
+    /// This takes no memory. It searches the directories on the way to the path, and reads of those below it no more than it takes to
+    /// come to that many files, or to the end.
     pub fn has_below(&self, commit: Id, top: &[u8], count: usize) -> bool
         ensures { result ≡ nat_le count (length (filter (λ p. lies_below p top.now) (paths (commit_files self.now commit)))) }
     {

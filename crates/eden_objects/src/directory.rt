@@ -1,9 +1,11 @@
 ghost use Rattle.std.specs.Prelude.{◌≡◌, ◌<◌, length, IfSome};
 ghost use Rattle.eden_objects.specs.Objects.{same_bytes};
+ghost use Rattle.eden_objects.specs.Starts.{AreInOrder, AreStarts};
 ghost use Rattle.eden_objects.specs.Trees.{entries_of};
 ghost use Rattle.eden_objects.specs.Walks.{entries_read, file_if, file_named, dir_if, dir_named};
 
 use crate::entry::{RawEntry, read_entry};
+use crate::outline::first_from;
 use eden_ids::{Id, Kind};
 
 /// The first entry of some bytes and what stands behind it, if there is one. So the entries of a tree's payload are read one after
@@ -48,32 +50,38 @@ fn dir_with(entry: &RawEntry<'_>, name: &[u8]) -> Option<Id>
     }
 }
 
-/// The file with a name in the payload of a tree.
-#[tactic(auto, using(crate::proofs::Fuel::file_skipped, crate::proofs::Fuel::file_hit))]
-pub(crate) fn file_in(payload: &[u8], name: &[u8]) -> Option<(Kind, Id)>
+/// The file with a name among the entries of a payload, which begin at these places.
+#[tactic(auto, using(crate::proofs::Searching::file_first, crate::proofs::Searching::file_none))]
+pub(crate) fn file_in(payload: &[u8], starts: &[u32], name: &[u8]) -> Option<(Kind, Id)>
+    requires starts { AreStarts payload.now starts.now }
+    requires in_order { AreInOrder payload.now }
     ensures { result ≡ file_named name.now (entries_of payload.now) }
 {
-    let mut rest = payload;
-    'entries: while let Some((entry, after)) = next_entry(rest) {
-        match file_with(&entry, name) {
-            Some(found) => return Some(found),
-            None => rest = after,
-        }
+    let wanted = RawEntry {
+        name,
+        kind: Some(Kind::Plain),
+        id: Id::ZERO,
+    };
+    match first_from(payload, starts, &wanted) {
+        Some(entry) => file_with(&entry, name),
+        None => None,
     }
-    None
 }
 
-/// The tree of the directory with a name in the payload of a tree.
-#[tactic(auto, using(crate::proofs::Fuel::dir_skipped, crate::proofs::Fuel::dir_hit))]
-pub(crate) fn dir_in(payload: &[u8], name: &[u8]) -> Option<Id>
+/// The tree of the directory with a name among the entries of a payload, which begin at these places.
+#[tactic(auto, using(crate::proofs::Searching::dir_first, crate::proofs::Searching::dir_none))]
+pub(crate) fn dir_in(payload: &[u8], starts: &[u32], name: &[u8]) -> Option<Id>
+    requires starts { AreStarts payload.now starts.now }
+    requires in_order { AreInOrder payload.now }
     ensures { result ≡ dir_named name.now (entries_of payload.now) }
 {
-    let mut rest = payload;
-    'entries: while let Some((entry, after)) = next_entry(rest) {
-        match dir_with(&entry, name) {
-            Some(found) => return Some(found),
-            None => rest = after,
-        }
+    let wanted = RawEntry {
+        name,
+        kind: None,
+        id: Id::ZERO,
+    };
+    match first_from(payload, starts, &wanted) {
+        Some(entry) => dir_with(&entry, name),
+        None => None,
     }
-    None
 }

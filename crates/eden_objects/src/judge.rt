@@ -4,17 +4,18 @@ ghost use Rattle.eden_objects.specs.Objects.{find};
 ghost use Rattle.eden_objects.specs.Trees.{Entry, depth_of, entries_depth, entries_of, entries_reach, reach_of, tree_depth, tree_reach};
 ghost use Rattle.eden_objects.specs.Closed.{IsHeld, IsSound};
 ghost use Rattle.eden_objects.specs.Entries.{HasSeen, plain};
-ghost use Rattle.eden_objects.specs.Contents.{SizeFits};
+ghost use Rattle.eden_objects.specs.Contents.{OutlineFits, SizeFits};
 ghost use Rattle.eden_objects.specs.Commits.{tree_named};
 ghost use Rattle.eden_objects.specs.Puts.{child_fault, commit_fault, entries_fault, entry_fault, named_fault, tree_fault, word_wanted};
 
 use crate::entry::{RawEntry, read_entry, tree_named};
 use crate::fault::PutFault;
+use crate::outline::{Outline, starts_of};
 use crate::seen::Seen;
 use crate::size::Size;
 use crate::store::{PAYLOAD_LIMIT, Store};
 use crate::word::{Word, same_word};
-use eden_ids::{Id, Kind, Naming};
+use eden_ids::{Id, Kind, Naming, NoMemory};
 
 /// What a directory, or else a file, has to be.
 fn word_wanted(kind: Option<Kind>) -> Word
@@ -91,8 +92,8 @@ impl<N: Naming + Drop> Store<N> {
         }
         match self.object(entry.id) {
             Some(child) => Size {
-                depth: 1 + child.size.depth,
-                reach: length + 1 + child.size.reach,
+                depth: 1 + child.outline.size.depth,
+                reach: length + 1 + child.outline.size.reach,
             },
             None => Size::NONE,
         }
@@ -127,7 +128,7 @@ impl<N: Naming + Drop> Store<N> {
     }
 
     /// What a tree comes to, or why the payload is no tree's that the store may hold.
-    pub(crate) fn tree_size(&self, payload: &[u8]) -> Result<Size, PutFault>
+    fn tree_size(&self, payload: &[u8]) -> Result<Size, PutFault>
         requires { length payload.now ≤ 8388608 }
         ensures passes { IfOk result (λ size. tree_fault payload.now self.now ≡ None) }
         ensures sound { IfOk result (λ size. IsSound Word.Tree payload.now self.now) }
@@ -145,5 +146,23 @@ impl<N: Naming + Drop> Store<N> {
             return Err(PutFault::PathTooLong);
         }
         Ok(size)
+    }
+
+    /// What is kept of a tree beside its payload, or why the payload is no tree's that the store may hold.
+    pub(crate) fn outline_of(&self, payload: &[u8]) -> Result<Outline, PutFault>
+        requires { length payload.now ≤ 8388608 }
+        ensures passes { IfOk result (λ outline. tree_fault payload.now self.now ≡ None) }
+        ensures sound { IfOk result (λ outline. IsSound Word.Tree payload.now self.now) }
+        ensures fits { IfOk result (λ outline. OutlineFits self.now Word.Tree payload.now outline) }
+        ensures refuses { IfErr result (λ fault. fault ≢ PutFault.NoMemory → tree_fault payload.now self.now ≡ Some fault) }
+    {
+        let size = match self.tree_size(payload) {
+            Ok(size) => size,
+            Err(fault) => return Err(fault),
+        };
+        match starts_of(self.allocator(), payload) {
+            Ok(starts) => Ok(Outline { size, starts }),
+            Err(NoMemory) => Err(PutFault::NoMemory),
+        }
     }
 }

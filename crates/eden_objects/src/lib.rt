@@ -22,6 +22,7 @@ mod laws;
 mod list;
 #[cfg(test)]
 mod made;
+mod outline;
 mod seen;
 mod size;
 mod store;

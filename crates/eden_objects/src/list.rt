@@ -5,7 +5,7 @@ ghost use Rattle.eden_objects.specs.Commits.{commit_rows, rows_where, tree_rows}
 ghost use Rattle.eden_objects.specs.Closed.{HasTree};
 ghost use Rattle.eden_objects.specs.Listings.{IsBelow, Lists, behind, rows_behind, rows_below};
 
-use crate::directory::{dir_in, next_entry};
+use crate::directory::next_entry;
 use crate::entry::cut;
 use crate::fault::{ListFault, NoCommit};
 use crate::store::Store;
@@ -117,8 +117,8 @@ impl<N: Naming + Drop> Store<N> {
     /// The files of a commit that stand below a path, each with its path, its kind and its blob, in byte order of the paths. The path
     /// need not be a directory of the commit: then there are none.
     ///
-    /// `NoCommit` comes where the id is no commit's; `NoMemory` may stand in place of any answer where a growth was refused. Only the
-    /// directories on the way to the path, and those below it, are read.
+    /// `NoCommit` comes where the id is no commit's; `NoMemory` may stand in place of any answer where a growth was refused. The
+    /// directories on the way to the path are searched, and those below it are read; no others are.
     pub fn list_below(&self, commit: Id, top: &Path) -> Result<Vec<(Path, Kind, Id)>, ListFault>
         ensures { Lists result (rows_where (λ p. lies_below p top.now) (commit_rows self.now commit)) }
     {
@@ -154,8 +154,8 @@ impl<N: Naming + Drop> Store<N> {
         let mut rest = path;
         'walk: loop {
             match cut(rest, b'/') {
-                None => return dir_in(self.payload(dir), rest),
-                Some((name, after)) => match dir_in(self.payload(dir), name) {
+                None => return self.dir_in(dir, rest),
+                Some((name, after)) => match self.dir_in(dir, name) {
                     None => return None,
                     Some(child) => {
                         dir = child;

@@ -2,10 +2,10 @@ ghost use Rattle.std.specs.Prelude.{◌≡◌, ◌∷◌, [], None, Some, OnOk, 
 ghost use Rattle.eden_objects.specs.Objects.{find, same_word, same_bytes, word_text};
 ghost use Rattle.eden_objects.specs.Puts.{PutGives, TreeGives, put_outcome, blob_outcome, commit_outcome, named, tree_outcome};
 ghost use Rattle.eden_objects.specs.Closed.{IsClosed, IsSound, AllNamed};
-ghost use Rattle.eden_objects.specs.Contents.{held_of, option_held, Measures, SizeFits, TellsSize, is_object, standing_answer};
+ghost use Rattle.eden_objects.specs.Contents.{held_of, option_held, Measures, OutlineFits, TellsOutline, is_object, standing_answer};
 
 use crate::fault::PutFault;
-use crate::size::Size;
+use crate::outline::{Outline, starts_of};
 use crate::word::{Word, same_word};
 use eden_ids::{Id, Naming, NoMemory};
 use indexmap::IndexMap;
@@ -20,8 +20,8 @@ pub(crate) const PAYLOAD_LIMIT: usize = 8_388_608;
 pub(crate) struct Object {
     pub(crate) word: Word,
     pub(crate) payload: Vec<u8>,
-    /// What a tree comes to; nothing is said of another object.
-    pub(crate) size: Size,
+    /// What is kept of a tree; nothing is said of another object's.
+    pub(crate) outline: Outline,
 }
 
 impl Object {
@@ -91,7 +91,7 @@ impl<N: Naming + Drop> Store<N> {
         if payload.len() > PAYLOAD_LIMIT {
             return Err(PutFault::TooLarge);
         }
-        self.put(Word::Blob, payload, Size::NONE)
+        self.put(Word::Blob, payload, Outline::none(self.allocator()))
     }
 
     /// Puts a tree, whose payload is its entries, and answers its id; the same tree may be there already. An entry is a mode in octal
@@ -103,15 +103,16 @@ impl<N: Naming + Drop> Store<N> {
     /// this order, as `TooDeep` (more than 64 components), `PathTooLong` (more than 1,024 bytes), `ZeroId` or `IdTaken`.
     /// `NoMemory` may stand in place of any answer but `TooLarge` where a growth was refused. After a refusal the store is as before.
     ///
-    /// It takes time in the order of the payload's length and, for n entries, of n log n; no child is read.
+    /// It takes time in the order of the payload's length and, for n entries, of n log n; no child is read. Beside the payload it keeps
+    /// 4 bytes for each entry, the place at which it begins, up to twice that as a vector grows.
     pub fn put_tree(&mut self, payload: &[u8]) -> Result<Id, PutFault>
         ensures { TreeGives result self.old self.new payload.now (tree_outcome N.id payload.now self.old) }
     {
         if payload.len() > PAYLOAD_LIMIT {
             return Err(PutFault::TooLarge);
         }
-        match self.tree_size(payload) {
-            Ok(size) => self.put(Word::Tree, payload, size),
+        match self.outline_of(payload) {
+            Ok(outline) => self.put(Word::Tree, payload, outline),
             Err(fault) => Err(fault),
         }
     }
@@ -128,13 +129,13 @@ impl<N: Naming + Drop> Store<N> {
         if let Some(fault) = self.commit_fault(payload) {
             return Err(fault);
         }
-        self.put(Word::Commit, payload, Size::NONE)
+        self.put(Word::Commit, payload, Outline::none(self.allocator()))
     }
 
     /// The object with an id.
     pub(crate) fn object(&self, id: Id) -> Option<&Object>
         ensures found { option_held id (option_copied result) ≡ find id self.now }
-        ensures measured { TellsSize self.now id (option_copied result) }
+        ensures measured { TellsOutline self.now id (option_copied result) }
     {
         self.objects.get(&id)
     }
@@ -167,9 +168,9 @@ impl<N: Naming + Drop> Store<N> {
     }
 
     /// Puts a new object, or finds it there.
-    fn put(&mut self, word: Word, payload: &[u8], size: Size) -> Result<Id, PutFault>
+    fn put(&mut self, word: Word, payload: &[u8], outline: Outline) -> Result<Id, PutFault>
         requires sound { IsSound word payload.now self.old }
-        requires measured { SizeFits self.old word payload.now size }
+        requires measured { OutlineFits self.old word payload.now outline }
         ensures { PutGives result self.old self.new (put_outcome (named N.id word payload.now) self.old) }
     {
         let id = self.naming.id_of(word.text(), payload);
@@ -187,7 +188,7 @@ impl<N: Naming + Drop> Store<N> {
             Object {
                 word,
                 payload,
-                size,
+                outline,
             },
         ) {
             Ok(()) => Ok(id),

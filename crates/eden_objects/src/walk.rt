@@ -3,7 +3,9 @@ ghost use Rattle.std.specs.Result.{result_ok};
 ghost use Rattle.eden_objects.specs.Objects.{blob_of, find, payload_of, same_word};
 ghost use Rattle.eden_objects.specs.Commits.{commit_rows, find_row, row_in, tree_named, tree_rows};
 ghost use Rattle.eden_objects.specs.Closed.{HasTree};
-ghost use Rattle.eden_objects.specs.Walks.{IsTreeOf, rows_of_tree, tree_seen};
+ghost use Rattle.eden_objects.specs.Starts.{AreInOrder, AreStarts};
+ghost use Rattle.eden_objects.specs.Trees.{entries_of};
+ghost use Rattle.eden_objects.specs.Walks.{IsTreeOf, dir_named, file_named, rows_of_tree, tree_seen};
 
 use crate::directory::{dir_in, file_in};
 use crate::entry::{cut, tree_named};
@@ -36,6 +38,34 @@ impl Object {
     }
 }
 
+impl Object {
+    /// The file with a name in the tree that the object is.
+    fn file(&self, name: &[u8]) -> Option<(Kind, Id)>
+        requires starts { AreStarts self.now.payload.items self.now.outline.starts.items }
+        requires in_order { AreInOrder self.now.payload.items }
+        ensures { result ≡ file_named name.now (entries_of self.now.payload.items) }
+    {
+        file_in(
+            self.payload.as_slice(),
+            self.outline.starts.as_slice(),
+            name,
+        )
+    }
+
+    /// The tree of the directory with a name in the tree that the object is.
+    fn dir(&self, name: &[u8]) -> Option<Id>
+        requires starts { AreStarts self.now.payload.items self.now.outline.starts.items }
+        requires in_order { AreInOrder self.now.payload.items }
+        ensures { result ≡ dir_named name.now (entries_of self.now.payload.items) }
+    {
+        dir_in(
+            self.payload.as_slice(),
+            self.outline.starts.as_slice(),
+            name,
+        )
+    }
+}
+
 impl<N: Naming + Drop> Store<N> {
     /// Whether the id is that of a commit, of which the empty one is always there. This takes no memory.
     pub fn has_commit(&self, id: Id) -> bool
@@ -57,7 +87,8 @@ impl<N: Naming + Drop> Store<N> {
 
     /// The file of a commit at a path: its kind and its blob, or none where the commit has no file there.
     ///
-    /// `NoCommit` comes where the id is no commit's. This takes no memory, and reads one directory for each component of the path.
+    /// `NoCommit` comes where the id is no commit's. This takes no memory, and searches one directory for each component of the path,
+    /// which takes time in the order of the logarithm of its entries.
     pub fn lookup(&self, commit: Id, path: &Path) -> Result<Option<(Kind, Id)>, NoCommit>
         ensures { result_ok result ≡ row_in path.now (commit_rows self.now commit) }
     {
@@ -75,6 +106,30 @@ impl<N: Naming + Drop> Store<N> {
         match self.object(id) {
             Some(object) => object.payload.as_slice(),
             None => b"".as_slice(),
+        }
+    }
+
+    /// The file with a name in a tree. It is found by a search.
+    fn file_in(&self, tree: Id, name: &[u8]) -> Option<(Kind, Id)>
+        requires { HasTree self.now tree }
+        ensures { result ≡ file_named name.now (entries_of (payload_of (find tree self.now))) }
+    {
+        self.closed_law();
+        match self.object(tree) {
+            Some(object) => object.file(name),
+            None => None,
+        }
+    }
+
+    /// The tree of the directory with a name in a tree. It is found by a search.
+    pub(crate) fn dir_in(&self, tree: Id, name: &[u8]) -> Option<Id>
+        requires { HasTree self.now tree }
+        ensures { result ≡ dir_named name.now (entries_of (payload_of (find tree self.now))) }
+    {
+        self.closed_law();
+        match self.object(tree) {
+            Some(object) => object.dir(name),
+            None => None,
         }
     }
 
@@ -105,8 +160,8 @@ impl<N: Naming + Drop> Store<N> {
         let mut rest = path;
         'walk: loop {
             match cut(rest, b'/') {
-                None => return file_in(self.payload(tree), rest),
-                Some((name, after)) => match dir_in(self.payload(tree), name) {
+                None => return self.file_in(tree, rest),
+                Some((name, after)) => match self.dir_in(tree, name) {
                     None => return None,
                     Some(child) => {
                         tree = child;

@@ -1,6 +1,3 @@
-use Rattle.std.proofs.Common.{ap, ◌∙◌}
-use Rattle.eden_objects.specs.Trees.{entries_of}
-use Rattle.eden_objects.specs.Walks.{dir_named}
 use Rattle.eden_objects.proofs.Below.{at_start, at_end, at_stop, at_step}
 use Rattle.eden_objects.proofs.store.Store.dir_below.Goals as goal
 
@@ -10,15 +7,15 @@ walk-init g c = at_start c.args.self.now c.args.tree c.args.path.now c.requires
 pub returns-in-None : goal.returns-in-None
 returns-in-None g c =
     at_end c.args.self.now c.args.tree c.walk.dir c.args.path.now c.walk.rest.now c.dir_in.result c.closed_law.ensures.closed c.walk.invariant c.in-None.ensures
-    (c.dir_in.ensures ∙ ap (λ bytes. dir_named c.walk.rest.now (entries_of bytes)) c.payload.ensures)
+    c.dir_in.ensures
 
 pub returns-in-None-dir_in : goal.returns-in-None-dir_in
 returns-in-None-dir_in g c =
     at_stop c.args.self.now c.args.tree c.walk.dir c.args.path.now c.walk.rest.now c.in-Some.name.now c.in-Some.after.now c.closed_law.ensures.closed c.walk.invariant c.in-Some.ensures
-    (c.in-None-dir_in.ensures ∙ ap (λ bytes. dir_named c.in-Some.name.now (entries_of bytes)) c.payload-in-Some.ensures)
+    c.in-None-dir_in.ensures
 
 pub walk-preserved : goal.walk-preserved
 walk-preserved g c =
     at_step c.args.self.now c.args.tree c.walk.dir c.in-Some-dir_in.child c.args.path.now c.walk.rest.now c.in-Some.name.now c.in-Some.after.now c.closed_law.ensures.closed
     c.walk.invariant c.in-Some.ensures
-    (c.in-Some-dir_in.ensures ∙ ap (λ bytes. dir_named c.in-Some.name.now (entries_of bytes)) c.payload-in-Some.ensures)
+    c.in-Some-dir_in.ensures

@@ -1,21 +1,19 @@
 use Rattle.std.proofs.Common.{◌≡◌, Some, None, ap, sym, ◌∙◌}
-use Rattle.eden_objects.specs.Trees.{entries_of}
 use Rattle.eden_objects.specs.Commits.{tree_rows}
-use Rattle.eden_objects.specs.Walks.{file_named, dir_named, then_find}
+use Rattle.eden_objects.specs.Walks.{dir_named, then_find}
 use Rattle.eden_objects.proofs.WalkSteps.{entries_in, file_here, dir_here, child_here}
 use Rattle.eden_objects.proofs.store.Store.find_below.Goals as goal
 
 pub returns-in-None : goal.returns-in-None
 returns-in-None g c =
     c.file_in.ensures
-    ∙ ap (λ bytes. file_named c.walk.rest.now (entries_of bytes)) c.payload.ensures
     ∙ sym (file_here c.args.self.now c.walk.tree c.walk.rest.now c.closed_law.ensures.closed c.walk.invariant.is_tree c.in-None.ensures)
     ∙ sym c.walk.invariant.answer
 
 pub returns-in-None-dir_in : goal.returns-in-None-dir_in
 returns-in-None-dir_in g c =
     let named : dir_named c.in-Some.name.now (entries_in c.args.self.now c.walk.tree) ≡ None =
-    ap (λ bytes. dir_named c.in-Some.name.now (entries_of bytes)) (sym c.payload-in-Some.ensures) ∙ sym c.in-None-dir_in.ensures in
+    sym c.in-None-dir_in.ensures in
     sym
     (c.walk.invariant.answer
     ∙ dir_here c.args.self.now c.walk.tree c.walk.rest.now c.in-Some.name.now c.in-Some.after.now c.closed_law.ensures.closed c.walk.invariant.is_tree c.in-Some.ensures
@@ -24,7 +22,7 @@ returns-in-None-dir_in g c =
 pub walk-preserved : goal.walk-preserved
 walk-preserved g c =
     let named : Some c.in-Some-dir_in.child ≡ dir_named c.in-Some.name.now (entries_in c.args.self.now c.walk.tree) =
-    c.in-Some-dir_in.ensures ∙ ap (λ bytes. dir_named c.in-Some.name.now (entries_of bytes)) c.payload-in-Some.ensures in
+    c.in-Some-dir_in.ensures in
     record {
       is_tree = child_here c.args.self.now c.walk.tree c.in-Some.name.now c.in-Some-dir_in.child c.closed_law.ensures.closed c.walk.invariant.is_tree named;
       answer =

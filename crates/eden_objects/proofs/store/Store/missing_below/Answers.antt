@@ -1,4 +1,4 @@
-use Rattle.std.proofs.Common.{◌≡◌, ◌-◌, length, ap, sym, ◌∙◌}
+use Rattle.std.proofs.Common.{◌-◌, length, ap, sym, ◌∙◌}
 use Rattle.std.specs.Prelude.{filter}
 use Rattle.eden_ids.specs.Paths.{lies_below}
 use Rattle.eden_objects.specs.Files.{rows_or_none}

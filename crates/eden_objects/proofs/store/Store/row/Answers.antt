@@ -1,4 +1,4 @@
-use Rattle.std.proofs.Common.{◌≡◌, ap, sym, ◌∙◌}
+use Rattle.std.proofs.Common.{ap, sym, ◌∙◌}
 use Rattle.eden_objects.specs.Commits.{find_row}
 use Rattle.eden_objects.specs.Files.{rows_or_none}
 use Rattle.eden_objects.proofs.store.Store.row.Goals as goal
