@@ -8,6 +8,7 @@ set -euo pipefail
 tries=${1:-5}
 root=$(cd "$(dirname "$0")/.." && pwd)
 work=$(mktemp -d)
+. "$root/tests-with-git/object-lines.sh"
 trap 'rm -rf "$work"' EXIT
 (cd "$root/crates/edend" && rt run -- run < /dev/null) > "$work/built" 2>&1 || { cat "$work/built"; exit 1; }
 edend=$root/crates/edend/out/edend
@@ -31,44 +32,30 @@ make_commits() {
             print ""
         }
         BEGIN {
-            for (b = 0; b < 1000; b++) print "blob\nmark :" b + 1 "\ndata <<.\ntext " b "\n.\n"
+            for (b = 0; b < 1000; b++) print "blob\nmark :" b + 1 "\ndata <<.\ntext " b + 1 "\n.\n"
             commit("one", 1000, 0)
             commit("two", 1000, 1)
             commit("small", 10, 0)
         }' | git fast-import --quiet --export-marks="$work/marks"
-    for name in one two small; do
-        echo "root:tree:$(git rev-parse "$name^{tree}")"
-        git ls-tree -r -t "$name" | tr ' \t' '::'
-    done | awk -F : -v marks="$work/marks" '
-        BEGIN { while ((getline line < marks) > 0) { split(line, part, "[: ]"); number[part[3]] = part[2] - 1 } }
-        {
-            label = substr($2, 1, 1) substr($3, 1, 31)
-            if ($1 == "root") { key = root = NR; roots = roots " " label }
-            else {
-                key = root "/" $4
-                match(key, /\/[^\/]*$/)
-                above = substr(key, 1, RSTART - 1)
-                sub(/^0/, "", $1)
-                entries[above] = entries[above] " " $1 " " substr(key, RSTART + 1) " " label
-            }
-            if ($2 == "tree") { trees[++count] = label; keys[count] = key }
-            else if (!seen[label]++) print "blob " label " text\\s" number[$3] "\\n"
-        }
-        END {
-            for (t = count; t > 0; t--) if (!seen[trees[t]]++) print "tree " trees[t] entries[keys[t]]
-            split(roots, tree, " ")
-            print "commit one " tree[1] "\ncommit two " tree[2] "\ncommit small " tree[3]
-        }' > "$work/objects"
+    {
+        for name in one two small; do
+            echo "root:tree:$(git rev-parse "$name^{tree}")"
+            git ls-tree -r -t "$name" | tr ' \t' '::'
+        done | object_lines
+        for name in one two small; do
+            echo "commit $name t$(git rev-parse "$name^{tree}" | cut -c 1-31)"
+        done
+    } > "$work/objects"
     { cat "$work/objects"; sed -n 's/^commit [a-z]* /id /p' "$work/objects"; } | "$edend" run | sed -n 's/^id //p' > "$work/ids"
     git rev-parse 'one^{tree}' 'two^{tree}' 'small^{tree}' | cmp - "$work/ids"
 }
 
-# 10,000 lines of changes of 1,000 files on a mount of so many directories: each file is written ten times, or renamed five times and
-# back, or removed five times and written again.
+# 100,000 lines of changes of 1,000 files on a mount of so many directories: each file is written a hundred times, or renamed fifty times
+# and back, or removed fifty times and written again.
 changes() {
     awk -v kind="$1" -v shape="$2" -v count="$3" "$path"'
         BEGIN {
-            for (round = 0; round < 10; round++)
+            for (round = 0; round < 100; round++)
                 for (n = 0; n < 1000; n++) {
                     old = path(shape, n % count, count == 10 ? int(n / 10) : n % 100)
                     new = old
@@ -141,20 +128,20 @@ measure_root() {
     echo "git diff-tree -r: $many us each of 1,000 in a process, ratio $(ratio "$many" "$poll"); $alone us as a process, ratio $(ratio "$alone" "$poll")"
 }
 
-# What each of 10,000 lines of a kind takes, on the large mount and on the small one: of `position`, which changes nothing and is
+# What each of 100,000 lines of a kind takes, on the large mount and on the small one: of `position`, which changes nothing and is
 # answered as a change is, of changes, and of polls over ten writes.
 measure_lines() {
     local large small
-    large=$(each "$(lines "$1" 1000 | script one)" "$(script one < /dev/null)" 10000)
-    small=$(each "$(lines "$1" 10 | script small)" "$(script small < /dev/null)" 10000)
+    large=$(each "$(lines "$1" 1000 | script one)" "$(script one < /dev/null)" 100000)
+    small=$(each "$(lines "$1" 10 | script small)" "$(script small < /dev/null)" 100000)
     echo "$1: $large us on 100,000 files; $small us on 1,000; ratio $(ratio "$large" "$small")"
 }
 lines() {
     if [ "$1" = position ]; then
-        repeat 10000 'position\n'
+        repeat 100000 'position\n'
     elif [ "$1" = poll ]; then
         changes write "$shape" "$2" | sed -n 1,10p
-        repeat 10000 'since 1 1\n'
+        repeat 100000 'since 1 1\n'
     else
         changes "$1" "$shape" "$2"
     fi

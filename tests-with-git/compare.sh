@@ -14,6 +14,7 @@ how=${HOW:-run}
 seed=${1:-1}
 root=$(cd "$(dirname "$0")/.." && pwd)
 work=$(mktemp -d)
+. "$root/tests-with-git/object-lines.sh"
 trap 'rm -rf "$work"' EXIT
 git init -q "$work/repository"
 export GIT_DIR="$work/repository/.git"
@@ -180,26 +181,6 @@ names() {
 tree_of() {
     echo "root:tree:$1"
     git ls-tree -r -t -z "$1" | tr '\n\000' '\001\n' | sed "s/ /:/; s/ /:/; s/$tab/:/" | escaped
-}
-
-# The lines of a script that put what such lines tell. A label is the first digits of an id.
-object_lines() {
-    LC_ALL=C awk -F : -v marks="$work/marks" '
-        BEGIN { while ((getline line < marks) > 0) { split(line, part, "[: ]"); number[part[3]] = part[2] } }
-        {
-            label = substr($2, 1, 1) substr($3, 1, 31)
-            if ($1 == "root") key = root = NR
-            else {
-                key = root "/" $4
-                match(key, /\/[^\/]*$/)
-                above = substr(key, 1, RSTART - 1)
-                sub(/^0/, "", $1)
-                entries[above] = entries[above] " " $1 " " substr(key, RSTART + 1) " " label
-            }
-            if ($2 == "tree") { trees[++count] = label; keys[count] = key }
-            else if (!seen[label]++) print "blob " label " text\\s" number[$3] "\\n"
-        }
-        END { for (t = count; t > 0; t--) if (!seen[trees[t]]++) print "tree " trees[t] entries[keys[t]] }'
 }
 
 # A script for each pair, and what it prints by Git. Git makes no empty directory of itself: in one pair of twenty the second tree is
