@@ -154,74 +154,76 @@ impl Mounted {
     }
 }
 
+/// Changes over the commit of `put_family`.
+const OVER_A_COMMIT: [Step; 21] = [
+    (
+        "write d 1",
+        Some(ChangeFault::IsADirectory),
+        "a a.b d/x ",
+        "",
+    ),
+    (
+        "write a/b 1",
+        Some(ChangeFault::NotADirectory),
+        "a a.b d/x ",
+        "",
+    ),
+    ("remove b", Some(ChangeFault::NoEntry), "a a.b d/x ", ""),
+    (
+        "remove d",
+        Some(ChangeFault::IsADirectory),
+        "a a.b d/x ",
+        "",
+    ),
+    // The old path's refusal comes first.
+    ("rename b d", Some(ChangeFault::NoEntry), "a a.b d/x ", ""),
+    (
+        "rename a d",
+        Some(ChangeFault::IsADirectory),
+        "a a.b d/x ",
+        "",
+    ),
+    ("rename a a", None, "a a.b d/x ", ""),
+    // Equal content leaves a path clean.
+    ("write a 1", None, "a a.b d/x ", ""),
+    ("write b 4", None, "a a.b b d/x ", "b "),
+    ("rename a c", None, "a.b b c d/x ", "a b c "),
+    ("remove d/x", None, "a.b b c ", "a b c d/x "),
+    ("write d 5", None, "a.b b c d ", "a b c d d/x "),
+    (
+        "revert d/x",
+        Some(ChangeFault::NotADirectory),
+        "a.b b c d ",
+        "a b c d d/x ",
+    ),
+    ("remove d", None, "a.b b c ", "a b c d/x "),
+    ("revert d/x", None, "a.b b c d/x ", "a b c "),
+    ("revert c", None, "a.b b d/x ", "a b "),
+    // In byte order `a.b` stands between `a` and what is below it.
+    ("write a/z 7", None, "a.b a/z b d/x ", "a a/z b "),
+    (
+        "write a 1",
+        Some(ChangeFault::IsADirectory),
+        "a.b a/z b d/x ",
+        "a a/z b ",
+    ),
+    (
+        "revert a",
+        Some(ChangeFault::IsADirectory),
+        "a.b a/z b d/x ",
+        "a a/z b ",
+    ),
+    ("remove a/z", None, "a.b b d/x ", "a b "),
+    ("revert a", None, "a a.b b d/x ", "b "),
+];
+
 #[test]
 fn changes_over_a_commit(rt: HostRuntime) -> Result<(), Fail> {
     let alloc = rt.alloc();
     let mut store = Store::new(alloc, GitNaming);
     let root = put_family(alloc, &mut store)?;
     let mut mounted = Mounted::over(alloc, store, root)?;
-    let steps: [Step; 21] = [
-        (
-            "write d 1",
-            Some(ChangeFault::IsADirectory),
-            "a a.b d/x ",
-            "",
-        ),
-        (
-            "write a/b 1",
-            Some(ChangeFault::NotADirectory),
-            "a a.b d/x ",
-            "",
-        ),
-        ("remove b", Some(ChangeFault::NoEntry), "a a.b d/x ", ""),
-        (
-            "remove d",
-            Some(ChangeFault::IsADirectory),
-            "a a.b d/x ",
-            "",
-        ),
-        // The old path's refusal comes first.
-        ("rename b d", Some(ChangeFault::NoEntry), "a a.b d/x ", ""),
-        (
-            "rename a d",
-            Some(ChangeFault::IsADirectory),
-            "a a.b d/x ",
-            "",
-        ),
-        ("rename a a", None, "a a.b d/x ", ""),
-        // Equal content leaves a path clean.
-        ("write a 1", None, "a a.b d/x ", ""),
-        ("write b 4", None, "a a.b b d/x ", "b "),
-        ("rename a c", None, "a.b b c d/x ", "a b c "),
-        ("remove d/x", None, "a.b b c ", "a b c d/x "),
-        ("write d 5", None, "a.b b c d ", "a b c d d/x "),
-        (
-            "revert d/x",
-            Some(ChangeFault::NotADirectory),
-            "a.b b c d ",
-            "a b c d d/x ",
-        ),
-        ("remove d", None, "a.b b c ", "a b c d/x "),
-        ("revert d/x", None, "a.b b c d/x ", "a b c "),
-        ("revert c", None, "a.b b d/x ", "a b "),
-        // In byte order `a.b` stands between `a` and what is below it.
-        ("write a/z 7", None, "a.b a/z b d/x ", "a a/z b "),
-        (
-            "write a 1",
-            Some(ChangeFault::IsADirectory),
-            "a.b a/z b d/x ",
-            "a a/z b ",
-        ),
-        (
-            "revert a",
-            Some(ChangeFault::IsADirectory),
-            "a.b a/z b d/x ",
-            "a a/z b ",
-        ),
-        ("remove a/z", None, "a.b b d/x ", "a b "),
-        ("revert a", None, "a a.b b d/x ", "b "),
-    ];
-    assert_eq!(rt; mounted.first_wrong(alloc, &steps)?, None);
+    assert_eq!(rt; mounted.first_wrong(alloc, &OVER_A_COMMIT)?, None);
     assert!(rt; mounted.reads(alloc, "b", Kind::Plain, "4")?);
     assert_eq!(rt; mounted.work.copy()?.root(), root);
     Ok(())
