@@ -2,7 +2,7 @@
 
 ghost use Rattle.std.specs.Prelude.{◌<◌};
 
-use crate::tests::{answer, path};
+use crate::tests::{answer, path, put_commit, put_tree};
 use crate::{Mode, Mount, Position};
 use eden_accumulate::{accumulate, expand};
 use eden_globs::Filter;
@@ -101,44 +101,14 @@ impl Lot {
     }
 }
 
-/// Puts a tree of these entries.
-fn tree(
-    alloc: Global,
-    store: &mut Store<GitNaming>,
-    entries: &[(&str, &str, Id)],
-) -> Result<Id, Fail> {
-    let mut payload = Vec::new(alloc);
-    for (mode, name, id) in entries {
-        payload.extend_from_slice(mode.as_bytes())?;
-        payload.push(b' ')?;
-        payload.extend_from_slice(name.as_bytes())?;
-        payload.push(0)?;
-        payload.extend_from_slice(&id.0)?;
-    }
-    Ok(store.put_tree(payload.as_slice())?)
-}
-
-/// Puts a commit of a tree of these entries.
-fn commit(
-    alloc: Global,
-    store: &mut Store<GitNaming>,
-    entries: &[(&str, &str, Id)],
-) -> Result<Id, Fail> {
-    let tree = tree(alloc, store, entries)?;
-    let mut payload = b"tree ".as_slice().to_vec(alloc)?;
-    payload.extend_from_slice(&tree.to_hex())?;
-    payload.push(b'\n')?;
-    Ok(store.put_commit(payload.as_slice())?)
-}
-
 /// A store with commits of files and directories in each other's places, and of other kinds; the empty commit is the first.
 fn family(alloc: Global) -> Result<(Arc<Store<GitNaming>>, [Id; 4]), Fail> {
     let mut store = Store::new(alloc, GitNaming);
     let x = store.put_blob(b"x".as_slice())?;
     let y = store.put_blob(b"y".as_slice())?;
-    let below = tree(alloc, &mut store, &[("100644", "b", y)])?;
-    let deeper = tree(alloc, &mut store, &[("100644", "c", x)])?;
-    let far = tree(alloc, &mut store, &[("40000", "b", deeper)])?;
+    let below = put_tree(alloc, &mut store, &[("100644", "b", y)])?;
+    let deeper = put_tree(alloc, &mut store, &[("100644", "c", x)])?;
+    let far = put_tree(alloc, &mut store, &[("40000", "b", deeper)])?;
     let one = [("100644", "a", x), ("100644", "a.b", x), ("100755", "b", y)];
     let two = [
         ("100644", "a.b", x),
@@ -150,9 +120,9 @@ fn family(alloc: Global) -> Result<(Arc<Store<GitNaming>>, [Id; 4]), Fail> {
         ("40000", "a", far),
         ("100644", "d", y),
     ];
-    let one = commit(alloc, &mut store, &one)?;
-    let two = commit(alloc, &mut store, &two)?;
-    let three = commit(alloc, &mut store, &three)?;
+    let one = put_commit(alloc, &mut store, &one)?;
+    let two = put_commit(alloc, &mut store, &two)?;
+    let three = put_commit(alloc, &mut store, &three)?;
     Ok((Arc::new(alloc, store)?, [Id::ZERO, one, two, three]))
 }
 

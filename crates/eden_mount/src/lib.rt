@@ -13,6 +13,8 @@ mod mount;
 mod parts;
 mod range;
 mod root;
+#[cfg(test)]
+mod sharing_tests;
 mod snapshot;
 mod stands_law;
 #[cfg(test)]

@@ -107,7 +107,8 @@ impl<N: Naming + Drop> Mount<N> {
 
     /// The kind and the bytes of the file at a path.
     ///
-    /// Refused, in this order, as `NotADirectory`, `IsADirectory` or `NoEntry`. It takes no memory.
+    /// Refused, in this order, as `NotADirectory` where a file stands at a proper prefix of the path's components, as `IsADirectory`
+    /// where files stand below the path, or as `NoEntry` where no file stands at it. It takes no memory.
     pub fn read(&self, path: &Path) -> Result<(Kind, &[u8]), ChangeFault>
         ensures accepts { IfOk result (λ _. (world : WorldState) → StandsFor self.now world → absent_fault (now world).files path.now ≡ None) }
         ensures reads { IfOk result (λ seen. (world : WorldState) → StandsFor self.now world

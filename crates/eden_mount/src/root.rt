@@ -48,9 +48,9 @@ impl<N: Naming + Drop> Mount<N> {
 
     /// Goes over to another commit, and leaves the files as they are. The answer is the position after it.
     ///
-    /// Refused, in this order, as `NoCommit` where the id is no commit's or as `SequenceExhausted`. `NoMemory` comes where a growth was
-    /// refused. After a refusal nothing has changed. Only the paths that a change touched and those on which the two commits differ are
-    /// looked at.
+    /// Refused, in this order, as `NoCommit` where the id is no commit's or as `SequenceExhausted` where no number is left. `NoMemory`
+    /// comes where a growth was refused. After a refusal nothing has changed. Only the paths that a change touched and those on which the
+    /// two commits differ are looked at.
     pub fn reset(&mut self, commit: Id) -> Result<Position, ChangeFault>
         ensures answers { IfOk result (λ position. Answers self.old (Reset commit) (answer.At position)) }
         ensures stands { OnOk result (Follows self.old (Reset commit) self.new) }
@@ -87,9 +87,9 @@ impl<N: Naming + Drop> Mount<N> {
     /// Goes over to another commit, and makes the files those of that commit as far as the mode says. `Dry` changes nothing and is no
     /// event: its answer is the present position and the conflicts.
     ///
-    /// Refused, in this order, as `NoCommit` where the id is no commit's or, unless it is only tried, as `SequenceExhausted`. `NoMemory`
-    /// comes where a growth was refused. After a refusal nothing has changed. Only the paths that a change touched and those on which the
-    /// two commits differ are looked at.
+    /// Refused, in this order, as `NoCommit` where the id is no commit's or, unless it is only tried, as `SequenceExhausted` where no
+    /// number is left. `NoMemory` comes where a growth was refused. After a refusal nothing has changed. Only the paths that a change
+    /// touched and those on which the two commits differ are looked at.
     pub fn checkout(&mut self, commit: Id, mode: Mode) -> Result<Checked, ChangeFault>
         ensures answers { IfOk result (λ checked. Answers self.old (Checkout commit mode) (answer.Checked checked.position checked.conflicts)) }
         ensures stands { OnOk result (Follows self.old (Checkout commit mode) self.new) }

@@ -12,34 +12,48 @@ use std::test::Fail;
 
 /// A store with two commits.
 #[derive(Drop)]
-struct Commits {
-    store: Arc<Store<GitNaming>>,
-    first: Id,
-    second: Id,
+pub(crate) struct Commits {
+    pub(crate) store: Arc<Store<GitNaming>>,
+    pub(crate) first: Id,
+    pub(crate) second: Id,
 }
 
-/// A commit of plain files, each with a name of one byte and a blob.
-fn put_commit(alloc: Global, store: &mut Store<GitNaming>, files: &[(u8, Id)]) -> Result<Id, Fail> {
+/// Puts a tree of these entries.
+pub(crate) fn put_tree(
+    alloc: Global,
+    store: &mut Store<GitNaming>,
+    entries: &[(&str, &str, Id)],
+) -> Result<Id, Fail> {
     let mut payload = Vec::new(alloc);
-    for (name, id) in files {
-        payload.extend_from_slice(b"100644 ".as_slice())?;
-        payload.push(*name)?;
+    for (mode, name, id) in entries {
+        payload.extend_from_slice(mode.as_bytes())?;
+        payload.push(b' ')?;
+        payload.extend_from_slice(name.as_bytes())?;
         payload.push(0)?;
-        payload.extend_from_slice(id.0.as_slice())?;
+        payload.extend_from_slice(&id.0)?;
     }
-    let tree = store.put_tree(payload.as_slice())?;
-    let mut commit = b"tree ".to_vec(alloc)?;
-    commit.extend_from_slice(tree.to_hex().as_slice())?;
-    commit.push(b'\n')?;
-    Ok(store.put_commit(commit.as_slice())?)
+    Ok(store.put_tree(payload.as_slice())?)
+}
+
+/// Puts a commit of a tree of these entries.
+pub(crate) fn put_commit(
+    alloc: Global,
+    store: &mut Store<GitNaming>,
+    entries: &[(&str, &str, Id)],
+) -> Result<Id, Fail> {
+    let tree = put_tree(alloc, store, entries)?;
+    let mut payload = b"tree ".as_slice().to_vec(alloc)?;
+    payload.extend_from_slice(&tree.to_hex())?;
+    payload.push(b'\n')?;
+    Ok(store.put_commit(payload.as_slice())?)
 }
 
 fn two_commits(alloc: Global) -> Result<Commits, Fail> {
     let mut store = Store::new(alloc, GitNaming);
     let x = store.put_blob(b"x".as_slice())?;
     let y = store.put_blob(b"y".as_slice())?;
-    let first = put_commit(alloc, &mut store, &[(b'a', x), (b'b', x)])?;
-    let second = put_commit(alloc, &mut store, &[(b'a', y), (b'c', y)])?;
+    let first = put_commit(alloc, &mut store, &[("100644", "a", x), ("100644", "b", x)])?;
+    let second = put_commit(alloc, &mut store, &[("100644", "a", y), ("100644", "c", y)])?;
     Ok(Commits {
         store: Arc::new(alloc, store)?,
         first,
