@@ -1,18 +1,15 @@
 -- What a mount tells of its past is what the worlds reply for which it stands.
-use Rattle.std.proofs.Common.{◌≡◌, ℕ, true, List, Some, None, sym, ap, subst, ◌∙◌}
+use Rattle.std.proofs.Common.{◌≡◌, ℕ, List, Some, None, sym, ap, ◌∙◌}
 use Rattle.eden_accumulate.specs.declared.ranges.Range.{Range}
-use Rattle.eden_accumulate.specs.Expanded.{are_comparable}
-use Rattle.eden_accumulate.proofs.Columns.{commits_are_comparable}
-use Rattle.eden_objects.specs.Commits.{commit_map}
 use Rattle.eden_mount.specs.Mounts.{State, StandsFor}
-use Rattle.eden_mount.specs.Ranges.{EndsNow, IsStatus, PassesCommits, Tells}
+use Rattle.eden_mount.specs.Ranges.{EndsNow, IsStatus, Tells}
 use Rattle.eden_world.specs.declared.answer.SinceFault.{SinceFault}
 use Rattle.eden_world.specs.declared.message.Cause.{Cause}
 use Rattle.eden_world.specs.declared.message.Query.{Query}
 use Rattle.eden_world.specs.declared.message.Reply.TheVariants.{ChangesAre, Refused}
 use Rattle.eden_world.specs.declared.message.Request.TheVariants.{Poll}
 use Rattle.eden_world.specs.declared.position.Position.{Position}
-use Rattle.eden_world.specs.Worlds.{WorldState, commits_of}
+use Rattle.eden_world.specs.Worlds.{WorldState}
 use Rattle.eden_world.specs.Replies.{admitted, bounded, cause_of, polled, reply_of}
 use Rattle.eden_query.specs.declared.raw.Raw.TheVariants as raw
 use Rattle.eden_query.specs.Raws.{told}
@@ -29,10 +26,3 @@ pub refused_tells : (mount : State) (query : Query) (since : Position) (patterns
     → told mount.held patterns (raw.Refused query cause) ≡ reply_of world (Poll query since patterns)
 refused_tells mount query since patterns fault cause is same world h =
     ap (Refused query) same ∙ sym (ap (polled world query since.sequence patterns) (is world h))
-
--- a range that a mount gives can be expanded over its objects
-pub ranged_answerable : (mount : State) (range : Range) → ((world : WorldState) × StandsFor mount world) → PassesCommits mount range
-    → are_comparable (commit_map mount.held) range.roots ≡ true
-ranged_answerable mount range stands passes =
-    subst (λ held. are_comparable (commit_map held) range.roots ≡ true) (sym stands.1.held)
-    (commits_are_comparable (commits_of stands.0) range.roots (passes stands.0 stands.1 stands.1.begins))

@@ -72,7 +72,6 @@ fn raw_of<N: Naming + Drop>(mount: &Mount<N>, request: &Request) -> Result<Raw, 
         → told mount.now.held (patterns_of request.now) raw ≡ reply_of world request.now) }
     ensures answerable { IfOk result (λ raw. is_answerable (commit_map mount.now.held) raw ≡ true) }
 {
-    mount.stands_law();
     let Request::Poll { query, since, .. } = request;
     match mount.range_since(mount.store().allocator(), since) {
         Ok(range) => Ok(Raw::Ranged(*query, range)),

@@ -40,7 +40,7 @@ pub trait Served<N: Naming + Drop> {
 
     /// What a request asks for, as it stands now: `answer`, with the request's filter and the objects, makes the reply of it.
     ///
-    /// `NoMemory` comes where a growth was refused.
+    /// `NoMemory` comes where a growth was refused; nothing has changed then.
     fn hold(&mut self, caller: u64, request: &Request) -> Result<Raw, NoMemory>
         ensures replies { IfOk result (λ raw. (world : WorldState) → stands_for self.old world
             → told (held self.old) (patterns_of request.now) raw ≡ reply_of world request.now) }
