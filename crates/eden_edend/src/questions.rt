@@ -15,7 +15,7 @@ use crate::texts::{
     change_fault_name, path_fault_name, push_at, push_changes, push_content, push_listed,
     push_refused, push_refused_filter, push_refused_since,
 };
-use eden_accumulate::expand;
+use eden_accumulate::{ExpandFault, expand};
 use eden_globs::{Filter, FilterFault};
 use eden_ids::{GitNaming, Id, Path, PathFault};
 use eden_mount::{Mount, Position};
@@ -136,9 +136,11 @@ pub(crate) fn tell_since(
         Ok(range) => range,
         Err(fault) => return tell_since_fault(fault, text),
     };
-    // Each root of the range is a commit, so that only memory can be wanting.
-    let Ok(marked) = expand(mount.store(), &range) else {
-        return Err(AllocError);
+    let marked = match expand(mount.store(), &range) {
+        Ok(marked) => marked,
+        // What a mount gives can be expanded over its objects.
+        Err(ExpandFault::NoCommit) => unreachable!(),
+        Err(ExpandFault::NoMemory) => return Err(AllocError),
     };
     push_changes(text, labels, marked.as_slice(), &range.to)
 }
