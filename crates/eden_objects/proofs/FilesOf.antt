@@ -1,16 +1,16 @@
 -- The files of a commit, looked up and counted by its rows.
-use Rattle.std.proofs.Common.{◌≡◌, ℕ, ◌+◌, ◌-◌, Bool, true, false, cond, nat_eq, nat_le, List, [], ◌∷◌, map, length, Option, Some, None, refl, sym, ap, ◌∙◌, arith, length-append}
+use Rattle.std.proofs.Common.{◌≡◌, ℕ, ◌+◌, ◌-◌, ◌^◌, ◌<◌, Bool, true, false, cond, nat_eq, nat_le, List, [], ◌∷◌, map, length, Option, Some, None, refl, sym, ap, ◌∙◌, arith}
 use Rattle.std.proofs.lemmas.List.{length-map}
 use Rattle.std.specs.Prelude.{filter}
 use Rattle.eden_ids.specs.declared.id.Id.{Id}
-use Rattle.eden_ids.specs.declared.content.Kind.{Kind}
 use Rattle.eden_ids.specs.FileMaps.{file_at, paths, no_files}
 use Rattle.eden_ids.specs.Paths.{lies_below}
 use Rattle.eden_ids.proofs.FileMapLemmas.{file_at-none}
 use Rattle.eden_objects.specs.Objects.{Held}
 use Rattle.eden_objects.specs.Trees.{Entry}
-use Rattle.eden_objects.specs.Commits.{Row, under, rows_of_kind, entry_rows, entries_rows, find_row, commit_rows, map_of_rows}
+use Rattle.eden_objects.specs.Commits.{Row, entries_rows, find_row, commit_rows, map_of_rows}
 use Rattle.eden_objects.specs.Closed.{IsClosed}
+use Rattle.eden_objects.specs.Counts.{capped}
 use Rattle.eden_objects.specs.Walks.{content_found}
 use Rattle.eden_objects.specs.Files.{files_of, commit_files, rows_or_none}
 use Rattle.eden_objects.proofs.Maps.{file_at-map_of, paths-map_of}
@@ -58,19 +58,10 @@ counted held commit top count missing closed is =
     ∙ spent count (length (filter (λ row. lies_below row.0 top) (rows_or_none (commit_rows held commit))))
     ∙ ap (nat_le count) (sym (ap (λ ps. length (filter (λ p. lies_below p top) ps)) (commit_paths held closed commit) ∙ as_many (λ p. lies_below p top) (rows_or_none (commit_rows held commit))))
 
-rows_more : (rows : Id → List Row) (e : Entry) (es all : List Entry) → all ≡ e ∷ es → length (entries_rows rows all) ≡ length (entry_rows rows e) + length (entries_rows rows es)
-rows_more rows e es all is = ap (λ fs. length (entries_rows rows fs)) is ∙ length-append (entry_rows rows e) (entries_rows rows es)
-
-pub file_counted : (rows : Id → List Row) (target left : ℕ) (e : Entry) (es all : List Entry) (kind : Kind) → all ≡ e ∷ es → e.kind ≡ Some kind
-    → target ≡ left - length (entries_rows rows all) → target ≡ (left - 1) - length (entries_rows rows es)
-file_counted rows target left e es all kind is file so_far =
-    let more = rows_more rows e es all is in
-    let one : length (entry_rows rows e) ≡ 1 = ap (λ k. length (rows_of_kind e.name k e.id (rows e.id))) file in
-    omega (arith, more, one, so_far)
-
-pub dir_counted : (rows : Id → List Row) (target left after : ℕ) (e : Entry) (es all : List Entry) → all ≡ e ∷ es → e.kind ≡ None
-    → target ≡ left - length (entries_rows rows all) → after ≡ left - length (rows e.id) → target ≡ after - length (entries_rows rows es)
-dir_counted rows target left after e es all is dir so_far now =
-    let more = rows_more rows e es all is in
-    let child : length (entry_rows rows e) ≡ length (rows e.id) = ap (λ k. length (rows_of_kind e.name k e.id (rows e.id))) dir ∙ length-map (rows e.id) (under e.name) in
-    omega (arith, more, child, so_far, now)
+-- a count that is done
+pub all_counted : (rows : Id → List Row) (files target : ℕ) (es : List Entry) → files < 2 ^ 64 → es ≡ []
+    → capped (files + length (entries_rows rows es)) ≡ target → files ≡ target
+all_counted rows files target es fits none counted =
+    let done : capped (files + 0) ≡ target = ap (λ rest. capped (files + length (entries_rows rows rest))) (sym none) ∙ counted in
+    let same : files ≡ capped (files + 0) = grind (arith, fits) in
+    same ∙ done

@@ -1,5 +1,5 @@
 -- The table of a store, read from its newest entry, against what a look-up in it finds.
-use Rattle.std.proofs.Common.{◌≡◌, ◌∙◌, sym, refl, ap, ℕ, Bool, true, false, cond, List, [], ◌∷◌, ◌++◌, Option, Some, None, reverse}
+use Rattle.std.proofs.Common.{◌≡◌, ◌∙◌, sym, refl, ap, ℕ, Bool, true, false, cond, List, [], ◌∷◌, ◌++◌, Option, Some, None, length, reverse}
 use Rattle.std.proofs.lemmas.List.{reverse-append, reverse-reverse}
 use Rattle.std.specs.Map.{lookup}
 use Rattle.std.specs.Cmp.Lexicographic.{same_text}
@@ -8,6 +8,8 @@ use Rattle.eden_objects.specs.declared.store.Object.{Object}
 use Rattle.eden_objects.specs.declared.word.Word.{Word}
 use Rattle.eden_objects.specs.declared.word.Word.TheVariants.{Tree}
 use Rattle.eden_objects.specs.Objects.{Held, find, same_id, word_text}
+use Rattle.eden_objects.specs.Commits.{entries_rows}
+use Rattle.eden_objects.specs.Counts.{capped}
 use Rattle.eden_objects.specs.Trees.{Entry, tree_fold, entries_of, entries_depth, entries_reach}
 use Rattle.eden_objects.specs.Closed.{IsClosed, IsSound, IsTree, AllNamed}
 use Rattle.eden_objects.specs.Contents.{held_of, option_held, helds, Measures, AreMeasured, TellsOutline}
@@ -91,6 +93,7 @@ outlined_further h earlier id (Some object) past tells = λ is_tree. (
   (tells is_tree).2,
   (tells is_tree).3,
   (tells is_tree).4,
+  (tells is_tree).5 ∙ sym (ap (λ rows. capped (length rows)) (fold_past [] entries_rows h earlier id past)),
 )
 
 small_tree : (word : Word) (payload : List ℕ) (earlier : List Held) → word ≡ Tree → IsSound word payload earlier
@@ -113,6 +116,7 @@ outlined_in_table (e ∷ table) id closed measured = by (same_id id e.0) refl (o
         rw (measured.0.0 is_tree).0 tree.3,
         rw (measured.0.0 is_tree).1 tree.4,
         measured.0.1 is_tree,
+        measured.0.2 is_tree ∙ sym (ap (λ rows. capped (length rows)) (fold_here [] entries_rows h (helds table) id is)),
       )
   by false is rest = outlined_further h (helds table) id (lookup (same_id id) table) is rest
 

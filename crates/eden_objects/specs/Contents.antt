@@ -9,6 +9,7 @@ use Rattle.eden_objects.specs.declared.store.Object.{Object}
 use Rattle.eden_objects.specs.declared.fault.PutFault.{PutFault}
 use Rattle.eden_objects.specs.declared.fault.PutFault.TheVariants.{IdTaken}
 use Rattle.eden_objects.specs.Objects.{Held, same_word, same_bytes}
+use Rattle.eden_objects.specs.Counts.{files_of_entries, files_of_tree}
 use Rattle.eden_objects.specs.Starts.{AreStarts}
 use Rattle.eden_objects.specs.Trees.{entries_of, entries_depth, entries_reach, tree_depth, tree_reach}
 
@@ -34,9 +35,14 @@ SizeFits earlier word payload size = word ≡ Tree
     → (size.depth ≡ entries_depth (tree_depth earlier) (entries_of payload))
     × (size.reach ≡ entries_reach (tree_reach earlier) (entries_of payload))
 
+-- how many files it comes to
+abbrev pub FilesFit : List Held → Word → List ℕ → ℕ → Type 0
+FilesFit earlier word payload files = word ≡ Tree → files ≡ files_of_entries earlier (entries_of payload)
+
 -- and the places at which its entries begin
 abbrev pub OutlineFits : List Held → Word → List ℕ → Outline → Type 0
-OutlineFits earlier word payload outline = SizeFits earlier word payload outline.size × (word ≡ Tree → AreStarts payload outline.starts.items)
+OutlineFits earlier word payload outline =
+    SizeFits earlier word payload outline.size × (word ≡ Tree → AreStarts payload outline.starts.items) × FilesFit earlier word payload outline.files
 
 -- they are kept beside it
 abbrev pub Measures : List Held → Object → Type 0
@@ -52,3 +58,4 @@ TellsOutline held id (Some object) = object.word ≡ Tree
     → (object.outline.size.depth ≡ tree_depth held id) × (object.outline.size.reach ≡ tree_reach held id)
     × (object.outline.size.depth ≤ 64) × (object.outline.size.reach ≤ 1024)
     × AreStarts object.payload.items object.outline.starts.items
+    × (object.outline.files ≡ files_of_tree held id)

@@ -12,3 +12,4 @@ pub mod Readings
 pub mod Copies
 pub mod Files
 pub mod Starts
+pub mod Counts

@@ -3,10 +3,10 @@ ghost use Rattle.eden_ids.specs.FileMaps.{file_at, paths};
 ghost use Rattle.eden_ids.specs.Paths.{lies_below};
 ghost use Rattle.eden_objects.specs.Commits.{commit_rows, find_row, tree_rows};
 ghost use Rattle.eden_objects.specs.Closed.{HasTree};
+ghost use Rattle.eden_objects.specs.Counts.{files_of_tree};
 ghost use Rattle.eden_objects.specs.Listings.{rows_below};
 ghost use Rattle.eden_objects.specs.Files.{commit_files, content_seen, rows_or_none};
 
-use crate::directory::next_entry;
 use crate::store::Store;
 use eden_ids::{Id, Kind, Naming};
 
@@ -26,8 +26,7 @@ impl<N: Naming + Drop> Store<N> {
 
     /// Whether a commit has at least so many files below a path. It has none where the id is no commit's.
     ///
-    /// This takes no memory. It searches the directories on the way to the path, and reads of those below it no more than it takes to
-    /// come to that many files, or to the end.
+    /// This takes no memory. It searches the directories on the way to the path, and reads none of those below it.
     pub fn has_below(&self, commit: Id, top: &[u8], count: usize) -> bool
         ensures { result ≡ nat_le count (length (filter (λ p. lies_below p top.now) (paths (commit_files self.now commit)))) }
     {
@@ -68,26 +67,22 @@ impl<N: Naming + Drop> Store<N> {
         }
     }
 
-    /// How many files are missing to so many in a tree. It stops where none is.
+    /// How many files are missing to so many in a tree.
     fn missing(&self, tree: Id, count: usize) -> usize
         requires { HasTree self.now tree }
         ensures { result ≡ count - length (tree_rows self.now tree) }
     {
-        self.closed_law();
-        let mut rest = self.payload(tree);
-        let mut left = count;
-        'entries: while let Some((entry, after)) = next_entry(rest) {
-            if left == 0 {
-                return 0;
-            }
-            let Some(_) = entry.kind else {
-                left = self.missing(entry.id, left);
-                rest = after;
-                continue;
-            };
-            left -= 1;
-            rest = after;
+        count.saturating_sub(self.files(tree))
+    }
+
+    /// How many files stand below a tree, at the most `usize::MAX`.
+    pub(crate) fn files(&self, tree: Id) -> usize
+        requires { HasTree self.now tree }
+        ensures { result ≡ files_of_tree self.now tree }
+    {
+        match self.object(tree) {
+            Some(object) => object.outline.files,
+            None => 0,
         }
-        left
     }
 }

@@ -1,13 +1,16 @@
 //! Whether an object may be put: what each refusal of a tree or a commit asks of the store.
-ghost use Rattle.std.specs.Prelude.{◌≡◌, ◌≢◌, ◌≤◌, List, [], length, Some, None, IfOk, IfErr};
+ghost use Rattle.std.specs.List.{AllByRecursion};
+ghost use Rattle.std.specs.Prelude.{◌≡◌, ◌≢◌, ◌≤◌, List, [], ◌∷◌, length, Some, None, IfOk, IfErr};
 ghost use Rattle.eden_objects.specs.Objects.{find};
 ghost use Rattle.eden_objects.specs.Trees.{Entry, depth_of, entries_depth, entries_of, entries_reach, reach_of, tree_depth, tree_reach};
 ghost use Rattle.eden_objects.specs.Closed.{IsHeld, IsSound};
 ghost use Rattle.eden_objects.specs.Entries.{HasSeen, plain};
 ghost use Rattle.eden_objects.specs.Contents.{OutlineFits, SizeFits};
+ghost use Rattle.eden_objects.specs.Counts.{files_of_entries};
 ghost use Rattle.eden_objects.specs.Commits.{tree_named};
 ghost use Rattle.eden_objects.specs.Puts.{child_fault, commit_fault, entries_fault, entry_fault, named_fault, tree_fault, word_wanted};
 
+use crate::directory::next_entry;
 use crate::entry::{RawEntry, read_entry, tree_named};
 use crate::fault::PutFault;
 use crate::outline::{Outline, starts_of};
@@ -148,6 +151,31 @@ impl<N: Naming + Drop> Store<N> {
         Ok(size)
     }
 
+    /// How many files an entry comes to.
+    fn files_of(&self, entry: &RawEntry<'_>) -> usize
+        requires { IsHeld self.now (word_wanted entry.now.kind) entry.now.id }
+        ensures { result ≡ files_of_entries self.now (plain entry.now ∷ []) }
+    {
+        if entry.kind.is_some() {
+            return 1;
+        }
+        self.files(entry.id)
+    }
+
+    /// How many files a tree of these entries comes to.
+    fn files_in(&self, payload: &[u8]) -> usize
+        requires { AllByRecursion (λ e. IsHeld self.now (word_wanted e.kind) e.id) (entries_of payload.now) }
+        ensures { result ≡ files_of_entries self.now (entries_of payload.now) }
+    {
+        let mut files: usize = 0;
+        let mut rest = payload;
+        'entries: while let Some((entry, after)) = next_entry(rest) {
+            files = files.saturating_add(self.files_of(&entry));
+            rest = after;
+        }
+        files
+    }
+
     /// What is kept of a tree beside its payload, or why the payload is no tree's that the store may hold.
     pub(crate) fn outline_of(&self, payload: &[u8]) -> Result<Outline, PutFault>
         requires { length payload.now ≤ 8388608 }
@@ -161,7 +189,11 @@ impl<N: Naming + Drop> Store<N> {
             Err(fault) => return Err(fault),
         };
         match starts_of(self.allocator(), payload) {
-            Ok(starts) => Ok(Outline { size, starts }),
+            Ok(starts) => Ok(Outline {
+                size,
+                files: self.files_in(payload),
+                starts,
+            }),
             Err(NoMemory) => Err(PutFault::NoMemory),
         }
     }

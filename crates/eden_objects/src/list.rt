@@ -207,7 +207,7 @@ impl<N: Naming + Drop> Store<N> {
         Ok(listing.rows)
     }
 
-    /// Adds the files of a tree to a listing, directory by directory.
+    /// Adds the files of a tree to a listing, directory by directory. A directory without files is not read.
     fn gather(&self, tree: Id, filter: &Filter, listing: &mut Listing) -> Result<(), NoMemory>
         requires { HasTree self.now tree }
         ensures rows { OnOk result (listing.new.rows.items
@@ -215,6 +215,9 @@ impl<N: Naming + Drop> Store<N> {
         ensures front { OnOk result (listing.new.front.items ≡ listing.old.front.items) }
     {
         self.closed_law();
+        if self.files(tree) == 0 {
+            return Ok(());
+        }
         let mut rest = self.payload(tree);
         'entries: while let Some((entry, after)) = next_entry(rest) {
             let Some(kind) = entry.kind else {

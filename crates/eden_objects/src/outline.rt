@@ -15,6 +15,8 @@ use std::cmp::Ordering;
 #[derive(Drop)]
 pub(crate) struct Outline {
     pub(crate) size: Size,
+    /// How many files stand below the tree, at the most `usize::MAX`.
+    pub(crate) files: usize,
     pub(crate) starts: Vec<u32>,
 }
 
@@ -23,6 +25,7 @@ impl Outline {
     pub(crate) fn none(alloc: Global) -> Outline {
         Outline {
             size: Size::NONE,
+            files: 0,
             starts: Vec::new(alloc),
         }
     }

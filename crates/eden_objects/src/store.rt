@@ -104,7 +104,7 @@ impl<N: Naming + Drop> Store<N> {
     /// `NoMemory` may stand in place of any answer but `TooLarge` where a growth was refused. After a refusal the store is as before.
     ///
     /// It takes time in the order of the payload's length and, for n entries, of n log n; no child is read. Beside the payload it keeps
-    /// 4 bytes for each entry, the place at which it begins, up to twice that as a vector grows.
+    /// the place at which each entry begins, in 4 bytes, or up to 8 as the vector of them grows.
     pub fn put_tree(&mut self, payload: &[u8]) -> Result<Id, PutFault>
         ensures { TreeGives result self.old self.new payload.now (tree_outcome N.id payload.now self.old) }
     {

@@ -185,19 +185,33 @@ fn file_becomes_directory(rt: HostRuntime) -> Result<(), Fail> {
     Ok(())
 }
 
+/// Puts so many levels over a tree, each with two entries that name the level below.
+fn put_levels(
+    alloc: Global,
+    store: &mut Store<GitNaming>,
+    lowest: Id,
+    levels: u32,
+) -> Result<Id, Fail> {
+    let mut tree = lowest;
+    for _ in 0..levels {
+        let mut payload = Vec::new(alloc);
+        push_entry(&mut payload, "40000", b"a".as_slice(), tree)?;
+        push_entry(&mut payload, "40000", b"b".as_slice(), tree)?;
+        tree = store.put_tree(payload.as_slice())?;
+    }
+    Ok(tree)
+}
+
 // Forty levels, each with two entries that name the level below: 2 to the 40 files, of which none is listed.
 #[test]
 fn shared_subtrees(rt: HostRuntime) -> Result<(), Fail> {
     let alloc = rt.alloc();
     let mut store = Store::new(alloc, GitNaming);
     let x = store.put_blob(b"x".as_slice())?;
-    let mut tree = put_one(alloc, &mut store, "100644", "a", x)?;
+    let lowest = put_one(alloc, &mut store, "100644", "a", x)?;
+    let tree = put_levels(alloc, &mut store, lowest, 40)?;
     let mut path = b"a".to_vec(alloc)?;
     for level in 0..40u32 {
-        let mut payload = Vec::new(alloc);
-        push_entry(&mut payload, "40000", b"a".as_slice(), tree)?;
-        push_entry(&mut payload, "40000", b"b".as_slice(), tree)?;
-        tree = store.put_tree(payload.as_slice())?;
         let name = if level % 2 == 0 { b"/a" } else { b"/b" };
         path.extend_from_slice(name.as_slice())?;
     }
@@ -208,5 +222,35 @@ fn shared_subtrees(rt: HostRuntime) -> Result<(), Fail> {
     path.reverse();
     let up = Path::parse(alloc, path.as_slice())?;
     assert_eq!(rt; store.lookup(commit, &up)?, Some((Kind::Plain, x)));
+    Ok(())
+}
+
+// 2 to the 39 files stand below each of the two names; they are counted at once.
+#[test]
+fn shared_files_are_counted(rt: HostRuntime) -> Result<(), Fail> {
+    let alloc = rt.alloc();
+    let mut store = Store::new(alloc, GitNaming);
+    let x = store.put_blob(b"x".as_slice())?;
+    let lowest = put_one(alloc, &mut store, "100644", "f", x)?;
+    let tree = put_levels(alloc, &mut store, lowest, 40)?;
+    let commit = put_commit(alloc, &mut store, tree)?;
+    assert!(rt; store.has_below(commit, b"a".as_slice(), 549_755_813_888));
+    assert!(rt; !store.has_below(commit, b"a".as_slice(), 549_755_813_889));
+    assert!(rt; store.has_below(commit, b"b/a".as_slice(), 274_877_906_944));
+    assert!(rt; !store.has_below(commit, b"b/a".as_slice(), 274_877_906_945));
+    Ok(())
+}
+
+// 2 to the 40 empty directories: none of them is gone through for a file that isn't there.
+#[test]
+fn empty_directories_hold_nothing(rt: HostRuntime) -> Result<(), Fail> {
+    let alloc = rt.alloc();
+    let mut store = Store::new(alloc, GitNaming);
+    let empty = store.put_tree(b"".as_slice())?;
+    let tree = put_levels(alloc, &mut store, empty, 40)?;
+    let commit = put_commit(alloc, &mut store, tree)?;
+    assert!(rt; !store.has_below(commit, b"a".as_slice(), 1));
+    let everything = Filter::parse(alloc, &[])?;
+    assert_eq!(rt; store.list(commit, &everything)?.len(), 0);
     Ok(())
 }

@@ -1,0 +1,18 @@
+use Rattle.std.proofs.Common.{◌≡◌, ◌+◌, ◌<◌, ◌^◌, length}
+use Rattle.std.specs.List.{AllByRecursion}
+use Rattle.eden_objects.specs.Commits.{entries_rows, tree_rows}
+use Rattle.eden_objects.specs.Counts.{capped, files_of_entries}
+use Rattle.eden_objects.specs.Trees.{entries_of}
+use Rattle.eden_objects.specs.Puts.{word_wanted}
+use Rattle.eden_objects.specs.Closed.{IsHeld}
+use Rattle.eden_objects.proofs.store.Store.files_in.Given as goal
+
+abbrev pub invariant-entries : goal.invariant-entries
+invariant-entries g l = record {
+  counted : capped (l.files + length (entries_rows (tree_rows l.self) (entries_of l.rest))) ≡ files_of_entries l.self (entries_of l.payload);
+  small : l.files < 2 ^ 64;
+  held : AllByRecursion (λ e. IsHeld l.self (word_wanted e.kind) e.id) (entries_of l.rest);
+}
+
+abbrev pub decreases-entries : goal.decreases-entries
+decreases-entries g l = length l.rest
