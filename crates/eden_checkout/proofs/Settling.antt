@@ -4,11 +4,10 @@ use Rattle.std.specs.List.{list_any, slice_index_or}
 use Rattle.eden_ids.specs.declared.content.Content.{Content}
 use Rattle.eden_ids.specs.FileMaps.{FileMap, file_at, has, listing, differ, put_option, same_file, same_path}
 use Rattle.eden_ids.proofs.FileMapLemmas.{file_at-insert, file_at-remove, has-differ, has-listing, same_file-is, same_file_map, same_path-is}
-use Rattle.eden_world.specs.Checkouts.{conflicts, is_clean}
-use Rattle.eden_world.proofs.CheckoutLaws.{file_at-force, file_at-normal, force_elsewhere, has-conflicts, normal_elsewhere}
+use Rattle.eden_world.specs.Checkouts.{checked_out, conflicts, is_clean, rule_of}
+use Rattle.eden_world.proofs.CheckoutLaws.{file_at-checked_out, force_elsewhere, has-conflicts, normal_elsewhere}
 use Rattle.eden_world.specs.declared.change.Mode.{Mode}
 use Rattle.eden_world.specs.declared.change.Mode.TheVariants.{Normal, Dry, Force}
-use Rattle.eden_checkout.specs.Plans.{next_files, next_rule}
 
 pub put_at : (m : FileMap) (k : List ℕ) (f : Option Content) (p : List ℕ) → file_at (put_option m k f) p ≡ cond (same_path p k) f (file_at m p)
 put_at m k None p = file_at-remove m k p
@@ -66,31 +65,26 @@ not_false false e = absurd (cc)
 
 -- elsewhere the rule says what the target holds
 pub rule_elsewhere : (mode : Mode) (work root target : FileMap) (p : List ℕ) → (mode ≡ Dry → ⊥) → has (differ work root) p ≡ false → has (conflicts work root target) p ≡ false
-    → next_rule mode work root target p ≡ file_at target p
+    → rule_of mode work root target p ≡ file_at target p
 rule_elsewhere Dry work root target p kept clean none = absurd (kept refl)
 rule_elsewhere Normal work root target p kept clean none =
     normal_elsewhere work root target p (not_false (is_clean work root p) (sym (has-differ work root p) ∙ clean)) (sym (has-conflicts work root target p) ∙ none)
 rule_elsewhere Force work root target p kept clean none =
     force_elsewhere work root target p (not_false (is_clean work root p) (sym (has-differ work root p) ∙ clean))
 
-pub rule_everywhere : (mode : Mode) (work root target : FileMap) (p : List ℕ) → file_at (next_files mode work root target) p ≡ next_rule mode work root target p
-rule_everywhere Normal work root target p = file_at-normal work root target p
-rule_everywhere Dry work root target p = refl
-rule_everywhere Force work root target p = file_at-force work root target p
-
 pub all_settled : (mode : Mode) (work root target start middle end : FileMap) (dirty twice : List (List ℕ)) → (mode ≡ Dry → ⊥)
     → dirty ≡ listing (differ work root) → twice ≡ listing (conflicts work root target) → start ≡ target
-    → Settled (next_rule mode work root target) start dirty middle → Settled (next_rule mode work root target) middle twice end
-    → end ≡ next_files mode work root target
+    → Settled (rule_of mode work root target) start dirty middle → Settled (rule_of mode work root target) middle twice end
+    → end ≡ checked_out mode work root target
 all_settled mode work root target start middle end dirty twice kept dirty_is twice_is start_is first second =
-    same_file_map end (next_files mode work root target) (λ q.
+    same_file_map end (checked_out mode work root target) (λ q.
     second q
-    ∙ ap (cond (list_any (λ p. same_path q p) twice) (next_rule mode work root target q)) (first q)
+    ∙ ap (cond (list_any (λ p. same_path q p) twice) (rule_of mode work root target q)) (first q)
     ∙ by q (list_any (λ p. same_path q p) twice) (list_any (λ p. same_path q p) dirty) refl refl
-    ∙ sym (rule_everywhere mode work root target q))
+    ∙ sym (file_at-checked_out mode work root target q))
   where
     by : (q : List ℕ) (b a : Bool) → list_any (λ p. same_path q p) twice ≡ b → list_any (λ p. same_path q p) dirty ≡ a
-        → cond b (next_rule mode work root target q) (cond a (next_rule mode work root target q) (file_at start q)) ≡ next_rule mode work root target q
+        → cond b (rule_of mode work root target q) (cond a (rule_of mode work root target q) (file_at start q)) ≡ rule_of mode work root target q
     by q true a x y = refl
     by q false true x y = refl
     by q false false x y =

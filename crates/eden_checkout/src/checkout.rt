@@ -1,10 +1,10 @@
-ghost use Rattle.std.specs.Prelude.{◌≡◌, ◌≢◌, [], Some, None, IsSome, is_some, filter, IfOk, IfErr};
+ghost use Rattle.std.specs.Prelude.{◌≡◌, ◌≢◌, [], Some, None, IsSome, is_some, filter, if◌then◌else◌, IfOk, IfErr};
 ghost use Rattle.eden_ids.specs.FileMaps.{IsFileMap, differ, file_at, listing};
 ghost use Rattle.eden_objects.specs.Commits.{commit_map};
 ghost use Rattle.eden_objects.specs.Files.{commit_files};
 ghost use Rattle.eden_workcopy.specs.Meanings.{FitsIn, means};
-ghost use Rattle.eden_world.specs.Checkouts.{conflicts};
-ghost use Rattle.eden_checkout.specs.Plans.{next_files, next_root, root_files, unclean_paths};
+ghost use Rattle.eden_world.specs.Checkouts.{checked_out, conflicts, is_dry, unclean};
+ghost use Rattle.eden_checkout.specs.Plans.{root_files};
 
 use crate::conflict::add_if;
 use crate::sides::Sides;
@@ -98,7 +98,7 @@ impl<'a, N: Naming + Drop> Sides<'a, N> {
         requires start { means self.now.store.now start ≡ commit_files self.now.store.now self.now.commit }
         ensures root { IfOk result (λ next. next.root ≡ start.root) }
         ensures files { IfOk result (λ next. means self.now.store.now next
-            ≡ next_files mode (means self.now.store.now self.now.work.now) (root_files self.now.store.now self.now.work.now) (commit_files self.now.store.now self.now.commit)) }
+            ≡ checked_out mode (means self.now.store.now self.now.work.now) (root_files self.now.store.now self.now.work.now) (commit_files self.now.store.now self.now.commit)) }
     {
         let mut next = start;
         self.settle(&mut next, mode, dirty)?;
@@ -124,9 +124,9 @@ impl<'a, N: Naming + Drop> Sides<'a, N> {
         requires start { means self.now.store.now start ≡ commit_files self.now.store.now self.now.commit }
         requires root { start.root ≡ self.now.commit }
         requires fits { FitsIn self.now.store.now start }
-        ensures root { IfOk result (λ next. next.root ≡ next_root mode self.now.work.now.root self.now.commit) }
+        ensures root { IfOk result (λ next. next.root ≡ (if is_dry mode then self.now.work.now.root else self.now.commit)) }
         ensures files { IfOk result (λ next. means self.now.store.now next
-            ≡ next_files mode (means self.now.store.now self.now.work.now) (root_files self.now.store.now self.now.work.now) (commit_files self.now.store.now self.now.commit)) }
+            ≡ checked_out mode (means self.now.store.now self.now.work.now) (root_files self.now.store.now self.now.work.now) (commit_files self.now.store.now self.now.commit)) }
         ensures fits { IfOk result (λ next. FitsIn self.now.store.now next) }
         ensures dry { IfOk result (λ next. mode ≡ Mode.Dry → next ≡ self.now.work.now) }
     {
@@ -145,12 +145,11 @@ impl<'a, N: Naming + Drop> Sides<'a, N> {
     /// The unclean paths, in byte order, where this is the working copy after the checkout.
     fn unclean(&self, mode: Mode, dirty: &[Path], next: &WorkCopy) -> Result<Vec<Path>, NoMemory>
         requires dirty { dirty.now ≡ listing (differ (means self.now.store.now self.now.work.now) (root_files self.now.store.now self.now.work.now)) }
-        requires root { next.now.root ≡ next_root mode self.now.work.now.root self.now.commit }
-        requires files { means self.now.store.now next.now
-            ≡ next_files mode (means self.now.store.now self.now.work.now) (root_files self.now.store.now self.now.work.now) (commit_files self.now.store.now self.now.commit) }
+        requires root { next.now.root ≡ (if is_dry mode then self.now.work.now.root else self.now.commit) }
         requires fits { FitsIn self.now.store.now next.now }
-        ensures { IfOk result (λ paths. paths.items ≡ unclean_paths mode (means self.now.store.now self.now.work.now)
-            (root_files self.now.store.now self.now.work.now) (commit_files self.now.store.now self.now.commit)) }
+        ensures { IfOk result (λ paths. paths.items ≡ (if is_dry mode then [] else
+            listing (unclean (means self.now.store.now self.now.work.now) (root_files self.now.store.now self.now.work.now)
+            (means self.now.store.now next.now) (commit_files self.now.store.now self.now.commit)))) }
     {
         match mode {
             Mode::Dry => Ok(Vec::new(self.store.allocator())),
@@ -176,13 +175,14 @@ fn plan_from<N: Naming + Drop>(
     requires start { means store.now start ≡ commit_files store.now commit }
     requires root { start.root ≡ commit }
     requires fits { FitsIn store.now start }
-    ensures root { IfOk result (λ planned. planned.next.root ≡ next_root mode work.now.root commit) }
+    ensures root { IfOk result (λ planned. planned.next.root ≡ (if is_dry mode then work.now.root else commit)) }
     ensures files { IfOk result (λ planned. means store.now planned.next
-        ≡ next_files mode (means store.now work.now) (root_files store.now work.now) (commit_files store.now commit)) }
+        ≡ checked_out mode (means store.now work.now) (root_files store.now work.now) (commit_files store.now commit)) }
     ensures fits { IfOk result (λ planned. FitsIn store.now planned.next) }
     ensures dry { IfOk result (λ planned. mode ≡ Mode.Dry → planned.next ≡ work.now) }
     ensures unclean { IfOk result (λ planned. planned.unclean
-        ≡ unclean_paths mode (means store.now work.now) (root_files store.now work.now) (commit_files store.now commit)) }
+        ≡ (if is_dry mode then [] else
+        listing (unclean (means store.now work.now) (root_files store.now work.now) (means store.now planned.next) (commit_files store.now commit)))) }
     ensures conflicts { IfOk result (λ planned. planned.conflicts
         ≡ listing (conflicts (means store.now work.now) (root_files store.now work.now) (commit_files store.now commit))) }
 {
@@ -223,13 +223,14 @@ pub fn plan<N: Naming + Drop>(
 ) -> Result<Planned, PlanFault>
     requires { FitsIn store.now work.now }
     ensures accepts { IfOk result (λ _. IsSome (commit_map store.now commit)) }
-    ensures root { IfOk result (λ planned. planned.next.root ≡ next_root mode work.now.root commit) }
+    ensures root { IfOk result (λ planned. planned.next.root ≡ (if is_dry mode then work.now.root else commit)) }
     ensures files { IfOk result (λ planned. means store.now planned.next
-        ≡ next_files mode (means store.now work.now) (root_files store.now work.now) (commit_files store.now commit)) }
+        ≡ checked_out mode (means store.now work.now) (root_files store.now work.now) (commit_files store.now commit)) }
     ensures fits { IfOk result (λ planned. FitsIn store.now planned.next) }
     ensures dry { IfOk result (λ planned. mode ≡ Mode.Dry → planned.next ≡ work.now) }
     ensures unclean { IfOk result (λ planned. planned.unclean
-        ≡ unclean_paths mode (means store.now work.now) (root_files store.now work.now) (commit_files store.now commit)) }
+        ≡ (if is_dry mode then [] else
+        listing (unclean (means store.now work.now) (root_files store.now work.now) (means store.now planned.next) (commit_files store.now commit)))) }
     ensures conflicts { IfOk result (λ planned. planned.conflicts
         ≡ listing (conflicts (means store.now work.now) (root_files store.now work.now) (commit_files store.now commit))) }
     ensures refuses { IfErr result (λ fault. fault ≢ PlanFault.NoMemory → commit_map store.now commit ≡ None) }

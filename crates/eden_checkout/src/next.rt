@@ -3,8 +3,8 @@ ghost use Rattle.std.specs.List.{list_any};
 ghost use Rattle.eden_ids.specs.FileMaps.{file_at, put_option, same_path};
 ghost use Rattle.eden_objects.specs.Files.{commit_files, content_seen};
 ghost use Rattle.eden_workcopy.specs.Meanings.{means};
-ghost use Rattle.eden_world.specs.Checkouts.{force_rule, normal_rule};
-ghost use Rattle.eden_checkout.specs.Plans.{next_rule, root_files};
+ghost use Rattle.eden_world.specs.Checkouts.{force_rule, normal_rule, rule_of};
+ghost use Rattle.eden_checkout.specs.Plans.{root_files};
 
 use crate::compare::is_same;
 use crate::sides::Sides;
@@ -88,7 +88,7 @@ impl<'a, N: Naming + Drop> Sides<'a, N> {
 
     /// What is to stand at a path after the checkout.
     fn next_file(&self, mode: Mode, path: &Path) -> Option<(Kind, &'a [u8])>
-        ensures { content_seen result ≡ next_rule mode (means self.now.store.now self.now.work.now) (root_files self.now.store.now self.now.work.now)
+        ensures { content_seen result ≡ rule_of mode (means self.now.store.now self.now.work.now) (root_files self.now.store.now self.now.work.now)
             (commit_files self.now.store.now self.now.commit) path.now }
     {
         match mode {
@@ -108,7 +108,7 @@ impl<'a, N: Naming + Drop> Sides<'a, N> {
         ensures root { next.new.root ≡ next.old.root }
         ensures files { OnOk result ((q : List ℕ) → file_at (means self.now.store.now next.new) q
             ≡ (if list_any (λ p. same_path q p) paths.now
-            then next_rule mode (means self.now.store.now self.now.work.now) (root_files self.now.store.now self.now.work.now) (commit_files self.now.store.now self.now.commit) q
+            then rule_of mode (means self.now.store.now self.now.work.now) (root_files self.now.store.now self.now.work.now) (commit_files self.now.store.now self.now.commit) q
             else file_at (means self.now.store.now next.old) q)) }
     {
         for path in paths {

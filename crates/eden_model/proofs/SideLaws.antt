@@ -1,21 +1,20 @@
 -- What is told of each path of a checkout, listed.
-use Rattle.std.proofs.Common.{◌≡◌, ℕ, suc, zero, ◌+◌, ◌<◌, ◌≤◌, Bool, true, false, cond, not, ◌&&◌, ◌||◌, List, [], ◌∷◌, ◌++◌, take, drop, length, Option, Some, None, is_some, refl, sym, ap, subst, ◌∙◌, arith, append_assoc}
+use Rattle.std.proofs.Common.{◌≡◌, ℕ, ◌+◌, ◌<◌, Bool, true, false, cond, not, ◌&&◌, ◌||◌, List, [], ◌∷◌, ◌++◌, drop, length, Option, Some, None, is_some, refl, sym, ap, ◌∙◌, append_assoc}
 use Rattle.std.specs.Prelude.{filter}
 use Rattle.std.specs.List.{list_any, slice_index_or}
 use Rattle.std.proofs.lemmas.List.{drop_more}
 use Rattle.std.specs.FinMap as fin
 use Rattle.eden_ids.specs.declared.content.Content.{Content}
-use Rattle.eden_ids.specs.FileMaps.{FileMap, PathSet, differ, file_at, has, listing, no_files, path_set, paths, same_file, same_path, tabulate, union}
-use Rattle.eden_ids.proofs.FileMapLemmas.{has-append, has-differ, has-listing, has-path_set, has-union, same_file-refl, same_file_map}
+use Rattle.eden_ids.specs.FileMaps.{FileMap, PathSet, differ, file_at, has, listing, path_set, paths, same_file, same_path, union}
+use Rattle.eden_ids.proofs.FileMapLemmas.{has-append, has-differ, has-listing, has-path_set, has-union, path_set-listing, same_file_map}
 use Rattle.eden_ids.proofs.Sifted.{listing_of}
 use Rattle.eden_world.specs.declared.change.Mode.{Mode}
 use Rattle.eden_world.specs.declared.change.Mode.TheVariants.{Normal, Dry, Force}
 use Rattle.std.specs.Prelude.{if◌then◌else◌}
-use Rattle.eden_world.specs.Checkouts.{clashes_any, clashes_dirty, conflicts, force_files, force_rule, is_blocked, is_clean, is_conflict, normal_files, normal_rule, paths_of_all, unclean}
-use Rattle.eden_world.specs.Outcome.{checked_out}
-use Rattle.eden_model.specs.Sides.{differs, is_unclean, rule_of}
-use Rattle.eden_world.proofs.CheckoutLaws.{file_at-force, file_at-normal, has-conflicts, has-unclean}
-use Rattle.eden_model.proofs.Tabulating.{Follows, follows-itself, follows-tabulate}
+use Rattle.eden_world.specs.Checkouts.{checked_out, clashes_any, clashes_dirty, conflicts, is_conflict, paths_of_all, rule_of, unclean}
+use Rattle.eden_model.specs.Sides.{IsWithin, differs, is_unclean}
+use Rattle.eden_world.proofs.CheckoutLaws.{file_at-checked_out, has-conflicts, has-unclean}
+use Rattle.eden_model.proofs.Tabulating.{Follows}
 
 -- ---- the paths of all
 
@@ -58,11 +57,6 @@ listed-where work root target s test same outside =
 
 -- ---- the rule of a mode
 
-file_at-checked : (mode : Mode) (work root target : FileMap) (p : List ℕ) → file_at (checked_out mode work root target) p ≡ rule_of mode work root target p
-file_at-checked Normal work root target p = file_at-normal work root target p
-file_at-checked Dry work root target p = refl
-file_at-checked Force work root target p = file_at-force work root target p
-
 -- outside of all three nothing stands after a checkout
 outside-rule : (mode : Mode) (work root target : FileMap) (p : List ℕ) → member work root target p ≡ false → rule_of mode work root target p ≡ None
 outside-rule Normal work root target p e =
@@ -86,27 +80,49 @@ checked_out-listed mode work root target files ps are h = same_file_map files (c
     h p ∙ ap (λ qs. cond (list_any (λ r. same_path p r) qs) (rule_of mode work root target p) None) are
     ∙ ap (λ b. cond b (rule_of mode work root target p) None) (sym (has-listing (path_set (paths_of_all work root target)) p))
     ∙ within p (member work root target p) refl
-    ∙ sym (file_at-checked mode work root target p))
+    ∙ sym (file_at-checked_out mode work root target p))
   where
     within : (p : List ℕ) (b : Bool) → member work root target p ≡ b → cond b (rule_of mode work root target p) None ≡ rule_of mode work root target p
     within p true e = refl
     within p false e = sym (outside-rule mode work root target p e)
+
+-- the paths of all, as a set
+listed-is : (work root target : FileMap) (ps : List (List ℕ)) (p : List ℕ) → ps ≡ listing (path_set (paths_of_all work root target))
+    → has (path_set ps) p ≡ member work root target p
+listed-is work root target ps p are =
+    ap (λ qs. has (path_set qs) p) are ∙ ap (λ s. has s p) (path_set-listing (path_set (paths_of_all work root target)))
+
+-- a checkout leaves files at listed paths alone
+pub checked_out-within : (mode : Mode) (work root target files : FileMap) (ps : List (List ℕ)) → ps ≡ listing (path_set (paths_of_all work root target))
+    → files ≡ checked_out mode work root target → IsWithin files ps
+checked_out-within mode work root target files ps are is p here =
+    listed-is work root target ps p are ∙ there (member work root target p) refl
+  where
+    there : (b : Bool) → member work root target p ≡ b → b ≡ true
+    there true e = refl
+    there false e =
+        sym (ap is_some (ap (λ m. file_at m p) is ∙ file_at-checked_out mode work root target p ∙ outside-rule mode work root target p e)) ∙ here
 
 -- ---- what is listed
 
 outside-differs : (one other : FileMap) (p : List ℕ) → file_at one p ≡ None → file_at other p ≡ None → differs one other p ≡ false
 outside-differs one other p a b = λ i. not (same_file (a i) (b i))
 
-outside-after : (mode : Mode) (work root target next : FileMap) (p : List ℕ) → next ≡ checked_out mode work root target → member work root target p ≡ false → file_at next p ≡ None
-outside-after mode work root target next p is e =
-    ap (λ m. file_at m p) is ∙ file_at-checked mode work root target p ∙ outside-rule mode work root target p e
+-- where no path has a file but the listed ones, an unlisted path has none
+outside-within : (work root target next : FileMap) (ps : List (List ℕ)) (p : List ℕ) → ps ≡ listing (path_set (paths_of_all work root target))
+    → IsWithin next ps → member work root target p ≡ false → file_at next p ≡ None
+outside-within work root target next ps p are within e = none (file_at next p) (λ here. sym (within p here) ∙ listed-is work root target ps p are ∙ e)
+  where
+    none : (file : Option Content) → (is_some file ≡ true → true ≡ false) → file ≡ None
+    none None bad = refl
+    none (Some content) bad = let no : true ≡ false = bad refl in cc
 
-outside-unclean : (mode : Mode) (work root target next : FileMap) (p : List ℕ) → next ≡ checked_out mode work root target → member work root target p ≡ false
-    → is_unclean work root next target p ≡ false
-outside-unclean mode work root target next p is e =
+outside-unclean : (work root target next : FileMap) (ps : List (List ℕ)) (p : List ℕ) → ps ≡ listing (path_set (paths_of_all work root target))
+    → IsWithin next ps → member work root target p ≡ false → is_unclean work root next target p ≡ false
+outside-unclean work root target next ps p are within e =
     let none = unlisted work root target p e in
     ap (λ b. b || differs next target p) (outside-differs work root p none.0 none.1)
-    ∙ outside-differs next target p (outside-after mode work root target next p is e) none.2
+    ∙ outside-differs next target p (outside-within work root target next ps p are within e) none.2
 
 unclean-is : (work root next target : FileMap) (p : List ℕ) → has (unclean work root next target) p ≡ is_unclean work root next target p
 unclean-is work root next target p =
@@ -124,23 +140,21 @@ conflicts_listed work root target ps are =
         (λ i. if same_file (none.0 i) (none.1 i) then (is_some (none.2 i) && clashes_dirty work root p) else
         not (same_file (none.1 i) (none.2 i)) && not (same_file (none.0 i) (none.2 i)))
 
-pub unclean_listed : (mode : Mode) (work root target next : FileMap) (ps : List (List ℕ)) → ps ≡ listing (path_set (paths_of_all work root target))
-    → next ≡ checked_out mode work root target
-    → filter (is_unclean work root next target) ps ≡ listing (unclean work root next target)
-unclean_listed mode work root target next ps are is =
+pub unclean_listed : (work root target next : FileMap) (ps : List (List ℕ)) → ps ≡ listing (path_set (paths_of_all work root target))
+    → IsWithin next ps → filter (is_unclean work root next target) ps ≡ listing (unclean work root next target)
+unclean_listed work root target next ps are within =
     ap (filter (is_unclean work root next target)) are
     ∙ listed-where work root target (unclean work root next target) (is_unclean work root next target) (unclean-is work root next target)
-    (λ p e. outside-unclean mode work root target next p is e)
+    (λ p e. outside-unclean work root target next ps p are within e)
 
-pub named_listed : (mode : Mode) (work root target next : FileMap) (ps : List (List ℕ)) → ps ≡ listing (path_set (paths_of_all work root target))
-    → next ≡ checked_out mode work root target
-    → filter (λ p. is_unclean work root next target p || differs root target p) ps ≡ listing (union (unclean work root next target) (differ root target))
-named_listed mode work root target next ps are is =
+pub named_listed : (work root target next : FileMap) (ps : List (List ℕ)) → ps ≡ listing (path_set (paths_of_all work root target))
+    → IsWithin next ps → filter (λ p. is_unclean work root next target p || differs root target p) ps ≡ listing (union (unclean work root next target) (differ root target))
+named_listed work root target next ps are within =
     ap (filter (λ p. is_unclean work root next target p || differs root target p)) are
     ∙ listed-where work root target (union (unclean work root next target) (differ root target)) (λ p. is_unclean work root next target p || differs root target p)
     (λ p. has-union (unclean work root next target) (differ root target) p ∙ (λ i. unclean-is work root next target p i || has-differ root target p i))
     (λ p e. let none = unlisted work root target p e in
-    ap (λ b. b || differs root target p) (outside-unclean mode work root target next p is e) ∙ outside-differs root target p none.1 none.2)
+    ap (λ b. b || differs root target p) (outside-unclean work root target next ps p are within e) ∙ outside-differs root target p none.1 none.2)
 
 pub differing_listed : (work root target : FileMap) (ps : List (List ℕ)) → ps ≡ listing (path_set (paths_of_all work root target))
     → filter (differs root target) ps ≡ listing (differ root target)

@@ -4,9 +4,8 @@ ghost use Rattle.std.specs.Prelude.{◌≡◌, ◌++◌, ◌∷◌, [], ◌&&◌
 ghost use Rattle.std.specs.Option.{option_copied};
 ghost use Rattle.eden_ids.specs.FileMaps.{FileMap, differ, file_at, has, listing, path_set, paths, same_file, union};
 ghost use Rattle.eden_objects.specs.Files.{commit_files};
-ghost use Rattle.eden_world.specs.Checkouts.{clashes_any, clashes_dirty, conflicts, force_rule, is_blocked, is_clean, is_conflict, normal_rule, paths_of_all, unclean};
-ghost use Rattle.eden_world.specs.Outcome.{checked_out};
-ghost use Rattle.eden_model.specs.Sides.{rule_of, differs, is_unclean, wanted_at, AreAll};
+ghost use Rattle.eden_world.specs.Checkouts.{checked_out, clashes_any, clashes_dirty, conflicts, force_rule, is_blocked, is_clean, is_conflict, normal_rule, paths_of_all, rule_of, unclean};
+ghost use Rattle.eden_model.specs.Sides.{differs, is_unclean, wanted_at, AreAll, IsWithin};
 
 use crate::commit_files::{files_of_commit, put_file};
 use eden_ids::{Content, Files, Id, Naming, NoMemory, Path, PathTable, Sequence};
@@ -169,7 +168,8 @@ impl Sides {
         mode: Mode,
     ) -> Result<Files, NoMemory>
         requires { AreAll work.now self.now }
-        ensures { IfOk result (λ files. files ≡ checked_out mode work.now self.now.root self.now.target) }
+        ensures files { IfOk result (λ files. files ≡ checked_out mode work.now self.now.root self.now.target) }
+        ensures within { IfOk result (λ files. IsWithin files self.now.paths.items) }
     {
         let mut files = Files::new(alloc);
         for path in self.paths.iter() {
@@ -237,38 +237,34 @@ impl Sides {
         self.listed(alloc, work, work, Wanted::Conflicts)
     }
 
-    /// The unclean paths of a checkout, in byte order.
+    /// The unclean paths of a checkout to these files, in byte order.
     #[tactic(auto, using(crate::proofs::SideLaws::unclean_listed))]
     pub(crate) fn unclean(
         &self,
         alloc: Global,
         work: &Files,
         next: &Files,
-        mode: Mode,
     ) -> Result<Sequence<Path>, NoMemory>
         requires all { AreAll work.now self.now }
-        requires next { next.now ≡ checked_out mode work.now self.now.root self.now.target }
+        requires within { IsWithin next.now self.now.paths.items }
         ensures { IfOk result (λ paths. paths ≡ listing (unclean work.now self.now.root next.now self.now.target)) }
     {
-        let _ = mode;
         self.listed(alloc, work, next, Wanted::Unclean)
     }
 
-    /// The paths that a checkout names, in byte order.
+    /// The paths that a checkout to these files names, in byte order.
     #[tactic(auto, using(crate::proofs::SideLaws::named_listed))]
     pub(crate) fn named(
         &self,
         alloc: Global,
         work: &Files,
         next: &Files,
-        mode: Mode,
     ) -> Result<Sequence<Path>, NoMemory>
         requires all { AreAll work.now self.now }
-        requires next { next.now ≡ checked_out mode work.now self.now.root self.now.target }
+        requires within { IsWithin next.now self.now.paths.items }
         ensures { IfOk result (λ paths. paths
             ≡ listing (union (unclean work.now self.now.root next.now self.now.target) (differ self.now.root self.now.target))) }
     {
-        let _ = mode;
         self.listed(alloc, work, next, Wanted::Named)
     }
 

@@ -1,5 +1,6 @@
 -- A mount after it went over to another commit.
 use Rattle.std.proofs.Common.{◌≡◌, ℕ, true, false, not, List, [], None, refl, sym, ap, subst, ◌∙◌}
+use Rattle.std.specs.Prelude.{if◌then◌else◌}
 use Rattle.eden_ids.specs.declared.id.Id.{Id}
 use Rattle.eden_ids.specs.FileMaps.{FileMap, listing}
 use Rattle.eden_deltas.specs.declared.delta.Delta.TheVariants.{Root}
@@ -11,19 +12,18 @@ use Rattle.eden_journal.specs.Histories.{History, recorded}
 use Rattle.eden_accumulate.specs.Histories.{history_of}
 use Rattle.eden_workcopy.specs.declared.work.WorkCopy.{WorkCopy}
 use Rattle.eden_workcopy.specs.Meanings.{FitsIn, means}
-use Rattle.eden_checkout.specs.Plans as plan
+use Rattle.eden_checkout.specs.Plans.{root_files}
 use Rattle.eden_world.specs.declared.answer.Answer.TheVariants.{Checked}
 use Rattle.eden_world.specs.declared.change.Mode.{Mode}
-use Rattle.eden_world.specs.declared.change.Mode.TheVariants.{Normal, Dry, Force}
 use Rattle.eden_world.specs.declared.change.Change.{Change}
 use Rattle.eden_world.specs.declared.change.Change.TheVariants.{Checkout, Reset}
 use Rattle.eden_world.specs.declared.position.Position.{Position}
 use Rattle.eden_world.specs.declared.row.Row.{Row}
-use Rattle.eden_world.specs.Checkouts.{conflicts, unclean}
+use Rattle.eden_world.specs.Checkouts.{checked_out, conflicts, is_dry, unclean}
 use Rattle.eden_world.specs.Named.{held_files}
 use Rattle.eden_world.specs.Worlds.{Commits, WorldState, commits_of, now}
 use Rattle.eden_world.specs.Recorded.{delta_of, starts}
-use Rattle.eden_world.specs.Outcome.{answer_at, checked_out, commit_fault, event_at, is_dry, is_event, next_files, next_root, next_row, refusal, world_after}
+use Rattle.eden_world.specs.Outcome.{answer_at, commit_fault, event_at, is_event, next_files, next_root, next_row, refusal, world_after}
 use Rattle.eden_mount.specs.Mounts.{State, StandsFor}
 use Rattle.eden_mount.proofs.Histories.{event_of}
 use Rattle.eden_mount.proofs.Standing.{log_recorded, made_stands}
@@ -93,22 +93,6 @@ reset_stands held seen old new log more mount view same world h commit allowed f
 
 -- ---- checkout
 
-plan-files : (mode : Mode) (work root target : FileMap) → plan.next_files mode work root target ≡ checked_out mode work root target
-plan-files Normal work root target = refl
-plan-files Dry work root target = refl
-plan-files Force work root target = refl
-
-plan-unclean : (mode : Mode) (work root target : FileMap) → is_dry mode ≡ false
-    → plan.unclean_paths mode work root target ≡ listing (unclean work root (checked_out mode work root target) target)
-plan-unclean Normal work root target e = refl
-plan-unclean Dry work root target e = let bad : true ≡ false = e in cc
-plan-unclean Force work root target e = refl
-
-plan-root : (mode : Mode) (root commit : Id) → is_dry mode ≡ false → plan.next_root mode root commit ≡ commit
-plan-root Normal root commit e = refl
-plan-root Dry root commit e = let bad : true ≡ false = e in cc
-plan-root Force root commit e = refl
-
 files-checked : (commits : Commits) (row : Row) (commit : Id) (mode : Mode)
     → checked_out mode row.files (held_files commits row.root) (held_files commits commit) ≡ next_files commits row (Checkout commit mode)
 unfolding next_files
@@ -123,37 +107,38 @@ delta-checked commits row commit mode = refl
 -- the three file maps of a checkout are the world's
 pub three : {X : Type 0} (f : FileMap → FileMap → FileMap → X) (held seen : List Held) (old : WorkCopy) (log : journal.Log) (mount : State) → state held old log ≡ mount → seen ≡ held
     → (world : WorldState) → StandsFor mount world → (commit : Id)
-    → f (means seen old) (plan.root_files seen old) (commit_files seen commit)
+    → f (means seen old) (root_files seen old) (commit_files seen commit)
     ≡ f (now world).files (held_files (commits_of world) (now world).root) (held_files (commits_of world) commit)
 three f held seen old log mount view same world h commit =
     let h-old : StandsFor (state held old log) world = subst (λ m. StandsFor m world) (sym view) h in
-    ap (λ s. f (means s old) (plan.root_files s old) (commit_files s commit)) same
+    ap (λ s. f (means s old) (root_files s old) (commit_files s commit)) same
     ∙ (λ i. f (h-old.files i) (commit_files (h-old.held i) (h-old.root i)) (commit_files (h-old.held i) commit))
 
 pub checkout_stands : (held seen : List Held) (old new : WorkCopy) (log more : journal.Log) (mount : State) → state held old log ≡ mount → seen ≡ held
     → (world : WorldState) → StandsFor mount world → (commit : Id) (mode : Mode) → refusal (commits_of world) (now world) (Checkout commit mode) ≡ None → is_dry mode ≡ false
-    → FitsIn seen new → new.root ≡ plan.next_root mode old.root commit
-    → means seen new ≡ plan.next_files mode (means seen old) (plan.root_files seen old) (commit_files seen commit)
-    → (paths : List (List ℕ)) → paths ≡ plan.unclean_paths mode (means seen old) (plan.root_files seen old) (commit_files seen commit)
+    → FitsIn seen new → new.root ≡ (if is_dry mode then old.root else commit)
+    → means seen new ≡ checked_out mode (means seen old) (root_files seen old) (commit_files seen commit)
+    → (paths : List (List ℕ))
+    → paths ≡ (if is_dry mode then [] else listing (unclean (means seen old) (root_files seen old) (means seen new) (commit_files seen commit)))
     → MovesBy log more commit paths → StandsFor (state held new more) (world_after world (Checkout commit mode))
 checkout_stands held seen old new log more mount view same world h commit mode allowed real fits root files paths is moves =
     let is-files : means held new ≡ next_files (commits_of world) (now world) (Checkout commit mode) =
-    ap (λ s. means s new) (sym same) ∙ files ∙ three (plan.next_files mode) held seen old log mount view same world h commit
-    ∙ plan-files mode (now world).files (held_files (commits_of world) (now world).root) (held_files (commits_of world) commit)
+    ap (λ s. means s new) (sym same) ∙ files ∙ three (checked_out mode) held seen old log mount view same world h commit
     ∙ files-checked (commits_of world) (now world) commit mode in
     root_stands held old new log more mount view world h (Checkout commit mode) commit refl refl allowed (ap not real)
-    (record { fits = subst (λ s. FitsIn s new) same fits; root = root ∙ plan-root mode old.root commit real; files = is-files })
+    (record { fits = subst (λ s. FitsIn s new) same fits; root = root ∙ ap (λ b. if b then old.root else commit) real; files = is-files })
     paths
     (ap (Root (now world).root)
-    (is ∙ three (plan.unclean_paths mode) held seen old log mount view same world h commit
-    ∙ plan-unclean mode (now world).files (held_files (commits_of world) (now world).root) (held_files (commits_of world) commit) real)
+    (is ∙ ap (λ b. if b then [] else listing (unclean (means seen old) (root_files seen old) (means seen new) (commit_files seen commit))) real
+    ∙ ap (λ next. listing (unclean (means seen old) (root_files seen old) next (commit_files seen commit))) files
+    ∙ three (λ work root target. listing (unclean work root (checked_out mode work root target) target)) held seen old log mount view same world h commit)
     ∙ delta-checked (commits_of world) (now world) commit mode)
     moves
 
 -- a checkout is answered with its conflicts
 pub checked-answer : (held seen : List Held) (old : WorkCopy) (log : journal.Log) (mount : State) → state held old log ≡ mount → seen ≡ held
     → (world : WorldState) → StandsFor mount world → (commit : Id) (mode : Mode) (found : List (List ℕ)) (position : Position)
-    → found ≡ listing (conflicts (means seen old) (plan.root_files seen old) (commit_files seen commit))
+    → found ≡ listing (conflicts (means seen old) (root_files seen old) (commit_files seen commit))
     → answer_at (commits_of world) (now world) (Checkout commit mode) position ≡ Checked position found
 checked-answer held seen old log mount view same world h commit mode found position is =
     ap (Checked position) (sym (is ∙ three (λ work root target. listing (conflicts work root target)) held seen old log mount view same world h commit))

@@ -2,6 +2,7 @@ ghost use Rattle.std.specs.Prelude.{◌≡◌, ◌≢◌, None, Some, IfOk, IfEr
 ghost use Rattle.eden_objects.specs.Commits.{commit_map};
 ghost use Rattle.eden_world.specs.declared.answer.Answer.TheVariants as answer;
 ghost use Rattle.eden_world.specs.declared.change.Change.TheVariants.{Checkout, Reset};
+ghost use Rattle.eden_world.specs.Checkouts as checkouts;
 ghost use Rattle.eden_world.specs.Outcome as outcome;
 ghost use Rattle.eden_mount.specs.Mounts.{Answers, Follows, IsRefusal, Refuses};
 
@@ -21,7 +22,7 @@ pub struct Checked {
 
 /// Whether a checkout is only tried.
 fn is_dry(mode: Mode) -> bool
-    ensures { result ≡ outcome.is_dry mode }
+    ensures { result ≡ checkouts.is_dry mode }
 {
     matches!(mode, Mode::Dry)
 }

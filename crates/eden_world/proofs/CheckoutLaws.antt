@@ -7,7 +7,9 @@ use Rattle.eden_ids.specs.declared.content.Content.{Content}
 use Rattle.eden_ids.specs.Paths.{clashes, lies_below}
 use Rattle.eden_ids.specs.FileMaps.{FileMap, PathSet, IsFileMap, file_at, paths, same_file, same_path, differ, path_set, has}
 use Rattle.eden_ids.proofs.FileMapLemmas.{file_at-tabulate, has-append, has-differ, has-path_set, has-union, same_file-is, same_file-refl, same_path-is, same_path-refl}
-use Rattle.eden_world.specs.Checkouts.{is_clean, clashes_dirty, clashes_any, is_blocked, paths_of_all, normal_rule, normal_files, force_rule, force_files, is_conflict, conflicts, unclean}
+use Rattle.eden_world.specs.declared.change.Mode.{Mode}
+use Rattle.eden_world.specs.declared.change.Mode.TheVariants.{Normal, Dry, Force}
+use Rattle.eden_world.specs.Checkouts.{is_clean, clashes_dirty, clashes_any, is_blocked, paths_of_all, normal_rule, normal_files, force_rule, force_files, rule_of, checked_out, is_conflict, conflicts, unclean}
 
 -- ---- tests of lists of paths
 
@@ -101,6 +103,12 @@ file_at-force work root target p =
     enough true None None None = refl
     enough false None None None = refl
 
+-- the files after a checkout are those of its mode's rule
+pub file_at-checked_out : (mode : Mode) (work root target : FileMap) (p : List ℕ) → file_at (checked_out mode work root target) p ≡ rule_of mode work root target p
+file_at-checked_out Normal work root target p = file_at-normal work root target p
+file_at-checked_out Dry work root target p = refl
+file_at-checked_out Force work root target p = file_at-force work root target p
+
 has-where : (s : PathSet) (test : List ℕ → Bool) (p : List ℕ) → has (fin.retain_keys s test) p ≡ (test p && has s p)
 has-where s test p =
     ap is_some (fin.get-retain_keys s test p (λ x e. ap test (sym (fin.slice_cmp-IsAntisymmetric fin.nat_cmp-IsAntisymmetric p x e))))
@@ -193,6 +201,12 @@ force_no_clash work root target ok_work ok_target p q hp hq =
     cases true false x y = clashes_turned p q ∙ apart_from_any target q p (free (clashes_any target q) (file_at work q) y).0 x
     cases false true x y = apart_from_any target p q (free (clashes_any target p) (file_at work p) x).0 y
     cases false false x y = ok_work p q (free (clashes_any target p) (file_at work p) x).1 (free (clashes_any target q) (file_at work q) y).1
+
+-- the files after a checkout are a file map
+pub checked_out_no_clash : (mode : Mode) (work root target : FileMap) → IsFileMap work → IsFileMap target → IsFileMap (checked_out mode work root target)
+checked_out_no_clash Normal work root target ok_work ok_target = normal_no_clash work root target ok_work ok_target
+checked_out_no_clash Dry work root target ok_work ok_target = ok_work
+checked_out_no_clash Force work root target ok_work ok_target = force_no_clash work root target ok_work ok_target
 
 -- ---- where a checkout changes anything
 

@@ -1,29 +1,22 @@
 -- No change makes two paths clash.
-use Rattle.std.proofs.Common.{◌≡◌, Bool, true, false, List, [], ◌∷◌, Option, Some, None, is_some, refl, sym, ap, subst, ◌∙◌, if◌then◌else◌}
-use Rattle.std.specs.FinMap as fin
+use Rattle.std.proofs.Common.{◌≡◌, List, [], ◌∷◌, Option, Some, None, refl, sym, subst, ◌∙◌}
 use Rattle.eden_ids.specs.declared.id.Id.{Id}
-use Rattle.eden_ids.specs.declared.content.Content.{Content}
-use Rattle.eden_ids.specs.FileMaps.{FileMap, IsFileMap, file_at, has_file_above, has_file_below}
-use Rattle.eden_ids.proofs.FileMapLemmas.{IsFileMap-insert, IsFileMap-none, IsFileMap-remove}
+use Rattle.eden_ids.specs.FileMaps.{FileMap, IsFileMap}
+use Rattle.eden_ids.proofs.FileMapLemmas.{IsFileMap-none, IsFileMap-remove}
 use Rattle.eden_objects.specs.Objects.{Held}
 use Rattle.eden_objects.specs.Closed.{IsClosed}
 use Rattle.eden_objects.specs.Commits.{commit_map}
 use Rattle.eden_objects.specs.Files.{files_of}
 use Rattle.eden_objects.proofs.CommitLaws.{file_maps}
-use Rattle.eden_world.specs.declared.change.Mode.{Mode}
-use Rattle.eden_world.specs.declared.change.Mode.TheVariants.{Normal, Dry, Force}
 use Rattle.eden_world.specs.declared.change.Change.{Change}
 use Rattle.eden_world.specs.declared.change.Change.TheVariants.{Write, Remove, Rename, Checkout, Reset, Flush, Remount}
-use Rattle.eden_world.specs.declared.change.ChangeFault.{ChangeFault}
-use Rattle.eden_world.specs.declared.change.ChangeFault.TheVariants.{NotADirectory, IsADirectory}
 use Rattle.eden_world.specs.declared.row.Row.{Row}
 use Rattle.eden_world.specs.declared.row.Event.{Event}
 use Rattle.eden_world.specs.Worlds.{Commits, WorldState, commits_of, last_row, now}
-use Rattle.eden_world.specs.Renames.{absent_fault, first_fault, moved, place_fault, rename_fault, renamed, same_place}
 use Rattle.eden_world.specs.Named.{held_files}
-use Rattle.eden_world.specs.Outcome.{change_fault, checked_out, next_files, next_row, refusal}
+use Rattle.eden_world.specs.Outcome.{change_fault, next_files, next_row, refusal}
 use Rattle.eden_world.specs.Legal.{AreMade, IsLegal}
-use Rattle.eden_world.proofs.CheckoutLaws.{force_no_clash, normal_no_clash}
+use Rattle.eden_world.proofs.CheckoutLaws.{checked_out_no_clash}
 use Rattle.eden_world.proofs.RenameLaws.{first-none, rename_fits, write_fits}
 use Rattle.eden_world.proofs.Steps.{is_made}
 
@@ -38,18 +31,13 @@ held_fits commits fits id = by (commits id) refl
     by None e = IsFileMap-none
     by (Some files) e = fits id files e
 
-checked_out_fits : (mode : Mode) (work root target : FileMap) → IsFileMap work → IsFileMap target → IsFileMap (checked_out mode work root target)
-checked_out_fits Normal work root target fits other = normal_no_clash work root target fits other
-checked_out_fits Dry work root target fits other = fits
-checked_out_fits Force work root target fits other = force_no_clash work root target fits other
-
 next_fits : (commits : Commits) (row : Row) (change : Change) → AreFileMaps commits → change_fault commits row change ≡ None → IsFileMap row.files → IsFileMap (next_files commits row change)
 unfolding next_files
 next_fits commits row (Write path kind bytes) maps e fits = write_fits row.files path bytes _ fits e
 next_fits commits row (Remove path) maps e fits = IsFileMap-remove row.files path fits
 next_fits commits row (Rename old new) maps e fits = rename_fits row.files old new fits e
 next_fits commits row (Checkout commit mode) maps e fits =
-    checked_out_fits mode row.files (held_files commits row.root) (held_files commits commit) fits (held_fits commits maps commit)
+    checked_out_no_clash mode row.files (held_files commits row.root) (held_files commits commit) fits (held_fits commits maps commit)
 next_fits commits row (Reset commit) maps e fits = fits
 next_fits commits row Flush maps e fits = fits
 next_fits commits row (Remount generation) maps e fits = fits

@@ -1,11 +1,13 @@
 -- What a checkout makes of the files. `work` is what the working copy holds, `root` what the commit below it does, and `target` what the
 -- commit that is checked out does.
-use Rattle.std.specs.Prelude.{ℕ, Bool, not, ◌&&◌, ◌||◌, if◌then◌else◌, List, ◌++◌, Option, None, is_some}
+use Rattle.std.specs.Prelude.{ℕ, Bool, true, false, not, ◌&&◌, ◌||◌, if◌then◌else◌, List, ◌++◌, Option, None, is_some}
 use Rattle.std.specs.List.{list_any}
 use Rattle.std.specs.FinMap as fin
 use Rattle.eden_ids.specs.declared.content.Content.{Content}
 use Rattle.eden_ids.specs.Paths.{clashes}
 use Rattle.eden_ids.specs.FileMaps.{FileMap, PathSet, file_at, paths, same_file, differ, union, path_set, tabulate}
+use Rattle.eden_world.specs.declared.change.Mode.{Mode}
+use Rattle.eden_world.specs.declared.change.Mode.TheVariants.{Normal, Dry, Force}
 
 -- a path is clean where the working copy holds the root's file, or neither holds one; else it is dirty
 abbrev pub is_clean : FileMap → FileMap → List ℕ → Bool
@@ -46,6 +48,24 @@ force_rule work root target p =
 
 unfoldable pub force_files : FileMap → FileMap → FileMap → FileMap
 force_files work root target = tabulate (paths_of_all work root target) (force_rule work root target)
+
+-- a checkout that is only tried
+abbrev pub is_dry : Mode → Bool
+is_dry Normal = false
+is_dry Dry = true
+is_dry Force = false
+
+-- what a checkout in a mode makes of a path: one that is only tried leaves it
+abbrev pub rule_of : Mode → FileMap → FileMap → FileMap → List ℕ → Option Content
+rule_of Normal work root target p = normal_rule work root target p
+rule_of Dry work root target p = file_at work p
+rule_of Force work root target p = force_rule work root target p
+
+-- the files after a checkout in a mode
+abbrev pub checked_out : Mode → FileMap → FileMap → FileMap → FileMap
+checked_out Normal work root target = normal_files work root target
+checked_out Dry work root target = work
+checked_out Force work root target = force_files work root target
 
 -- a conflict, in each mode: a clean path that is blocked, or a dirty one on which root and target differ, and of which the working copy
 -- holds something else than the target

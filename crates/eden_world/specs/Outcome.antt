@@ -1,12 +1,10 @@
 -- What a change does to a row: it is refused, or makes no event, or makes the next row.
-use Rattle.std.specs.Prelude.{ℕ, ◌+◌, ◌-◌, ◌^◌, Bool, true, false, not, ◌&&◌, nat_lt, if◌then◌else◌, List, ◌∷◌, Option, Some, None}
+use Rattle.std.specs.Prelude.{ℕ, ◌+◌, ◌-◌, ◌^◌, Bool, true, false, not, ◌&&◌, nat_lt, if◌then◌else◌, ◌∷◌, Option, Some, None}
 use Rattle.std.specs.FinMap as fin
 use Rattle.eden_ids.specs.declared.id.Id.{Id}
 use Rattle.eden_ids.specs.FileMaps.{FileMap, listing}
 use Rattle.eden_world.specs.declared.answer.Answer.{Answer}
 use Rattle.eden_world.specs.declared.answer.Answer.TheVariants.{At, Checked, Refused}
-use Rattle.eden_world.specs.declared.change.Mode.{Mode}
-use Rattle.eden_world.specs.declared.change.Mode.TheVariants.{Normal, Dry, Force}
 use Rattle.eden_world.specs.declared.change.Change.{Change}
 use Rattle.eden_world.specs.declared.change.Change.TheVariants.{Write, Remove, Rename, Checkout, Reset, Flush, Remount}
 use Rattle.eden_world.specs.declared.change.ChangeFault.{ChangeFault}
@@ -16,7 +14,7 @@ use Rattle.eden_world.specs.declared.row.Row.{Row}
 use Rattle.eden_world.specs.declared.row.Event.{Event}
 use Rattle.eden_world.specs.Worlds.{Commits, WorldState, commits_of, now, position_of}
 use Rattle.eden_world.specs.Renames.{first_fault, absent_fault, write_fault, same_place, rename_fault, renamed}
-use Rattle.eden_world.specs.Checkouts.{normal_files, force_files, conflicts}
+use Rattle.eden_world.specs.Checkouts.{checked_out, conflicts, is_dry}
 use Rattle.eden_world.specs.Named.{held_files, unclean_paths, named}
 
 -- a commit has to be there
@@ -34,11 +32,6 @@ change_fault commits row (Reset commit) = commit_fault (commits commit)
 change_fault commits row Flush = None
 change_fault commits row (Remount generation) = if nat_lt row.generation generation then None else Some GenerationNotNew
 
-abbrev pub is_dry : Mode → Bool
-is_dry Normal = false
-is_dry Dry = true
-is_dry Force = false
-
 -- whether the change, where nothing refuses it, makes an event: all do but the rename of a file to itself and a checkout that is tried
 abbrev pub is_event : Change → Bool
 is_event (Rename old new) = not (same_place old new)
@@ -55,12 +48,6 @@ unfoldable pub refusal : Commits → Row → Change → Option ChangeFault
 refusal commits row change =
     first_fault (change_fault commits row change)
     (if takes_number change && not (nat_lt row.sequence (2 ^ 64 - 1)) then Some SequenceExhausted else None)
-
--- the files after a checkout of a target over a root
-abbrev pub checked_out : Mode → FileMap → FileMap → FileMap → FileMap
-checked_out Normal work root target = normal_files work root target
-checked_out Dry work root target = work
-checked_out Force work root target = force_files work root target
 
 -- the files after a change of files
 abbrev pub files_changed : FileMap → Change → FileMap

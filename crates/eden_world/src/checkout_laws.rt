@@ -2,16 +2,17 @@
 
 ghost use Rattle.std.specs.Prelude.{◌≡◌, ◌||◌, ℕ, List, true};
 ghost use Rattle.eden_ids.specs.FileMaps.{FileMap, IsFileMap, differ, file_at, has};
-ghost use Rattle.eden_world.specs.Checkouts.{conflicts, force_files, force_rule, is_conflict, normal_files, normal_rule, unclean};
+ghost use Rattle.eden_world.specs.declared.change.Mode.{Mode};
+ghost use Rattle.eden_world.specs.Checkouts.{checked_out, conflicts, is_conflict, rule_of, unclean};
 
 /// What a checkout makes of the files, which paths it tells of, and that it leaves a file map.
 pub fn checkout_law()
     // At every path the files after a checkout are those of the mode's rule.
-    ensures normal { (work root target : FileMap) (p : List ℕ) → file_at (normal_files work root target) p ≡ normal_rule work root target p }
-    ensures force { (work root target : FileMap) (p : List ℕ) → file_at (force_files work root target) p ≡ force_rule work root target p }
+    ensures files { (mode : Mode) (work root target : FileMap) (p : List ℕ)
+        → file_at (checked_out mode work root target) p ≡ rule_of mode work root target p }
     // No two of them clash, where none did before and none do in the target.
-    ensures normal_fits { (work root target : FileMap) → IsFileMap work → IsFileMap target → IsFileMap (normal_files work root target) }
-    ensures force_fits { (work root target : FileMap) → IsFileMap work → IsFileMap target → IsFileMap (force_files work root target) }
+    ensures fits { (mode : Mode) (work root target : FileMap)
+        → IsFileMap work → IsFileMap target → IsFileMap (checked_out mode work root target) }
     // The conflicts are just the paths that are one, and on each of them root and target differ.
     ensures conflicts { (work root target : FileMap) (p : List ℕ) → has (conflicts work root target) p ≡ is_conflict work root target p }
     ensures conflicts_differ { (work root target : FileMap) (p : List ℕ) → IsFileMap work

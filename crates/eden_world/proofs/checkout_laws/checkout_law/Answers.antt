@@ -1,17 +1,11 @@
-use Rattle.eden_world.proofs.CheckoutLaws.{conflicts_in_differ, file_at-force, file_at-normal, force_no_clash, has-conflicts, has-unclean, normal_no_clash}
+use Rattle.eden_world.proofs.CheckoutLaws.{checked_out_no_clash, conflicts_in_differ, file_at-checked_out, has-conflicts, has-unclean}
 use Rattle.eden_world.proofs.checkout_laws.checkout_law.Goals as goal
 
-pub returns-clause-normal : goal.returns-clause-normal
-returns-clause-normal c = file_at-normal
+pub returns-clause-files : goal.returns-clause-files
+returns-clause-files c = file_at-checked_out
 
-pub returns-clause-force : goal.returns-clause-force
-returns-clause-force c = file_at-force
-
-pub returns-clause-normal_fits : goal.returns-clause-normal_fits
-returns-clause-normal_fits c = normal_no_clash
-
-pub returns-clause-force_fits : goal.returns-clause-force_fits
-returns-clause-force_fits c = force_no_clash
+pub returns-clause-fits : goal.returns-clause-fits
+returns-clause-fits c = checked_out_no_clash
 
 pub returns-clause-conflicts : goal.returns-clause-conflicts
 returns-clause-conflicts c = has-conflicts

@@ -12,6 +12,6 @@ returns-in_ok-unclean-in_default g c =
     unclean_united c.args.mode (means held c.args.self.now.work.now) (root_files held c.args.self.now.work.now) (commit_files held c.args.self.now.commit)
     (means held c.args.next.now) (commit_files held c.args.next.now.root)
     c.args.dirty.now c.in_ok-after-in_default.after.items c.in_ok-unclean-in_default.unclean.items c.in_default.not-Dry
-    c.requires.dirty c.in_ok-after-in_default.ensures c.requires.files
+    c.requires.dirty c.in_ok-after-in_default.ensures
     (ap (commit_files held) (c.requires.root ∙ root_moved c.args.mode c.args.self.now.work.now.root c.args.self.now.commit c.in_default.not-Dry))
     (c.in_ok-unclean-in_default.ensures ∙ ap (λ ps. listing (union (path_set c.args.dirty.now) (path_set ps))) c.as_slice.ensures.value)

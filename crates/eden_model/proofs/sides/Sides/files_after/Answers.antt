@@ -1,8 +1,7 @@
-use Rattle.std.proofs.Common.{[], ◌≡◌, length, get_or, rules, sym, ap, ◌∙◌, subst, arith}
-use Rattle.eden_ids.specs.FileMaps.{no_files}
-use Rattle.eden_model.specs.Sides.{rule_of}
+use Rattle.std.proofs.Common.{[], ◌≡◌, get_or, rules, sym, ap, ◌∙◌, subst, arith}
+use Rattle.eden_world.specs.Checkouts.{rule_of}
 use Rattle.eden_model.proofs.Tabulating.{Follows, begins, goes_on-at, ends}
-use Rattle.eden_model.proofs.SideLaws.{checked_out-listed}
+use Rattle.eden_model.proofs.SideLaws.{checked_out-listed, checked_out-within}
 use Rattle.eden_model.proofs.sides.Sides.files_after.Goals as goal
 
 pub loop-path-init : goal.loop-path-init
@@ -19,7 +18,11 @@ loop-path-preserved c =
     (goes_on-at (rule_of c.args.mode c.args.work.now c.args.self.now.root c.args.self.now.target) c.args.self.now.paths.items c.loop-path.path-index c.loop-path.files
     c.path-item.result c.in_ok-file.file (omega arith) at c.loop-path.invariant (c.in_ok-file.ensures ∙ c.file_after.ensures))
 
-pub returns : goal.returns
-returns c =
+pub returns-clause-files : goal.returns-clause-files
+returns-clause-files c =
     checked_out-listed c.args.mode c.args.work.now c.args.self.now.root c.args.self.now.target c.loop-path.files c.args.self.now.paths.items c.requires
     (ends (rule_of c.args.mode c.args.work.now c.args.self.now.root c.args.self.now.target) c.args.self.now.paths.items c.loop-path.path-index c.loop-path.files (omega arith) c.loop-path.invariant)
+
+pub returns-clause-within : goal.returns-clause-within
+returns-clause-within c =
+    checked_out-within c.args.mode c.args.work.now c.args.self.now.root c.args.self.now.target c.loop-path.files c.args.self.now.paths.items c.requires (returns-clause-files c)

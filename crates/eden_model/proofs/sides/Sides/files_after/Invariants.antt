@@ -1,5 +1,5 @@
 use Rattle.std.proofs.Common.{take}
-use Rattle.eden_model.specs.Sides.{rule_of}
+use Rattle.eden_world.specs.Checkouts.{rule_of}
 use Rattle.eden_model.proofs.Tabulating.{Follows}
 use Rattle.eden_model.proofs.sides.Sides.files_after.Given as goal
 

@@ -1,7 +1,8 @@
 use Rattle.std.proofs.Common.{◌≡◌, false, not, rules, refl, sym, ap, subst, ◌∙◌}
 use Rattle.std.specs.Arc.{arc_value}
 use Rattle.eden_world.specs.declared.change.Change.TheVariants.{Checkout}
-use Rattle.eden_world.specs.Outcome.{is_dry, world_after}
+use Rattle.eden_world.specs.Checkouts.{is_dry}
+use Rattle.eden_world.specs.Outcome.{world_after}
 use Rattle.eden_mount.specs.Mounts.{StandsFor}
 use Rattle.eden_mount.proofs.Standing.{answered}
 use Rattle.eden_mount.proofs.Changing.{kept, left, state}

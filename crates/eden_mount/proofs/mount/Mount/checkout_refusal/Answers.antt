@@ -1,6 +1,6 @@
 use Rattle.std.proofs.Common.{◌≡◌, true, false, not, rules, ap, ◌∙◌}
 use Rattle.eden_world.specs.declared.change.Change.TheVariants.{Checkout}
-use Rattle.eden_world.specs.Outcome.{is_dry}
+use Rattle.eden_world.specs.Checkouts.{is_dry}
 use Rattle.eden_mount.proofs.Standing.{refusal-free, refusal-numbered}
 use Rattle.eden_mount.proofs.Rooting.{commit-fault}
 use Rattle.eden_mount.proofs.mount.Mount.checkout_refusal.Goals as goal
