@@ -1,5 +1,5 @@
 -- The floor of a world, found by walking back over its events.
-use Rattle.std.proofs.Common.{◌≡◌, ◌≢◌, ℕ, suc, ◌+◌, ◌-◌, ◌<◌, ◌≤◌, Bool, true, false, cond, List, [], ◌∷◌, ◌++◌, length, take, drop, reverse, Option, Some, None, refl, sym, ap, subst, ◌∙◌, arith}
+use Rattle.std.proofs.Common.{◌≡◌, ℕ, ◌+◌, ◌-◌, ◌<◌, ◌≤◌, Bool, true, false, List, [], ◌∷◌, ◌++◌, length, take, drop, reverse, Option, Some, None, refl, sym, ap, subst, ◌∙◌, arith}
 use Rattle.std.specs.Prelude.{if◌then◌else◌}
 use Rattle.std.specs.List.{slice_index_or}
 use Rattle.std.proofs.lemmas.List.{reverse-append, take-append-drop}
@@ -9,13 +9,9 @@ use Rattle.eden_deltas.specs.Deltas.{cost, is_one}
 use Rattle.eden_deltas.specs.Runs.{add_delta, alone, floor_of_runs, runs}
 use Rattle.eden_deltas.proofs.DeltaLemmas.{is_one-same}
 use Rattle.eden_deltas.proofs.Floors.{floor-ends, floor-none, floor-pays, runs-more, runs-none}
-use Rattle.eden_world.specs.declared.change.Change.{Change}
-use Rattle.eden_world.specs.declared.change.Change.TheVariants.{Write, Remove, Rename, Checkout, Reset, Flush, Remount}
 use Rattle.eden_world.specs.declared.row.Row.{Row}
 use Rattle.eden_world.specs.declared.row.Event.{Event}
-use Rattle.eden_world.specs.Worlds.{Commits, last_row}
-use Rattle.eden_world.specs.Outcome.{next_row}
-use Rattle.eden_world.specs.Legal.{AreMade}
+use Rattle.eden_world.specs.Worlds.{last_row}
 use Rattle.eden_model.specs.Paid.{is_paid}
 use Rattle.eden_world.specs.Recorded.{delta_of, deltas, start, starts}
 use Rattle.eden_world.proofs.Floors.{AreNumbered}

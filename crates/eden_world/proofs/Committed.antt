@@ -1,5 +1,5 @@
 -- Whether a commit is there.
-use Rattle.std.proofs.Common.{◌≡◌, Bool, true, false, List, Option, Some, None, is_some, refl}
+use Rattle.std.proofs.Common.{◌≡◌, true, false, List, Option, Some, None, is_some, refl}
 use Rattle.std.specs.Prelude.{IsSome}
 use Rattle.eden_ids.specs.declared.id.Id.{Id}
 use Rattle.eden_ids.specs.FileMaps.{FileMap}

@@ -1,4 +1,4 @@
-use Rattle.std.proofs.Common.{[], ◌≡◌, map, length, get_or, rules, sym, ap, ◌∙◌, subst, arith}
+use Rattle.std.proofs.Common.{[], ◌≡◌, map, rules, sym, ap, ◌∙◌, subst, arith}
 use Rattle.eden_ids.specs.FileMaps.{file_at}
 use Rattle.eden_objects.specs.Files.{commit_files}
 use Rattle.eden_model.proofs.Tabulating.{Follows, begins, rows_on, rows_end}

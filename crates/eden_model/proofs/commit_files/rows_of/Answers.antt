@@ -1,4 +1,3 @@
-use Rattle.std.proofs.Common.{rules}
 use Rattle.eden_model.proofs.Listed.{rows_paths}
 use Rattle.eden_model.proofs.commit_files.rows_of.Goals as goal
 
