@@ -6,3 +6,4 @@ mod Asking
 mod Mounted
 mod SessionLines
 mod LineAnswers
+mod FirstLemmas

@@ -1,3 +1,4 @@
 pub mod BoundMaps
 pub mod Told
 pub mod SessionScript
+pub mod Firsts

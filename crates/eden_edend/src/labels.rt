@@ -3,10 +3,14 @@
 ghost use Rattle.std.specs.Prelude.{◌≡◌, ◌∷◌, [], OnOk, OnErr, find, reverse};
 ghost use Rattle.std.specs.Option.{option_copied};
 ghost use Rattle.std.specs.FinMap as fin;
+ghost use Rattle.std.specs.Map.{lookup};
+ghost use Rattle.eden_objects.specs.Objects.{same_id};
+ghost use Rattle.eden_edend.specs.Firsts.{IsNoted};
 ghost use Rattle.eden_lines.specs.Labels.{newest, bound, still_binds, label_of, is_id};
 
 use eden_ids::Id;
 use eden_lines::{Binding, Label};
+use indexmap::IndexMap;
 use std::alloc::{AllocError, Global};
 use std::collections::BTreeMap;
 use std::marker::Model;
@@ -57,24 +61,66 @@ impl Bound {
     }
 }
 
+/// Where the first binding to each id stands among those that were made.
+#[derive(Drop)]
+struct Firsts {
+    places: IndexMap<Id, usize>,
+}
+
+impl Firsts {
+    fn new(alloc: Global) -> Firsts
+        ensures { result.places.entries ≡ [] }
+    {
+        Firsts {
+            places: IndexMap::new(alloc),
+        }
+    }
+
+    fn get(&self, id: Id) -> Option<usize>
+        ensures { result ≡ lookup (same_id id) self.now.places.entries }
+    {
+        match self.places.get(&id) {
+            Some(at) => Some(*at),
+            None => None,
+        }
+    }
+
+    /// Notes the place of a binding to an id, unless that of an earlier one is noted. With no memory nothing is.
+    fn note(&mut self, id: Id, at: usize) -> Result<(), AllocError>
+        ensures ok { OnOk result (IsNoted self.old.places.entries self.new.places.entries id at) }
+        ensures err { OnErr result (self.new.places.entries ≡ self.old.places.entries) }
+    {
+        if self.get(id).is_some() {
+            return Ok(());
+        }
+        match self.places.insert(id, at) {
+            Ok(_) => Ok(()),
+            Err(_) => Err(AllocError),
+        }
+    }
+}
+
 /// The bindings that a script has made. What a label is bound to is found in a time that grows with the logarithm of their number.
 #[derive(Drop)]
 pub(crate) struct Labels {
     // The oldest first.
     made: Vec<Binding>,
     bound: Bound,
+    firsts: Firsts,
 }
 
 impl Model for Labels {
     ghost use Rattle.std.specs.Prelude.{◌≡◌, List, reverse};
     ghost use Rattle.eden_lines.specs.declared.label.Binding.{Binding};
     ghost use Rattle.eden_edend.specs.BoundMaps.{bound_map};
+    ghost use Rattle.eden_edend.specs.Firsts.{AreFirsts};
 
     ghost Value = { List Binding };
 
     ghost view = { λ labels. reverse labels.made.items };
 
-    ghost invariant = { λ labels. labels.bound ≡ bound_map (reverse labels.made.items) };
+    ghost invariant = { λ labels. (labels.bound ≡ bound_map (reverse labels.made.items))
+        × AreFirsts labels.firsts.places.entries labels.made.items };
 }
 
 /// Whether the label was bound to the id, and that one is this.
@@ -95,6 +141,7 @@ impl Labels {
         Labels {
             made: Vec::new(alloc),
             bound: Bound::new(alloc),
+            firsts: Firsts::new(alloc),
         }
     }
 
@@ -126,6 +173,7 @@ impl Labels {
     {
         let key = label.clone()?;
         self.made.reserve(1)?;
+        self.firsts.note(id, self.made.len())?;
         self.bound.insert(key, id)?;
         self.made.push_reserved(Binding { label, id });
         Ok(())
@@ -141,12 +189,16 @@ impl Labels {
     fn first_binding(&self, id: Id) -> Option<&Binding>
         ensures { option_copied result ≡ find (still_binds self.now id) (reverse self.now) }
     {
-        self.made
-            .iter()
-            .find(|binding| self.still_binds(binding, id))
+        match self.firsts.get(id) {
+            Some(at) => self.made[at..]
+                .iter()
+                .find(|binding| self.still_binds(binding, id)),
+            None => None,
+        }
     }
 
-    /// The first label that was ever bound to the id and still is. The time grows with the bindings made before it was.
+    /// The first label that was ever bound to the id and still is. The search begins at the first binding to the id, and goes on only
+    /// where that label was bound to another one since.
     pub(crate) fn first_bound(&self, id: Id) -> Option<&Label>
         ensures { option_copied result ≡ label_of self.now id }
     {
