@@ -10,8 +10,8 @@ use eden_world::{Position, SinceFault};
 use std::alloc::Global;
 
 impl<N: Naming + Drop> Mount<N> {
-    /// What changed since a position, up to the present one. Of it `expand`, over the mount's objects, makes paths; it never answers
-    /// `NoCommit` there.
+    /// What changed since a position, up to the present one: `expand`, over the mount's objects, makes paths of it, and never answers
+    /// `NoCommit`.
     ///
     /// A position is refused as `Stale` where its generation isn't the mount's, as `Ahead` where its number is above the present one, and
     /// as `Truncated` where the journal no longer holds what changed since; the first cause that stands is told. Its root decides nothing.
