@@ -11,7 +11,7 @@ use Rattle.eden_ids.specs.Paths.{lies_below}
 use Rattle.eden_ids.specs.FileMaps.{FileMap, file_at, paths, has_file_above, has_file_below, same_path, IsFileMap}
 use Rattle.std.specs.Ordering.{nat_cmp}
 use Rattle.std.specs.Cmp.Lexicographic.{slice_cmp}
-use Rattle.eden_ids.proofs.FileMapLemmas.{same_path-is, file_at-remove, IsFileMap-insert, IsFileMap-remove}
+use Rattle.eden_ids.proofs.FileMapLemmas.{same_path-is}
 use Rattle.eden_ids.proofs.TreeMaps.{entries_found}
 use Rattle.eden_objects.specs.Objects.{Held}
 use Rattle.eden_objects.specs.Commits.{Row, commit_rows, commit_map, map_of_rows}
@@ -20,12 +20,12 @@ use Rattle.eden_objects.specs.Files.{files_of, commit_files, content_seen}
 use Rattle.eden_objects.proofs.CommitLaws.{file_maps}
 use Rattle.eden_world.specs.declared.change.ChangeFault.{ChangeFault}
 use Rattle.eden_world.specs.declared.change.ChangeFault.TheVariants.{NotADirectory, IsADirectory}
-use Rattle.eden_world.specs.Renames.{first_fault, place_fault}
-use Rattle.eden_world.specs.Renames.{absent_fault, write_fault, rename_fault, same_place, moved, renamed}
+use Rattle.eden_world.specs.Renames.{first_fault}
+use Rattle.eden_world.specs.Renames.{same_place, moved, renamed}
 use Rattle.eden_workcopy.specs.declared.work.WorkCopy.{WorkCopy}
 use Rattle.eden_workcopy.specs.Meanings.{means, FitsIn}
 use Rattle.eden_workcopy.specs.Layers.{Layer, Entry, or_below, over}
-use Rattle.eden_workcopy.proofs.Overs.{file_at-over, over-nothing, over-insert, over-remove, over-move, any_none, any_some, here_below, left_below, some_above, none_above}
+use Rattle.eden_workcopy.proofs.Overs.{file_at-over, over-nothing, over-insert, over-remove, over-move, here_below, left_below, some_above, none_above}
 
 pub some_rows : (held : List Held) (o : Option (List Row)) → is_some o ≡ true → map_of_rows held o ≡ Some (files_of (map_of_rows held o))
 some_rows held None e = absurd (cc)
