@@ -4,5 +4,6 @@ mod Ascending
 mod Listed
 mod Pairs
 mod Steps
+mod Settling
 mod Sides
 mod Rows

@@ -3,3 +3,4 @@ pub mod Laws
 pub mod Pairs
 pub mod Walks
 pub mod Columns
+pub mod Settled

@@ -4,6 +4,7 @@ ghost use Rattle.eden_objects.specs.Objects.{find};
 ghost use Rattle.eden_treediff.specs.Merges.{differences, merge_rows};
 ghost use Rattle.eden_treediff.specs.Walks.{IsSide, IsSideOf, side_rows};
 
+use crate::settled::Settled;
 use crate::walk::{Found, walk};
 use eden_ids::{Id, Naming, NoMemory, Path};
 use eden_objects::{NoCommit, Store};
@@ -49,7 +50,8 @@ fn paths_between<N: Naming + Drop>(
         front: Vec::new(store.allocator()),
         paths: Vec::new(store.allocator()),
     };
-    walk(store, first, second, &mut found)?;
+    let mut settled = Settled::new(store.allocator());
+    walk(store, first, second, &mut found, &mut settled)?;
     Ok(found.paths)
 }
 
@@ -57,7 +59,8 @@ fn paths_between<N: Naming + Drop>(
 /// files of other bytes or of another kind.
 ///
 /// `NoCommit` comes where one of the ids is no commit's; `NoMemory` may stand in place of any answer where a growth was refused.
-/// Directories with one id on both sides are not read. Two trees with different ids may hold the same files: then nothing is named.
+/// Directories with one id on both sides are not read. Two trees with different ids may hold the same files: then nothing is named. No
+/// pair of trees is read twice without naming a path, wherever and however often the two stand in the commits.
 #[tactic(auto, using(crate::proofs::Sides::no_first, crate::proofs::Sides::no_second))]
 pub fn diff<N: Naming + Drop>(
     store: &Store<N>,

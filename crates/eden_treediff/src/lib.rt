@@ -6,6 +6,7 @@ mod columns;
 mod difference;
 mod laws;
 mod pair;
+mod settled;
 #[cfg(test)]
 mod tests;
 mod walk;

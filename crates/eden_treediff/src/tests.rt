@@ -136,32 +136,97 @@ fn file_becomes_directory(rt: HostRuntime) -> Result<(), Fail> {
     Ok(())
 }
 
-/// A commit of a file, and of a tree with two to the fortieth files, which has one tree for each level.
-fn wide_commit(alloc: Global, world: &mut World, file: &str) -> Result<Id, Fail> {
-    let mut payload = world.entries(alloc, "100644 a x")?;
-    let mut tree = world.store.put_tree(payload.as_slice())?;
+/// Forty trees, each with the one below it under two names, so that the last has the lowest two to the fortieth times.
+fn wide_tree(alloc: Global, world: &mut World, lowest: Id) -> Result<Id, Fail> {
+    let mut tree = lowest;
     for _ in 0..40 {
-        payload = Vec::new(alloc);
+        let mut payload = Vec::new(alloc);
         push_entry(&mut payload, "40000", "a", tree)?;
         push_entry(&mut payload, "40000", "b", tree)?;
         tree = world.store.put_tree(payload.as_slice())?;
     }
-    payload = world.entries(alloc, file)?;
+    Ok(tree)
+}
+
+/// A commit of some files, and of a tree that has the lowest two to the fortieth times.
+fn wide_commit(alloc: Global, world: &mut World, files: &str, lowest: &str) -> Result<Id, Fail> {
+    let lowest = world.id(lowest);
+    let tree = wide_tree(alloc, world, lowest)?;
+    let mut payload = world.entries(alloc, files)?;
     push_entry(&mut payload, "40000", "z", tree)?;
     let root = world.store.put_tree(payload.as_slice())?;
     Ok(world.store.put_commit(commit_of(alloc, root)?.as_slice())?)
 }
 
+/// A store of two files, a tree of one of them, that tree with a directory that has no files, and such a directory.
+fn wide_world(alloc: Global) -> Result<World, Fail> {
+    let rows = [
+        ("blob", "x", "x"),
+        ("blob", "y", "y"),
+        ("tree", "none", ""),
+        ("tree", "plain", "100644 a x"),
+        ("tree", "plain and none", "100644 a x, 40000 b none"),
+    ];
+    world_of(alloc, rows.as_slice())
+}
+
 #[test]
 fn shared_subtrees(rt: HostRuntime) -> Result<(), Fail> {
     let alloc = rt.alloc();
-    let rows = [("blob", "x", "x"), ("blob", "y", "y")];
-    let mut world = world_of(alloc, rows.as_slice())?;
-    let first = wide_commit(alloc, &mut world, "100644 f x")?;
-    let second = wide_commit(alloc, &mut world, "100644 f y")?;
+    let mut world = wide_world(alloc)?;
+    let first = wide_commit(alloc, &mut world, "100644 f x", "plain")?;
+    let second = wide_commit(alloc, &mut world, "100644 f y", "plain")?;
     let paths = diff(&world.store, first, second)?;
     assert_eq!(rt; paths.len(), 1);
     assert!(rt; paths.iter().all(|path| path.as_bytes() == b"f".as_slice()));
+    Ok(())
+}
+
+#[test]
+fn shared_subtrees_with_the_same_files(rt: HostRuntime) -> Result<(), Fail> {
+    let alloc = rt.alloc();
+    let mut world = wide_world(alloc)?;
+    let first = wide_commit(alloc, &mut world, "100644 f x", "plain")?;
+    let same = wide_commit(alloc, &mut world, "100644 f x", "plain and none")?;
+    let other = wide_commit(alloc, &mut world, "100644 f y", "plain and none")?;
+    assert!(rt; first != same);
+    assert_eq!(rt; diff(&world.store, first, same)?.len(), 0);
+    let paths = diff(&world.store, first, other)?;
+    assert_eq!(rt; paths.len(), 1);
+    assert!(rt; paths.iter().all(|path| path.as_bytes() == b"f".as_slice()));
+    Ok(())
+}
+
+#[test]
+fn shared_subtrees_without_files(rt: HostRuntime) -> Result<(), Fail> {
+    let alloc = rt.alloc();
+    let mut world = wide_world(alloc)?;
+    let commit = wide_commit(alloc, &mut world, "", "none")?;
+    assert_eq!(rt; diff(&world.store, commit, Id::ZERO)?.len(), 0);
+    assert_eq!(rt; diff(&world.store, Id::ZERO, commit)?.len(), 0);
+    Ok(())
+}
+
+#[test]
+fn directories_in_two_places(rt: HostRuntime) -> Result<(), Fail> {
+    let alloc = rt.alloc();
+    let rows = [
+        ("blob", "x", "x"),
+        ("blob", "y", "y"),
+        ("tree", "none", ""),
+        ("tree", "t", "100644 f x"),
+        ("tree", "u", "100644 f y"),
+        ("tree", "v", "100644 f x, 40000 g none"),
+        ("tree", "s", "40000 a t, 40000 b t, 40000 c t, 40000 d t"),
+        ("commit", "c", "s"),
+        ("tree", "w", "40000 a v, 40000 b u, 40000 c v, 40000 d u"),
+        ("commit", "d", "w"),
+    ];
+    let world = world_of(alloc, rows.as_slice())?;
+    assert_eq!(rt;
+        world.diff(alloc, "c", "d")?.as_slice(),
+        b"b/f\nd/f\n".as_slice()
+    );
     Ok(())
 }
 

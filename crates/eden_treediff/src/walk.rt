@@ -1,10 +1,12 @@
-ghost use Rattle.std.specs.Prelude.{◌≡◌, ◌++◌, ◌∷◌, [], IfOk, OnOk};
+ghost use Rattle.std.specs.Prelude.{◌≡◌, ◌++◌, ◌∷◌, [], IfOk, OnOk, true};
 ghost use Rattle.eden_treediff.specs.Merges.{merge_rows};
+ghost use Rattle.eden_treediff.specs.Settled.{AreSettled, HoldSame, KeepsSettled, is_known};
 ghost use Rattle.eden_treediff.specs.Walks.{IsSide, behind, same_side, side_bytes, side_rows};
 
 use crate::changes::Changes;
 use crate::columns::changed_rows;
 use crate::pair::next_pair;
+use crate::settled::Settled;
 use eden_ids::{Id, Naming, NoMemory, Path};
 use eden_objects::Store;
 use std::alloc::Global;
@@ -88,23 +90,30 @@ fn entries_of<N: Naming + Drop>(store: &Store<N>, side: Option<Id>) -> &[u8]
 
 /// Adds the paths on which two trees differ, directory by directory. What both have under one id is not read.
 ///
-/// The entries that both sides have are compared as whole columns, first of ids and then of kinds.
+/// The entries that both sides have are compared as whole columns, first of ids and then of kinds. A pair of trees that names no path is
+/// remembered, and is not read again.
 pub(crate) fn walk<N: Naming + Drop>(
     store: &Store<N>,
     first: Option<Id>,
     second: Option<Id>,
     found: &mut Found,
+    settled: &mut Settled,
 ) -> Result<(), NoMemory>
     requires first { IsSide store.now first }
     requires second { IsSide store.now second }
+    requires settled { AreSettled store.now settled.old }
     ensures paths { OnOk result (found.new.paths.items
         ≡ found.old.paths.items ++ behind found.old.front.items (merge_rows (side_rows store.now first) (side_rows store.now second))) }
     ensures front { OnOk result (found.new.front.items ≡ found.old.front.items) }
+    ensures settled { OnOk result (AreSettled store.now settled.new) }
+    ensures kept { OnOk result (KeepsSettled settled.old settled.new) }
+    ensures known { OnOk result (HoldSame store.now first second → is_known settled.new first second ≡ true) }
 {
     store.closed_law();
-    if same_side(first, second) {
+    if same_side(first, second) || settled.has(first, second) {
         return Ok(());
     }
+    let before = found.paths.len();
     let mut left = entries_of(store, first);
     let mut right = entries_of(store, second);
     let rows = changed_rows(store.allocator(), left, right)?;
@@ -121,8 +130,11 @@ pub(crate) fn walk<N: Naming + Drop>(
         };
         let length = found.front.len();
         found.enter(name)?;
-        walk(store, tree, other, found)?;
+        walk(store, tree, other, found, settled)?;
         found.front.truncate(length);
     }
-    Ok(())
+    if found.paths.len() != before {
+        return Ok(());
+    }
+    settled.add(first, second)
 }

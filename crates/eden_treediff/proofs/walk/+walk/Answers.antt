@@ -7,11 +7,19 @@ use Rattle.eden_treediff.specs.Pairs.{Directory, Next, name_of, next_of}
 use Rattle.eden_treediff.specs.Walks.{behind, directory_read, side_depth, side_entries, side_rows}
 use Rattle.eden_treediff.proofs.Rows.{tells_next}
 use Rattle.eden_treediff.proofs.Steps.{IsWay, merge_entries, same_sides, way_begins, way_goes_on, all_merged, skipped, file_found, directory_is, directory_walked, left}
+use Rattle.eden_treediff.proofs.Settling.{settled_on_ok, settled_sides, walked_nothing}
+use Rattle.eden_treediff.proofs.walk.+walk.Goals.{then-same_side-via-then-same_side, then-same_side-via-else-same_side+then-has}
 use Rattle.eden_treediff.proofs.walk.+walk.Goals as goal
 
 pub returns-then-same_side-clause-paths : goal.returns-then-same_side-clause-paths
 returns-then-same_side-clause-paths g t c =
-    same_sides c.args.store.now c.args.first c.args.second c.args.found.now.front.items c.args.found.now.paths.items (sym c.same_side.ensures ∙ c.if-same_side.true)
+    let held : List Held = c.args.store.now in
+    elim c.then-same_side.branch [
+      | then-same_side-via-then-same_side w ↦
+          same_sides held c.args.first c.args.second c.args.found.now.front.items c.args.found.now.paths.items (sym c.same_side.ensures ∙ w.if-same_side.true)
+      | then-same_side-via-else-same_side+then-has w ↦
+          settled_sides held c.args.settled.now c.args.first c.args.second c.args.found.now.front.items c.args.found.now.paths.items c.requires.settled (sym w.has.ensures ∙ w.if-has.true)
+    ]
 
 pub pairs-init : goal.pairs-init
 pairs-init g t c =
@@ -27,6 +35,8 @@ pairs-init g t c =
       tells = c.of-changes.ensures.tells (common (entries_of c.entries_of-left.result.now) (entries_of c.entries_of-right.result.now)) c.in_ok-rows.ensures;
       room = (let row = c.of-changes.ensures.row in let left = c.entries_of-left.type_inv in let right = c.entries_of-right.type_inv in omega (arith, row, left.1, right.1));
       front = λ i. c.args.found.now.front.items;
+      settled = c.requires.settled;
+      kept = λ a b is. is;
       way =
           subst (λ fs. IsWay held (side_depth held c.args.first) (side_depth held c.args.second) (entries_of c.entries_of-left.result.now) fs) two
           (subst (λ es. IsWay held (side_depth held c.args.first) (side_depth held c.args.second) es (side_entries held c.args.second)) one
@@ -50,6 +60,8 @@ pairs-preserved-then-not-is_changed g t c =
       tells = told.1;
       room = (let less = c.in-Some.ensures.shorter in let row = c.is_changed.ensures.row in let before = c.pairs.invariant.room in omega (arith, less, row, before));
       front = c.pairs.invariant.front;
+      settled = c.pairs.invariant.settled;
+      kept = c.pairs.invariant.kept;
       way = way_goes_on held m n es fs next c.pairs.invariant.way c.in-Some.ensures.next;
     }
 
@@ -76,6 +88,8 @@ pairs-preserved-in_default-directory g t c =
       tells = told.1;
       room = (let less = c.in-Some.ensures.shorter in let row = c.is_changed.ensures.row in let before = c.pairs.invariant.room in omega (arith, less, row, before));
       front = c.in_ok-add.ensures.front ∙ c.pairs.invariant.front;
+      settled = c.pairs.invariant.settled;
+      kept = c.pairs.invariant.kept;
       way = way_goes_on held m n es fs next c.pairs.invariant.way c.in-Some.ensures.next;
     }
 
@@ -87,7 +101,7 @@ walk-requires g t c κs within =
     let known = directory_is held (side_depth held c.args.first) (side_depth held c.args.second) (entries_of c.pairs.left.now) (entries_of c.pairs.right.now) next d
     c.pairs.invariant.way c.in-Some.ensures.next (sym c.directory.ensures ∙ ap directory_read c.in-Some-directory.is) in
     let less : side_depth held c.in-Some-directory.tree + side_depth held c.in-Some-directory.other < side_depth held c.args.first + side_depth held c.args.second = known.3 in
-    (search rules, (search rules, (known.1, known.2)))
+    (search rules, (search rules, (known.1, (known.2, c.pairs.invariant.settled))))
 
 pub pairs-preserved : goal.pairs-preserved
 pairs-preserved g t c =
@@ -118,5 +132,16 @@ pairs-preserved g t c =
       front =
           c.truncate.ensures.items ∙ ap (λ n. take n c.walk.new.found.front.items) length_is
           ∙ left front c.walk.new.found.front.items c.in-Some-directory.name.now (c.in_ok-walk.ensures.front ∙ entered);
+      settled = c.in_ok-walk.ensures.settled;
+      kept = λ a b is. c.in_ok-walk.ensures.kept a b (c.pairs.invariant.kept a b is);
       way = way_goes_on held m n es fs next c.pairs.invariant.way c.in-Some.ensures.next;
     }
+
+pub returns-clause-settled : goal.returns-clause-settled
+returns-clause-settled g t c =
+    let held : List Held = c.args.store.now in
+    let same : length c.pairs.found.paths.items ≡ length c.args.found.now.paths.items = search rules in
+    settled_on_ok c.add-2.result held c.pairs.settled c.add-2.new.self c.args.first c.args.second c.pairs.invariant.settled
+    (walked_nothing held c.args.first c.args.second (entries_of c.pairs.left.now) (entries_of c.pairs.right.now) c.args.found.now.front.items c.args.found.now.paths.items
+    c.pairs.found.paths.items c.in_default.ensures.next c.pairs.invariant.listed same)
+    c.add-2.ensures

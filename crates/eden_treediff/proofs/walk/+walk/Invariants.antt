@@ -2,6 +2,7 @@ use Rattle.std.proofs.Common.{◌≡◌, ◌+◌, ◌<◌, ◌++◌, length}
 use Rattle.eden_objects.specs.Trees.{entries_of}
 use Rattle.eden_treediff.specs.Columns.{Tells, common}
 use Rattle.eden_treediff.specs.Merges.{merge_rows}
+use Rattle.eden_treediff.specs.Settled.{AreSettled, KeepsSettled}
 use Rattle.eden_treediff.specs.Walks.{behind, side_depth, side_rows}
 use Rattle.eden_treediff.proofs.Steps.{IsWay, merge_entries}
 use Rattle.eden_treediff.proofs.walk.+walk.Given as goal
@@ -16,6 +17,8 @@ invariant-pairs g l = record {
   front : l.found.front.items ≡ l.fn.found.front.items;
   tells : Tells l.changes (common (entries_of l.left) (entries_of l.right));
   room : l.changes.row + (length l.left + length l.right) < 18446744073709551616;
+  settled : AreSettled l.store l.settled;
+  kept : KeepsSettled l.fn.settled l.settled;
   way : IsWay l.store (side_depth l.store l.fn.first) (side_depth l.store l.fn.second) (entries_of l.left) (entries_of l.right);
 }
 

@@ -1,0 +1,42 @@
+-- The pairs of sides that are known to hold the same files.
+use Rattle.std.specs.Prelude.{◌≡◌, Bool, true, false, ◌||◌, List, [], Option}
+use Rattle.std.specs.declared.cmp.Ordering.{Ordering}
+use Rattle.std.specs.Ordering.{nat_cmp, ordering_then}
+use Rattle.std.specs.Option.{option_cmp}
+use Rattle.std.specs.Cmp.Lexicographic.{slice_cmp}
+use Rattle.std.specs.BTreeSet.{contains}
+use Rattle.eden_ids.specs.declared.id.Id.{Id}
+use Rattle.eden_objects.specs.Objects.{Held}
+use Rattle.eden_treediff.specs.declared.settled.Settled.{Settled}
+use Rattle.eden_treediff.specs.Merges.{merge_rows}
+use Rattle.eden_treediff.specs.Walks.{same_side, side_rows}
+
+-- a missing tree stands before each other, and trees by their ids
+abbrev pub side_cmp : Option Id → Option Id → Ordering
+side_cmp = option_cmp (λ a b. slice_cmp nat_cmp a.0 b.0)
+
+abbrev pub sides_cmp : Option Id × Option Id → Option Id × Option Id → Ordering
+sides_cmp a b = ordering_then (side_cmp a.0 b.0) (side_cmp a.1 b.1)
+
+-- the pair is remembered
+abbrev pub is_settled : Settled → Option Id → Option Id → Bool
+is_settled settled first second = contains sides_cmp settled.pairs (first, second)
+
+abbrev pub NoneSettled : Settled → Type 0
+NoneSettled settled = (first second : Option Id) → is_settled settled first second ≡ false
+
+-- the sides are one, or the pair is remembered
+abbrev pub is_known : Settled → Option Id → Option Id → Bool
+is_known settled first second = same_side first second || is_settled settled first second
+
+-- what was remembered still is
+abbrev pub KeepsSettled : Settled → Settled → Type 0
+KeepsSettled old new = (first second : Option Id) → is_settled old first second ≡ true → is_settled new first second ≡ true
+
+-- the two sides differ on no path
+abbrev pub HoldSame : List Held → Option Id → Option Id → Type 0
+HoldSame held first second = merge_rows (side_rows held first) (side_rows held second) ≡ []
+
+-- each pair that is remembered holds the same files
+abbrev pub AreSettled : List Held → Settled → Type 0
+AreSettled held settled = (first second : Option Id) → is_settled settled first second ≡ true → HoldSame held first second

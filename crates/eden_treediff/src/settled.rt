@@ -1,0 +1,44 @@
+//! The pairs of trees that a walk found to hold the same files.
+ghost use Rattle.std.specs.Prelude.{◌≡◌, OnOk, true};
+ghost use Rattle.std.specs.BTreeSet.{Updates};
+ghost use Rattle.eden_treediff.specs.Settled.{NoneSettled, is_settled, sides_cmp};
+
+use eden_ids::{Id, NoMemory};
+use std::alloc::Global;
+use std::collections::BTreeSet;
+
+/// Pairs of trees that hold the same files, although their ids may differ. A missing tree holds no file.
+///
+/// The pairs are kept in order, so that ids that were chosen to slow a search down don't.
+#[derive(Drop)]
+pub(crate) struct Settled {
+    pairs: BTreeSet<(Option<Id>, Option<Id>)>,
+}
+
+impl Settled {
+    /// No pair yet.
+    pub(crate) fn new(alloc: Global) -> Settled
+        ensures { NoneSettled result }
+    {
+        Settled {
+            pairs: BTreeSet::new(alloc),
+        }
+    }
+
+    /// Whether the pair is remembered.
+    pub(crate) fn has(&self, first: Option<Id>, second: Option<Id>) -> bool
+        ensures { result ≡ is_settled self.now first second }
+    {
+        self.pairs.contains(&(first, second))
+    }
+
+    /// Remembers the pair.
+    pub(crate) fn add(&mut self, first: Option<Id>, second: Option<Id>) -> Result<(), NoMemory>
+        ensures { OnOk result (Updates sides_cmp self.old.pairs self.new.pairs (first, second) true) }
+    {
+        match self.pairs.insert((first, second)) {
+            Ok(_) => Ok(()),
+            Err(_) => Err(NoMemory),
+        }
+    }
+}
