@@ -1,5 +1,5 @@
 //! What is kept of a tree beside its payload, so that no child is read to judge it and a name in it is found by a search.
-ghost use Rattle.std.specs.Prelude.{◌≡◌, ◌≤◌, [], length, IfOk};
+ghost use Rattle.std.specs.Prelude.{◌≡◌, ◌≤◌, length, IfOk};
 ghost use Rattle.eden_objects.specs.Trees.{entries_of, key};
 ghost use Rattle.eden_objects.specs.Entries.{option_plain, plain};
 ghost use Rattle.eden_objects.specs.Starts.{AreInOrder, AreStarts, entry_at, first_from, is_before};
