@@ -1,8 +1,6 @@
-pub mod Walking
-pub mod Columns
-pub mod Newest
-pub mod Ends
-pub mod Relisted
-pub mod Numbered
-pub mod Named
-pub mod Bridge
+pub mod Histories
+pub mod Standing
+pub mod Changing
+pub mod Rooting
+pub mod Seen
+pub mod Ranging

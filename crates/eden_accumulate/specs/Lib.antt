@@ -1,5 +1,3 @@
-pub mod Histories
-pub mod Gathered
-pub mod Since
-pub mod Expanded
-pub mod Laws
+pub mod Mounts
+pub mod Snapshots
+pub mod Ranges

@@ -1,13 +1,21 @@
-//! What changed since a position, gathered from a journal, and made into marked paths once the lock is given back.
+//! A mount: a working copy of a commit, and the journal of what changed in it.
 #![tactic(auto)]
 
-pub use crate::expanding::{ExpandFault, expand};
-pub use crate::laws::{changes_law, commits_law, range_law};
-pub use crate::ranges::{Range, accumulate};
+pub use crate::mount::Mount;
+pub use crate::root::Checked;
+pub use crate::snapshot::Snapshot;
+pub use eden_history::{ChangeFault, Mode, MountFault, Position};
 
-mod expanding;
-mod gathering;
-mod laws;
-mod ranges;
+mod change;
+#[cfg(test)]
+mod generated_tests;
+mod mount;
+mod parts;
+mod range;
+mod root;
+#[cfg(test)]
+mod sharing_tests;
+mod snapshot;
+mod stands_law;
 #[cfg(test)]
 mod tests;

@@ -11,8 +11,8 @@ use Rattle.eden_ids.specs.Paths.{clashes, lies_below}
 use Rattle.eden_ids.specs.FileMaps.{FileMap, file_at, paths, has, has_file_above, has_file_below, listing, differ, path_set}
 use Rattle.eden_ids.proofs.FileMapLemmas.{has-differ, has-path_set}
 use Rattle.eden_ids.proofs.TreeMaps.{listing-same}
-use Rattle.eden_world.specs.Checkouts.{is_clean, clashes_dirty, clashes_any}
-use Rattle.eden_world.proofs.CheckoutLaws.{any_holds, any_found}
+use Rattle.eden_history.specs.Checkouts.{is_clean, clashes_dirty, clashes_any}
+use Rattle.eden_history.proofs.CheckoutLaws.{any_holds, any_found}
 use Rattle.eden_ids.proofs.Sifted.{listing_of}
 use Rattle.eden_checkout.specs.Plans.{dirty_files}
 

@@ -8,13 +8,13 @@ use Rattle.eden_objects.specs.Objects.{Held}
 use Rattle.eden_objects.specs.Commits.{commit_map}
 use Rattle.eden_objects.specs.Files.{files_of}
 use Rattle.eden_treediff.specs.Merges.{differences}
-use Rattle.eden_world.specs.Checkouts.{checked_out, conflicts, is_conflict, is_dry, unclean}
-use Rattle.eden_world.proofs.CheckoutLaws.{checked_out_no_clash, conflict_differs, has-conflicts}
+use Rattle.eden_history.specs.Checkouts.{checked_out, conflicts, is_conflict, is_dry, unclean}
+use Rattle.eden_history.proofs.CheckoutLaws.{checked_out_no_clash, conflict_differs, has-conflicts}
 use Rattle.eden_workcopy.specs.Meanings.{FitsIn, means}
 use Rattle.eden_workcopy.specs.declared.work.WorkCopy.{WorkCopy}
 use Rattle.eden_ids.proofs.Sifted.{listing_of}
-use Rattle.eden_world.specs.declared.change.Mode.{Mode}
-use Rattle.eden_world.specs.declared.change.Mode.TheVariants.{Normal, Dry, Force}
+use Rattle.eden_history.specs.declared.change.Mode.{Mode}
+use Rattle.eden_history.specs.declared.change.Mode.TheVariants.{Normal, Dry, Force}
 
 -- the paths on which two commits differ
 pub differing : (a b : Option FileMap) (ps : List (List ℕ)) → differences a b ≡ Some ps → ps ≡ listing (differ (files_of a) (files_of b))

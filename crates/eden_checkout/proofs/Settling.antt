@@ -4,10 +4,10 @@ use Rattle.std.specs.List.{list_any, slice_index_or}
 use Rattle.eden_ids.specs.declared.content.Content.{Content}
 use Rattle.eden_ids.specs.FileMaps.{FileMap, file_at, has, listing, differ, put_option, same_file, same_path}
 use Rattle.eden_ids.proofs.FileMapLemmas.{file_at-insert, file_at-remove, has-differ, has-listing, same_file-is, same_file_map, same_path-is}
-use Rattle.eden_world.specs.Checkouts.{checked_out, conflicts, is_clean, rule_of}
-use Rattle.eden_world.proofs.CheckoutLaws.{file_at-checked_out, force_elsewhere, has-conflicts, normal_elsewhere}
-use Rattle.eden_world.specs.declared.change.Mode.{Mode}
-use Rattle.eden_world.specs.declared.change.Mode.TheVariants.{Normal, Dry, Force}
+use Rattle.eden_history.specs.Checkouts.{checked_out, conflicts, is_clean, rule_of}
+use Rattle.eden_history.proofs.CheckoutLaws.{file_at-checked_out, force_elsewhere, has-conflicts, normal_elsewhere}
+use Rattle.eden_history.specs.declared.change.Mode.{Mode}
+use Rattle.eden_history.specs.declared.change.Mode.TheVariants.{Normal, Dry, Force}
 
 pub put_at : (m : FileMap) (k : List ℕ) (f : Option Content) (p : List ℕ) → file_at (put_option m k f) p ≡ cond (same_path p k) f (file_at m p)
 put_at m k None p = file_at-remove m k p

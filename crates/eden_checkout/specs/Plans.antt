@@ -4,7 +4,7 @@ use Rattle.std.specs.FinMap as fin
 use Rattle.eden_ids.specs.FileMaps.{FileMap}
 use Rattle.eden_objects.specs.Objects.{Held}
 use Rattle.eden_objects.specs.Files.{commit_files}
-use Rattle.eden_world.specs.Checkouts.{is_clean}
+use Rattle.eden_history.specs.Checkouts.{is_clean}
 use Rattle.eden_workcopy.specs.declared.work.WorkCopy.{WorkCopy}
 use Rattle.eden_workcopy.specs.Meanings.{means}
 

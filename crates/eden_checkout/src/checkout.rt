@@ -3,7 +3,7 @@ ghost use Rattle.eden_ids.specs.FileMaps.{IsFileMap, differ, file_at, listing};
 ghost use Rattle.eden_objects.specs.Commits.{commit_map};
 ghost use Rattle.eden_objects.specs.Files.{commit_files};
 ghost use Rattle.eden_workcopy.specs.Meanings.{FitsIn, means};
-ghost use Rattle.eden_world.specs.Checkouts.{checked_out, conflicts, is_dry, unclean};
+ghost use Rattle.eden_history.specs.Checkouts.{checked_out, conflicts, is_dry, unclean};
 ghost use Rattle.eden_checkout.specs.Plans.{root_files};
 
 use crate::conflict::add_if;
@@ -13,7 +13,7 @@ use eden_ids::{Id, Naming, NoMemory, Path, Sequence};
 use eden_objects::Store;
 use eden_treediff::diff;
 use eden_workcopy::WorkCopy;
-use eden_world::Mode;
+use eden_history::Mode;
 use std::alloc::Global;
 use thiserror::Error;
 

@@ -3,7 +3,7 @@ ghost use Rattle.std.specs.List.{slice_index_or};
 ghost use Rattle.eden_ids.specs.FileMaps.{file_at, has_file_above, has_file_below};
 ghost use Rattle.eden_objects.specs.Files.{commit_files};
 ghost use Rattle.eden_workcopy.specs.Meanings.{means};
-ghost use Rattle.eden_world.specs.Checkouts.{clashes_any, clashes_dirty};
+ghost use Rattle.eden_history.specs.Checkouts.{clashes_any, clashes_dirty};
 ghost use Rattle.eden_checkout.specs.Plans.{dirty_of, root_files};
 
 use crate::below::is_any_below;

@@ -2,7 +2,7 @@ ghost use Rattle.std.specs.Prelude.{◌≡◌, ◌++◌, ◌∷◌, [], if◌the
 ghost use Rattle.eden_ids.specs.FileMaps.{file_at, same_file};
 ghost use Rattle.eden_objects.specs.Files.{commit_files};
 ghost use Rattle.eden_workcopy.specs.Meanings.{means};
-ghost use Rattle.eden_world.specs.Checkouts.{is_blocked, is_conflict};
+ghost use Rattle.eden_history.specs.Checkouts.{is_blocked, is_conflict};
 ghost use Rattle.eden_checkout.specs.Plans.{root_files};
 
 use crate::compare::is_same;

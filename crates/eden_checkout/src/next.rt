@@ -3,7 +3,7 @@ ghost use Rattle.std.specs.List.{list_any};
 ghost use Rattle.eden_ids.specs.FileMaps.{file_at, put_option, same_path};
 ghost use Rattle.eden_objects.specs.Files.{commit_files, content_seen};
 ghost use Rattle.eden_workcopy.specs.Meanings.{means};
-ghost use Rattle.eden_world.specs.Checkouts.{force_rule, normal_rule, rule_of};
+ghost use Rattle.eden_history.specs.Checkouts.{force_rule, normal_rule, rule_of};
 ghost use Rattle.eden_checkout.specs.Plans.{root_files};
 
 use crate::compare::is_same;
@@ -11,7 +11,7 @@ use crate::sides::Sides;
 use eden_ids::{Content, Kind, Naming, NoMemory, Path, Sequence};
 use eden_objects::Store;
 use eden_workcopy::WorkCopy;
-use eden_world::Mode;
+use eden_history::Mode;
 use std::alloc::Global;
 
 /// A file in memory of its own.

@@ -1,7 +1,7 @@
 ghost use Rattle.std.specs.Prelude.{◌≡◌, is_some};
 ghost use Rattle.eden_ids.specs.FileMaps.{file_at, paths};
 ghost use Rattle.eden_objects.specs.Files.{commit_files, content_seen};
-ghost use Rattle.eden_world.specs.Checkouts.{is_clean};
+ghost use Rattle.eden_history.specs.Checkouts.{is_clean};
 ghost use Rattle.eden_workcopy.specs.Meanings.{means};
 ghost use Rattle.eden_checkout.specs.Plans.{dirty_of, root_files};
 

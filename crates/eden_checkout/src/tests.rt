@@ -4,7 +4,7 @@ use crate::{PlanFault, Planned, plan};
 use eden_ids::{GitNaming, Id, Kind, Path};
 use eden_objects::Store;
 use eden_workcopy::WorkCopy;
-use eden_world::Mode;
+use eden_history::Mode;
 use std::alloc::Global;
 use std::test::Fail;
 

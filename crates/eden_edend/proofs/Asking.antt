@@ -6,10 +6,10 @@ use Rattle.eden_objects.specs.Objects.{Held}
 use Rattle.eden_objects.specs.Files.{commit_files}
 use Rattle.eden_workcopy.specs.declared.work.WorkCopy.{WorkCopy}
 use Rattle.eden_workcopy.specs.Meanings.{means}
-use Rattle.eden_world.specs.declared.change.ChangeFault.{ChangeFault}
-use Rattle.eden_world.specs.Worlds.{WorldState}
-use Rattle.eden_mount.specs.Mounts.{State, StandsFor}
-use Rattle.eden_lines.specs.ScriptText.{change_fault_text, content_at, content_text, dirty_told, file_text, paths_text, refused_text}
+use Rattle.eden_history.specs.declared.change.ChangeFault.{ChangeFault}
+use Rattle.eden_history.specs.Worlds.{WorldState}
+use Rattle.eden_accumulate.specs.Mounts.{State, StandsFor}
+use Rattle.eden_script.specs.ScriptText.{change_fault_text, content_at, content_text, dirty_told, file_text, paths_text, refused_text}
 use Rattle.eden_edend.specs.Told.{MountTells}
 
 pub file_told : (files : FileMap) (path : List ℕ) (content : Content) (absent : Option ChangeFault) → absent ≡ None → file_at files path ≡ Some content

@@ -3,21 +3,21 @@ use Rattle.std.proofs.Common.{◌≡◌, ◌≢◌, ℕ, List, ◌++◌, Option,
 use Rattle.std.specs.Prelude.{codes, IfOk, IfErr, OnOk, OnErr}
 use Rattle.std.proofs.lemmas.Result.{on_ok_weaker}
 use Rattle.eden_ids.specs.declared.id.Id.{Id}
-use Rattle.eden_lines.specs.declared.label.Binding.{Binding}
-use Rattle.eden_lines.specs.ScriptText.{answer_text, made, moved, refused_text}
-use Rattle.eden_mount.specs.declared.root.Checked.{Checked}
-use Rattle.eden_mount.specs.Mounts.{Answers, Follows, Refuses, State, StandsFor}
-use Rattle.eden_world.specs.declared.answer.Answer.{Answer}
-use Rattle.eden_world.specs.declared.answer.Answer.TheVariants as answer
-use Rattle.eden_world.specs.declared.change.Change.{Change}
-use Rattle.eden_world.specs.declared.change.Change.TheVariants.{Write, Remove, Rename, Checkout, Reset, Flush, Remount}
-use Rattle.eden_world.specs.declared.change.ChangeFault.{ChangeFault}
-use Rattle.eden_world.specs.declared.change.ChangeFault.TheVariants.{NoMemory}
-use Rattle.eden_world.specs.declared.position.Position.{Position}
-use Rattle.eden_world.specs.declared.row.Row.{Row}
-use Rattle.eden_world.specs.Worlds.{Commits, WorldState, commits_of, now, position_of}
-use Rattle.eden_world.specs.Outcome.{Outcome, answer_at, answer_of, answered, extended, outcome, world_after}
-use Rattle.eden_world.specs.Outcome.Outcome.{Refuses as Refused, NoEvent, Next}
+use Rattle.eden_script.specs.declared.label.Binding.{Binding}
+use Rattle.eden_script.specs.ScriptText.{answer_text, made, moved, refused_text}
+use Rattle.eden_accumulate.specs.declared.root.Checked.{Checked}
+use Rattle.eden_accumulate.specs.Mounts.{Answers, Follows, Refuses, State, StandsFor}
+use Rattle.eden_history.specs.declared.answer.Answer.{Answer}
+use Rattle.eden_history.specs.declared.answer.Answer.TheVariants as answer
+use Rattle.eden_history.specs.declared.change.Change.{Change}
+use Rattle.eden_history.specs.declared.change.Change.TheVariants.{Write, Remove, Rename, Checkout, Reset, Flush, Remount}
+use Rattle.eden_history.specs.declared.change.ChangeFault.{ChangeFault}
+use Rattle.eden_history.specs.declared.change.ChangeFault.TheVariants.{NoMemory}
+use Rattle.eden_history.specs.declared.position.Position.{Position}
+use Rattle.eden_history.specs.declared.row.Row.{Row}
+use Rattle.eden_history.specs.Worlds.{Commits, WorldState, commits_of, now, position_of}
+use Rattle.eden_history.specs.Outcome.{Outcome, answer_at, answer_of, answered, extended, outcome, world_after}
+use Rattle.eden_history.specs.Outcome.Outcome.{Refuses as Refused, NoEvent, Next}
 use Rattle.eden_edend.specs.Told.{MountTells, answer_checked, answer_made}
 
 -- a change that is made isn't answered as one that is refused

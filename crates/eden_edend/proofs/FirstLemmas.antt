@@ -9,8 +9,8 @@ use Rattle.std.specs.Prelude.{find}
 use Rattle.eden_ids.specs.declared.id.Id.{Id}
 use Rattle.eden_objects.specs.Objects.{same_id}
 use Rattle.eden_objects.proofs.Lookup.{turn}
-use Rattle.eden_lines.specs.declared.label.Binding.{Binding}
-use Rattle.eden_lines.specs.Labels.{is_id, newest, still_binds}
+use Rattle.eden_script.specs.declared.label.Binding.{Binding}
+use Rattle.eden_script.specs.Labels.{is_id, newest, still_binds}
 use Rattle.eden_edend.specs.Firsts.{AreFirsts, IsFirst, IsNoted, binds_any, place_or}
 
 -- an id that had no place gets one, and each other one keeps its own

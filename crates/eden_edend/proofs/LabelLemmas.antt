@@ -4,9 +4,9 @@ use Rattle.std.proofs.lemmas.List.{reverse-append, reverse-reverse}
 use Rattle.std.specs.Ordering.{nat_cmp}
 use Rattle.std.specs.Cmp.Lexicographic.{slice_cmp, nat_list_cmp_total, texts_ties}
 use Rattle.std.specs.FinMap as fin
-use Rattle.eden_lines.specs.declared.label.Binding.{Binding}
-use Rattle.eden_lines.specs.LabelWords.{is_word}
-use Rattle.eden_lines.specs.Labels.{newest}
+use Rattle.eden_script.specs.declared.label.Binding.{Binding}
+use Rattle.eden_script.specs.LabelWords.{is_word}
+use Rattle.eden_script.specs.Labels.{newest}
 use Rattle.eden_edend.specs.BoundMaps.{BoundMap, bound_map}
 
 -- one more binding

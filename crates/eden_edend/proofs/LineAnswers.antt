@@ -4,10 +4,10 @@ use Rattle.std.specs.Prelude.{option_and_then, option_map}
 use Rattle.eden_script.specs.Words.{words_of}
 use Rattle.eden_stream.specs.Scripts.{in_front}
 use Rattle.eden_stream.specs.Answers.{TakesLine, RefusesLine}
-use Rattle.eden_lines.specs.declared.command.Command.{Command}
-use Rattle.eden_lines.specs.ScriptLines.{command_of}
-use Rattle.eden_lines.specs.ScriptText.{Told, told, is_skipped, before_text, continued, script_text}
-use Rattle.eden_mount.specs.Mounts.{State}
+use Rattle.eden_script.specs.declared.command.Command.{Command}
+use Rattle.eden_script.specs.ScriptLines.{command_of}
+use Rattle.eden_script.specs.ScriptText.{Told, told, is_skipped, before_text, continued, script_text}
+use Rattle.eden_accumulate.specs.Mounts.{State}
 use Rattle.eden_edend.specs.SessionScript.{skipped-text, long-text, read-text}
 use Rattle.eden_edend.specs.declared.objects.Objects.{Objects}
 use Rattle.eden_edend.specs.Told.{SessionStands, Tells, session_of}

@@ -5,14 +5,14 @@ use Rattle.eden_ids.specs.FileMaps.{FileMap}
 use Rattle.eden_objects.specs.Objects.{Held}
 use Rattle.eden_objects.specs.Commits.{commit_map, commit_rows}
 use Rattle.eden_objects.specs.Files.{commit_files, files_of}
-use Rattle.eden_lines.specs.declared.label.Binding.{Binding}
-use Rattle.eden_lines.specs.ScriptText.{MountTold, Told, at_text, mounted_at, mounted_by, refused_text, with_mount}
-use Rattle.eden_world.specs.declared.position.Position.{Position}
-use Rattle.eden_world.specs.Worlds.{now, opened, position_of}
-use Rattle.eden_world.specs.declared.change.ChangeFault.TheVariants.{NoCommit}
-use Rattle.eden_world.specs.Outcome.{commit_fault}
-use Rattle.eden_world.proofs.Committed.{commit_gone, commit_mapped}
-use Rattle.eden_mount.specs.Mounts.{State, StandsFor}
+use Rattle.eden_script.specs.declared.label.Binding.{Binding}
+use Rattle.eden_script.specs.ScriptText.{MountTold, Told, at_text, mounted_at, mounted_by, refused_text, with_mount}
+use Rattle.eden_history.specs.declared.position.Position.{Position}
+use Rattle.eden_history.specs.Worlds.{now, opened, position_of}
+use Rattle.eden_history.specs.declared.change.ChangeFault.TheVariants.{NoCommit}
+use Rattle.eden_history.specs.Outcome.{commit_fault}
+use Rattle.eden_history.proofs.Committed.{commit_gone, commit_mapped}
+use Rattle.eden_accumulate.specs.Mounts.{State, StandsFor}
 use Rattle.eden_edend.specs.declared.objects.Objects.{Objects}
 use Rattle.eden_edend.specs.Told.{MountStands, ObjectTells, Tells, session_at}
 

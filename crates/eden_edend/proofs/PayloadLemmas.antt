@@ -2,10 +2,10 @@
 use Rattle.std.proofs.Common.{◌≡◌, ℕ, ◌+◌, ◌<◌, List, [], ◌∷◌, ◌++◌, length, take, drop, get_or, Option, Some, None, refl, sym, ap, ◌∙◌, append_assoc, append-nil}
 use Rattle.std.proofs.lemmas.List.{take_more, take-append-drop}
 use Rattle.eden_ids.specs.declared.id.Id.{Id}
-use Rattle.eden_lines.specs.declared.command.TreeEntry.{TreeEntry}
-use Rattle.eden_lines.specs.declared.label.Binding.{Binding}
-use Rattle.eden_lines.specs.Labels.{bound}
-use Rattle.eden_lines.specs.ScriptText.{entry_bytes, joined, tree_payload}
+use Rattle.eden_script.specs.declared.command.TreeEntry.{TreeEntry}
+use Rattle.eden_script.specs.declared.label.Binding.{Binding}
+use Rattle.eden_script.specs.Labels.{bound}
+use Rattle.eden_script.specs.ScriptText.{entry_bytes, joined, tree_payload}
 
 joined-assoc : (a b c : Option (List ℕ)) → joined a (joined b c) ≡ joined (joined a b) c
 joined-assoc None b c = refl

@@ -5,9 +5,9 @@ use Rattle.eden_objects.specs.declared.fault.PutFault.{PutFault}
 use Rattle.eden_objects.specs.declared.fault.PutFault.TheVariants.{TooLarge, IdTaken, ZeroId, BadMode, BadName, OutOfOrder, Duplicate, MissingChild, WrongChildKind, TooDeep, PathTooLong, CutShort, BadCommit, NoMemory}
 use Rattle.eden_objects.specs.Objects.{Held}
 use Rattle.eden_objects.specs.Puts.{Outcome, PutGives, TreeGives}
-use Rattle.eden_lines.specs.declared.label.Binding.{Binding}
-use Rattle.eden_world.specs.Worlds.{WorldState}
-use Rattle.eden_lines.specs.ScriptText.{Session, put_told, refused_text, put_fault_text, ok_text}
+use Rattle.eden_script.specs.declared.label.Binding.{Binding}
+use Rattle.eden_history.specs.Worlds.{WorldState}
+use Rattle.eden_script.specs.ScriptText.{Session, put_told, refused_text, put_fault_text, ok_text}
 use Rattle.eden_edend.specs.Told.{ObjectTells, Gave}
 
 abbrev at : Option WorldState → List Held → List Binding → Session

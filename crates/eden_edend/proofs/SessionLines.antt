@@ -3,12 +3,12 @@ use Rattle.std.proofs.Common.{◌≡◌, ℕ, Bool, true, false, List, ◌++◌,
 use Rattle.std.specs.Prelude.{OnOk}
 use Rattle.std.proofs.lemmas.Result.{on_ok_weaker}
 use Rattle.eden_objects.specs.Objects.{Held}
-use Rattle.eden_lines.specs.declared.command.Command.{Command}
-use Rattle.eden_lines.specs.declared.command.Command.TheVariants as line
-use Rattle.eden_lines.specs.declared.label.Binding.{Binding}
-use Rattle.eden_lines.specs.ScriptText.{Told, refused_text, told}
-use Rattle.eden_world.specs.Worlds.{WorldState}
-use Rattle.eden_mount.specs.Mounts.{State, StandsFor}
+use Rattle.eden_script.specs.declared.command.Command.{Command}
+use Rattle.eden_script.specs.declared.command.Command.TheVariants as line
+use Rattle.eden_script.specs.declared.label.Binding.{Binding}
+use Rattle.eden_script.specs.ScriptText.{Told, refused_text, told}
+use Rattle.eden_history.specs.Worlds.{WorldState}
+use Rattle.eden_accumulate.specs.Mounts.{State, StandsFor}
 use Rattle.eden_edend.specs.declared.objects.Objects.{Objects}
 use Rattle.eden_edend.specs.Told.{MountStands, MountedTells, Tells, session_at, session_of}
 

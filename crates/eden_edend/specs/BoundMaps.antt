@@ -4,7 +4,7 @@ use Rattle.std.specs.Ordering.{nat_cmp}
 use Rattle.std.specs.Cmp.Lexicographic.{slice_cmp}
 use Rattle.std.specs.FinMap as fin
 use Rattle.eden_ids.specs.declared.id.Id.{Id}
-use Rattle.eden_lines.specs.declared.label.Binding.{Binding}
+use Rattle.eden_script.specs.declared.label.Binding.{Binding}
 
 abbrev pub BoundMap : Type 0
 BoundMap = fin.FinMap (slice_cmp nat_cmp) Id

@@ -4,7 +4,7 @@ use Rattle.std.specs.List.{list_any}
 use Rattle.std.specs.Map.{lookup}
 use Rattle.eden_ids.specs.declared.id.Id.{Id}
 use Rattle.eden_objects.specs.Objects.{same_id}
-use Rattle.eden_lines.specs.declared.label.Binding.{Binding}
+use Rattle.eden_script.specs.declared.label.Binding.{Binding}
 
 abbrev pub binds_any : Id → List Binding → Bool
 binds_any id made = list_any (λ binding. same_id binding.id id) made

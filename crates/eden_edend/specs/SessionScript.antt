@@ -5,9 +5,9 @@ use Rattle.std.proofs.lemmas.Bool.{lt-ltb, eq-eqb, eqb-true}
 use Rattle.eden_script.specs.Words.{words_of}
 use Rattle.eden_stream.specs.Lines.{IsSkipped, IsComment}
 use Rattle.eden_stream.specs.Scripts.{IsScript}
-use Rattle.eden_lines.specs.ScriptLines.{command_of}
-use Rattle.eden_lines.specs.ScriptText.{Session, told, is_skipped, line_told, before_text, continued, script_text}
-use Rattle.eden_mount.specs.Mounts.{State}
+use Rattle.eden_script.specs.ScriptLines.{command_of}
+use Rattle.eden_script.specs.ScriptText.{Session, told, is_skipped, line_told, before_text, continued, script_text}
+use Rattle.eden_accumulate.specs.Mounts.{State}
 use Rattle.eden_edend.specs.declared.objects.Objects.{Objects}
 use Rattle.eden_edend.specs.Told.{SessionStands, session_of}
 

@@ -5,16 +5,16 @@ use Rattle.eden_objects.specs.declared.fault.PutFault.{PutFault}
 use Rattle.eden_objects.specs.declared.fault.PutFault.TheVariants.{NoMemory}
 use Rattle.eden_objects.specs.Objects.{Held}
 use Rattle.eden_objects.specs.Puts.{Outcome}
-use Rattle.eden_mount.specs.declared.root.Checked.{Checked}
-use Rattle.eden_mount.specs.Mounts.{State, StandsFor}
+use Rattle.eden_accumulate.specs.declared.root.Checked.{Checked}
+use Rattle.eden_accumulate.specs.Mounts.{State, StandsFor}
 use Rattle.eden_edend.specs.declared.objects.Objects.{Objects}
-use Rattle.eden_lines.specs.declared.label.Binding.{Binding}
-use Rattle.eden_world.specs.declared.answer.Answer.{Answer}
-use Rattle.eden_world.specs.declared.answer.Answer.TheVariants as answer
-use Rattle.eden_world.specs.declared.change.ChangeFault.{ChangeFault}
-use Rattle.eden_world.specs.declared.position.Position.{Position}
-use Rattle.eden_world.specs.Worlds.{WorldState}
-use Rattle.eden_lines.specs.ScriptText.{Session, Told, MountTold, script_text}
+use Rattle.eden_script.specs.declared.label.Binding.{Binding}
+use Rattle.eden_history.specs.declared.answer.Answer.{Answer}
+use Rattle.eden_history.specs.declared.answer.Answer.TheVariants as answer
+use Rattle.eden_history.specs.declared.change.ChangeFault.{ChangeFault}
+use Rattle.eden_history.specs.declared.position.Position.{Position}
+use Rattle.eden_history.specs.Worlds.{WorldState}
+use Rattle.eden_script.specs.ScriptText.{Session, Told, MountTold, script_text}
 
 -- there is a mount where the script has one, and it stands for the script's
 abbrev pub MountStands : Option State → Option WorldState → Type 0

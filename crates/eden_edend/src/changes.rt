@@ -2,19 +2,18 @@
 
 ghost use Rattle.std.specs.Prelude.{◌≡◌, OnOk};
 ghost use Rattle.eden_ids.specs.Paths.{path_fault};
-ghost use Rattle.eden_world.specs.declared.change.Change.TheVariants as change;
-ghost use Rattle.eden_world.specs.Worlds.{WorldState};
-ghost use Rattle.eden_mount.specs.Mounts.{StandsFor};
-ghost use Rattle.eden_lines.specs.Labels.{bound};
-ghost use Rattle.eden_lines.specs.ScriptText as script;
+ghost use Rattle.eden_history.specs.declared.change.Change.TheVariants as change;
+ghost use Rattle.eden_history.specs.Worlds.{WorldState};
+ghost use Rattle.eden_accumulate.specs.Mounts.{StandsFor};
+ghost use Rattle.eden_script.specs.Labels.{bound};
+ghost use Rattle.eden_script.specs.ScriptText as script;
 ghost use Rattle.eden_edend.specs.Told.{MountTells};
 
 use crate::labels::Labels;
 use crate::texts::{path_fault_name, push_checked, push_made, push_refused};
+use eden_accumulate::{Mode, Mount};
 use eden_ids::{GitNaming, Id, Kind, Path, PathFault};
-use eden_lines::Label;
-use eden_mount::{Mode, Mount};
-use eden_script::Word;
+use eden_script::{Label, Word};
 use std::alloc::{AllocError, Global};
 
 fn write(

@@ -6,10 +6,10 @@ ghost use Rattle.std.specs.FinMap as fin;
 ghost use Rattle.std.specs.Map.{lookup};
 ghost use Rattle.eden_objects.specs.Objects.{same_id};
 ghost use Rattle.eden_edend.specs.Firsts.{IsNoted};
-ghost use Rattle.eden_lines.specs.Labels.{newest, bound, still_binds, label_of, is_id};
+ghost use Rattle.eden_script.specs.Labels.{newest, bound, still_binds, label_of, is_id};
 
 use eden_ids::Id;
-use eden_lines::{Binding, Label};
+use eden_script::{Binding, Label};
 use indexmap::IndexMap;
 use std::alloc::{AllocError, Global};
 use std::collections::BTreeMap;
@@ -111,7 +111,7 @@ pub(crate) struct Labels {
 
 impl Model for Labels {
     ghost use Rattle.std.specs.Prelude.{◌≡◌, List, reverse};
-    ghost use Rattle.eden_lines.specs.declared.label.Binding.{Binding};
+    ghost use Rattle.eden_script.specs.declared.label.Binding.{Binding};
     ghost use Rattle.eden_edend.specs.BoundMaps.{bound_map};
     ghost use Rattle.eden_edend.specs.Firsts.{AreFirsts};
 

@@ -4,22 +4,22 @@ ghost use Rattle.std.specs.Prelude.{◌≡◌, List, None, OnOk, IfOk, Option, i
 ghost use Rattle.eden_objects.specs.Objects.{Held};
 ghost use Rattle.eden_objects.specs.Commits.{commit_map};
 ghost use Rattle.eden_objects.specs.Files.{commit_files};
-ghost use Rattle.eden_world.specs.Worlds.{WorldState, opened};
-ghost use Rattle.eden_mount.specs.Mounts.{StandsFor};
-ghost use Rattle.eden_lines.specs.ScriptText as script;
+ghost use Rattle.eden_history.specs.Worlds.{WorldState, opened};
+ghost use Rattle.eden_accumulate.specs.Mounts.{StandsFor};
+ghost use Rattle.eden_script.specs.ScriptText as script;
 ghost use Rattle.eden_edend.specs.Told.{Tells, session_at};
 
 use crate::objects::Objects;
 use crate::texts::{push_at, push_refused};
+use eden_accumulate::Mount;
 use eden_ids::{GitNaming, Id};
-use eden_lines::Label;
-use eden_mount::Mount;
 use eden_objects::Store;
+use eden_script::Label;
 use std::alloc::{AllocError, Global};
 use std::sync::Arc;
 
 /// Mounts a commit of the store.
-#[tactic(auto, using(eden_world::proofs::Committed::commit_mapped))]
+#[tactic(auto, using(eden_history::proofs::Committed::commit_mapped))]
 fn mount_commit(
     alloc: Global,
     store: Store<GitNaming>,

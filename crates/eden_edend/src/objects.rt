@@ -4,18 +4,17 @@ ghost use Rattle.std.specs.Prelude.{◌≡◌, ◌++◌, ◌∷◌, [], IfOk, On
 ghost use Rattle.std.specs.Option.{option_map};
 ghost use Rattle.eden_objects.specs.Objects.{Held};
 ghost use Rattle.eden_objects.specs.Puts.{Outcome, blob_outcome, tree_outcome, commit_outcome};
-ghost use Rattle.eden_lines.specs.Labels.{bound};
-ghost use Rattle.eden_world.specs.Worlds.{WorldState};
+ghost use Rattle.eden_script.specs.Labels.{bound};
+ghost use Rattle.eden_history.specs.Worlds.{WorldState};
 ghost use Rattle.eden_ids.specs.Naming.{git_name};
-ghost use Rattle.eden_lines.specs.ScriptText.{put_told, tried, entry_bytes, tree_payload, commit_payload, id_told};
+ghost use Rattle.eden_script.specs.ScriptText.{put_told, tried, entry_bytes, tree_payload, commit_payload, id_told};
 ghost use Rattle.eden_edend.specs.Told.{session_at, ObjectTells, Gave};
 
 use crate::labels::Labels;
 use crate::texts::{push_id, push_id_line, push_ok, push_refused, put_fault_name};
 use eden_ids::{GitNaming, Id};
-use eden_lines::{Label, TreeEntry};
 use eden_objects::{PutFault, Store};
-use eden_script::{Word, push_bytes};
+use eden_script::{Label, TreeEntry, Word, push_bytes};
 use std::alloc::{AllocError, Global};
 use std::mem;
 

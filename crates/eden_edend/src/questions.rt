@@ -4,10 +4,10 @@ ghost use Rattle.std.specs.Prelude.{◌≡◌, ◌≢◌, ◌++◌, OnOk, IfOk, 
 ghost use Rattle.eden_globs.specs.Filters as globs;
 ghost use Rattle.eden_ids.specs.FileMaps.{paths};
 ghost use Rattle.eden_ids.specs.Paths.{path_fault};
-ghost use Rattle.eden_world.specs.Worlds.{WorldState, now};
-ghost use Rattle.eden_world.specs.Renames.{absent_fault};
-ghost use Rattle.eden_mount.specs.Mounts.{StandsFor};
-ghost use Rattle.eden_lines.specs.ScriptText as script;
+ghost use Rattle.eden_history.specs.Worlds.{WorldState, now};
+ghost use Rattle.eden_history.specs.Renames.{absent_fault};
+ghost use Rattle.eden_accumulate.specs.Mounts.{StandsFor};
+ghost use Rattle.eden_script.specs.ScriptText as script;
 ghost use Rattle.eden_edend.specs.Told.{MountTells};
 
 use crate::labels::Labels;
@@ -15,12 +15,12 @@ use crate::texts::{
     change_fault_name, path_fault_name, push_at, push_changes, push_content, push_listed,
     push_refused, push_refused_filter, push_refused_since,
 };
-use eden_accumulate::{ExpandFault, expand};
+use eden_accumulate::{Mount, Position};
 use eden_globs::{Filter, FilterFault};
+use eden_history::SinceFault;
 use eden_ids::{GitNaming, Id, Path, PathFault};
-use eden_mount::{Mount, Position};
+use eden_ranges::{ExpandFault, expand};
 use eden_script::Word;
-use eden_world::SinceFault;
 use std::alloc::{AllocError, Global};
 
 /// Tells the present position.

@@ -3,7 +3,7 @@
 ghost use Rattle.std.specs.Prelude.{ℕ, ◌+◌, ◌≤◌, IsErrOf};
 ghost use Rattle.eden_stream.specs.Counts.{Rose, RoseBy};
 ghost use Rattle.eden_stream.specs.Ends.{Ends};
-ghost use Rattle.eden_lines.specs.ScriptText.{script_text, first_session};
+ghost use Rattle.eden_script.specs.ScriptText.{script_text, first_session};
 
 use crate::session::Session;
 use eden_stream::{CountedRead, CountedWrite, RunFault, run_lines};

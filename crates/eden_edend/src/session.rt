@@ -3,10 +3,10 @@
 ghost use Rattle.std.specs.Prelude.{◌≡◌, List, Option, None, Some, OnOk, IfOk, option_and_then};
 ghost use Rattle.eden_script.specs.Words.{words_of};
 ghost use Rattle.eden_objects.specs.Objects.{Held};
-ghost use Rattle.eden_world.specs.Worlds.{WorldState};
-ghost use Rattle.eden_mount.specs.Mounts.{StandsFor};
-ghost use Rattle.eden_lines.specs.ScriptLines.{command_of};
-ghost use Rattle.eden_lines.specs.ScriptText as script;
+ghost use Rattle.eden_history.specs.Worlds.{WorldState};
+ghost use Rattle.eden_accumulate.specs.Mounts.{StandsFor};
+ghost use Rattle.eden_script.specs.ScriptLines.{command_of};
+ghost use Rattle.eden_script.specs.ScriptText as script;
 ghost use Rattle.eden_edend.specs.Told.{Holds, MountStands, MountedTells, SessionStands, Tells, session_at, session_of};
 
 use crate::changes::{
@@ -17,10 +17,9 @@ use crate::mounting::tell_mount;
 use crate::objects::{Objects, tell_blob, tell_commit, tell_id, tell_tree};
 use crate::questions::{tell_dirty, tell_list, tell_position, tell_read, tell_since};
 use crate::texts::push_refused;
+use eden_accumulate::Mount;
 use eden_ids::GitNaming;
-use eden_lines::Command;
-use eden_mount::Mount;
-use eden_script::{push_bytes, words};
+use eden_script::{Command, push_bytes, words};
 use eden_stream::{Answered, LineMachine};
 use std::alloc::{AllocError, Global};
 
@@ -37,7 +36,7 @@ pub(crate) struct Session {
 
 impl Session {
     /// Does what a line asks for where there is no mount.
-    #[tactic(auto, unfolding(eden_lines::specs::ScriptText::told))]
+    #[tactic(auto, unfolding(eden_script::specs::ScriptText::told))]
     fn tell_unmounted(&mut self, command: Command, text: &mut Vec<u8>) -> Result<(), AllocError>
         requires { self.old.mount ≡ None }
         ensures { OnOk result (Tells (script.told (session_at None self.old.objects) command) self.new.mount self.new.objects text.old.items text.new.items) }
@@ -92,7 +91,7 @@ impl Session {
 }
 
 /// Does what a line asks for where there is a mount.
-#[tactic(auto, unfolding(eden_lines::specs::ScriptText::told))]
+#[tactic(auto, unfolding(eden_script::specs::ScriptText::told))]
 fn tell_mounted(
     alloc: Global,
     mount: &mut Mount<GitNaming>,

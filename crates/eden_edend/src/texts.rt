@@ -4,16 +4,16 @@ ghost use Rattle.std.specs.Prelude.{◌≡◌, ◌≢◌, ◌++◌, ◌∷◌, [
 ghost use Rattle.std.specs.Fmt.{decimal};
 ghost use Rattle.std.specs.List.{flat_map};
 ghost use Rattle.hex.specs.Hex.{encode_lower};
-ghost use Rattle.eden_lines.specs.ScriptText.{root_text, position_text, at_text, ok_text, id_text, refused_text, put_fault_text, path_fault_text, change_fault_text, since_fault_text, filter_fault_text, mark_text, marked_text, changes_text, path_text, paths_text, conflicts_text, answer_text, kind_text, content_text};
+ghost use Rattle.eden_script.specs.ScriptText.{root_text, position_text, at_text, ok_text, id_text, refused_text, put_fault_text, path_fault_text, change_fault_text, since_fault_text, filter_fault_text, mark_text, marked_text, changes_text, path_text, paths_text, conflicts_text, answer_text, kind_text, content_text};
 ghost use Rattle.eden_edend.specs.Told.{answer_made, answer_checked};
 
 use crate::labels::Labels;
+use eden_accumulate::Checked;
 use eden_globs::FilterFault;
+use eden_history::{ChangeFault, Mark, Marked, Position, SinceFault};
 use eden_ids::{Id, Kind, Path, PathFault};
-use eden_mount::Checked;
 use eden_objects::PutFault;
 use eden_script::{push_bytes, push_escaped, push_number};
-use eden_world::{ChangeFault, Mark, Marked, Position, SinceFault};
 use std::alloc::AllocError;
 
 /// An id in hexadecimal.

@@ -3,11 +3,11 @@ use Rattle.std.proofs.Common.{◌≡◌, ℕ, ◌≤◌, false, cond, ltb, eqb, 
 use Rattle.std.specs.Prelude.{IfOk}
 use Rattle.std.proofs.lemmas.Bool.{ltb-false, le-ltb, eqb-true}
 use Rattle.std.proofs.lemmas.List.{append-nil}
-use Rattle.eden_world.specs.declared.message.Request.{Request}
-use Rattle.eden_world.specs.declared.message.Request.TheVariants.{Poll}
-use Rattle.eden_world.specs.declared.message.Reply.{Reply}
-use Rattle.eden_world.specs.declared.message.Reply.TheVariants.{ChangesAre, Refused}
-use Rattle.eden_world.specs.Spells.{query_bytes, position_bytes, filter_bytes, list_bytes, cause_bytes, request_bytes, IsRequest, SpellsRequest, reply_bytes, IsReply, SpellsReply}
+use Rattle.eden_history.specs.declared.message.Request.{Request}
+use Rattle.eden_history.specs.declared.message.Request.TheVariants.{Poll}
+use Rattle.eden_history.specs.declared.message.Reply.{Reply}
+use Rattle.eden_history.specs.declared.message.Reply.TheVariants.{ChangesAre, Refused}
+use Rattle.eden_history.specs.Spells.{query_bytes, position_bytes, filter_bytes, list_bytes, cause_bytes, request_bytes, IsRequest, SpellsRequest, reply_bytes, IsReply, SpellsReply}
 use Rattle.eden_query.specs.declared.fault.DecodeFault.{DecodeFault}
 use Rattle.eden_query.specs.declared.fault.DecodeFault.TheVariants.{TooLarge, Version, BadTag}
 use Rattle.eden_query.specs.Reading.{◌>>=◌, Gives, byte_at, query_at, position_at, filter_at, listing_at, cause_at, tag_at, ended, poll_at, read_request, changes_at, refused_at, read_reply}

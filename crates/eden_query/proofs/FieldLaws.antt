@@ -16,14 +16,14 @@ use Rattle.eden_ids.specs.Paths.{path_fault, IsPath}
 use Rattle.eden_globs.specs.declared.filter.FilterFault.{FilterFault}
 use Rattle.eden_globs.specs.declared.filter.FilterFault.TheVariants as filter_faults
 use Rattle.eden_globs.specs.Filters.{filter_fault, first_fault, patterns_fault, IsFilter}
-use Rattle.eden_world.specs.declared.mark.Mark.{Mark}
-use Rattle.eden_world.specs.declared.mark.Mark.TheVariants.{Created, Removed, Changed, Root}
-use Rattle.eden_world.specs.declared.mark.Marked.{Marked}
-use Rattle.eden_world.specs.declared.position.Position.{Position}
-use Rattle.eden_world.specs.declared.message.Query.{Query}
-use Rattle.eden_world.specs.declared.message.Cause.{Cause}
-use Rattle.eden_world.specs.declared.message.Cause.TheVariants as causes
-use Rattle.eden_world.specs.Spells.{AreBytes, query_bytes, IsQuery, position_bytes, IsPosition, text_bytes, IsPathText, filter_bytes, IsFilterText, mark_byte, marked_bytes, list_bytes, IsBelowFirst, Ascends, IsListing, cause_bytes, IsCause}
+use Rattle.eden_history.specs.declared.mark.Mark.{Mark}
+use Rattle.eden_history.specs.declared.mark.Mark.TheVariants.{Created, Removed, Changed, Root}
+use Rattle.eden_history.specs.declared.mark.Marked.{Marked}
+use Rattle.eden_history.specs.declared.position.Position.{Position}
+use Rattle.eden_history.specs.declared.message.Query.{Query}
+use Rattle.eden_history.specs.declared.message.Cause.{Cause}
+use Rattle.eden_history.specs.declared.message.Cause.TheVariants as causes
+use Rattle.eden_history.specs.Spells.{AreBytes, query_bytes, IsQuery, position_bytes, IsPosition, text_bytes, IsPathText, filter_bytes, IsFilterText, mark_byte, marked_bytes, list_bytes, IsBelowFirst, Ascends, IsListing, cause_bytes, IsCause}
 use Rattle.eden_query.specs.declared.fault.DecodeFault.TheVariants.{CutShort, BadField}
 use Rattle.eden_query.specs.Reading.{◌>>=◌, byte_at, number_at, text_at, query_at, root_at, position_at, path_of, path_at, patterns_at, filter_of, filter_at, mark_of_byte, mark_at, is_above, marked_at, list_at, listing_at, cause_of, cause_at}
 use Rattle.eden_query.proofs.Numbers.{IsBytes, IsBytes-take, IsBytes-drop, bytes_are, bind_ok, guard_ok, held_ok, ok_is, along, Takes, Takes-then, byte_takes, wide32, wide64, number_takes, number_again, IsText, text_takes, text_again}

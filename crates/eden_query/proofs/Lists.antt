@@ -5,13 +5,13 @@ use Rattle.std.proofs.lemmas.List.{length-append}
 use Rattle.std.proofs.lemmas.List.Concat.{flat_map-cons}
 use Rattle.std.proofs.lemmas.Bool.{lt-ltb}
 use Rattle.std.proofs.lemmas.List.Folds.{length-flat_map-take}
-use Rattle.eden_world.specs.declared.mark.Marked.{Marked}
-use Rattle.eden_world.specs.declared.position.Position.{Position}
-use Rattle.eden_world.specs.declared.message.Query.{Query}
-use Rattle.eden_world.specs.declared.message.Request.TheVariants.{Poll}
-use Rattle.eden_world.specs.declared.message.Reply.TheVariants.{ChangesAre}
+use Rattle.eden_history.specs.declared.mark.Marked.{Marked}
+use Rattle.eden_history.specs.declared.position.Position.{Position}
+use Rattle.eden_history.specs.declared.message.Query.{Query}
+use Rattle.eden_history.specs.declared.message.Request.TheVariants.{Poll}
+use Rattle.eden_history.specs.declared.message.Reply.TheVariants.{ChangesAre}
 use Rattle.eden_query.specs.Lengths.{if_small}
-use Rattle.eden_world.specs.Spells.{marked_bytes, position_bytes, filter_bytes, request_bytes, reply_bytes}
+use Rattle.eden_history.specs.Spells.{marked_bytes, position_bytes, filter_bytes, request_bytes, reply_bytes}
 
 -- each marked path takes a byte at least
 pub list_len : (list : List Marked) → length list ≤ length (flat_map marked_bytes list)

@@ -3,7 +3,7 @@ use Rattle.std.proofs.Common.{◌≡◌, ◌≢◌, ℕ, suc, ◌-◌, ◌+◌, 
 use Rattle.std.proofs.lemmas.List.{append-nil, length-append}
 use Rattle.std.proofs.lemmas.Option.{slice_get-get_or}
 use Rattle.std.proofs.Math.Seq.{get_or-append_seam}
-use Rattle.eden_world.specs.declared.mark.Marked.{Marked}
+use Rattle.eden_history.specs.declared.mark.Marked.{Marked}
 use Rattle.eden_query.specs.declared.fault.DecodeFault.{DecodeFault}
 use Rattle.eden_query.specs.declared.fault.DecodeFault.TheVariants.{NoMemory}
 use Rattle.eden_query.specs.Reading.{◌>>=◌, text_at, patterns_at, marked_at, list_at}

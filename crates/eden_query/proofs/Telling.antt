@@ -1,16 +1,16 @@
 -- What a mount tells of its past is what the worlds reply for which it stands.
 use Rattle.std.proofs.Common.{◌≡◌, ℕ, List, Some, None, sym, ap, ◌∙◌}
-use Rattle.eden_accumulate.specs.declared.ranges.Range.{Range}
-use Rattle.eden_mount.specs.Mounts.{State, StandsFor}
-use Rattle.eden_mount.specs.Ranges.{EndsNow, IsStatus, Tells}
-use Rattle.eden_world.specs.declared.answer.SinceFault.{SinceFault}
-use Rattle.eden_world.specs.declared.message.Cause.{Cause}
-use Rattle.eden_world.specs.declared.message.Query.{Query}
-use Rattle.eden_world.specs.declared.message.Reply.TheVariants.{ChangesAre, Refused}
-use Rattle.eden_world.specs.declared.message.Request.TheVariants.{Poll}
-use Rattle.eden_world.specs.declared.position.Position.{Position}
-use Rattle.eden_world.specs.Worlds.{WorldState}
-use Rattle.eden_world.specs.Replies.{admitted, bounded, cause_of, polled, reply_of}
+use Rattle.eden_ranges.specs.declared.ranges.Range.{Range}
+use Rattle.eden_accumulate.specs.Mounts.{State, StandsFor}
+use Rattle.eden_accumulate.specs.Ranges.{EndsNow, IsStatus, Tells}
+use Rattle.eden_history.specs.declared.answer.SinceFault.{SinceFault}
+use Rattle.eden_history.specs.declared.message.Cause.{Cause}
+use Rattle.eden_history.specs.declared.message.Query.{Query}
+use Rattle.eden_history.specs.declared.message.Reply.TheVariants.{ChangesAre, Refused}
+use Rattle.eden_history.specs.declared.message.Request.TheVariants.{Poll}
+use Rattle.eden_history.specs.declared.position.Position.{Position}
+use Rattle.eden_history.specs.Worlds.{WorldState}
+use Rattle.eden_history.specs.Replies.{admitted, bounded, cause_of, polled, reply_of}
 use Rattle.eden_query.specs.declared.raw.Raw.TheVariants as raw
 use Rattle.eden_query.specs.Raws.{told}
 

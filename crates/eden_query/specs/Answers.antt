@@ -5,10 +5,10 @@ use Rattle.eden_query.specs.declared.fault.DecodeFault.TheVariants as decode
 use Rattle.eden_query.specs.Reading.{read_request}
 use Rattle.eden_stream.specs.declared.server.FrameFault.{FrameFault}
 use Rattle.eden_stream.specs.declared.server.FrameFault.TheVariants as frame
-use Rattle.eden_world.specs.declared.message.Request.{Request}
-use Rattle.eden_world.specs.Worlds.{WorldState}
-use Rattle.eden_world.specs.Replies.{reply_of}
-use Rattle.eden_world.specs.Spells as spells
+use Rattle.eden_history.specs.declared.message.Request.{Request}
+use Rattle.eden_history.specs.Worlds.{WorldState}
+use Rattle.eden_history.specs.Replies.{reply_of}
+use Rattle.eden_history.specs.Spells as spells
 
 -- a body's fault is its frame's; no body is read as a want of memory
 abbrev pub frame_fault : DecodeFault → FrameFault

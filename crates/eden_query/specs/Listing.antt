@@ -1,7 +1,7 @@
 -- The paths of a list that is being read.
 use Rattle.std.specs.Prelude.{ℕ, ◌-◌, List, length, Option, slice_get}
 use Rattle.std.specs.Option.{option_map}
-use Rattle.eden_world.specs.declared.mark.Marked.{Marked}
+use Rattle.eden_history.specs.declared.mark.Marked.{Marked}
 
 -- the path that was read last, if one was
 abbrev pub last_path : List Marked → Option (List ℕ)

@@ -1,13 +1,13 @@
 -- A mount's calls, told as answers to a change.
 use Rattle.std.specs.Prelude.{◌≡◌, Option, Some, None, Result, Ok, Err}
-use Rattle.eden_mount.specs.Mounts.{State, StandsFor}
-use Rattle.eden_world.specs.declared.answer.Answer.{Answer}
-use Rattle.eden_world.specs.declared.answer.Answer.TheVariants.{Refused}
-use Rattle.eden_world.specs.declared.change.Change.{Change}
-use Rattle.eden_world.specs.declared.change.ChangeFault.{ChangeFault}
-use Rattle.eden_world.specs.declared.change.ChangeFault.TheVariants.{NoMemory}
-use Rattle.eden_world.specs.Outcome.{answer_of, world_after}
-use Rattle.eden_world.specs.Worlds.{WorldState}
+use Rattle.eden_accumulate.specs.Mounts.{State, StandsFor}
+use Rattle.eden_history.specs.declared.answer.Answer.{Answer}
+use Rattle.eden_history.specs.declared.answer.Answer.TheVariants.{Refused}
+use Rattle.eden_history.specs.declared.change.Change.{Change}
+use Rattle.eden_history.specs.declared.change.ChangeFault.{ChangeFault}
+use Rattle.eden_history.specs.declared.change.ChangeFault.TheVariants.{NoMemory}
+use Rattle.eden_history.specs.Outcome.{answer_of, world_after}
+use Rattle.eden_history.specs.Worlds.{WorldState}
 
 -- the answer that a call's result is; a want of memory is none
 abbrev pub refusal_of : ChangeFault → Option Answer

@@ -1,13 +1,13 @@
 -- What is replied, from what a mount told when it was asked.
 use Rattle.std.specs.Prelude.{Bool, true, List, ℕ}
 use Rattle.eden_objects.specs.Objects.{Held}
-use Rattle.eden_accumulate.specs.Expanded.{are_comparable, expanded}
-use Rattle.eden_world.specs.declared.message.Reply.{Reply}
-use Rattle.eden_world.specs.declared.message.Reply.TheVariants.{ChangesAre, Refused}
-use Rattle.eden_world.specs.declared.message.Request.{Request}
-use Rattle.eden_world.specs.declared.message.Request.TheVariants.{Poll}
-use Rattle.eden_world.specs.Worlds.{Commits}
-use Rattle.eden_world.specs.Replies.{admitted, bounded}
+use Rattle.eden_ranges.specs.Expanded.{are_comparable, expanded}
+use Rattle.eden_history.specs.declared.message.Reply.{Reply}
+use Rattle.eden_history.specs.declared.message.Reply.TheVariants.{ChangesAre, Refused}
+use Rattle.eden_history.specs.declared.message.Request.{Request}
+use Rattle.eden_history.specs.declared.message.Request.TheVariants.{Poll}
+use Rattle.eden_history.specs.Worlds.{Commits}
+use Rattle.eden_history.specs.Replies.{admitted, bounded}
 use Rattle.eden_query.specs.declared.raw.Raw.{Raw}
 use Rattle.eden_query.specs.declared.raw.Raw.TheVariants as raw
 

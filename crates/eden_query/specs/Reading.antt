@@ -6,17 +6,17 @@ use Rattle.std.specs.Cmp.Lexicographic.{slice_cmp}
 use Rattle.eden_ids.specs.declared.id.Id.{Id}
 use Rattle.eden_ids.specs.Paths.{path_fault}
 use Rattle.eden_globs.specs.Filters.{filter_fault}
-use Rattle.eden_world.specs.declared.mark.Mark.{Mark}
-use Rattle.eden_world.specs.declared.mark.Mark.TheVariants.{Created, Removed, Changed, Root}
-use Rattle.eden_world.specs.declared.mark.Marked.{Marked}
-use Rattle.eden_world.specs.declared.position.Position.{Position}
-use Rattle.eden_world.specs.declared.message.Query.{Query}
-use Rattle.eden_world.specs.declared.message.Request.{Request}
-use Rattle.eden_world.specs.declared.message.Request.TheVariants.{Poll}
-use Rattle.eden_world.specs.declared.message.Cause.{Cause}
-use Rattle.eden_world.specs.declared.message.Cause.TheVariants as causes
-use Rattle.eden_world.specs.declared.message.Reply.{Reply}
-use Rattle.eden_world.specs.declared.message.Reply.TheVariants.{ChangesAre, Refused}
+use Rattle.eden_history.specs.declared.mark.Mark.{Mark}
+use Rattle.eden_history.specs.declared.mark.Mark.TheVariants.{Created, Removed, Changed, Root}
+use Rattle.eden_history.specs.declared.mark.Marked.{Marked}
+use Rattle.eden_history.specs.declared.position.Position.{Position}
+use Rattle.eden_history.specs.declared.message.Query.{Query}
+use Rattle.eden_history.specs.declared.message.Request.{Request}
+use Rattle.eden_history.specs.declared.message.Request.TheVariants.{Poll}
+use Rattle.eden_history.specs.declared.message.Cause.{Cause}
+use Rattle.eden_history.specs.declared.message.Cause.TheVariants as causes
+use Rattle.eden_history.specs.declared.message.Reply.{Reply}
+use Rattle.eden_history.specs.declared.message.Reply.TheVariants.{ChangesAre, Refused}
 use Rattle.eden_query.specs.declared.fault.DecodeFault.{DecodeFault}
 use Rattle.eden_query.specs.declared.fault.DecodeFault.TheVariants.{CutShort, TooLarge, BadTag, BadField, Trailing, Version, NoMemory}
 

@@ -2,18 +2,18 @@
 
 ghost use Rattle.std.specs.Prelude.{◌≡◌, ◌≢◌, ◌≤◌, length, true, false, IfOk, IfErr, OnOk};
 ghost use Rattle.eden_objects.specs.Commits.{commit_map};
-ghost use Rattle.eden_accumulate.specs.Expanded.{are_comparable, expanded};
-ghost use Rattle.eden_world.specs.Replies.{admitted};
-ghost use Rattle.eden_world.specs.Spells.{reply_bytes};
+ghost use Rattle.eden_ranges.specs.Expanded.{are_comparable, expanded};
+ghost use Rattle.eden_history.specs.Replies.{admitted};
+ghost use Rattle.eden_history.specs.Spells.{reply_bytes};
 ghost use Rattle.eden_query.specs.Raws.{is_answerable, told};
 
 use crate::raw::{AnswerFault, Raw};
-use eden_accumulate::{ExpandFault, Range, expand};
 use eden_globs::Filter;
+use eden_history::{Marked, Reply};
 use eden_ids::{Naming, Sequence};
-use eden_model::{admitted, changes_reply};
 use eden_objects::Store;
-use eden_world::{Marked, Reply};
+use eden_ranges::{ExpandFault, Range, expand};
+use eden_world::{admitted, changes_reply};
 use std::alloc::Global;
 
 /// The paths that the range names and the filter admits.

@@ -1,7 +1,7 @@
 ghost use Rattle.std.specs.Prelude.{◌≡◌, None, Ok, IfOk};
-ghost use Rattle.eden_world.specs.declared.message.Request.{Request};
-ghost use Rattle.eden_world.specs.declared.message.Reply.{Reply};
-ghost use Rattle.eden_world.specs.Spells.{SpellsRequest, SpellsReply};
+ghost use Rattle.eden_history.specs.declared.message.Request.{Request};
+ghost use Rattle.eden_history.specs.declared.message.Reply.{Reply};
+ghost use Rattle.eden_history.specs.Spells.{SpellsRequest, SpellsReply};
 ghost use Rattle.eden_query.specs.Reading.{Gives, tag_at, is_above, marked_at, list_at, listing_at, ended, poll_at, changes_at, refused_at, read_request, read_reply};
 ghost use Rattle.eden_query.specs.Listing.{last_path};
 
@@ -10,8 +10,8 @@ use crate::fields::{
     byte_of, cause_of, filter_of, mark_of, path_of, position_of, query_of, u32_of,
 };
 use crate::limit::BODY_LIMIT;
+use eden_history::{Marked, Reply, Request};
 use eden_ids::{Path, Sequence};
-use eden_world::{Marked, Reply, Request};
 use std::alloc::Global;
 
 /// The tag that stands behind the version.

@@ -1,13 +1,13 @@
 ghost use Rattle.std.specs.Prelude.{◌≡◌, ◌≢◌, ◌<◌, ◌≤◌, ◌^◌, ◌↔◌, ◌++◌, ◌∷◌, List, ℕ, length, Err, OnOk, IfOk};
 ghost use Rattle.std.specs.Int.{w32, to_be_bytes};
 ghost use Rattle.std.specs.List.{flat_map};
-ghost use Rattle.eden_world.specs.Spells.{query_bytes, position_bytes, text_bytes, filter_bytes, mark_byte, marked_bytes, list_bytes, cause_bytes, request_bytes, reply_bytes, SpellsRequest, SpellsReply, frame};
+ghost use Rattle.eden_history.specs.Spells.{query_bytes, position_bytes, text_bytes, filter_bytes, mark_byte, marked_bytes, list_bytes, cause_bytes, request_bytes, reply_bytes, SpellsRequest, SpellsReply, frame};
 ghost use Rattle.eden_query.specs.Lengths.{if_small};
 
 use crate::fault::EncodeFault;
 use crate::limit::BODY_LIMIT;
 use eden_globs::Filter;
-use eden_world::{Cause, Mark, Marked, Position, Query, Reply, Request};
+use eden_history::{Cause, Mark, Marked, Position, Query, Reply, Request};
 use std::alloc::{AllocError, Global};
 
 fn put_query(out: &mut Vec<u8>, query: &Query) -> Result<(), AllocError>

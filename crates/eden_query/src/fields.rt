@@ -4,8 +4,8 @@ ghost use Rattle.eden_query.specs.Reading.{Gives, byte_at, number_at, text_at, q
 
 use crate::fault::DecodeFault;
 use eden_globs::{Filter, FilterFault};
+use eden_history::{Cause, Mark, Position, Query};
 use eden_ids::{Id, Path, PathFault};
-use eden_world::{Cause, Mark, Position, Query};
 use std::alloc::Global;
 
 /// A byte, and the bytes after it. Each reader below gives a field in this way, or the first fault in it.

@@ -2,20 +2,20 @@
 
 ghost use Rattle.std.specs.Prelude.{◌≡◌, None, IfOk, true};
 ghost use Rattle.eden_objects.specs.Commits.{commit_map};
-ghost use Rattle.eden_mount.specs.Mounts.{StandsFor};
-ghost use Rattle.eden_world.specs.declared.answer.Answer.TheVariants as answer;
-ghost use Rattle.eden_world.specs.Worlds.{WorldState};
-ghost use Rattle.eden_world.specs.Replies.{reply_of};
+ghost use Rattle.eden_accumulate.specs.Mounts.{StandsFor};
+ghost use Rattle.eden_history.specs.declared.answer.Answer.TheVariants as answer;
+ghost use Rattle.eden_history.specs.Worlds.{WorldState};
+ghost use Rattle.eden_history.specs.Replies.{reply_of};
 ghost use Rattle.eden_query.specs.Mounting.{Applies, refusal_of, told_as};
 ghost use Rattle.eden_query.specs.Raws.{is_answerable, patterns_of, told};
 
 use crate::raw::Raw;
 use crate::served::Served;
+use eden_accumulate::{Checked, Mount};
+use eden_history::{Answer, Change, ChangeFault, Position, Request};
 use eden_ids::{Naming, NoMemory};
-use eden_model::cause_of;
-use eden_mount::{Checked, Mount};
 use eden_objects::Store;
-use eden_world::{Answer, Change, ChangeFault, Position, Request};
+use eden_world::cause_of;
 use std::sync::Arc;
 
 /// A refusal as an answer. A want of memory is none.
@@ -83,7 +83,7 @@ fn raw_of<N: Naming + Drop>(mount: &Mount<N>, request: &Request) -> Result<Raw, 
 }
 
 impl<N: Naming + Drop> Served<N> for Mount<N> {
-    ghost use Rattle.eden_mount.specs.Mounts.{StandsFor};
+    ghost use Rattle.eden_accumulate.specs.Mounts.{StandsFor};
 
     ghost stands_for = { λ mount world. StandsFor mount world };
 

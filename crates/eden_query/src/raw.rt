@@ -1,5 +1,5 @@
-use eden_accumulate::Range;
-use eden_world::{Cause, Query};
+use eden_history::{Cause, Query};
+use eden_ranges::Range;
 use thiserror::Error;
 
 /// What a mount was asked for, as it stood when it was asked: what is left of the work needs the mount no more, only its objects.

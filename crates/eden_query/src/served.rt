@@ -4,16 +4,16 @@ ghost use Rattle.std.specs.Prelude.{◌≡◌, ℕ, List, Option, true, IfOk, On
 ghost use Rattle.std.specs.Arc.{arc_value};
 ghost use Rattle.eden_objects.specs.Objects.{Held};
 ghost use Rattle.eden_objects.specs.Commits.{commit_map};
-ghost use Rattle.eden_world.specs.Worlds.{WorldState};
-ghost use Rattle.eden_world.specs.Replies.{reply_of};
-ghost use Rattle.eden_world.specs.Outcome.{answer_of, world_after};
+ghost use Rattle.eden_history.specs.Worlds.{WorldState};
+ghost use Rattle.eden_history.specs.Replies.{reply_of};
+ghost use Rattle.eden_history.specs.Outcome.{answer_of, world_after};
 ghost use Rattle.eden_query.specs.Raws.{is_answerable, patterns_of, told};
 ghost use Rattle.eden_query.specs.Servers.{raised};
 
 use crate::raw::Raw;
+use eden_history::{Answer, Change, Request};
 use eden_ids::{Naming, NoMemory};
 use eden_objects::Store;
-use eden_world::{Answer, Change, Request};
 use std::sync::Arc;
 
 /// A server of requests and changes: the present of some history of a mount.

@@ -4,9 +4,9 @@ ghost use Rattle.std.specs.Prelude.{◌≡◌, ◌≢◌, ◌+◌, ◌≤◌, �
 ghost use Rattle.eden_stream.specs.FrameAnswers.{AnswersBody};
 ghost use Rattle.eden_stream.specs.Counts.{Rose, RoseBy};
 ghost use Rattle.eden_stream.specs.FrameEnds.{Serves};
-ghost use Rattle.eden_world.specs.Worlds.{WorldState};
-ghost use Rattle.eden_world.specs.Replies.{reply_of};
-ghost use Rattle.eden_world.specs.Spells.{reply_bytes};
+ghost use Rattle.eden_history.specs.Worlds.{WorldState};
+ghost use Rattle.eden_history.specs.Replies.{reply_of};
+ghost use Rattle.eden_history.specs.Spells.{reply_bytes};
 ghost use Rattle.eden_query.specs.Answers.{answer_to, frame_fault};
 
 use crate::answering::answer;
@@ -15,11 +15,11 @@ use crate::encoding::encode_reply;
 use crate::fault::{DecodeFault, EncodeFault};
 use crate::raw::AnswerFault;
 use crate::served::Served;
+use eden_history::{Reply, Request};
 use eden_ids::{Naming, NoMemory};
 use eden_stream::{
     CountedRead, CountedWrite, FrameFault, FrameServer, ServeFault, Served as Told, serve_frames,
 };
-use eden_world::{Reply, Request};
 use std::alloc::Global;
 use std::marker::PhantomData;
 
@@ -107,7 +107,7 @@ fn answer_body<N: Naming + Drop, T: Served<N>>(
 }
 
 impl<N: Naming + Drop, T: Served<N>> FrameServer<T> for Bodies<N> {
-    ghost use Rattle.eden_world.specs.Worlds.{WorldState};
+    ghost use Rattle.eden_history.specs.Worlds.{WorldState};
     ghost use Rattle.eden_query.specs.Answers.{answer_to};
 
     ghost stands_for = { λ server answers. (world : WorldState) × T.stands_for server world × ((body : List ℕ) → answers body ≡ answer_to world body) };

@@ -1,7 +1,7 @@
 use crate::{DecodeFault, decode_reply, decode_request, encode_reply, encode_request};
 use eden_globs::Filter;
+use eden_history::{Cause, Mark, Marked, Position, Query, Reply, Request};
 use eden_ids::{Id, Path, Sequence};
-use eden_world::{Cause, Mark, Marked, Position, Query, Reply, Request};
 use std::alloc::Global;
 use std::test::Fail;
 

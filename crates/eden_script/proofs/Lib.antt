@@ -1,3 +1,4 @@
+mod EntryLemmas
 pub mod EscapeLemmas
 pub mod NumberLemmas
 pub mod WordLemmas

@@ -1,4 +1,8 @@
 pub mod Escapes
-pub mod Words
-pub mod Numbers
+pub mod LabelWords
+pub mod Labels
 pub mod Laws
+pub mod Numbers
+pub mod ScriptLines
+pub mod ScriptText
+pub mod Words

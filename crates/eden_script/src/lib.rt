@@ -1,22 +1,32 @@
-//! The text layer of a line-based script: how a line is parted into words, how bytes are escaped
-//! in it, and how numbers are read and written.
+//! The language of a script: how a line is parted into words, how bytes are escaped in them, how numbers are read and written,
+//! what each line asks for, and what a script prints.
 //!
-//! The words of a line are parted by single spaces. In a word `\\` stands for a backslash, `\n`
-//! for a line feed, `\s` for a space and `\e` for nothing at all, so that each list of bytes can be
-//! written as one word. A number is the decimal text of a `u64`, with no sign and no leading zero.
-
+//! The words of a line are parted by single spaces. In a word `\\` stands for a backslash, `\n` for a line feed, `\s` for a space
+//! and `\e` for nothing at all, so that each list of bytes can be written as one word. A number is the decimal text of a `u64`, with
+//! no sign and no leading zero.
+//!
+//! The definitions stand in `specs/`: which words a line has to have, what labels are bound to, and the text that each line prints
+//! over the objects put so far and the mount.
 #![tactic(auto)]
 
+pub use crate::command::{Command, TreeEntry};
+pub use crate::escapes::{push_bytes, push_escaped};
+pub use crate::label::{Binding, Label};
+pub use crate::laws::{
+    decimal_law, escape_law, line_feed_law, line_law, number_law, number_text_law, word_law,
+};
+pub use crate::lines::{Word, words};
+pub use crate::numbers::{number, push_number};
+
+mod command;
+#[cfg(test)]
+mod command_tests;
 mod escapes;
+mod label;
 mod laws;
 mod lines;
 mod numbers;
+mod reading;
 #[cfg(test)]
 mod tests;
-
-pub use escapes::{push_bytes, push_escaped};
-pub use laws::{
-    decimal_law, escape_law, line_feed_law, line_law, number_law, number_text_law, word_law,
-};
-pub use lines::{Word, words};
-pub use numbers::{number, push_number};
+mod unread;

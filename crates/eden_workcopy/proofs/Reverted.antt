@@ -5,7 +5,7 @@ use Rattle.std.specs.FinMap as fin
 use Rattle.eden_ids.specs.declared.content.Content.{Content}
 use Rattle.eden_ids.specs.FileMaps.{FileMap, IsFileMap, file_at, same_path, put_option, has_file_above, has_file_below}
 use Rattle.eden_ids.proofs.FileMapLemmas.{same_path-is, same_file_map, IsFileMap-insert, IsFileMap-remove}
-use Rattle.eden_world.specs.Renames.{place_fault, first_fault}
+use Rattle.eden_history.specs.Renames.{place_fault, first_fault}
 use Rattle.eden_workcopy.specs.Layers.{Layer, or_below, over}
 use Rattle.eden_workcopy.specs.Reverts.{revert_fault}
 use Rattle.eden_workcopy.proofs.Overs.{file_at-over}

@@ -18,10 +18,10 @@ use Rattle.eden_objects.specs.Commits.{Row, commit_rows, commit_map, map_of_rows
 use Rattle.eden_objects.specs.Closed.{IsClosed}
 use Rattle.eden_objects.specs.Files.{files_of, commit_files, content_seen}
 use Rattle.eden_objects.proofs.CommitLaws.{file_maps}
-use Rattle.eden_world.specs.declared.change.ChangeFault.{ChangeFault}
-use Rattle.eden_world.specs.declared.change.ChangeFault.TheVariants.{NotADirectory, IsADirectory}
-use Rattle.eden_world.specs.Renames.{first_fault}
-use Rattle.eden_world.specs.Renames.{same_place, moved, renamed}
+use Rattle.eden_history.specs.declared.change.ChangeFault.{ChangeFault}
+use Rattle.eden_history.specs.declared.change.ChangeFault.TheVariants.{NotADirectory, IsADirectory}
+use Rattle.eden_history.specs.Renames.{first_fault}
+use Rattle.eden_history.specs.Renames.{same_place, moved, renamed}
 use Rattle.eden_workcopy.specs.declared.work.WorkCopy.{WorkCopy}
 use Rattle.eden_workcopy.specs.Meanings.{means, FitsIn}
 use Rattle.eden_workcopy.specs.Layers.{Layer, Entry, or_below, over}

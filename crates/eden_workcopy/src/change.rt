@@ -1,13 +1,13 @@
 ghost use Rattle.std.specs.Prelude.{◌≡◌, ◌≢◌, None, Some, IfOk, IfErr, OnOk, OnErr};
 ghost use Rattle.std.specs.FinMap as fin;
 ghost use Rattle.eden_ids.specs.FileMaps.{file_at};
-ghost use Rattle.eden_world.specs.Renames.{absent_fault, rename_fault, renamed, write_fault};
+ghost use Rattle.eden_history.specs.Renames.{absent_fault, rename_fault, renamed, write_fault};
 ghost use Rattle.eden_workcopy.specs.Meanings.{means, FitsIn};
 
 use crate::work::WorkCopy;
 use eden_ids::{Content, Kind, Naming, NoMemory, Path, Sequence};
 use eden_objects::Store;
-use eden_world::ChangeFault;
+use eden_history::ChangeFault;
 use std::alloc::Global;
 
 /// A file of this kind, that holds these bytes.

@@ -7,7 +7,7 @@ ghost use Rattle.eden_workcopy.specs.Reverts.{revert_fault};
 use crate::work::WorkCopy;
 use eden_ids::{Naming, Path};
 use eden_objects::Store;
-use eden_world::ChangeFault;
+use eden_history::ChangeFault;
 
 impl WorkCopy {
     /// Whether the root's commit has a file at a path.

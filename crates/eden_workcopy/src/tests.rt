@@ -4,7 +4,7 @@ use crate::{RerootFault, WorkCopy};
 use eden_globs::Filter;
 use eden_ids::{Content, GitNaming, Id, Kind, Path, Sequence};
 use eden_objects::Store;
-use eden_world::ChangeFault;
+use eden_history::ChangeFault;
 use std::alloc::Global;
 use std::test::Fail;
 

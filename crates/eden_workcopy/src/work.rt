@@ -4,14 +4,14 @@ ghost use Rattle.std.specs.FinMap as fin;
 ghost use Rattle.eden_ids.specs.FileMaps.{differ, file_at, has_file_above, has_file_below, listing, paths};
 ghost use Rattle.eden_objects.specs.Commits.{commit_map};
 ghost use Rattle.eden_objects.specs.Files.{commit_files, content_seen};
-ghost use Rattle.eden_world.specs.Renames.{place_fault};
-ghost use Rattle.eden_world.specs.Renames.{absent_fault, rename_fault, renamed, same_place, write_fault};
+ghost use Rattle.eden_history.specs.Renames.{place_fault};
+ghost use Rattle.eden_history.specs.Renames.{absent_fault, rename_fault, renamed, same_place, write_fault};
 ghost use Rattle.eden_workcopy.specs.Meanings.{means, FitsIn};
 
 use crate::overlay::Overlay;
 use eden_ids::{Content, Id, Kind, Naming, NoMemory, Path, Sequence};
 use eden_objects::{NoCommit, Store};
-use eden_world::ChangeFault;
+use eden_history::ChangeFault;
 use std::alloc::Global;
 
 /// The files of a commit, and over them those that were written, renamed or removed since.

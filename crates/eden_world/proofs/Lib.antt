@@ -1,9 +1,5 @@
-pub mod CheckoutLaws
-pub mod RenameLaws
-pub mod Committed
-pub mod Steps
-pub mod LegalFiles
-pub mod Touched
-pub mod Ranges
-pub mod Floors
-mod Spelling
+mod Listed
+mod Tabulating
+mod SideLaws
+mod Walk
+mod Replying

@@ -1,13 +1,3 @@
-pub mod Worlds
-pub mod Renames
-pub mod Checkouts
-pub mod Named
-pub mod Outcome
-pub mod Legal
-pub mod Changes
-pub mod Spells
-pub mod Status
-pub mod Marks
-pub mod Recorded
-pub mod Touches
-pub mod Replies
+pub mod Sides
+pub mod Stepped
+pub mod Paid

@@ -1,27 +1,18 @@
-//! What a mount means: its rows and events, what each change does, what has changed since a position, and how a client asks.
+//! The plain, slow program that computes what a mount's definitions say: a mount with its whole history.
 //!
-//! The definitions stand in `specs/`, one to a file, and every other crate proves its code against them.
+//! It keeps whole file maps and looks at every path, so that it can be read beside the definitions in eden_history. The programs that keep
+//! less are measured by it.
 #![tactic(auto)]
 
-pub use crate::answer::{Answer, MountFault, SinceFault};
-pub use crate::change::{Change, ChangeFault, Mode};
-pub use crate::checkout_laws::checkout_law;
-pub use crate::mark::{Mark, Marked};
-pub use crate::message::{Cause, Query, Reply, Request};
-pub use crate::position::Position;
-pub use crate::row::{Event, Row};
-pub use crate::spelling_law::{frames_law, one_message_law, one_spelling_law};
-pub use crate::touches::{Touch, Touches};
+pub use crate::reply::{admitted, cause_of, changes_reply};
+pub use crate::world::World;
 
-mod answer;
-mod change;
-mod checkout_laws;
-mod mark;
-mod message;
-mod position;
-mod refusal;
-mod row;
-mod spelling_law;
+#[cfg(test)]
+mod checkout_tests;
+mod commit_files;
+mod events;
+mod reply;
+mod sides;
 #[cfg(test)]
 mod tests;
-mod touches;
+mod world;

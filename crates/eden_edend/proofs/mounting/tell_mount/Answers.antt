@@ -1,8 +1,8 @@
 use Rattle.std.proofs.Common.{sym, ◌∙◌, rules}
 use Rattle.std.proofs.lemmas.Result.{on_ok_weaker}
 use Rattle.eden_objects.specs.Files.{commit_files}
-use Rattle.eden_world.specs.Worlds.{opened}
-use Rattle.eden_mount.specs.Mounts.{StandsFor}
+use Rattle.eden_history.specs.Worlds.{opened}
+use Rattle.eden_accumulate.specs.Mounts.{StandsFor}
 use Rattle.eden_edend.proofs.Mounted.{mounted_tells, no_commit_tells}
 use Rattle.eden_edend.proofs.mounting.tell_mount.Goals as goal
 

@@ -1,6 +1,6 @@
 use Rattle.std.proofs.Common.{◌++◌, ap, ◌∙◌}
 use Rattle.std.proofs.lemmas.Result.{on_ok_weaker}
-use Rattle.eden_lines.specs.ScriptText.{at_text}
+use Rattle.eden_script.specs.ScriptText.{at_text}
 use Rattle.eden_edend.proofs.questions.tell_position.Goals as goal
 
 pub returns : goal.returns

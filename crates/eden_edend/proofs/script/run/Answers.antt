@@ -1,4 +1,4 @@
-use Rattle.eden_lines.specs.ScriptText.{script_text, first_session}
+use Rattle.eden_script.specs.ScriptText.{script_text, first_session}
 use Rattle.eden_edend.proofs.script.run.Goals as goal
 
 pub returns-clause-ends : goal.returns-clause-ends

@@ -1,6 +1,6 @@
 use Rattle.std.proofs.Common.{◌≡◌, inl, inr, true, refl, ap}
 use Rattle.std.proofs.lemmas.Result.{on_ok_weaker}
-use Rattle.eden_lines.specs.ScriptText.{told}
+use Rattle.eden_script.specs.ScriptText.{told}
 use Rattle.eden_edend.proofs.SessionLines.{is_put, mounted_tells}
 use Rattle.eden_edend.proofs.session.tell_mounted.Goals as goal
 

@@ -1,6 +1,6 @@
 use Rattle.std.proofs.Common.{◌≡◌, ◌++◌, take}
 use Rattle.std.specs.List.{flat_map}
-use Rattle.eden_lines.specs.ScriptText.{marked_text}
+use Rattle.eden_script.specs.ScriptText.{marked_text}
 use Rattle.eden_edend.proofs.texts.push_all_marked.Given as goal
 
 abbrev pub invariant-loop-one : goal.invariant-loop-one

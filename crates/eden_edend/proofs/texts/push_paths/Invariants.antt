@@ -1,6 +1,6 @@
 use Rattle.std.proofs.Common.{◌≡◌, ◌++◌, take}
 use Rattle.std.specs.List.{flat_map}
-use Rattle.eden_lines.specs.ScriptText.{path_text}
+use Rattle.eden_script.specs.ScriptText.{path_text}
 use Rattle.eden_edend.proofs.texts.push_paths.Given as goal
 
 abbrev pub invariant-loop-path : goal.invariant-loop-path

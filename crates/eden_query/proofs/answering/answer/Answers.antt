@@ -1,5 +1,5 @@
 use Rattle.std.proofs.Common.{◌≤◌, length, sym, subst}
-use Rattle.eden_world.specs.Spells.{reply_bytes}
+use Rattle.eden_history.specs.Spells.{reply_bytes}
 use Rattle.eden_query.proofs.ReplyFits.{bounded_fits}
 use Rattle.eden_query.proofs.answering.answer.Goals as goal
 

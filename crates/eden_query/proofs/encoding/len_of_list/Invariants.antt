@@ -1,6 +1,6 @@
 use Rattle.std.proofs.Common.{◌≡◌, ◌≤◌, length, take}
 use Rattle.std.specs.List.{flat_map}
-use Rattle.eden_world.specs.Spells.{marked_bytes}
+use Rattle.eden_history.specs.Spells.{marked_bytes}
 use Rattle.eden_query.proofs.encoding.len_of_list.Given as goal
 
 abbrev pub invariant-loop-marked : goal.invariant-loop-marked

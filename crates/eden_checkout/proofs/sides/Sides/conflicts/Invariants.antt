@@ -2,7 +2,7 @@ use Rattle.std.proofs.Common.{◌≡◌, take}
 use Rattle.std.specs.Prelude.{filter}
 use Rattle.eden_objects.specs.Files.{commit_files}
 use Rattle.eden_workcopy.specs.Meanings.{means}
-use Rattle.eden_world.specs.Checkouts.{is_conflict}
+use Rattle.eden_history.specs.Checkouts.{is_conflict}
 use Rattle.eden_checkout.specs.Plans.{root_files}
 use Rattle.eden_checkout.proofs.sides.Sides.conflicts.Given as goal
 

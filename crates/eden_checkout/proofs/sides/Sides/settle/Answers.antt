@@ -1,7 +1,7 @@
 use Rattle.std.proofs.Common.{◌∙◌}
 use Rattle.eden_objects.specs.Files.{commit_files, content_seen}
 use Rattle.eden_workcopy.specs.Meanings.{means}
-use Rattle.eden_world.specs.Checkouts.{rule_of}
+use Rattle.eden_history.specs.Checkouts.{rule_of}
 use Rattle.eden_checkout.specs.Plans.{root_files}
 use Rattle.eden_checkout.proofs.Settling.{settled_more}
 use Rattle.eden_checkout.proofs.sides.Sides.settle.Goals as goal

@@ -1,7 +1,7 @@
 use Rattle.std.proofs.Common.{◌≡◌, take}
 use Rattle.eden_objects.specs.Files.{commit_files}
 use Rattle.eden_workcopy.specs.Meanings.{means}
-use Rattle.eden_world.specs.Checkouts.{rule_of}
+use Rattle.eden_history.specs.Checkouts.{rule_of}
 use Rattle.eden_checkout.specs.Plans.{root_files}
 use Rattle.eden_checkout.proofs.Settling.{Settled}
 use Rattle.eden_checkout.proofs.sides.Sides.settle.Given as goal

@@ -1,5 +1,5 @@
 use Rattle.std.proofs.Common.{None, [], ap, sym}
-use Rattle.eden_lines.specs.ScriptText.{script_text}
+use Rattle.eden_script.specs.ScriptText.{script_text}
 use Rattle.eden_edend.specs.Told.{session_of}
 use Rattle.eden_edend.proofs.session.Session.new.Goals as goal
 

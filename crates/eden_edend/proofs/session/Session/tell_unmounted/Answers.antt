@@ -1,6 +1,6 @@
 use Rattle.std.proofs.Common.{◌≡◌, None, inl, inr, true, sym, ap}
 use Rattle.std.proofs.lemmas.Result.{on_ok_weaker}
-use Rattle.eden_lines.specs.ScriptText.{told}
+use Rattle.eden_script.specs.ScriptText.{told}
 use Rattle.eden_edend.proofs.Mounted.{object_tells}
 use Rattle.eden_edend.proofs.SessionLines.{is_of_mount, unmounted_tells}
 use Rattle.eden_edend.proofs.session.Session.tell_unmounted.Goals as goal

@@ -1,6 +1,6 @@
 use Rattle.std.proofs.Common.{◌++◌, [], length, refl, sym, ap, subst, ◌∙◌, append-nil}
 use Rattle.std.proofs.lemmas.Bool.{le-ltb}
-use Rattle.eden_lines.specs.ScriptText.{told}
+use Rattle.eden_script.specs.ScriptText.{told}
 use Rattle.eden_edend.specs.Told.{Tells, session_of}
 use Rattle.eden_edend.proofs.LineAnswers.{takes_skipped, refuses_long, refuses_unread, takes_command}
 use Rattle.eden_edend.proofs.session.SessionLineMachine.answer.Goals as goal

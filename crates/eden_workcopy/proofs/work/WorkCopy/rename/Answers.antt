@@ -1,9 +1,9 @@
 use Rattle.std.proofs.Common.{◌≡◌, None, Some, false, rules, sym, subst}
 use Rattle.eden_ids.specs.FileMaps.{IsFileMap, file_at}
 use Rattle.eden_objects.specs.Files.{commit_files}
-use Rattle.eden_world.specs.Renames.{rename_fault, same_place}
+use Rattle.eden_history.specs.Renames.{rename_fault, same_place}
 use Rattle.eden_workcopy.specs.Meanings.{means}
-use Rattle.eden_world.proofs.RenameLaws.{rename_fits}
+use Rattle.eden_history.proofs.RenameLaws.{rename_fits}
 use Rattle.eden_workcopy.proofs.Works.{shifted}
 use Rattle.eden_workcopy.proofs.work.WorkCopy.rename.Goals as goal
 

@@ -1,9 +1,9 @@
 use Rattle.std.proofs.Common.{◌≡◌, None, rules, sym, subst}
 use Rattle.eden_ids.specs.FileMaps.{IsFileMap}
 use Rattle.eden_objects.specs.Files.{commit_files}
-use Rattle.eden_world.specs.Renames.{write_fault}
+use Rattle.eden_history.specs.Renames.{write_fault}
 use Rattle.eden_workcopy.specs.Meanings.{means}
-use Rattle.eden_world.proofs.RenameLaws.{write_fits}
+use Rattle.eden_history.proofs.RenameLaws.{write_fits}
 use Rattle.eden_workcopy.proofs.Works.{written}
 use Rattle.eden_workcopy.proofs.work.WorkCopy.write.Goals as goal
 

@@ -1,0 +1,265 @@
+-- A mount after a change of files, a flush or a remount.
+use Rattle.std.proofs.Common.{◌≡◌, ◌≢◌, ℕ, ◌-◌, ◌^◌, ◌<◌, Bool, true, false, not, nat_lt, List, [], ◌∷◌, Option, Some, None, is_some, refl, sym, ap, subst, ◌∙◌, arith}
+use Rattle.std.specs.Prelude.{if◌then◌else◌}
+use Rattle.std.specs.FinMap as fin
+use Rattle.eden_ids.specs.declared.content.Content.{Content}
+use Rattle.eden_ids.specs.declared.content.Kind.{Kind}
+use Rattle.eden_ids.specs.FileMaps.{FileMap, file_at}
+use Rattle.eden_ids.proofs.FileMapLemmas.{file_at-insert_here, file_at-insert_other, file_at-remove_here}
+use Rattle.eden_deltas.specs.declared.touch.FileTouch.{FileTouch}
+use Rattle.eden_deltas.specs.declared.delta.Delta.TheVariants.{File}
+use Rattle.eden_deltas.specs.Deltas.{touch}
+use Rattle.eden_objects.specs.Objects.{Held}
+use Rattle.eden_journal.specs.Histories as journal
+use Rattle.eden_journal.specs.Histories.{History, flushed, recorded}
+use Rattle.eden_ranges.specs.Histories.{history_of}
+use Rattle.eden_workcopy.specs.declared.work.WorkCopy.{WorkCopy}
+use Rattle.eden_workcopy.specs.Meanings.{FitsIn, means}
+use Rattle.eden_history.specs.declared.change.Change.{Change}
+use Rattle.eden_history.specs.declared.change.Change.TheVariants.{Write, Remove, Rename, Flush, Remount}
+use Rattle.eden_history.specs.declared.change.ChangeFault.{ChangeFault}
+use Rattle.eden_history.specs.declared.change.ChangeFault.TheVariants.{GenerationNotNew, NoEntry, SequenceExhausted}
+use Rattle.eden_history.specs.declared.row.Row.{Row}
+use Rattle.eden_history.specs.Worlds.{Commits, WorldState, commits_of, now}
+use Rattle.eden_history.specs.Recorded.{delta_of, starts}
+use Rattle.eden_history.specs.Renames.{absent_fault, moved, place_fault, renamed, same_place}
+use Rattle.eden_history.specs.Outcome.{change_fault, event_at, is_event, next_files, next_root, next_row, refusal, takes_number, world_after}
+use Rattle.eden_history.proofs.RenameLaws.{first-none}
+use Rattle.eden_accumulate.specs.Mounts.{IsRefusal, Refuses, State, StandsFor, files_of, number_fault}
+use Rattle.eden_accumulate.proofs.Histories.{answer-refused, event_of, grown, history-flushed, history-remounted}
+use Rattle.eden_accumulate.proofs.Standing.{IsPresent, has_number, number-left, number-out, refusal-free, refusal-numbered, log_recorded, made_stands}
+
+-- a mount by its parts
+abbrev pub state : List Held → WorkCopy → journal.Log → State
+state held work log = record { held = held; work = work; log = log }
+
+-- the second log has one more change of files
+abbrev pub GrowsBy : journal.Log → journal.Log → List FileTouch → Type 0
+GrowsBy log more touches = (h : History) → journal.StandsFor log h → journal.StandsFor more (recorded h h.root (File touches))
+
+-- the same mount, told by other parts
+pub kept : (held : List Held) (work other : WorkCopy) (log more : journal.Log) → other ≡ work → more ≡ log → IsPresent (state held work log) → IsPresent (state held other more)
+kept held work other log more works logs h = (h.0, subst (λ m. StandsFor m h.0) (λ i. state held (sym works i) (sym logs i)) h.1)
+
+-- a number is left for a change that nothing refuses
+pub left : (held : List Held) (work : WorkCopy) (log more : journal.Log) (mount : State) → state held work log ≡ mount → IsPresent (state held work log) → more ≡ log
+    → (change : Change) (fault : Option ChangeFault) → IsRefusal mount change fault → fault ≡ None → takes_number change ≡ true → more.head < 2 ^ 64 - 1
+left held work log more mount view h same change fault is none takes =
+    let low : mount.log.head < 2 ^ 64 - 1 =
+    has_number mount change fault (h.0, subst (λ m. StandsFor m h.0) view h.1) is none takes in
+    let one : more.head ≡ mount.log.head = ap (λ (l : journal.Log). l.head) same ∙ ap (λ (m : State). m.log.head) view in
+    omega arith
+
+-- a journal that made room first
+pub grown_by : (log other more : journal.Log) (touches : List FileTouch) → other ≡ log
+    → ((h : History) → journal.StandsFor other h → journal.StandsFor more (recorded h h.root (File touches))) → GrowsBy log more touches
+grown_by log other more touches same grows h is = grows h (subst (λ l. journal.StandsFor l h) (sym same) is)
+
+-- what a change of files makes of a working copy over a store
+pub record Worked (held : List Held) (old new : WorkCopy) (step : FileMap → FileMap) : Type 0 where
+  pub fits : FitsIn held new
+  pub root : new.root ≡ old.root
+  pub files : means held new ≡ step (means held old)
+
+pub worked : (seen held : List Held) (old new : WorkCopy) (step : FileMap → FileMap) → seen ≡ held → FitsIn seen new → new.root ≡ old.root
+    → means seen new ≡ step (means seen old) → Worked held old new step
+worked seen held old new step same fits root files = subst (λ s. Worked s old new step) same (record { fits = fits; root = root; files = files })
+
+-- a change of files, where the working copy and the journal were changed as it says
+pub file_stands : (held : List Held) (old new : WorkCopy) (log more : journal.Log) (mount : State) → state held old log ≡ mount
+    → (world : WorldState) → StandsFor mount world → (change : Change) → starts change ≡ false → next_root (now world) change ≡ (now world).root
+    → refusal (commits_of world) (now world) change ≡ None → is_event change ≡ true
+    → FitsIn held new → new.root ≡ old.root → means held new ≡ next_files (commits_of world) (now world) change
+    → (touches : List FileTouch) → File touches ≡ delta_of (now world) (event_of world change) → GrowsBy log more touches
+    → StandsFor (state held new more) (world_after world change)
+file_stands held old new log more mount view world h change e stays allowed happens fits root files touches is grows =
+    let h-old : StandsFor (state held old log) world = subst (λ m. StandsFor m world) (sym view) h in
+    made_stands (state held old log) world change (state held new more) (record {
+      stood = h-old;
+      allowed = allowed;
+      happens = happens;
+      held = refl;
+      fits = fits;
+      root = root ∙ h-old.root ∙ sym stays;
+      files = files;
+      log = log_recorded world change more (File touches) e is
+          (subst (λ r. journal.StandsFor more (recorded (history_of world) r (File touches))) (sym stays) (grows (history_of world) h-old.log));
+    })
+
+-- the files of the mount are the row's
+pub files_are : (held : List Held) (old : WorkCopy) (log : journal.Log) (mount : State) → state held old log ≡ mount → (world : WorldState) → StandsFor mount world
+    → means held old ≡ (now world).files
+files_are held old log mount view world h = ap files_of view ∙ h.files
+
+-- ---- write
+
+delta-written : (commits : Commits) (row : Row) (path : List ℕ) (kind : Kind) (bytes : List ℕ)
+    → File (touch path (is_some (file_at row.files path)) true ∷ []) ≡ delta_of row (event_at commits row (Write path kind bytes) (next_row commits row (Write path kind bytes)))
+unfolding next_row next_files
+delta-written commits row path kind bytes =
+    ap (λ b. File (touch path (is_some (file_at row.files path)) b ∷ []))
+    (sym (ap is_some (file_at-insert_here row.files path (record { kind = kind; bytes = bytes }))))
+
+files-written : (commits : Commits) (row : Row) (path : List ℕ) (kind : Kind) (bytes : List ℕ)
+    → fin.insert row.files path (record { kind = kind; bytes = bytes }) ≡ next_files commits row (Write path kind bytes)
+unfolding next_files
+files-written commits row path kind bytes = refl
+
+pub write_stands : (held : List Held) (old new : WorkCopy) (log more : journal.Log) (mount : State) → state held old log ≡ mount
+    → (world : WorldState) → StandsFor mount world → (path : List ℕ) (kind : Kind) (bytes : List ℕ)
+    → refusal (commits_of world) (now world) (Write path kind bytes) ≡ None
+    → Worked held old new (λ m. fin.insert m path (record { kind = kind; bytes = bytes }))
+    → (touches : List FileTouch) → touches ≡ touch path (is_some (file_at (files_of mount) path)) true ∷ [] → GrowsBy log more touches
+    → StandsFor (state held new more) (world_after world (Write path kind bytes))
+write_stands held old new log more mount view world h path kind bytes allowed work touches is grows =
+    file_stands held old new log more mount view world h (Write path kind bytes) refl refl allowed refl work.fits work.root
+    (work.files ∙ ap (λ m. fin.insert m path (record { kind = kind; bytes = bytes })) (files_are held old log mount view world h)
+    ∙ files-written (commits_of world) (now world) path kind bytes)
+    touches
+    (ap File (is ∙ ap (λ m. touch path (is_some (file_at m path)) true ∷ []) h.files) ∙ delta-written (commits_of world) (now world) path kind bytes)
+    grows
+
+-- ---- remove
+
+-- where nothing is absent a file stands
+present : (files : FileMap) (path : List ℕ) → absent_fault files path ≡ None → is_some (file_at files path) ≡ true
+present files path e = by (is_some (file_at files path)) refl (first-none (place_fault files path) _ e).1
+  where
+    by : (b : Bool) → is_some (file_at files path) ≡ b → (if is_some (file_at files path) then None else Some NoEntry) ≡ None → is_some (file_at files path) ≡ true
+    by true here none = here
+    by false here none =
+        let bad : ◌≡◌ {A = Option ChangeFault} (Some NoEntry) None = sym (ap (λ b. if b then None else Some NoEntry) here) ∙ none in cc
+
+allowed_files : (commits : Commits) (row : Row) (change : Change) → refusal commits row change ≡ None → change_fault commits row change ≡ None
+unfolding refusal
+allowed_files commits row change e = (first-none (change_fault commits row change) _ e).0
+
+delta-removed : (commits : Commits) (row : Row) (path : List ℕ) → is_some (file_at row.files path) ≡ true
+    → File (touch path true false ∷ []) ≡ delta_of row (event_at commits row (Remove path) (next_row commits row (Remove path)))
+unfolding next_row next_files
+delta-removed commits row path here =
+    λ i. File (touch path (sym here i) (sym (ap is_some (file_at-remove_here row.files path)) i) ∷ [])
+
+files-removed : (commits : Commits) (row : Row) (path : List ℕ) → fin.remove row.files path ≡ next_files commits row (Remove path)
+unfolding next_files
+files-removed commits row path = refl
+
+pub remove_stands : (held : List Held) (old new : WorkCopy) (log more : journal.Log) (mount : State) → state held old log ≡ mount
+    → (world : WorldState) → StandsFor mount world → (path : List ℕ)
+    → refusal (commits_of world) (now world) (Remove path) ≡ None
+    → Worked held old new (λ m. fin.remove m path)
+    → (touches : List FileTouch) → touches ≡ touch path true false ∷ [] → GrowsBy log more touches
+    → StandsFor (state held new more) (world_after world (Remove path))
+remove_stands held old new log more mount view world h path allowed work touches is grows =
+    file_stands held old new log more mount view world h (Remove path) refl refl allowed refl work.fits work.root
+    (work.files ∙ ap (λ m. fin.remove m path) (files_are held old log mount view world h) ∙ files-removed (commits_of world) (now world) path)
+    touches
+    (ap File is ∙ delta-removed (commits_of world) (now world) path (present (now world).files path (allowed_files (commits_of world) (now world) (Remove path) allowed)))
+    grows
+
+-- ---- rename
+
+-- a file went from the old path to the new one
+moved-old : (files : FileMap) (old new : List ℕ) (file : Option Content) → old ≢ new → is_some file ≡ true → is_some (file_at (moved files old new file) old) ≡ false
+moved-old files old new None apart here = let bad : false ≡ true = here in cc
+moved-old files old new (Some file) apart here =
+    ap is_some (file_at-insert_other (fin.remove files old) new file old apart ∙ file_at-remove_here files old)
+
+moved-new : (files : FileMap) (old new : List ℕ) (file : Option Content) → is_some file ≡ true → is_some (file_at (moved files old new file) new) ≡ true
+moved-new files old new None here = let bad : false ≡ true = here in cc
+moved-new files old new (Some file) here = ap is_some (file_at-insert_here (fin.remove files old) new file)
+
+abbrev moved_touches : FileMap → List ℕ → List ℕ → List FileTouch
+moved_touches files old new = touch old true false ∷ touch new (is_some (file_at files new)) true ∷ []
+
+delta-renamed : (commits : Commits) (row : Row) (old new : List ℕ) → same_place old new ≡ false → old ≢ new → is_some (file_at row.files old) ≡ true
+    → File (moved_touches row.files old new) ≡ delta_of row (event_at commits row (Rename old new) (next_row commits row (Rename old new)))
+unfolding next_row next_files
+delta-renamed commits row old new other apart here =
+    let after : renamed row.files old new ≡ moved row.files old new (file_at row.files old) =
+    ap (λ b. if b then row.files else moved row.files old new (file_at row.files old)) other in
+    let from : is_some (file_at (renamed row.files old new) old) ≡ false =
+    ap (λ (m : FileMap). is_some (file_at m old)) after ∙ moved-old row.files old new (file_at row.files old) apart here in
+    let to : is_some (file_at (renamed row.files old new) new) ≡ true =
+    ap (λ (m : FileMap). is_some (file_at m new)) after ∙ moved-new row.files old new (file_at row.files old) here in
+    λ i. File (touch old (sym here i) (sym from i) ∷ touch new (is_some (file_at row.files new)) (sym to i) ∷ [])
+
+files-renamed : (commits : Commits) (row : Row) (old new : List ℕ) → renamed row.files old new ≡ next_files commits row (Rename old new)
+unfolding next_files
+files-renamed commits row old new = refl
+
+pub rename_stands : (held : List Held) (before after : WorkCopy) (log more : journal.Log) (mount : State) → state held before log ≡ mount
+    → (world : WorldState) → StandsFor mount world → (old new : List ℕ)
+    → refusal (commits_of world) (now world) (Rename old new) ≡ None → same_place old new ≡ false → old ≢ new
+    → Worked held before after (λ m. renamed m old new)
+    → (touches : List FileTouch) → touches ≡ moved_touches (files_of mount) old new → GrowsBy log more touches
+    → StandsFor (state held after more) (world_after world (Rename old new))
+rename_stands held before after log more mount view world h old new allowed other apart work touches is grows =
+    let here : is_some (file_at (now world).files old) ≡ true =
+    present (now world).files old (first-none (absent_fault (now world).files old) _ (allowed_files (commits_of world) (now world) (Rename old new) allowed)).0 in
+    file_stands held before after log more mount view world h (Rename old new) refl refl allowed (ap not other) work.fits work.root
+    (work.files ∙ ap (λ m. renamed m old new) (files_are held before log mount view world h) ∙ files-renamed (commits_of world) (now world) old new)
+    touches
+    (ap File (is ∙ ap (λ m. moved_touches m old new) h.files) ∙ delta-renamed (commits_of world) (now world) old new other apart here)
+    grows
+
+-- ---- flush and remount
+
+-- what leaves root and files as they are
+still_stands : (held : List Held) (work : WorkCopy) (log more : journal.Log) (mount : State) → state held work log ≡ mount
+    → (world : WorldState) → StandsFor mount world → (change : Change) → next_root (now world) change ≡ (now world).root
+    → next_files (commits_of world) (now world) change ≡ (now world).files
+    → refusal (commits_of world) (now world) change ≡ None → is_event change ≡ true
+    → journal.StandsFor more (history_of (grown world change)) → StandsFor (state held work more) (world_after world change)
+still_stands held work log more mount view world h change stays same allowed happens is =
+    let h-old : StandsFor (state held work log) world = subst (λ m. StandsFor m world) (sym view) h in
+    made_stands (state held work log) world change (state held work more) (record {
+      stood = h-old;
+      allowed = allowed;
+      happens = happens;
+      held = refl;
+      fits = h-old.fits;
+      root = h-old.root ∙ sym stays;
+      files = h-old.files ∙ sym same;
+      log = is;
+    })
+
+pub flush_stands : (held : List Held) (work : WorkCopy) (log more : journal.Log) (mount : State) → state held work log ≡ mount
+    → (world : WorldState) → StandsFor mount world → refusal (commits_of world) (now world) Flush ≡ None
+    → ((h : History) → journal.StandsFor log h → journal.StandsFor more (flushed h)) → StandsFor (state held work more) (world_after world Flush)
+unfolding next_files
+flush_stands held work log more mount view world h allowed grows =
+    let h-old : StandsFor (state held work log) world = subst (λ m. StandsFor m world) (sym view) h in
+    still_stands held work log more mount view world h Flush refl refl allowed refl
+    (subst (journal.StandsFor more) (sym (history-flushed world h.legal)) (grows (history_of world) h-old.log))
+
+pub remount_stands : (held : List Held) (work : WorkCopy) (log more : journal.Log) (mount : State) → state held work log ≡ mount
+    → (world : WorldState) → StandsFor mount world → (generation : ℕ) → refusal (commits_of world) (now world) (Remount generation) ≡ None
+    → journal.StandsFor more (journal.opened generation log.root log.limit 1) → StandsFor (state held work more) (world_after world (Remount generation))
+unfolding next_files
+remount_stands held work log more mount view world h generation allowed is =
+    let h-old : StandsFor (state held work log) world = subst (λ m. StandsFor m world) (sym view) h in
+    still_stands held work log more mount view world h (Remount generation) refl refl allowed refl
+    (subst (journal.StandsFor more)
+    ((λ i. journal.opened generation (h-old.log.root i) (h-old.log.limit i) 1) ∙ sym (history-remounted world generation)) is)
+
+pub flush-allowed : (held : List Held) (work : WorkCopy) (log : journal.Log) (mount : State) → state held work log ≡ mount → (world : WorldState) → StandsFor mount world
+    → log.head < 2 ^ 64 - 1 → refusal (commits_of world) (now world) Flush ≡ None
+flush-allowed held work log mount view world h low =
+    let low-now : mount.log.head < 2 ^ 64 - 1 = subst (λ (m : State). m.log.head < 2 ^ 64 - 1) view low in
+    sym (refusal-numbered mount Flush None world h refl refl) ∙ number-left mount.log.head low-now
+
+pub flush-refused : (held : List Held) (work : WorkCopy) (log : journal.Log) (mount : State) → state held work log ≡ mount
+    → log.head ≡ 2 ^ 64 - 1 → Refuses mount Flush SequenceExhausted
+flush-refused held work log mount view last world h =
+    let is : number_fault mount.log.head ≡ Some SequenceExhausted = number-out mount.log.head (sym (ap (λ (m : State). m.log.head) view) ∙ last) in
+    answer-refused world Flush SequenceExhausted (sym (refusal-numbered mount Flush None world h refl refl) ∙ is)
+
+-- a remount is refused by the generation alone
+pub remount-judged : (held : List Held) (work : WorkCopy) (log : journal.Log) (mount : State) → state held work log ≡ mount → (world : WorldState) → StandsFor mount world
+    → (generation : ℕ) (newer : Bool) → nat_lt log.generation generation ≡ newer
+    → (if newer then None else Some GenerationNotNew) ≡ refusal (commits_of world) (now world) (Remount generation)
+remount-judged held work log mount view world h generation newer e =
+    let same : log.generation ≡ (now world).generation = ap (λ (m : State). m.log.generation) view ∙ h.log.generation in
+    refusal-free world (Remount generation) (if newer then None else Some GenerationNotNew)
+    (ap (λ b. if b then None else Some GenerationNotNew) (sym e ∙ ap (λ n. nat_lt n generation) same)) refl

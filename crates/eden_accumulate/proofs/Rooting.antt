@@ -1,0 +1,144 @@
+-- A mount after it went over to another commit.
+use Rattle.std.proofs.Common.{◌≡◌, ℕ, true, false, not, List, [], None, refl, sym, ap, subst, ◌∙◌}
+use Rattle.std.specs.Prelude.{if◌then◌else◌}
+use Rattle.eden_ids.specs.declared.id.Id.{Id}
+use Rattle.eden_ids.specs.FileMaps.{FileMap, listing}
+use Rattle.eden_deltas.specs.declared.delta.Delta.TheVariants.{Root}
+use Rattle.eden_objects.specs.Objects.{Held}
+use Rattle.eden_objects.specs.Commits.{commit_map}
+use Rattle.eden_objects.specs.Files.{commit_files}
+use Rattle.eden_journal.specs.Histories as journal
+use Rattle.eden_journal.specs.Histories.{History, recorded}
+use Rattle.eden_ranges.specs.Histories.{history_of}
+use Rattle.eden_workcopy.specs.declared.work.WorkCopy.{WorkCopy}
+use Rattle.eden_workcopy.specs.Meanings.{FitsIn, means}
+use Rattle.eden_checkout.specs.Plans.{root_files}
+use Rattle.eden_history.specs.declared.answer.Answer.TheVariants.{Checked}
+use Rattle.eden_history.specs.declared.change.Mode.{Mode}
+use Rattle.eden_history.specs.declared.change.Change.{Change}
+use Rattle.eden_history.specs.declared.change.Change.TheVariants.{Checkout, Reset}
+use Rattle.eden_history.specs.declared.position.Position.{Position}
+use Rattle.eden_history.specs.declared.row.Row.{Row}
+use Rattle.eden_history.specs.Checkouts.{checked_out, conflicts, is_dry, unclean}
+use Rattle.eden_history.specs.Named.{held_files}
+use Rattle.eden_history.specs.Worlds.{Commits, WorldState, commits_of, now}
+use Rattle.eden_history.specs.Recorded.{delta_of, starts}
+use Rattle.eden_history.specs.Outcome.{answer_at, commit_fault, event_at, is_event, next_files, next_root, next_row, refusal, world_after}
+use Rattle.eden_accumulate.specs.Mounts.{State, StandsFor}
+use Rattle.eden_accumulate.proofs.Histories.{event_of}
+use Rattle.eden_accumulate.proofs.Standing.{log_recorded, made_stands}
+use Rattle.eden_accumulate.proofs.Changing.{files_are, state}
+
+-- whether there is such a commit
+pub commit-fault : (mount : State) (world : WorldState) → StandsFor mount world → (commit : Id) → commit_fault (commit_map mount.held commit) ≡ commit_fault (commits_of world commit)
+commit-fault mount world h commit = ap (λ held. commit_fault (commit_map held commit)) h.held
+
+-- the second log has one more change of the root
+abbrev pub MovesBy : journal.Log → journal.Log → Id → List (List ℕ) → Type 0
+MovesBy log more commit paths = (h : History) → journal.StandsFor log h → journal.StandsFor more (recorded h commit (Root h.root paths))
+
+pub moved_by : (log other more : journal.Log) (commit : Id) (paths : List (List ℕ)) → other ≡ log
+    → ((h : History) → journal.StandsFor other h → journal.StandsFor more (recorded h commit (Root h.root paths))) → MovesBy log more commit paths
+moved_by log other more commit paths same moves h is = moves h (subst (λ l. journal.StandsFor l h) (sym same) is)
+
+-- what a change of the root makes of a working copy over a store
+pub record Moved (held : List Held) (new : WorkCopy) (commit : Id) (wanted : FileMap) : Type 0 where
+  pub fits : FitsIn held new
+  pub root : new.root ≡ commit
+  pub files : means held new ≡ wanted
+
+root_stands : (held : List Held) (old new : WorkCopy) (log more : journal.Log) (mount : State) → state held old log ≡ mount
+    → (world : WorldState) → StandsFor mount world → (change : Change) (commit : Id) → starts change ≡ false → next_root (now world) change ≡ commit
+    → refusal (commits_of world) (now world) change ≡ None → is_event change ≡ true
+    → Moved held new commit (next_files (commits_of world) (now world) change)
+    → (paths : List (List ℕ)) → Root (now world).root paths ≡ delta_of (now world) (event_of world change) → MovesBy log more commit paths
+    → StandsFor (state held new more) (world_after world change)
+root_stands held old new log more mount view world h change commit e goes allowed happens moved paths is moves =
+    let h-old : StandsFor (state held old log) world = subst (λ m. StandsFor m world) (sym view) h in
+    made_stands (state held old log) world change (state held new more) (record {
+      stood = h-old;
+      allowed = allowed;
+      happens = happens;
+      held = refl;
+      fits = moved.fits;
+      root = moved.root ∙ sym goes;
+      files = moved.files;
+      log = log_recorded world change more (Root (now world).root paths) e is
+          (subst (λ r. journal.StandsFor more (recorded (history_of world) r (Root (now world).root paths))) (sym goes) (moves (history_of world) h-old.log));
+    })
+
+-- ---- reset
+
+delta-reset : (commits : Commits) (row : Row) (commit : Id) → Root row.root [] ≡ delta_of row (event_at commits row (Reset commit) (next_row commits row (Reset commit)))
+unfolding next_row next_files
+delta-reset commits row commit = refl
+
+files-reset : (commits : Commits) (row : Row) (commit : Id) → row.files ≡ next_files commits row (Reset commit)
+unfolding next_files
+files-reset commits row commit = refl
+
+pub reset_stands : (held seen : List Held) (old new : WorkCopy) (log more : journal.Log) (mount : State) → state held old log ≡ mount → seen ≡ held
+    → (world : WorldState) → StandsFor mount world → (commit : Id) → refusal (commits_of world) (now world) (Reset commit) ≡ None
+    → FitsIn seen new → new.root ≡ commit → means seen new ≡ means seen old
+    → (paths : List (List ℕ)) → paths ≡ [] → MovesBy log more commit paths → StandsFor (state held new more) (world_after world (Reset commit))
+reset_stands held seen old new log more mount view same world h commit allowed fits root files paths none moves =
+    let is-files : means held new ≡ means held old = subst (λ s. means s new ≡ means s old) same files in
+    root_stands held old new log more mount view world h (Reset commit) commit refl refl allowed refl
+    (record {
+      fits = subst (λ s. FitsIn s new) same fits;
+      root = root;
+      files = is-files ∙ files_are held old log mount view world h ∙ files-reset (commits_of world) (now world) commit;
+    })
+    paths (ap (Root (now world).root) none ∙ delta-reset (commits_of world) (now world) commit) moves
+
+-- ---- checkout
+
+files-checked : (commits : Commits) (row : Row) (commit : Id) (mode : Mode)
+    → checked_out mode row.files (held_files commits row.root) (held_files commits commit) ≡ next_files commits row (Checkout commit mode)
+unfolding next_files
+files-checked commits row commit mode = refl
+
+delta-checked : (commits : Commits) (row : Row) (commit : Id) (mode : Mode)
+    → Root row.root (listing (unclean row.files (held_files commits row.root) (checked_out mode row.files (held_files commits row.root) (held_files commits commit)) (held_files commits commit)))
+    ≡ delta_of row (event_at commits row (Checkout commit mode) (next_row commits row (Checkout commit mode)))
+unfolding next_row next_files
+delta-checked commits row commit mode = refl
+
+-- the three file maps of a checkout are the world's
+pub three : {X : Type 0} (f : FileMap → FileMap → FileMap → X) (held seen : List Held) (old : WorkCopy) (log : journal.Log) (mount : State) → state held old log ≡ mount → seen ≡ held
+    → (world : WorldState) → StandsFor mount world → (commit : Id)
+    → f (means seen old) (root_files seen old) (commit_files seen commit)
+    ≡ f (now world).files (held_files (commits_of world) (now world).root) (held_files (commits_of world) commit)
+three f held seen old log mount view same world h commit =
+    let h-old : StandsFor (state held old log) world = subst (λ m. StandsFor m world) (sym view) h in
+    ap (λ s. f (means s old) (root_files s old) (commit_files s commit)) same
+    ∙ (λ i. f (h-old.files i) (commit_files (h-old.held i) (h-old.root i)) (commit_files (h-old.held i) commit))
+
+pub checkout_stands : (held seen : List Held) (old new : WorkCopy) (log more : journal.Log) (mount : State) → state held old log ≡ mount → seen ≡ held
+    → (world : WorldState) → StandsFor mount world → (commit : Id) (mode : Mode) → refusal (commits_of world) (now world) (Checkout commit mode) ≡ None → is_dry mode ≡ false
+    → FitsIn seen new → new.root ≡ (if is_dry mode then old.root else commit)
+    → means seen new ≡ checked_out mode (means seen old) (root_files seen old) (commit_files seen commit)
+    → (paths : List (List ℕ))
+    → paths ≡ (if is_dry mode then [] else listing (unclean (means seen old) (root_files seen old) (means seen new) (commit_files seen commit)))
+    → MovesBy log more commit paths → StandsFor (state held new more) (world_after world (Checkout commit mode))
+checkout_stands held seen old new log more mount view same world h commit mode allowed real fits root files paths is moves =
+    let is-files : means held new ≡ next_files (commits_of world) (now world) (Checkout commit mode) =
+    ap (λ s. means s new) (sym same) ∙ files ∙ three (checked_out mode) held seen old log mount view same world h commit
+    ∙ files-checked (commits_of world) (now world) commit mode in
+    root_stands held old new log more mount view world h (Checkout commit mode) commit refl refl allowed (ap not real)
+    (record { fits = subst (λ s. FitsIn s new) same fits; root = root ∙ ap (λ b. if b then old.root else commit) real; files = is-files })
+    paths
+    (ap (Root (now world).root)
+    (is ∙ ap (λ b. if b then [] else listing (unclean (means seen old) (root_files seen old) (means seen new) (commit_files seen commit))) real
+    ∙ ap (λ next. listing (unclean (means seen old) (root_files seen old) next (commit_files seen commit))) files
+    ∙ three (λ work root target. listing (unclean work root (checked_out mode work root target) target)) held seen old log mount view same world h commit)
+    ∙ delta-checked (commits_of world) (now world) commit mode)
+    moves
+
+-- a checkout is answered with its conflicts
+pub checked-answer : (held seen : List Held) (old : WorkCopy) (log : journal.Log) (mount : State) → state held old log ≡ mount → seen ≡ held
+    → (world : WorldState) → StandsFor mount world → (commit : Id) (mode : Mode) (found : List (List ℕ)) (position : Position)
+    → found ≡ listing (conflicts (means seen old) (root_files seen old) (commit_files seen commit))
+    → answer_at (commits_of world) (now world) (Checkout commit mode) position ≡ Checked position found
+checked-answer held seen old log mount view same world h commit mode found position is =
+    ap (Checked position) (sym (is ∙ three (λ work root target. listing (conflicts work root target)) held seen old log mount view same world h commit))

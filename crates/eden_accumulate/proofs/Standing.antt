@@ -1,0 +1,177 @@
+-- A mount that stands for a world stands for it after a change too.
+use Rattle.std.proofs.Common.{◌≡◌, ℕ, ◌-◌, ◌^◌, ◌<◌, Bool, true, false, not, ◌&&◌, nat_lt, List, [], Option, Some, None, refl, sym, ap, subst, ◌∙◌, arith, is_some}
+use Rattle.std.specs.Prelude.{if◌then◌else◌}
+use Rattle.std.proofs.lemmas.Bool.{lt-ltb}
+use Rattle.eden_ids.specs.declared.id.Id.{Id}
+use Rattle.eden_ids.specs.FileMaps.{IsFileMap}
+use Rattle.eden_deltas.specs.declared.delta.Delta.{Delta}
+use Rattle.eden_objects.specs.Objects.{Held}
+use Rattle.eden_objects.specs.Commits.{commit_map}
+use Rattle.eden_objects.specs.Files as Files
+use Rattle.eden_objects.specs.Files.{commit_files}
+use Rattle.eden_workcopy.specs.declared.work.WorkCopy.{WorkCopy}
+use Rattle.eden_journal.specs.Histories as journal
+use Rattle.eden_journal.specs.Histories.{History, recorded}
+use Rattle.eden_journal.proofs.Standing.{stands_opened}
+use Rattle.eden_ranges.specs.Histories.{history_of}
+use Rattle.eden_workcopy.specs.Meanings.{FitsIn, means}
+use Rattle.eden_history.specs.declared.change.Change.{Change}
+use Rattle.eden_history.specs.declared.change.ChangeFault.{ChangeFault}
+use Rattle.eden_history.specs.declared.change.ChangeFault.TheVariants.{SequenceExhausted}
+use Rattle.eden_history.specs.declared.position.Position.{Position}
+use Rattle.eden_history.specs.Worlds.{WorldState, commits_of, now, opened, position_of}
+use Rattle.eden_history.specs.Renames.{first_fault}
+use Rattle.eden_history.specs.Recorded.{delta_of, deltas, starts}
+use Rattle.eden_history.specs.Outcome.{answer_at, answer_of, change_fault, is_event, next_files, next_root, refusal, takes_number, world_after}
+use Rattle.eden_history.proofs.Steps.{has-number}
+use Rattle.eden_accumulate.specs.Mounts.{begun_at, IsRefusal, Refuses, State, StandsFor, files_of, number_fault}
+use Rattle.eden_accumulate.proofs.Histories.{after-event, after-nothing, answer-allowed, answer-refused, event_of, files-made, generation-kept, grown, grown_legal, head_is, history-recorded, root-made}
+
+-- ---- the present
+
+abbrev pub log_position : journal.Log → Position
+log_position log = record { generation = log.generation; sequence = log.head; root = log.root }
+
+pub sequence_is : (mount : State) (world : WorldState) → StandsFor mount world → mount.log.head ≡ (now world).sequence
+sequence_is mount world h = h.log.head ∙ sym (head_is world h.legal)
+
+pub position_is : (mount : State) (world : WorldState) → StandsFor mount world → log_position mount.log ≡ position_of (now world)
+position_is mount world h =
+    λ i. record { generation = h.log.generation i; sequence = sequence_is mount world h i; root = h.log.root i }
+
+-- a mount of a commit, with no event
+pub opened_stands : (held : List Held) (work : WorkCopy) (log : journal.Log) (generation limit : ℕ) (root : Id) → FitsIn held work → work.root ≡ root
+    → commit_map held root ≡ Some (means held work) → journal.StandsFor log (journal.opened generation root limit 1)
+    → StandsFor (record { held = held; work = work; log = log }) (opened held generation limit root (commit_files held root))
+unfolding deltas
+opened_stands held work log generation limit root fits is-root is-files is-log =
+    let files : means held work ≡ commit_files held root = sym (ap Files.files_of is-files) in
+    record {
+      held = refl;
+      fits = fits;
+      root = is-root;
+      files = files;
+      log = is-log;
+      legal = (subst IsFileMap files fits.1, tt);
+      begins = ap is_some is-files;
+    }
+
+-- a journal that holds nothing stands for one with no event
+log-begun : (log : journal.Log) → log.floor ≡ log.head → log.held ≡ [] → journal.StandsFor log (journal.opened log.generation log.root log.limit log.head)
+log-begun log floor nothing =
+    subst (λ (l : journal.Log). journal.StandsFor l (journal.opened log.generation log.root log.limit log.head))
+    (λ i. record { generation = log.generation; limit = log.limit; root = log.root; head = log.head; floor = sym floor i; held = sym nothing i })
+    (stands_opened log.generation log.root log.limit log.head)
+
+-- a mount that begins with parts that hold nothing of the past
+pub begun_stands : (mount : State) → FitsIn mount.held mount.work → mount.log.root ≡ mount.work.root → mount.log.floor ≡ mount.log.head → mount.log.held ≡ []
+    → StandsFor mount (begun_at mount)
+unfolding deltas
+begun_stands mount fits root floor nothing =
+    record {
+      held = refl;
+      fits = fits;
+      root = refl;
+      files = refl;
+      log = subst (λ id. journal.StandsFor mount.log (journal.opened mount.log.generation id mount.log.limit mount.log.head)) root
+          (log-begun mount.log floor nothing);
+      legal = (fits.1, tt);
+      begins = fits.0;
+    }
+
+-- ---- refusals
+
+turned : (free : Bool) → (if free then None else Some SequenceExhausted) ≡ (if true && not free then Some SequenceExhausted else None)
+turned true = refl
+turned false = refl
+
+pub refusal-numbered : (mount : State) (change : Change) (fault : Option ChangeFault) (world : WorldState) → StandsFor mount world
+    → fault ≡ change_fault (commits_of world) (now world) change → takes_number change ≡ true
+    → first_fault fault (number_fault mount.log.head) ≡ refusal (commits_of world) (now world) change
+unfolding refusal
+refusal-numbered mount change fault world h is takes =
+    ap (λ f. first_fault f (number_fault mount.log.head)) is
+    ∙ ap (λ n. first_fault (change_fault (commits_of world) (now world) change) (number_fault n)) (sequence_is mount world h)
+    ∙ ap (first_fault (change_fault (commits_of world) (now world) change)) (turned (nat_lt (now world).sequence (2 ^ 64 - 1)))
+    ∙ ap (λ b. first_fault (change_fault (commits_of world) (now world) change) (if b && not (nat_lt (now world).sequence (2 ^ 64 - 1)) then Some SequenceExhausted else None)) (sym takes)
+
+first-alone : (fault : Option ChangeFault) → first_fault fault None ≡ fault
+first-alone None = refl
+first-alone (Some fault) = refl
+
+pub refusal-free : (world : WorldState) (change : Change) (fault : Option ChangeFault) → fault ≡ change_fault (commits_of world) (now world) change → takes_number change ≡ false
+    → fault ≡ refusal (commits_of world) (now world) change
+unfolding refusal
+refusal-free world change fault is free =
+    is ∙ sym (first-alone (change_fault (commits_of world) (now world) change))
+    ∙ ap (λ b. first_fault (change_fault (commits_of world) (now world) change) (if b && not (nat_lt (now world).sequence (2 ^ 64 - 1)) then Some SequenceExhausted else None)) (sym free)
+
+pub number-left : (n : ℕ) → n < 2 ^ 64 - 1 → number_fault n ≡ None
+number-left n h = ap (λ b. if b then None else Some SequenceExhausted) (lt-ltb n (2 ^ 64 - 1) h)
+
+pub number-out : (n : ℕ) → n ≡ 2 ^ 64 - 1 → number_fault n ≡ Some SequenceExhausted
+number-out n h = ap number_fault h
+
+-- a mount stands for some world
+abbrev pub IsPresent : State → Type 0
+IsPresent mount = (world : WorldState) × StandsFor mount world
+
+pub has_number : (mount : State) (change : Change) (fault : Option ChangeFault) → IsPresent mount → IsRefusal mount change fault → fault ≡ None → takes_number change ≡ true
+    → mount.log.head < 2 ^ 64 - 1
+has_number mount change fault h is none takes =
+    let low : (now h.0).sequence < 2 ^ 64 - 1 = has-number (commits_of h.0) (now h.0) change (sym (is h.0 h.1) ∙ none) takes in
+    let same : mount.log.head ≡ (now h.0).sequence = sequence_is mount h.0 h.1 in
+    omega arith
+
+pub refused : (mount : State) (change : Change) (found : Option ChangeFault) (fault : ChangeFault) → IsRefusal mount change found → found ≡ Some fault
+    → Refuses mount change fault
+refused mount change found fault is some world h = answer-refused world change fault (sym (is world h) ∙ some)
+
+-- the position after a change that nothing refuses is the one that it is answered with
+pub answered : (mount next : State) (change : Change) (position : Position) (world : WorldState) → StandsFor mount world
+    → refusal (commits_of world) (now world) change ≡ None → StandsFor next (world_after world change)
+    → ((w : WorldState) → StandsFor next w → position ≡ position_of (now w))
+    → answer_of world change ≡ answer_at (commits_of world) (now world) change position
+answered mount next change position world h allowed follows is =
+    answer-allowed world change allowed
+    ∙ ap (answer_at (commits_of world) (now world) change) (sym (is (world_after world change) follows))
+
+-- ---- steps
+
+-- a mount after a change: the objects are the same, the rest is what the change makes of it
+pub record IsMade (mount : State) (world : WorldState) (change : Change) (next : State) : Type 0 where
+  pub stood : StandsFor mount world
+  pub allowed : refusal (commits_of world) (now world) change ≡ None
+  pub happens : is_event change ≡ true
+  pub held : next.held ≡ mount.held
+  pub fits : FitsIn next.held next.work
+  pub root : next.work.root ≡ next_root (now world) change
+  pub files : files_of next ≡ next_files (commits_of world) (now world) change
+  pub log : journal.StandsFor next.log (history_of (grown world change))
+
+pub made_stands : (mount : State) (world : WorldState) (change : Change) (next : State) → IsMade mount world change next → StandsFor next (world_after world change)
+made_stands mount world change next h =
+    subst (StandsFor next) (sym (after-event world change h.allowed h.happens)) (record {
+      held = h.held ∙ h.stood.held;
+      fits = h.fits;
+      root = h.root ∙ sym (root-made (commits_of world) (now world) change);
+      files = h.files ∙ sym (files-made (commits_of world) (now world) change);
+      log = h.log;
+      legal = grown_legal world change h.allowed h.happens h.stood.legal;
+      begins = h.stood.begins;
+    })
+
+-- a mount is not changed by what makes no event
+pub same_stands : (mount : State) (world : WorldState) (change : Change) → StandsFor mount world → refusal (commits_of world) (now world) change ≡ None
+    → is_event change ≡ false → StandsFor mount (world_after world change)
+same_stands mount world change h allowed e = subst (StandsFor mount) (sym (after-nothing world change allowed e)) h
+
+-- the journal after an event that it records
+pub log_recorded : (world : WorldState) (change : Change) (log : journal.Log) (what : Delta) → starts change ≡ false
+    → what ≡ delta_of (now world) (event_of world change)
+    → journal.StandsFor log (recorded (history_of world) (next_root (now world) change) what) → journal.StandsFor log (history_of (grown world change))
+log_recorded world change log what e is h =
+    subst (journal.StandsFor log)
+    ((λ i. recorded (history_of world) (sym (root-made (commits_of world) (now world) change) i) (is i))
+    ∙ sym (history-recorded world change e (generation-kept (commits_of world) (now world) change e)))
+    h

@@ -1,9 +1,0 @@
-use Rattle.eden_objects.specs.Commits.{commit_map}
-use Rattle.eden_accumulate.proofs.Columns.{Compared}
-use Rattle.eden_accumulate.proofs.expanding.differing_paths.Given as goal
-
-abbrev pub invariant-loop-place : goal.invariant-loop-place
-invariant-loop-place g l = Compared (commit_map l.store) l.roots l.place l.table
-
-abbrev pub decreases-loop-place : goal.decreases-loop-place
-decreases-loop-place g l = l.place

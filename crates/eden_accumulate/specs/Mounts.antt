@@ -1,0 +1,65 @@
+-- What a mount holds, and of which history of changes it is the present.
+use Rattle.std.specs.Prelude.{◌≡◌, ℕ, ◌-◌, ◌^◌, nat_lt, if◌then◌else◌, List, [], Option, Some, None, IsSome}
+use Rattle.eden_ids.specs.FileMaps.{FileMap}
+use Rattle.eden_objects.specs.Objects.{Held}
+use Rattle.eden_journal.specs.Histories as journal
+use Rattle.eden_ranges.specs.Histories.{history_of}
+use Rattle.eden_workcopy.specs.declared.work.WorkCopy.{WorkCopy}
+use Rattle.eden_workcopy.specs.Meanings.{FitsIn, means}
+use Rattle.eden_history.specs.declared.answer.Answer.{Answer}
+use Rattle.eden_history.specs.declared.answer.Answer.TheVariants.{Refused}
+use Rattle.eden_history.specs.declared.change.Change.{Change}
+use Rattle.eden_history.specs.declared.change.ChangeFault.{ChangeFault}
+use Rattle.eden_history.specs.declared.change.ChangeFault.TheVariants.{SequenceExhausted}
+use Rattle.eden_history.specs.Worlds.{WorldState, commits_of, now}
+use Rattle.eden_history.specs.Outcome.{answer_of, refusal, world_after}
+use Rattle.eden_history.specs.Legal.{IsLegal}
+
+-- a store's objects, a working copy and what a journal holds
+pub record State : Type 0 where
+  pub held : List Held
+  pub work : WorkCopy
+  pub log : journal.Log
+
+-- the files that a mount holds
+abbrev pub files_of : State → FileMap
+files_of mount = means mount.held mount.work
+
+-- a mount is the present of a world: the objects, the root and the files are the world's, and the journal holds what the limit pays for
+-- of what the world recorded. The world began at a commit
+pub record StandsFor (mount : State) (world : WorldState) : Type 0 where
+  pub held : mount.held ≡ world.held
+  pub fits : FitsIn mount.held mount.work
+  pub root : mount.work.root ≡ (now world).root
+  pub files : files_of mount ≡ (now world).files
+  pub log : journal.StandsFor mount.log (history_of world)
+  pub legal : IsLegal world
+  pub begins : IsSome (commits_of world world.opening.root)
+
+-- the answer to a change is that of each world for which the mount stands
+abbrev pub Answers : State → Change → Answer → Type 0
+Answers mount change answer = (world : WorldState) → StandsFor mount world → answer_of world change ≡ answer
+
+-- after a change a mount stands for each world for which it stood, as the change leaves it
+abbrev pub Follows : State → Change → State → Type 0
+Follows mount change after = (world : WorldState) → StandsFor mount world → StandsFor after (world_after world change)
+
+abbrev pub Refuses : State → Change → ChangeFault → Type 0
+Refuses mount change fault = Answers mount change (Refused fault)
+
+-- why a change is refused, or that it is not, in each world for which the mount stands
+abbrev pub IsRefusal : State → Change → Option ChangeFault → Type 0
+IsRefusal mount change fault = (world : WorldState) → StandsFor mount world → fault ≡ refusal (commits_of world) (now world) change
+
+-- that no number is left for one more event
+abbrev pub number_fault : ℕ → Option ChangeFault
+number_fault head = if nat_lt head (2 ^ 64 - 1) then None else Some SequenceExhausted
+
+-- the world that begins with a mount as it is
+abbrev pub begun_at : State → WorldState
+begun_at mount = record {
+  held = mount.held;
+  limit = mount.log.limit;
+  opening = record { generation = mount.log.generation; sequence = mount.log.head; root = mount.work.root; files = files_of mount };
+  past = [];
+}

@@ -1,0 +1,121 @@
+ghost use Rattle.std.specs.Prelude.{◌≡◌, ◌≢◌, None, Some, IfOk, IfErr, OnOk, OnErr, IsSome, not, nat_lt, ◌^◌, ◌-◌, if◌then◌else◌};
+ghost use Rattle.std.specs.Arc.{arc_value};
+ghost use Rattle.eden_ids.specs.FileMaps.{file_at};
+ghost use Rattle.eden_objects.specs.Commits.{commit_map};
+ghost use Rattle.eden_objects.specs.Files.{commit_files};
+ghost use Rattle.eden_workcopy.specs.Meanings.{FitsIn};
+ghost use Rattle.eden_history.specs.Worlds.{WorldState, now, opened, position_of};
+ghost use Rattle.eden_history.specs.Renames.{absent_fault};
+
+use eden_history::{ChangeFault, MountFault, Position};
+use eden_ids::{Id, Kind, Naming, Path};
+use eden_journal::Journal;
+use eden_objects::Store;
+use eden_workcopy::WorkCopy;
+use std::alloc::Global;
+use std::marker::Model;
+use std::sync::Arc;
+
+/// A working copy over a store, and the journal of what changed in it.
+///
+/// It keeps no history: a mount is the present of some world, the slow program that keeps all rows, and each call does to it what the
+/// world's call does to the world.
+#[derive(Drop)]
+pub struct Mount<N: Naming + Drop> {
+    pub(crate) store: Arc<Store<N>>,
+    pub(crate) work: WorkCopy,
+    pub(crate) journal: Journal,
+}
+
+impl<N: Naming + Drop> Model for Mount<N> {
+    ghost use Rattle.std.specs.Arc.{arc_value};
+    ghost use Rattle.std.specs.Coded.{codes};
+    ghost use Rattle.eden_workcopy.specs.contracts.work.WorkCopy as copied;
+    ghost use Rattle.eden_history.specs.Worlds.{WorldState};
+    ghost use Rattle.eden_accumulate.specs.Mounts.{State, StandsFor};
+
+    ghost Value = { State };
+
+    ghost coded = { Prim.hlevel (codes, copied.the_row.coded) };
+
+    ghost view = { λ m. record { held = arc_value m.store; work = m.work; log = m.journal.log } };
+
+    ghost invariant = { λ m. (world : WorldState) × StandsFor (record { held = arc_value m.store; work = m.work; log = m.journal.log }) world };
+}
+
+impl<N: Naming + Drop> Mount<N> {
+    ghost use Rattle.eden_accumulate.specs.Mounts.{StandsFor, files_of};
+
+    /// A mount of a commit, with no event, at number 1 of a generation. The limit is how many bytes the journal may hold.
+    ///
+    /// `NoCommit` comes where the id is no commit's. It takes no memory.
+    pub fn mount(
+        alloc: Global,
+        store: Arc<Store<N>>,
+        root: Id,
+        generation: u64,
+        limit: u64,
+    ) -> Result<Mount<N>, MountFault>
+        ensures stands { IfOk result (λ mount. StandsFor mount (opened (arc_value store) generation limit root (commit_files (arc_value store) root))) }
+        ensures accepts { IfOk result (λ _. IsSome (commit_map (arc_value store) root)) }
+        ensures fault { IfErr result (λ fault. fault ≡ MountFault.NoCommit) }
+        ensures refuses { IfErr result (λ _. commit_map (arc_value store) root ≡ None) }
+    {
+        let Ok(work) = WorkCopy::new(alloc, &store, root) else {
+            return Err(MountFault::NoCommit);
+        };
+        Ok(Mount {
+            store,
+            work,
+            journal: Journal::new(alloc, generation, root, limit),
+        })
+    }
+
+    /// The objects. This takes no memory.
+    pub fn store(&self) -> &Arc<Store<N>>
+        ensures { arc_value result.now ≡ self.now.held }
+    {
+        &self.store
+    }
+
+    /// The files. This takes no memory.
+    pub fn work(&self) -> &WorkCopy
+        ensures work { result.now ≡ self.now.work }
+        ensures fits { FitsIn self.now.held self.now.work }
+    {
+        &self.work
+    }
+
+    /// What changed. This takes no memory.
+    pub fn journal(&self) -> &Journal
+        ensures { result.now.log ≡ self.now.log }
+    {
+        &self.journal
+    }
+
+    /// The present position. This takes no memory.
+    pub fn position(&self) -> Position
+        ensures log { result ≡ record { generation = self.now.log.generation; sequence = self.now.log.head; root = self.now.log.root } }
+        ensures world { (world : WorldState) → StandsFor self.now world → result ≡ position_of (now world) }
+    {
+        Position {
+            generation: self.journal.generation(),
+            sequence: self.journal.head(),
+            root: self.journal.root(),
+        }
+    }
+
+    /// The kind and the bytes of the file at a path.
+    ///
+    /// Refused, in this order, as `NotADirectory` where a file stands at a proper prefix of the path's components, as `IsADirectory`
+    /// where files stand below the path, or as `NoEntry` where no file stands at it. It takes no memory.
+    pub fn read(&self, path: &Path) -> Result<(Kind, &[u8]), ChangeFault>
+        ensures accepts { IfOk result (λ _. (world : WorldState) → StandsFor self.now world → absent_fault (now world).files path.now ≡ None) }
+        ensures reads { IfOk result (λ seen. (world : WorldState) → StandsFor self.now world
+            → file_at (now world).files path.now ≡ Some (record { kind = seen.0; bytes = seen.1.now })) }
+        ensures refuses { IfErr result (λ fault. (world : WorldState) → StandsFor self.now world
+            → absent_fault (now world).files path.now ≡ Some fault) }
+    {
+        self.work.read(&self.store, path)
+    }
+}

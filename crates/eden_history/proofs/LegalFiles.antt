@@ -1,0 +1,68 @@
+-- No change makes two paths clash.
+use Rattle.std.proofs.Common.{◌≡◌, List, [], ◌∷◌, Option, Some, None, refl, sym, subst, ◌∙◌}
+use Rattle.eden_ids.specs.declared.id.Id.{Id}
+use Rattle.eden_ids.specs.FileMaps.{FileMap, IsFileMap}
+use Rattle.eden_ids.proofs.FileMapLemmas.{IsFileMap-none, IsFileMap-remove}
+use Rattle.eden_objects.specs.Objects.{Held}
+use Rattle.eden_objects.specs.Closed.{IsClosed}
+use Rattle.eden_objects.specs.Commits.{commit_map}
+use Rattle.eden_objects.specs.Files.{files_of}
+use Rattle.eden_objects.proofs.CommitLaws.{file_maps}
+use Rattle.eden_history.specs.declared.change.Change.{Change}
+use Rattle.eden_history.specs.declared.change.Change.TheVariants.{Write, Remove, Rename, Checkout, Reset, Flush, Remount}
+use Rattle.eden_history.specs.declared.row.Row.{Row}
+use Rattle.eden_history.specs.declared.row.Event.{Event}
+use Rattle.eden_history.specs.Worlds.{Commits, WorldState, commits_of, last_row, now}
+use Rattle.eden_history.specs.Named.{held_files}
+use Rattle.eden_history.specs.Outcome.{change_fault, next_files, next_row, refusal}
+use Rattle.eden_history.specs.Legal.{AreMade, IsLegal}
+use Rattle.eden_history.proofs.CheckoutLaws.{checked_out_no_clash}
+use Rattle.eden_history.proofs.RenameLaws.{first-none, rename_fits, write_fits}
+use Rattle.eden_history.proofs.Steps.{is_made}
+
+-- each commit that is there holds a file map
+abbrev pub AreFileMaps : Commits → Type 0
+AreFileMaps commits = (id : Id) (files : FileMap) → commits id ≡ Some files → IsFileMap files
+
+held_fits : (commits : Commits) → AreFileMaps commits → (id : Id) → IsFileMap (held_files commits id)
+held_fits commits fits id = by (commits id) refl
+  where
+    by : (found : Option FileMap) → commits id ≡ found → IsFileMap (files_of found)
+    by None e = IsFileMap-none
+    by (Some files) e = fits id files e
+
+next_fits : (commits : Commits) (row : Row) (change : Change) → AreFileMaps commits → change_fault commits row change ≡ None → IsFileMap row.files → IsFileMap (next_files commits row change)
+unfolding next_files
+next_fits commits row (Write path kind bytes) maps e fits = write_fits row.files path bytes _ fits e
+next_fits commits row (Remove path) maps e fits = IsFileMap-remove row.files path fits
+next_fits commits row (Rename old new) maps e fits = rename_fits row.files old new fits e
+next_fits commits row (Checkout commit mode) maps e fits =
+    checked_out_no_clash mode row.files (held_files commits row.root) (held_files commits commit) fits (held_fits commits maps commit)
+next_fits commits row (Reset commit) maps e fits = fits
+next_fits commits row Flush maps e fits = fits
+next_fits commits row (Remount generation) maps e fits = fits
+
+allowed_files : (commits : Commits) (row : Row) (change : Change) → refusal commits row change ≡ None → change_fault commits row change ≡ None
+unfolding refusal
+allowed_files commits row change e = (first-none (change_fault commits row change) _ e).0
+
+next_row_files : (commits : Commits) (row : Row) (change : Change) → (next_row commits row change).files ≡ next_files commits row change
+unfolding next_row
+next_row_files commits row change = refl
+
+made_fits : (commits : Commits) (opening : Row) (past : List Event) → AreFileMaps commits → IsFileMap opening.files → AreMade commits opening past → IsFileMap (last_row opening past).files
+made_fits commits opening [] maps fits made = fits
+made_fits commits opening (event ∷ past) maps fits made =
+    let one = is_made commits (last_row opening past) event made.0 in
+    let parts = one.made in
+    subst IsFileMap (sym ((λ i. (parts i).row.files) ∙ next_row_files commits (last_row opening past) event.change))
+    (next_fits commits (last_row opening past) event.change maps (allowed_files commits (last_row opening past) event.change one.allowed)
+    (made_fits commits opening past maps fits made.1))
+
+-- the files of each row of a legal world over a closed store are a file map
+pub legal_files : (world : WorldState) → IsClosed world.held → IsLegal world → IsFileMap (now world).files
+legal_files world closed legal = made_fits (commits_of world) world.opening world.past (file_maps world.held closed) legal.0 legal.1
+
+-- the files of a commit are a file map
+pub commit_fits : (held : List Held) → IsClosed held → (id : Id) → IsFileMap (held_files (commit_map held) id)
+commit_fits held closed id = held_fits (commit_map held) (file_maps held closed) id

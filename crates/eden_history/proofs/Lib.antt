@@ -1,0 +1,9 @@
+pub mod CheckoutLaws
+pub mod RenameLaws
+pub mod Committed
+pub mod Steps
+pub mod LegalFiles
+pub mod Touched
+pub mod Ranges
+pub mod Floors
+mod Spelling

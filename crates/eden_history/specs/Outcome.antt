@@ -1,0 +1,123 @@
+-- What a change does to a row: it is refused, or makes no event, or makes the next row.
+use Rattle.std.specs.Prelude.{ℕ, ◌+◌, ◌-◌, ◌^◌, Bool, true, false, not, ◌&&◌, nat_lt, if◌then◌else◌, ◌∷◌, Option, Some, None}
+use Rattle.std.specs.FinMap as fin
+use Rattle.eden_ids.specs.declared.id.Id.{Id}
+use Rattle.eden_ids.specs.FileMaps.{FileMap, listing}
+use Rattle.eden_history.specs.declared.answer.Answer.{Answer}
+use Rattle.eden_history.specs.declared.answer.Answer.TheVariants.{At, Checked, Refused}
+use Rattle.eden_history.specs.declared.change.Change.{Change}
+use Rattle.eden_history.specs.declared.change.Change.TheVariants.{Write, Remove, Rename, Checkout, Reset, Flush, Remount}
+use Rattle.eden_history.specs.declared.change.ChangeFault.{ChangeFault}
+use Rattle.eden_history.specs.declared.change.ChangeFault.TheVariants.{NoCommit, SequenceExhausted, GenerationNotNew}
+use Rattle.eden_history.specs.declared.position.Position.{Position}
+use Rattle.eden_history.specs.declared.row.Row.{Row}
+use Rattle.eden_history.specs.declared.row.Event.{Event}
+use Rattle.eden_history.specs.Worlds.{Commits, WorldState, commits_of, now, position_of}
+use Rattle.eden_history.specs.Renames.{first_fault, absent_fault, write_fault, same_place, rename_fault, renamed}
+use Rattle.eden_history.specs.Checkouts.{checked_out, conflicts, is_dry}
+use Rattle.eden_history.specs.Named.{held_files, unclean_paths, named}
+
+-- a commit has to be there
+abbrev pub commit_fault : Option FileMap → Option ChangeFault
+commit_fault None = Some NoCommit
+commit_fault (Some files) = None
+
+-- why the files, the commits or the generation refuse a change
+abbrev pub change_fault : Commits → Row → Change → Option ChangeFault
+change_fault commits row (Write path kind bytes) = write_fault row.files path bytes
+change_fault commits row (Remove path) = absent_fault row.files path
+change_fault commits row (Rename old new) = rename_fault row.files old new
+change_fault commits row (Checkout commit mode) = commit_fault (commits commit)
+change_fault commits row (Reset commit) = commit_fault (commits commit)
+change_fault commits row Flush = None
+change_fault commits row (Remount generation) = if nat_lt row.generation generation then None else Some GenerationNotNew
+
+-- whether the change, where nothing refuses it, makes an event: all do but the rename of a file to itself and a checkout that is tried
+abbrev pub is_event : Change → Bool
+is_event (Rename old new) = not (same_place old new)
+is_event (Checkout commit mode) = not (is_dry mode)
+is_event change = true
+
+-- whether the change, where nothing refuses it, takes the next number: a remount begins anew with number 1
+abbrev pub takes_number : Change → Bool
+takes_number (Remount generation) = false
+takes_number change = is_event change
+
+-- the first cause of a refusal that stands. Sequence numbers end at 2 ^ 64 - 1
+unfoldable pub refusal : Commits → Row → Change → Option ChangeFault
+refusal commits row change =
+    first_fault (change_fault commits row change)
+    (if takes_number change && not (nat_lt row.sequence (2 ^ 64 - 1)) then Some SequenceExhausted else None)
+
+-- the files after a change of files
+abbrev pub files_changed : FileMap → Change → FileMap
+files_changed files (Write path kind bytes) = fin.insert files path (record { kind = kind; bytes = bytes })
+files_changed files (Remove path) = fin.remove files path
+files_changed files (Rename old new) = renamed files old new
+files_changed files change = files
+
+-- the files after a change that is not refused
+unfoldable pub next_files : Commits → Row → Change → FileMap
+next_files commits row (Checkout commit mode) = checked_out mode row.files (held_files commits row.root) (held_files commits commit)
+next_files commits row change = files_changed row.files change
+
+abbrev pub next_generation : Row → Change → ℕ
+next_generation row (Remount generation) = generation
+next_generation row change = row.generation
+
+abbrev pub next_sequence : Row → Change → ℕ
+next_sequence row (Remount generation) = 1
+next_sequence row change = row.sequence + 1
+
+abbrev pub next_root : Row → Change → Id
+next_root row (Checkout commit mode) = commit
+next_root row (Reset commit) = commit
+next_root row change = row.root
+
+unfoldable pub next_row : Commits → Row → Change → Row
+next_row commits row change = record {
+  generation = next_generation row change;
+  sequence = next_sequence row change;
+  root = next_root row change;
+  files = next_files commits row change;
+}
+
+pub data Outcome : Type 0 where
+  Refuses : ChangeFault → Outcome
+  NoEvent : Outcome
+  Next : Event → Outcome
+
+-- the event that a change makes, with the row after it
+abbrev pub event_at : Commits → Row → Change → Row → Event
+event_at commits before change after =
+    record { change = change; row = after; names = named commits before change after; unclean = unclean_paths commits before change after }
+
+abbrev pub judged : Commits → Row → Change → Option ChangeFault → Outcome
+judged commits row change (Some fault) = Refuses fault
+judged commits row change None = if is_event change then Next (event_at commits row change (next_row commits row change)) else NoEvent
+
+abbrev pub outcome : Commits → Row → Change → Outcome
+outcome commits row change = judged commits row change (refusal commits row change)
+
+-- a checkout, also one that is only tried, is answered with its conflicts
+abbrev pub answer_at : Commits → Row → Change → Position → Answer
+answer_at commits row (Checkout commit mode) position =
+    Checked position (listing (conflicts row.files (held_files commits row.root) (held_files commits commit)))
+answer_at commits row change position = At position
+
+abbrev pub answered : Commits → Row → Change → Outcome → Answer
+answered commits row change (Refuses fault) = Refused fault
+answered commits row change NoEvent = answer_at commits row change (position_of row)
+answered commits row change (Next event) = answer_at commits row change (position_of event.row)
+
+-- the answer to a change, and the world after it
+abbrev pub answer_of : WorldState → Change → Answer
+answer_of world change = answered (commits_of world) (now world) change (outcome (commits_of world) (now world) change)
+
+abbrev pub extended : WorldState → Outcome → WorldState
+extended world (Refuses fault) = world
+extended world NoEvent = world
+extended world (Next event) = record world { past = event ∷ world.past }
+
+abbrev pub world_after : WorldState → Change → WorldState
+world_after world change = extended world (outcome (commits_of world) (now world) change)

@@ -1,0 +1,45 @@
+-- What a mount replies to a request.
+use Rattle.std.specs.Prelude.{ℕ, nat_lt, if◌then◌else◌, List, length, Option, Some, None, filter}
+use Rattle.eden_globs.specs.Filters.{admits}
+use Rattle.eden_history.specs.declared.answer.SinceFault.{SinceFault}
+use Rattle.eden_history.specs.declared.answer.SinceFault.TheVariants as since
+use Rattle.eden_history.specs.declared.mark.Marked.{Marked}
+use Rattle.eden_history.specs.declared.message.Cause.{Cause}
+use Rattle.eden_history.specs.declared.message.Cause.TheVariants.{Stale, Ahead, Truncated, TooLarge}
+use Rattle.eden_history.specs.declared.message.Query.{Query}
+use Rattle.eden_history.specs.declared.message.Reply.{Reply}
+use Rattle.eden_history.specs.declared.message.Reply.TheVariants.{ChangesAre, Refused}
+use Rattle.eden_history.specs.declared.message.Request.{Request}
+use Rattle.eden_history.specs.declared.message.Request.TheVariants.{Poll}
+use Rattle.eden_history.specs.Worlds.{WorldState, now, position_of}
+use Rattle.eden_history.specs.Status.{status}
+use Rattle.eden_history.specs.Marks.{marked_since}
+use Rattle.eden_history.specs.Recorded.{floor_of}
+use Rattle.eden_history.specs.Spells.{reply_bytes, body_limit}
+
+-- the cause with its number; no status is a want of memory
+abbrev pub cause_of : SinceFault → Cause
+cause_of (since.Stale generation) = Stale generation
+cause_of (since.Ahead head) = Ahead head
+cause_of (since.Truncated floor) = Truncated floor
+cause_of since.NoMemory = TooLarge
+
+-- those that the patterns admit, in their order
+abbrev pub admitted : List (List ℕ) → List Marked → List Marked
+admitted patterns marked = filter (λ m. admits patterns m.path) marked
+
+-- a reply whose body would be longer than a frame's may be is a refusal
+unfoldable pub bounded : Query → Reply → Reply
+bounded query reply = if nat_lt body_limit (length (reply_bytes reply)) then Refused query TooLarge else reply
+
+abbrev pub changes_reply : WorldState → Query → ℕ → List (List ℕ) → Reply
+changes_reply world query since patterns =
+    bounded query (ChangesAre query (position_of (now world)) (admitted patterns (marked_since world since)))
+
+abbrev pub polled : WorldState → Query → ℕ → List (List ℕ) → Option SinceFault → Reply
+polled world query since patterns (Some fault) = Refused query (cause_of fault)
+polled world query since patterns None = changes_reply world query since patterns
+
+abbrev pub reply_of : WorldState → Request → Reply
+reply_of world (Poll query since patterns) =
+    polled world query since.sequence patterns (status (floor_of world) (now world) since)

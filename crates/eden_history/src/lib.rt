@@ -1,0 +1,27 @@
+//! What a mount means: its rows and events, what each change does, what has changed since a position, and how a client asks.
+//!
+//! The definitions stand in `specs/`, one to a file, and every other crate proves its code against them.
+#![tactic(auto)]
+
+pub use crate::answer::{Answer, MountFault, SinceFault};
+pub use crate::change::{Change, ChangeFault, Mode};
+pub use crate::checkout_laws::checkout_law;
+pub use crate::mark::{Mark, Marked};
+pub use crate::message::{Cause, Query, Reply, Request};
+pub use crate::position::Position;
+pub use crate::row::{Event, Row};
+pub use crate::spelling_law::{frames_law, one_message_law, one_spelling_law};
+pub use crate::touches::{Touch, Touches};
+
+mod answer;
+mod change;
+mod checkout_laws;
+mod mark;
+mod message;
+mod position;
+mod refusal;
+mod row;
+mod spelling_law;
+#[cfg(test)]
+mod tests;
+mod touches;

@@ -1,4 +1,0 @@
-pub mod LabelWords
-pub mod Labels
-pub mod ScriptLines
-pub mod ScriptText

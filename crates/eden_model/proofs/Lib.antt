@@ -1,5 +1,0 @@
-mod Listed
-mod Tabulating
-mod SideLaws
-mod Walk
-mod Replying

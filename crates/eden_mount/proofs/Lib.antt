@@ -1,6 +1,0 @@
-pub mod Histories
-pub mod Standing
-pub mod Changing
-pub mod Rooting
-pub mod Seen
-pub mod Ranging

@@ -1,3 +1,0 @@
-pub mod Mounts
-pub mod Snapshots
-pub mod Ranges

@@ -1,0 +1,8 @@
+pub mod Walking
+pub mod Columns
+pub mod Newest
+pub mod Ends
+pub mod Relisted
+pub mod Numbered
+pub mod Named
+pub mod Bridge

@@ -1,0 +1,46 @@
+-- Which paths a range names, and what became of each.
+use Rattle.std.specs.Prelude.{Bool, true, ◌&&◌, ◌||◌, is_some, List, [], ◌∷◌, map}
+use Rattle.eden_ids.specs.declared.id.Id.{Id}
+use Rattle.eden_ids.specs.FileMaps.{PathSet, listing, no_paths, path_set, union}
+use Rattle.eden_objects.specs.Objects.{Held, same_id}
+use Rattle.eden_objects.specs.Commits.{commit_map}
+use Rattle.eden_history.specs.declared.mark.Marked.{Marked}
+use Rattle.eden_history.specs.Worlds.{Commits}
+use Rattle.eden_history.specs.Named.{commits_differ}
+use Rattle.eden_history.specs.Touches.{marked_at, touched_by, untouched}
+use Rattle.eden_ranges.specs.declared.ranges.Range.{Range}
+
+-- ---- roots
+
+abbrev pub differing_after : Commits → Id → List Id → PathSet
+differing_after commits root [] = no_paths
+differing_after commits root (next ∷ roots) = union (commits_differ commits root next) (differing_after commits next roots)
+
+-- the paths on which two neighbouring roots differ
+abbrev pub differing : Commits → List Id → PathSet
+differing commits [] = no_paths
+differing commits (root ∷ roots) = differing_after commits root roots
+
+-- two roots can be compared where they are one, or both are commits
+abbrev pub is_comparable : Commits → Id → Id → Bool
+is_comparable commits left reached = same_id left reached || (is_some (commits left) && is_some (commits reached))
+
+abbrev pub comparable_after : Commits → Id → List Id → Bool
+comparable_after commits root [] = true
+comparable_after commits root (next ∷ roots) = is_comparable commits root next && comparable_after commits next roots
+
+-- each two neighbouring roots can be compared
+abbrev pub are_comparable : Commits → List Id → Bool
+are_comparable commits [] = true
+are_comparable commits (root ∷ roots) = comparable_after commits root roots
+
+-- ---- ranges
+
+-- the paths at which files were changed, the unclean ones, and those on which neighbouring roots differ
+abbrev pub paths_in : List Held → Range → PathSet
+paths_in held range =
+    union (path_set (map (λ touch. touch.path) range.changes)) (union (path_set range.unclean) (differing (commit_map held) range.roots))
+
+-- these paths, ascending, each with what the changes of files did there; where they did nothing, the root named it
+abbrev pub expanded : List Held → Range → List Marked
+expanded held range = marked_at (touched_by range.changes untouched) (listing (paths_in held range))

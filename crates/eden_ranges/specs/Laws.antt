@@ -1,0 +1,63 @@
+-- What a range says of a world.
+use Rattle.std.specs.Prelude.{◌≡◌, ℕ, true, is_some, List, [], ◌∷◌, ◌++◌, filter, reverse, Option, Some, None}
+use Rattle.std.specs.List.{list_all}
+use Rattle.eden_ids.specs.declared.id.Id.{Id}
+use Rattle.std.specs.FinMap as fin
+use Rattle.eden_ids.specs.FileMaps.{same_path}
+use Rattle.eden_deltas.specs.declared.touch.FileTouch.{FileTouch}
+use Rattle.eden_deltas.specs.declared.delta.Delta.{Delta}
+use Rattle.eden_deltas.specs.declared.delta.Delta.TheVariants.{File, Root}
+use Rattle.eden_history.specs.declared.touches.Touch.{Touch}
+use Rattle.eden_ranges.specs.Gathered.{changed_by}
+use Rattle.eden_journal.specs.Histories.{Log, StandsFor}
+use Rattle.eden_history.specs.declared.position.Position.{Position}
+use Rattle.eden_history.specs.Worlds.{Commits, WorldState, now, position_of}
+use Rattle.eden_history.specs.Legal.{IsLegal}
+use Rattle.eden_history.specs.Marks.{marked_since}
+use Rattle.eden_history.specs.Recorded.{floor_of}
+use Rattle.eden_history.specs.Status.{status}
+use Rattle.eden_ranges.specs.Histories.{history_of}
+use Rattle.eden_ranges.specs.Since.{head_position, log_status, range_of}
+use Rattle.eden_ranges.specs.Expanded.{are_comparable, expanded}
+
+-- the head's position is the world's
+abbrev pub HeadsAreNow : Type 0
+HeadsAreNow = (world : WorldState) → IsLegal world → (log : Log) → StandsFor log (history_of world) → head_position log ≡ position_of (now world)
+
+-- a position is refused as the world refuses it
+abbrev pub RefusalsAreTheWorlds : Type 0
+RefusalsAreTheWorlds = (world : WorldState) → IsLegal world → (log : Log) → StandsFor log (history_of world) → (position : Position)
+    → log_status log position ≡ status (floor_of world) (now world) position
+
+-- from a good position the range has the paths that the world's events name since, each with what became of it
+abbrev pub RangesAreTheWorlds : Type 0
+RangesAreTheWorlds = (world : WorldState) → IsLegal world → (log : Log) → StandsFor log (history_of world) → (position : Position)
+    → log_status log position ≡ None → expanded world.held (range_of log position.sequence) ≡ marked_since world position.sequence
+
+-- roots of which each is a commit can be compared
+abbrev pub CommitsAreComparable : Type 0
+CommitsAreComparable = (commits : Commits) (roots : List Id) → list_all (λ root. is_some (commits root)) roots ≡ true → are_comparable commits roots ≡ true
+
+-- ---- what changes of files come to
+
+abbrev pub touches_here : List ℕ → List FileTouch → List FileTouch
+touches_here path touches = filter (λ touch. same_path path touch.path) touches
+
+-- all changes of files at a path, newest first; within a delta the later ones are newer
+abbrev pub touches_at : List ℕ → List Delta → List FileTouch
+touches_at path [] = []
+touches_at path (File touches ∷ older) = reverse (touches_here path touches) ++ touches_at path older
+touches_at path (Root left unclean ∷ older) = touches_at path older
+
+abbrev pub oldest_of : FileTouch → List FileTouch → FileTouch
+oldest_of newest [] = newest
+oldest_of newest (older ∷ more) = oldest_of older more
+
+-- what was there before the oldest of them, and is there after the newest
+abbrev pub ends_of : List FileTouch → Option Touch
+ends_of [] = None
+ends_of (newest ∷ older) = Some (record { before = (oldest_of newest older).before; after = newest.after })
+
+-- at each path the deltas of a range come to what was there before the oldest change, and is there after the newest
+abbrev pub ChangesAreEnds : Type 0
+ChangesAreEnds = (deltas : List Delta) (path : List ℕ) → fin.get (changed_by deltas) path ≡ ends_of (touches_at path deltas)

@@ -1,0 +1,5 @@
+pub mod Histories
+pub mod Gathered
+pub mod Since
+pub mod Expanded
+pub mod Laws
