@@ -22,7 +22,8 @@ use Rattle.eden_history.specs.declared.change.ChangeFault.TheVariants.{Generatio
 use Rattle.eden_history.specs.declared.row.Row.{Row}
 use Rattle.eden_history.specs.Worlds.{Commits, WorldState, commits_of, now}
 use Rattle.eden_history.specs.Recorded.{delta_of, starts}
-use Rattle.eden_history.specs.Renames.{absent_fault, moved, place_fault, renamed, same_place}
+use Rattle.eden_history.specs.Renames.{absent_fault, moved, place_fault, renamed}
+use Rattle.eden_ids.specs.Sameness.{same_bytes}
 use Rattle.eden_history.specs.Outcome.{change_fault, event_at, is_event, next_files, next_root, next_row, refusal, takes_number, world_after}
 use Rattle.eden_history.proofs.RenameLaws.{first-none}
 use Rattle.eden_accumulate.specs.Mounts.{IsRefusal, Refuses, State, StandsFor, files_of, number_fault}
@@ -172,7 +173,7 @@ moved-new files old new (Some file) here = ap is_some (file_at-insert_here (fin.
 abbrev moved_touches : FileMap → List ℕ → List ℕ → List FileTouch
 moved_touches files old new = touch old true false ∷ touch new (is_some (file_at files new)) true ∷ []
 
-delta-renamed : (commits : Commits) (row : Row) (old new : List ℕ) → same_place old new ≡ false → old ≢ new → is_some (file_at row.files old) ≡ true
+delta-renamed : (commits : Commits) (row : Row) (old new : List ℕ) → same_bytes old new ≡ false → old ≢ new → is_some (file_at row.files old) ≡ true
     → File (moved_touches row.files old new) ≡ delta_of row (event_at commits row (Rename old new) (next_row commits row (Rename old new)))
 unfolding next_row next_files
 delta-renamed commits row old new other apart here =
@@ -190,7 +191,7 @@ files-renamed commits row old new = refl
 
 pub rename_stands : (held : List Held) (before after : WorkCopy) (log more : journal.Log) (mount : State) → state held before log ≡ mount
     → (world : WorldState) → StandsFor mount world → (old new : List ℕ)
-    → refusal (commits_of world) (now world) (Rename old new) ≡ None → same_place old new ≡ false → old ≢ new
+    → refusal (commits_of world) (now world) (Rename old new) ≡ None → same_bytes old new ≡ false → old ≢ new
     → Worked held before after (λ m. renamed m old new)
     → (touches : List FileTouch) → touches ≡ moved_touches (files_of mount) old new → GrowsBy log more touches
     → StandsFor (state held after more) (world_after world (Rename old new))

@@ -6,12 +6,11 @@ use Rattle.std.specs.FinMap as fin
 use Rattle.eden_ids.specs.declared.content.Content.{Content}
 use Rattle.std.specs.Borrow.{Bor}
 use Rattle.eden_ids.specs.declared.content.Kind.{Kind}
-use Rattle.eden_objects.specs.Files.{content_seen}
 use Rattle.eden_ids.specs.Paths.{clashes, lies_below}
-use Rattle.eden_ids.specs.FileMaps.{FileMap, file_at, paths, has, has_file_above, has_file_below, listing, differ, path_set}
+use Rattle.eden_ids.specs.FileMaps.{FileMap, file_at, paths, has, has_file_above, has_file_below, listing, differ, path_set, clashes_any, lent}
 use Rattle.eden_ids.proofs.FileMapLemmas.{has-differ, has-path_set}
 use Rattle.eden_ids.proofs.TreeMaps.{listing-same}
-use Rattle.eden_history.specs.Checkouts.{is_clean, clashes_dirty, clashes_any}
+use Rattle.eden_history.specs.Checkouts.{is_clean, clashes_dirty}
 use Rattle.eden_history.proofs.CheckoutLaws.{any_holds, any_found}
 use Rattle.eden_ids.proofs.Sifted.{listing_of}
 use Rattle.eden_checkout.specs.Plans.{dirty_files}
@@ -30,7 +29,7 @@ is_dirty_file work root p = ap is_some (file_at-dirty work root p) ∙ turned (n
     turned false None = refl
     turned false (Some f) = refl
 
-pub some_seen : (seen : Option (Kind × Bor (List ℕ))) (file : Option Content) → content_seen seen ≡ file → is_some seen ≡ is_some file
+pub some_seen : (seen : Option (Kind × Bor (List ℕ))) (file : Option Content) → lent seen ≡ file → is_some seen ≡ is_some file
 some_seen None file is = ap is_some is
 some_seen (Some x) file is = ap is_some is
 

@@ -1,9 +1,9 @@
 ghost use Rattle.std.specs.Prelude.{◌≡◌, ◌<◌, ◌&&◌, is_some, length, nat_eq, take};
 ghost use Rattle.std.specs.List.{slice_index_or};
-ghost use Rattle.eden_ids.specs.FileMaps.{file_at, has_file_above, has_file_below};
+ghost use Rattle.eden_ids.specs.FileMaps.{file_at, has_file_above, has_file_below, clashes_any};
 ghost use Rattle.eden_objects.specs.Files.{commit_files};
 ghost use Rattle.eden_workcopy.specs.Meanings.{means};
-ghost use Rattle.eden_history.specs.Checkouts.{clashes_any, clashes_dirty};
+ghost use Rattle.eden_history.specs.Checkouts.{clashes_dirty};
 ghost use Rattle.eden_checkout.specs.Plans.{dirty_of, root_files};
 
 use crate::below::is_any_below;

@@ -1,6 +1,5 @@
 ghost use Rattle.std.specs.Prelude.{◌≡◌};
-ghost use Rattle.eden_ids.specs.FileMaps.{same_file, same_kind};
-ghost use Rattle.eden_objects.specs.Files.{content_seen};
+ghost use Rattle.eden_ids.specs.FileMaps.{same_file, same_kind, lent};
 
 use eden_ids::Kind;
 
@@ -17,7 +16,7 @@ fn is_same_kind(kind: Kind, other: Kind) -> bool
 
 /// Whether two files are one, where each may be absent.
 pub(crate) fn is_same(file: Option<(Kind, &[u8])>, other: Option<(Kind, &[u8])>) -> bool
-    ensures { result ≡ same_file (content_seen file.entry) (content_seen other.entry) }
+    ensures { result ≡ same_file (lent file.entry) (lent other.entry) }
 {
     match file {
         None => other.is_none(),

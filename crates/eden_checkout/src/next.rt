@@ -1,7 +1,7 @@
 ghost use Rattle.std.specs.Prelude.{◌≡◌, ◌||◌, ℕ, List, if◌then◌else◌, is_some, IfOk, OnOk};
 ghost use Rattle.std.specs.List.{list_any};
-ghost use Rattle.eden_ids.specs.FileMaps.{file_at, put_option, same_path};
-ghost use Rattle.eden_objects.specs.Files.{commit_files, content_seen};
+ghost use Rattle.eden_ids.specs.FileMaps.{file_at, put_option, same_path, lent};
+ghost use Rattle.eden_objects.specs.Files.{commit_files};
 ghost use Rattle.eden_workcopy.specs.Meanings.{means};
 ghost use Rattle.eden_history.specs.Checkouts.{force_rule, normal_rule, rule_of};
 ghost use Rattle.eden_checkout.specs.Plans.{root_files};
@@ -16,7 +16,7 @@ use std::alloc::Global;
 
 /// A file in memory of its own.
 fn copied(alloc: Global, file: Option<(Kind, &[u8])>) -> Result<Option<Content>, NoMemory>
-    ensures { IfOk result (λ copy. copy ≡ content_seen file.entry) }
+    ensures { IfOk result (λ copy. copy ≡ lent file.entry) }
 {
     let Some((kind, bytes)) = file else {
         return Ok(None);
@@ -39,7 +39,7 @@ fn put<N: Naming + Drop>(
     file: Option<(Kind, &[u8])>,
 ) -> Result<(), NoMemory>
     ensures root { next.new.root ≡ next.old.root }
-    ensures files { OnOk result (means store.now next.new ≡ put_option (means store.now next.old) path.now (content_seen file.entry)) }
+    ensures files { OnOk result (means store.now next.new ≡ put_option (means store.now next.old) path.now (lent file.entry)) }
 {
     if is_same(next.file(store, path.as_bytes()), file) {
         return Ok(());
@@ -52,7 +52,7 @@ fn put<N: Naming + Drop>(
 impl<'a, N: Naming + Drop> Sides<'a, N> {
     /// What is to stand at a path after a normal checkout.
     fn normal_file(&self, path: &Path) -> Option<(Kind, &'a [u8])>
-        ensures { content_seen result ≡ normal_rule (means self.now.store.now self.now.work.now) (root_files self.now.store.now self.now.work.now)
+        ensures { lent result ≡ normal_rule (means self.now.store.now self.now.work.now) (root_files self.now.store.now self.now.work.now)
             (commit_files self.now.store.now self.now.commit) path.now }
     {
         if !self.is_clean(path.as_bytes()) {
@@ -74,7 +74,7 @@ impl<'a, N: Naming + Drop> Sides<'a, N> {
 
     /// What is to stand at a path after a forced checkout.
     fn force_file(&self, path: &Path) -> Option<(Kind, &'a [u8])>
-        ensures { content_seen result ≡ force_rule (means self.now.store.now self.now.work.now) (root_files self.now.store.now self.now.work.now)
+        ensures { lent result ≡ force_rule (means self.now.store.now self.now.work.now) (root_files self.now.store.now self.now.work.now)
             (commit_files self.now.store.now self.now.commit) path.now }
     {
         if self.is_in_commits(path.as_bytes()) {
@@ -88,7 +88,7 @@ impl<'a, N: Naming + Drop> Sides<'a, N> {
 
     /// What is to stand at a path after the checkout.
     fn next_file(&self, mode: Mode, path: &Path) -> Option<(Kind, &'a [u8])>
-        ensures { content_seen result ≡ rule_of mode (means self.now.store.now self.now.work.now) (root_files self.now.store.now self.now.work.now)
+        ensures { lent result ≡ rule_of mode (means self.now.store.now self.now.work.now) (root_files self.now.store.now self.now.work.now)
             (commit_files self.now.store.now self.now.commit) path.now }
     {
         match mode {

@@ -1,6 +1,6 @@
 ghost use Rattle.std.specs.Prelude.{◌≡◌, is_some};
-ghost use Rattle.eden_ids.specs.FileMaps.{file_at, paths};
-ghost use Rattle.eden_objects.specs.Files.{commit_files, content_seen};
+ghost use Rattle.eden_ids.specs.FileMaps.{file_at, paths, lent};
+ghost use Rattle.eden_objects.specs.Files.{commit_files};
 ghost use Rattle.eden_history.specs.Checkouts.{is_clean};
 ghost use Rattle.eden_workcopy.specs.Meanings.{means};
 ghost use Rattle.eden_checkout.specs.Plans.{dirty_of, root_files};
@@ -25,21 +25,21 @@ pub(crate) struct Sides<'a, N: Naming + Drop> {
 impl<'a, N: Naming + Drop> Sides<'a, N> {
     /// The file of the working copy at a path.
     pub(crate) fn in_work(&self, path: &[u8]) -> Option<(Kind, &'a [u8])>
-        ensures { content_seen result ≡ file_at (means self.now.store.now self.now.work.now) path.now }
+        ensures { lent result ≡ file_at (means self.now.store.now self.now.work.now) path.now }
     {
         self.work.file(self.store, path)
     }
 
     /// The file of the commit below the working copy at a path.
     pub(crate) fn in_root(&self, path: &[u8]) -> Option<(Kind, &'a [u8])>
-        ensures { content_seen result ≡ file_at (root_files self.now.store.now self.now.work.now) path.now }
+        ensures { lent result ≡ file_at (root_files self.now.store.now self.now.work.now) path.now }
     {
         self.store.file(self.work.root(), path)
     }
 
     /// The file of the commit that is checked out at a path.
     pub(crate) fn in_target(&self, path: &[u8]) -> Option<(Kind, &'a [u8])>
-        ensures { content_seen result ≡ file_at (commit_files self.now.store.now self.now.commit) path.now }
+        ensures { lent result ≡ file_at (commit_files self.now.store.now self.now.commit) path.now }
     {
         self.store.file(self.commit, path)
     }

@@ -7,7 +7,7 @@ use Rattle.std.specs.List.{list_any}
 use Rattle.std.specs.Map.{lookup}
 use Rattle.std.specs.Prelude.{find}
 use Rattle.eden_ids.specs.declared.id.Id.{Id}
-use Rattle.eden_objects.specs.Objects.{same_id}
+use Rattle.eden_ids.specs.Sameness.{same_id}
 use Rattle.eden_objects.proofs.Lookup.{turn}
 use Rattle.eden_script.specs.declared.label.Binding.{Binding}
 use Rattle.eden_script.specs.Labels.{is_id, newest, still_binds}

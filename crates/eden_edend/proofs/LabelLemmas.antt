@@ -5,7 +5,7 @@ use Rattle.std.specs.Ordering.{nat_cmp}
 use Rattle.std.specs.Cmp.Lexicographic.{slice_cmp, nat_list_cmp_total, texts_ties}
 use Rattle.std.specs.FinMap as fin
 use Rattle.eden_script.specs.declared.label.Binding.{Binding}
-use Rattle.eden_script.specs.LabelWords.{is_word}
+use Rattle.eden_ids.specs.Sameness.{same_bytes}
 use Rattle.eden_script.specs.Labels.{newest}
 use Rattle.eden_edend.specs.BoundMaps.{BoundMap, bound_map}
 
@@ -21,7 +21,7 @@ get_bound_map [] label = fin.get-empty (slice_cmp nat_cmp) label
 get_bound_map (binding ∷ earlier) label =
     fin.get-insert nat_list_cmp_total (bound_map earlier) binding.label binding.id label
     ∙ ap (λ b. cond b (Some binding.id) (fin.get (bound_map earlier) label)) (sym (texts_ties label binding.label))
-    ∙ ap (λ o. cond (is_word label binding.label) (Some binding.id) o) (get_bound_map earlier label)
+    ∙ ap (λ o. cond (same_bytes label binding.label) (Some binding.id) o) (get_bound_map earlier label)
 
 pub turned_twice : (made : List Binding) → reverse (reverse made) ≡ made
 turned_twice made = reverse-reverse made

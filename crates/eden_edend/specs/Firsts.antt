@@ -3,7 +3,7 @@ use Rattle.std.specs.Prelude.{◌≡◌, ℕ, ◌≤◌, Bool, false, if◌then�
 use Rattle.std.specs.List.{list_any}
 use Rattle.std.specs.Map.{lookup}
 use Rattle.eden_ids.specs.declared.id.Id.{Id}
-use Rattle.eden_objects.specs.Objects.{same_id}
+use Rattle.eden_ids.specs.Sameness.{same_id}
 use Rattle.eden_script.specs.declared.label.Binding.{Binding}
 
 abbrev pub binds_any : Id → List Binding → Bool

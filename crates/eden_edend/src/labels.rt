@@ -4,7 +4,7 @@ ghost use Rattle.std.specs.Prelude.{◌≡◌, ◌∷◌, [], OnOk, OnErr, find,
 ghost use Rattle.std.specs.Option.{option_copied};
 ghost use Rattle.std.specs.FinMap as fin;
 ghost use Rattle.std.specs.Map.{lookup};
-ghost use Rattle.eden_objects.specs.Objects.{same_id};
+ghost use Rattle.eden_ids.specs.Sameness.{same_id};
 ghost use Rattle.eden_edend.specs.Firsts.{IsNoted};
 ghost use Rattle.eden_script.specs.Labels.{newest, bound, still_binds, label_of, is_id};
 

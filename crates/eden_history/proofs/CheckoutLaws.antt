@@ -5,11 +5,11 @@ use Rattle.std.specs.List.{list_any}
 use Rattle.std.specs.FinMap as fin
 use Rattle.eden_ids.specs.declared.content.Content.{Content}
 use Rattle.eden_ids.specs.Paths.{clashes, lies_below}
-use Rattle.eden_ids.specs.FileMaps.{FileMap, PathSet, IsFileMap, file_at, paths, same_file, same_path, differ, path_set, has}
+use Rattle.eden_ids.specs.FileMaps.{FileMap, PathSet, IsFileMap, file_at, paths, same_file, same_path, differ, path_set, has, clashes_any}
 use Rattle.eden_ids.proofs.FileMapLemmas.{file_at-tabulate, has-append, has-differ, has-path_set, has-union, same_file-is, same_file-refl, same_path-is, same_path-refl}
 use Rattle.eden_history.specs.declared.change.Mode.{Mode}
 use Rattle.eden_history.specs.declared.change.Mode.TheVariants.{Normal, Dry, Force}
-use Rattle.eden_history.specs.Checkouts.{is_clean, clashes_dirty, clashes_any, is_blocked, paths_of_all, normal_rule, normal_files, force_rule, force_files, rule_of, checked_out, is_conflict, conflicts, unclean}
+use Rattle.eden_history.specs.Checkouts.{is_clean, clashes_dirty, is_blocked, paths_of_all, normal_rule, normal_files, force_rule, force_files, rule_of, checked_out, is_conflict, conflicts, unclean}
 
 -- ---- tests of lists of paths
 

@@ -8,7 +8,8 @@ use Rattle.eden_ids.specs.FileMaps.{FileMap, IsFileMap, file_at, has_file_above,
 use Rattle.eden_ids.proofs.FileMapLemmas.{IsFileMap-insert, IsFileMap-remove, file_at-remove}
 use Rattle.eden_history.specs.declared.change.ChangeFault.{ChangeFault}
 use Rattle.eden_history.specs.declared.change.ChangeFault.TheVariants.{NotADirectory, IsADirectory}
-use Rattle.eden_history.specs.Renames.{absent_fault, first_fault, moved, place_fault, rename_fault, renamed, same_place, write_fault}
+use Rattle.eden_history.specs.Renames.{absent_fault, first_fault, moved, place_fault, rename_fault, renamed, write_fault}
+use Rattle.eden_ids.specs.Sameness.{same_bytes}
 use Rattle.eden_history.proofs.CheckoutLaws.{any_found, any_holds}
 
 pub first-none : (a b : Option ChangeFault) → first_fault a b ≡ None → (a ≡ None) × (b ≡ None)
@@ -58,4 +59,4 @@ renamed_by m old new false fits e =
     let place = free (has_file_above m new) (has_file_below m new) e in moved_fits m old new (file_at m old) fits place.0 place.1
 
 pub rename_fits : (m : FileMap) (old new : List ℕ) → IsFileMap m → rename_fault m old new ≡ None → IsFileMap (renamed m old new)
-rename_fits m old new fits e = renamed_by m old new (same_place old new) fits (first-none (absent_fault m old) _ e).1
+rename_fits m old new fits e = renamed_by m old new (same_bytes old new) fits (first-none (absent_fault m old) _ e).1

@@ -5,7 +5,7 @@ use Rattle.std.specs.List.{list_any}
 use Rattle.std.specs.FinMap as fin
 use Rattle.eden_ids.specs.declared.content.Content.{Content}
 use Rattle.eden_ids.specs.Paths.{clashes}
-use Rattle.eden_ids.specs.FileMaps.{FileMap, PathSet, file_at, paths, same_file, differ, union, path_set, tabulate}
+use Rattle.eden_ids.specs.FileMaps.{FileMap, PathSet, clashes_any, file_at, paths, same_file, differ, union, path_set, tabulate}
 use Rattle.eden_history.specs.declared.change.Mode.{Mode}
 use Rattle.eden_history.specs.declared.change.Mode.TheVariants.{Normal, Dry, Force}
 
@@ -16,10 +16,6 @@ is_clean work root p = same_file (file_at work p) (file_at root p)
 -- the path clashes with a dirty path at which the working copy holds a file
 abbrev pub clashes_dirty : FileMap → FileMap → List ℕ → Bool
 clashes_dirty work root p = list_any (λ q. clashes p q && not (is_clean work root q)) (paths work)
-
--- the path clashes with one at which a file stands
-abbrev pub clashes_any : FileMap → List ℕ → Bool
-clashes_any files p = list_any (λ q. clashes p q) (paths files)
 
 -- a path of the target that clashes with a dirty path at which a file stands
 abbrev pub is_blocked : FileMap → FileMap → FileMap → List ℕ → Bool

@@ -13,7 +13,8 @@ use Rattle.eden_history.specs.declared.position.Position.{Position}
 use Rattle.eden_history.specs.declared.row.Row.{Row}
 use Rattle.eden_history.specs.declared.row.Event.{Event}
 use Rattle.eden_history.specs.Worlds.{Commits, WorldState, commits_of, now, position_of}
-use Rattle.eden_history.specs.Renames.{first_fault, absent_fault, write_fault, same_place, rename_fault, renamed}
+use Rattle.eden_history.specs.Renames.{first_fault, absent_fault, write_fault, rename_fault, renamed}
+use Rattle.eden_ids.specs.Sameness.{same_bytes}
 use Rattle.eden_history.specs.Checkouts.{checked_out, conflicts, is_dry}
 use Rattle.eden_history.specs.Named.{held_files, unclean_paths, named}
 
@@ -34,7 +35,7 @@ change_fault commits row (Remount generation) = if nat_lt row.generation generat
 
 -- whether the change, where nothing refuses it, makes an event: all do but the rename of a file to itself and a checkout that is tried
 abbrev pub is_event : Change → Bool
-is_event (Rename old new) = not (same_place old new)
+is_event (Rename old new) = not (same_bytes old new)
 is_event (Checkout commit mode) = not (is_dry mode)
 is_event change = true
 

@@ -1,9 +1,9 @@
 -- Reading, writing, removing and renaming single files: why each is refused, and the files after a rename.
-use Rattle.std.specs.Prelude.{ℕ, Bool, nat_eq, nat_lt, if◌then◌else◌, List, length, Option, Some, None, is_some}
-use Rattle.std.specs.Cmp.Lexicographic.{pointwise}
+use Rattle.std.specs.Prelude.{ℕ, nat_lt, if◌then◌else◌, List, length, Option, Some, None, is_some}
 use Rattle.std.specs.FinMap as fin
 use Rattle.eden_ids.specs.declared.content.Content.{Content}
 use Rattle.eden_ids.specs.FileMaps.{FileMap, file_at, has_file_above, has_file_below}
+use Rattle.eden_ids.specs.Sameness.{same_bytes}
 use Rattle.eden_history.specs.declared.change.ChangeFault.{ChangeFault}
 use Rattle.eden_history.specs.declared.change.ChangeFault.TheVariants.{NotADirectory, IsADirectory, NoEntry, TooLarge}
 
@@ -26,14 +26,10 @@ absent_fault files path = first_fault (place_fault files path) (if is_some (file
 abbrev pub write_fault : FileMap → List ℕ → List ℕ → Option ChangeFault
 write_fault files path bytes = first_fault (place_fault files path) (if nat_lt 8388608 (length bytes) then Some TooLarge else None)
 
--- whether two paths are one
-abbrev pub same_place : List ℕ → List ℕ → Bool
-same_place old new = pointwise nat_eq old new
-
 -- why a file can't be renamed: what stands against the old path comes first. A file may be renamed to itself; else the new path has to
 -- be one where a file can stand, over the files before the change
 abbrev pub rename_fault : FileMap → List ℕ → List ℕ → Option ChangeFault
-rename_fault files old new = first_fault (absent_fault files old) (if same_place old new then None else place_fault files new)
+rename_fault files old new = first_fault (absent_fault files old) (if same_bytes old new then None else place_fault files new)
 
 -- the files without the old path, and with its file at the new one
 abbrev pub moved : FileMap → List ℕ → List ℕ → Option Content → FileMap
@@ -42,4 +38,4 @@ moved files old new (Some file) = fin.insert (fin.remove files old) new file
 
 -- the files after a rename that is not refused
 abbrev pub renamed : FileMap → List ℕ → List ℕ → FileMap
-renamed files old new = if same_place old new then files else moved files old new (file_at files old)
+renamed files old new = if same_bytes old new then files else moved files old new (file_at files old)

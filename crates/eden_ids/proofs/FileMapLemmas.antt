@@ -2,11 +2,13 @@
 use Rattle.std.proofs.Common.{◌≡◌, ◌≢◌, ℕ, Bool, true, false, cond, not, ◌&&◌, ◌||◌, nat_eq, List, [], ◌∷◌, ◌++◌, Option, Some, None, is_some, refl, sym, ap, subst, ◌∙◌, ◌↔◌, length, arith}
 use Rattle.std.proofs.lemmas.Slice.Eq.{bytes_eq-Decides}
 use Rattle.std.proofs.lemmas.List.{drop_all}
+use Rattle.std.proofs.lemmas.List.Folds.{list_any-append}
+use Rattle.std.proofs.lemmas.Bool.{and_parts, or_parts}
 use Rattle.std.specs.declared.cmp.Ordering.TheVariants.{Equal}
 use Rattle.std.specs.Prelude.{IsTrue, IsSome}
 use Rattle.std.specs.Ordering.{nat_cmp, is_eq}
 use Rattle.std.specs.Cmp.{tied_itself, Equal-is, eq_by_cmp_equiv}
-use Rattle.std.specs.Cmp.Lexicographic.{slice_cmp, nat_list_cmp_total, pointwise}
+use Rattle.std.specs.Cmp.Lexicographic.{slice_cmp, nat_list_cmp_total, texts_ties}
 use Rattle.std.specs.List.{list_any, starts_with}
 use Rattle.std.specs.FinMap as fin
 use Rattle.std.specs.FinMap.{slice_cmp-IsAntisymmetric, nat_cmp-IsAntisymmetric}
@@ -14,6 +16,7 @@ use Rattle.eden_ids.specs.declared.content.Kind.{Kind}
 use Rattle.eden_ids.specs.declared.content.Kind.TheVariants.{Plain, Exec, Link}
 use Rattle.eden_ids.specs.declared.content.Content.{Content}
 use Rattle.eden_ids.specs.Paths.{clashes, lies_below}
+use Rattle.eden_ids.specs.Sameness.{same_bytes}
 use Rattle.eden_ids.proofs.Below.{below_in_steps}
 use Rattle.eden_ids.specs.FileMaps.{FileMap, no_files, file_at, paths, PathSet, has, listing, no_paths, path_set, union, same_path, same_kind, same_file, differ, put_option, tabulate, has_file_above, has_file_below, IsFileMap}
 
@@ -25,6 +28,10 @@ same_path-refl p = ap is_eq (tied_itself nat_list_cmp_total p)
 
 pub same_path-is : (p q : List ℕ) → same_path p q ≡ true → p ≡ q
 same_path-is p q e = same_order p q ((Equal-is (slice_cmp nat_cmp p q)).0 e)
+
+-- the map's order and the bytes say the same
+pub same_path-bytes : (p q : List ℕ) → same_path p q ≡ same_bytes p q
+same_path-bytes p q = sym (texts_ties p q)
 
 pub same_path-other : (p q : List ℕ) → p ≢ q → same_path p q ≡ false
 same_path-other p q apart = elim (same_path p q) as (λ b. same_path p q ≡ b → b ≡ false) [ true ↦ λ e. absurd (apart (same_path-is p q e)) | false ↦ λ e. refl ] refl
@@ -84,14 +91,6 @@ has-path_set (q ∷ ps) p =
 pub has-listing : (s : PathSet) (p : List ℕ) → has s p ≡ list_any (λ q. same_path p q) (listing s)
 has-listing s p = fin.contains_key-keys s p
 
-or_assoc : (a b c : Bool) → (a || b) || c ≡ (a || (b || c))
-or_assoc true b c = refl
-or_assoc false b c = refl
-
-list_any-append : {A : Type 0} (test : A → Bool) (xs ys : List A) → list_any test (xs ++ ys) ≡ (list_any test xs || list_any test ys)
-list_any-append test [] ys = refl
-list_any-append test (x ∷ xs) ys = ap (λ b. test x || b) (list_any-append test xs ys) ∙ sym (or_assoc (test x) _ _)
-
 pub has-append : (ps qs : List (List ℕ)) (p : List ℕ) → has (path_set (ps ++ qs)) p ≡ (has (path_set ps) p || has (path_set qs) p)
 has-append ps qs p =
     has-path_set (ps ++ qs) p ∙ list_any-append (λ q. same_path p q) ps qs
@@ -111,7 +110,7 @@ path_set-listing s = same_path_set _ _ (λ p. has-path_set (listing s) p ∙ sym
 
 -- ---- where two maps differ
 
-same_kind-is : (k l : Kind) → same_kind k l ≡ true → k ≡ l
+pub same_kind-is : (k l : Kind) → same_kind k l ≡ true → k ≡ l
 same_kind-is Plain Plain e = refl
 same_kind-is Plain Exec e = cc
 same_kind-is Plain Link e = cc
@@ -122,20 +121,16 @@ same_kind-is Link Plain e = cc
 same_kind-is Link Exec e = cc
 same_kind-is Link Link e = refl
 
-same_kind-refl : (k : Kind) → same_kind k k ≡ true
+pub same_kind-refl : (k : Kind) → same_kind k k ≡ true
 same_kind-refl Plain = refl
 same_kind-refl Exec = refl
 same_kind-refl Link = refl
 
-both_true : (a b : Bool) → (a && b) ≡ true → (a ≡ true) × (b ≡ true)
-both_true true true e = (refl, refl)
-both_true true false e = cc
-both_true false b e = cc
-
-bytes_same : (xs ys : List ℕ) → pointwise nat_eq xs ys ≡ true → xs ≡ ys
+-- the test of byte strings says whether they are equal
+pub bytes_same : (xs ys : List ℕ) → same_bytes xs ys ≡ true → xs ≡ ys
 bytes_same xs ys e = (bytes_eq-Decides xs ys).0 e
 
-bytes_itself : (xs : List ℕ) → pointwise nat_eq xs xs ≡ true
+pub bytes_itself : (xs : List ℕ) → same_bytes xs xs ≡ true
 bytes_itself xs = (bytes_eq-Decides xs xs).1 refl
 
 same_content : (f g : Content) → f.kind ≡ g.kind → f.bytes ≡ g.bytes → f ≡ g
@@ -146,12 +141,12 @@ same_file-is None None e = refl
 same_file-is None (Some g) e = cc
 same_file-is (Some f) None e = cc
 same_file-is (Some f) (Some g) e =
-    let parts : (same_kind f.kind g.kind ≡ true) × (pointwise nat_eq f.bytes g.bytes ≡ true) = both_true _ _ e in
+    let parts : (same_kind f.kind g.kind ≡ true) × (same_bytes f.bytes g.bytes ≡ true) = and_parts _ _ e in
     ap Some (same_content f g (same_kind-is f.kind g.kind parts.0) (bytes_same f.bytes g.bytes parts.1))
 
 pub same_file-refl : (f : Option Content) → same_file f f ≡ true
 same_file-refl None = refl
-same_file-refl (Some f) = ap (λ b. b && pointwise nat_eq f.bytes f.bytes) (same_kind-refl f.kind) ∙ bytes_itself f.bytes
+same_file-refl (Some f) = ap (λ b. b && same_bytes f.bytes f.bytes) (same_kind-refl f.kind) ∙ bytes_itself f.bytes
 
 true_or : (b : Bool) → (b || true) ≡ true
 true_or true = refl
@@ -175,7 +170,8 @@ among f g p apart =
     one_there (Some x) None e = refl
     one_there (Some x) (Some y) e = refl
 
-has-where : (s : PathSet) (test : List ℕ → Bool) (p : List ℕ) → has (fin.retain_keys s test) p ≡ (test p && has s p)
+-- the members that pass a test
+pub has-where : (s : PathSet) (test : List ℕ → Bool) (p : List ℕ) → has (fin.retain_keys s test) p ≡ (test p && has s p)
 has-where s test p =
     ap is_some (fin.get-retain_keys s test p (λ x e. ap test (sym (same_order p x e))))
     ∙ of_cond (test p) (fin.get s p)
@@ -208,7 +204,8 @@ differ-tells f g p = (there, back)
       | false ↦ λ e. has-differ f g p ∙ ap not e
     ] refl
 
-put_option-at : (m : FileMap) (k : List ℕ) (f : Option Content) (p : List ℕ) → file_at (put_option m k f) p ≡ cond (same_path p k) f (file_at m p)
+-- the map with a value put at one path
+pub put_option-at : (m : FileMap) (k : List ℕ) (f : Option Content) (p : List ℕ) → file_at (put_option m k f) p ≡ cond (same_path p k) f (file_at m p)
 put_option-at m k None p = file_at-remove m k p
 put_option-at m k (Some f) p = file_at-insert m k f p
 
@@ -234,19 +231,17 @@ lies_below-itself p = below_in_steps p p ∙ ap (λ xs. starts_with nat_eq p p &
     and_false true = refl
     and_false false = refl
 
-unlisted : (test : List ℕ → Bool) (ks : List (List ℕ)) (p : List ℕ) → list_any test ks ≡ false → list_any (λ q. same_path p q) ks ≡ true → test p ≡ false
+-- where no path of a list passes a test, one of the list does not
+pub unlisted : (test : List ℕ → Bool) (ks : List (List ℕ)) (p : List ℕ) → list_any test ks ≡ false → list_any (λ q. same_path p q) ks ≡ true → test p ≡ false
 unlisted test [] p none e = cc
 unlisted test (k ∷ ks) p none e =
     elim (same_path p k) as (λ b. same_path p k ≡ b → test p ≡ false) [
-      | true ↦ λ s. ap test (same_path-is p k s) ∙ (neither _ _ none).0
-      | false ↦ λ s. unlisted test ks p (neither _ _ none).1 (sym (ap (λ b. b || list_any (λ q. same_path p q) ks) s) ∙ e)
+      | true ↦ λ s. ap test (same_path-is p k s) ∙ (or_parts _ _ none).0
+      | false ↦ λ s. unlisted test ks p (or_parts _ _ none).1 (sym (ap (λ b. b || list_any (λ q. same_path p q) ks) s) ∙ e)
     ] refl
-  where
-    neither : (a b : Bool) → (a || b) ≡ false → (a ≡ false) × (b ≡ false)
-    neither true b f = cc
-    neither false b f = (refl, f)
 
-held : (m : FileMap) (p : List ℕ) → IsSome (file_at m p) → list_any (λ q. same_path p q) (paths m) ≡ true
+-- a path at which a file stands is one of the map's paths
+pub held : (m : FileMap) (p : List ℕ) → IsSome (file_at m p) → list_any (λ q. same_path p q) (paths m) ≡ true
 held m p h = sym (fin.contains_key-keys m p) ∙ h
 
 pub not_above : (m : FileMap) (k p : List ℕ) → has_file_above m k ≡ false → IsSome (file_at m p) → lies_below k p ≡ false

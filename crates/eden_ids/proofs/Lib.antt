@@ -1,5 +1,7 @@
 mod Below
 pub mod FileMapLemmas
+pub mod ByteOrder
+pub mod TreeQuestions
 pub mod TreeMaps
 mod HexTexts
 pub mod ColumnLemmas

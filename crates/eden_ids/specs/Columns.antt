@@ -1,11 +1,6 @@
 -- Columns of ids, which are kept as one run of bytes: twenty to an id, one id after another.
-use Rattle.std.specs.Prelude.{ℕ, zero, suc, ◌*◌, Bool, List, [], ◌∷◌, ◌++◌, take, drop, nat_eq}
-use Rattle.std.specs.Cmp.Lexicographic.{pointwise}
+use Rattle.std.specs.Prelude.{ℕ, zero, suc, ◌*◌, List, [], ◌∷◌, ◌++◌, take, drop}
 use Rattle.eden_ids.specs.declared.id.Id.{Id}
-
--- ids are the same where their bytes are
-abbrev pub id_eq : Id → Id → Bool
-id_eq a b = pointwise nat_eq a.0 b.0
 
 -- the id whose twenty bytes begin there
 abbrev pub id_at : List ℕ → ℕ → Id

@@ -1,13 +1,15 @@
 -- File maps, which say what a working copy or a commit holds, and sets of paths. Both are finite and listed in byte order.
-use Rattle.std.specs.Prelude.{◌≡◌, ℕ, Bool, true, false, not, ◌&&◌, nat_eq, List, [], ◌∷◌, ◌++◌, map, Option, Some, None, IsSome}
+use Rattle.std.specs.Prelude.{◌≡◌, ℕ, Bool, true, false, not, ◌&&◌, List, [], ◌∷◌, ◌++◌, map, Option, Some, None, IsSome}
 use Rattle.std.specs.Ordering.{nat_cmp, eq_by_cmp}
-use Rattle.std.specs.Cmp.Lexicographic.{slice_cmp, pointwise}
+use Rattle.std.specs.Cmp.Lexicographic.{slice_cmp}
 use Rattle.std.specs.List.{list_any}
+use Rattle.std.specs.Borrow.{Bor}
 use Rattle.std.specs.FinMap as fin
 use Rattle.eden_ids.specs.declared.content.Kind.{Kind}
 use Rattle.eden_ids.specs.declared.content.Kind.TheVariants.{Plain, Exec, Link}
 use Rattle.eden_ids.specs.declared.content.Content.{Content}
 use Rattle.eden_ids.specs.Paths.{clashes, lies_below}
+use Rattle.eden_ids.specs.Sameness.{same_bytes}
 
 -- which paths hold a file, and which file
 abbrev pub FileMap : Type 0
@@ -19,6 +21,11 @@ no_files = fin.empty
 -- the file at a path, or none: an absent file counts as a value
 abbrev pub file_at : FileMap → List ℕ → Option Content
 file_at files path = fin.get files path
+
+-- a file whose bytes are lent
+abbrev pub lent : Option (Kind × Bor (List ℕ)) → Option Content
+lent None = None
+lent (Some seen) = Some (record { kind = seen.0; bytes = seen.1.now })
 
 -- the paths that hold a file, ascending
 abbrev pub paths : FileMap → List (List ℕ)
@@ -35,6 +42,10 @@ has_file_above files path = list_any (λ top. lies_below path top) (paths files)
 -- files stand below the path: it is a directory
 abbrev pub has_file_below : FileMap → List ℕ → Bool
 has_file_below files path = list_any (λ p. lies_below p path) (paths files)
+
+-- the path clashes with one at which a file stands
+abbrev pub clashes_any : FileMap → List ℕ → Bool
+clashes_any files path = list_any (λ q. clashes path q) (paths files)
 
 abbrev pub PathSet : Type 0
 PathSet = fin.FinMap (slice_cmp nat_cmp) (Unit {0})
@@ -67,7 +78,7 @@ same_kind _ _ = false
 
 abbrev pub same_file : Option Content → Option Content → Bool
 same_file None None = true
-same_file (Some f) (Some g) = same_kind f.kind g.kind && pointwise nat_eq f.bytes g.bytes
+same_file (Some f) (Some g) = same_kind f.kind g.kind && same_bytes f.bytes g.bytes
 same_file _ _ = false
 
 -- the paths on which two file maps differ

@@ -1,3 +1,4 @@
+pub mod Sameness
 pub mod Paths
 pub mod FileMaps
 pub mod Hex

@@ -65,10 +65,8 @@ impl IdColumn {
         ensures ok { OnOk result (self.new ≡ self.old ++ id ∷ []) }
         ensures err { OnErr result (self.new ≡ self.old) }
     {
-        match self.bytes.extend_from_slice(&id.0) {
-            Ok(()) => Ok(()),
-            Err(_) => Err(NoMemory),
-        }
+        self.bytes.extend_from_slice(&id.0)?;
+        Ok(())
     }
 
     /// The number of ids. This takes no memory.

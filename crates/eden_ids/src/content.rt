@@ -2,6 +2,7 @@ ghost use Rattle.std.specs.Prelude.{◌≡◌, IfOk};
 
 use crate::memory::NoMemory;
 use crate::sequence::Sequence;
+use std::alloc::Global;
 
 /// What stands at a path. Git's tree entries have one mode for each: 100644, 100755 and 120000.
 #[derive(Clone, Copy, Debug, PartialEq, Eq)]
@@ -27,13 +28,18 @@ impl Content {
     /// The most bytes that a file may hold: 8 MiB.
     pub const LIMIT: usize = 8_388_608;
 
+    /// A file of this kind that holds a copy of these bytes. `NoMemory` comes where a growth was refused.
+    pub fn from_bytes(alloc: Global, kind: Kind, bytes: &[u8]) -> Result<Content, NoMemory>
+        ensures { IfOk result (λ content. content ≡ record { kind = kind; bytes = bytes.now }) }
+    {
+        let bytes = Sequence::from_vec(bytes.to_vec(alloc)?);
+        Ok(Content { kind, bytes })
+    }
+
     /// A file that is equal to this one. `NoMemory` comes where a growth was refused.
     pub fn copy(&self) -> Result<Content, NoMemory>
         ensures { IfOk result (λ content. content ≡ self.now) }
     {
-        match self.clone() {
-            Ok(content) => Ok(content),
-            Err(_) => Err(NoMemory),
-        }
+        Ok(self.clone()?)
     }
 }

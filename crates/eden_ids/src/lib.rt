@@ -1,8 +1,12 @@
 //! The ids, paths, contents and file maps that every other crate speaks of.
 #![tactic(auto)]
 
+pub use crate::at_path::{AtPath, has_path_below, paths_below};
 pub use crate::column::IdColumn;
 pub use crate::content::{Content, Kind};
+pub use crate::file_tree::{
+    FileTree, clashes_any, has_file, has_file_above, is_same_at, is_same_file, is_same_kind,
+};
 pub use crate::files::Files;
 pub use crate::hex_text::{HexFault, hex_law, hex_text_law};
 pub use crate::id::Id;
@@ -13,10 +17,12 @@ pub use crate::path::{Path, PathFault, is_component};
 pub use crate::path_table::PathTable;
 pub use crate::sequence::Sequence;
 
+mod at_path;
 mod column;
 #[cfg(test)]
 mod column_tests;
 mod content;
+mod file_tree;
 mod files;
 mod hex_text;
 mod id;

@@ -35,6 +35,17 @@ pub enum PathFault {
     NoMemory,
 }
 
+impl From<AllocError> for PathFault {
+    ghost use Rattle.std.specs.Prelude.{◌≡◌};
+    ghost use Rattle.eden_ids.specs.declared.path.PathFault.TheVariants as fault;
+
+    ghost from_gives = { λ _ f. f ≡ fault.NoMemory };
+
+    fn from(_refused: AllocError) -> PathFault {
+        PathFault::NoMemory
+    }
+}
+
 /// A path in a working copy: 1 to 64 components, joined by `/`, of 1,024 bytes at the most.
 ///
 /// A component has 1 to 255 bytes, is neither `.` nor `..`, and holds no NUL byte. Any other byte may stand in a path: it
@@ -109,10 +120,8 @@ impl Path {
         if let Some(fault) = fault_of(bytes) {
             return Err(fault);
         }
-        match bytes.to_vec(alloc) {
-            Ok(bytes) => Ok(Path { bytes }),
-            Err(_) => Err(PathFault::NoMemory),
-        }
+        let bytes = bytes.to_vec(alloc)?;
+        Ok(Path { bytes })
     }
 
     /// The path's bytes. This takes no memory.
@@ -144,10 +153,7 @@ impl Path {
     pub fn copy(&self) -> Result<Path, NoMemory>
         ensures { IfOk result (λ path. path ≡ self.now) }
     {
-        match self.clone() {
-            Ok(path) => Ok(path),
-            Err(_) => Err(NoMemory),
-        }
+        Ok(self.clone()?)
     }
 }
 

@@ -46,10 +46,7 @@ impl PathTable {
         ensures { OnOk result (self.new ≡ fin.insert self.old path.now tt) }
     {
         let path = path.copy()?;
-        match self.paths.insert(path, ()) {
-            Ok(_) => {}
-            Err(_) => return Err(NoMemory),
-        }
+        self.paths.insert(path, ())?;
         Ok(())
     }
 
@@ -79,11 +76,7 @@ impl PathTable {
     {
         let mut list = Vec::new(alloc);
         for path in self.paths.keys() {
-            let path = path.copy()?;
-            match list.push(path) {
-                Ok(()) => {}
-                Err(_) => return Err(NoMemory),
-            }
+            list.push(path.copy()?)?;
         }
         Ok(list)
     }

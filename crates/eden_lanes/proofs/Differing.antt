@@ -1,6 +1,7 @@
 -- How the rows at which two lists differ grow with the lists.
 use Rattle.std.proofs.Common.{subst, ◌≡◌, ℕ, suc, List, [], ◌∷◌, ◌++◌, length, refl, ap, sym, ◌∙◌, ◌+◌, arith, Bool, true, false, cond, append_assoc}
-use Rattle.eden_ids.specs.Columns.{id_at, id_eq, rows}
+use Rattle.eden_ids.specs.Columns.{id_at, rows}
+use Rattle.eden_ids.specs.Sameness.{same_id}
 use Rattle.eden_ids.proofs.ColumnLemmas.{length-rows}
 use Rattle.std.specs.Simd.Lanes.{chunk}
 use Rattle.std.specs.Cmp.Lexicographic.{pointwise}
@@ -37,7 +38,7 @@ among-next n a b =
     let long : length (rows n a) ≡ n = length-rows n a in
     let also : length (rows n b) ≡ n = length-rows n b in
     let place : 0 + length (rows n a) ≡ n = omega arith in
-    rw e (differ_from-push id_eq 0 (rows n a) (rows n b) (id_at a (20 * n)) (id_at b (20 * n)) (omega arith)
+    rw e (differ_from-push same_id 0 (rows n a) (rows n b) (id_at a (20 * n)) (id_at b (20 * n)) (omega arith)
     ∙ ap (λ k. among n a b ++ cond (pointwise nat_eq (chunk (20 * n) 20 a) (chunk (20 * n) 20 b)) [] (k ∷ [])) place)
 
 -- the next ids are the same

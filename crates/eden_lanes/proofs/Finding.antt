@@ -8,7 +8,8 @@ use Rattle.std.specs.Simd.Lanes.{chunk}
 use Rattle.std.specs.Cmp.Lexicographic.{pointwise}
 use Rattle.eden_lanes.specs.Masks.{IsFourTimes}
 use Rattle.eden_ids.specs.declared.id.Id.{Id}
-use Rattle.eden_ids.specs.Columns.{id_at, id_eq, rows}
+use Rattle.eden_ids.specs.Columns.{id_at, rows}
+use Rattle.eden_ids.specs.Sameness.{same_id}
 use Rattle.eden_ids.proofs.ColumnLemmas.{length-rows}
 
 -- what was found stays found in a longer list
@@ -37,7 +38,7 @@ position_from-push p k (x ∷ xs) y none = by (p x) (λ e. position_from-push p 
 
 -- the first row that holds the id, among the first ids of a run of bytes
 abbrev pub first_in : ℕ → Id → List ℕ → Option ℕ
-first_in n id bytes = position_from (id_eq id) 0 (rows n bytes)
+first_in n id bytes = position_from (same_id id) 0 (rows n bytes)
 
 pub first_in-next : (n : ℕ) (id : Id) (bytes : List ℕ) → first_in n id bytes ≡ None
     → first_in (n + 1) id bytes ≡ cond (pointwise nat_eq id.0 (chunk (20 * n) 20 bytes)) (Some n) None
@@ -46,7 +47,7 @@ first_in-next n id bytes none =
     let long : length (rows n bytes) ≡ n = length-rows n bytes in
     let place : 0 + length (rows n bytes) ≡ n = omega arith in
     ap (λ k. first_in k id bytes) (sym e)
-    ∙ position_from-push (id_eq id) 0 (rows n bytes) (id_at bytes (20 * n)) none
+    ∙ position_from-push (same_id id) 0 (rows n bytes) (id_at bytes (20 * n)) none
     ∙ ap (λ k. cond (pointwise nat_eq id.0 (chunk (20 * n) 20 bytes)) (Some k) None) place
 
 -- the next id is another one
@@ -59,7 +60,7 @@ first_in-more zero n r id bytes is = let e : n ≡ 0 + n = omega arith in subst 
 first_in-more (suc d) n r id bytes is =
     let e : suc (d + n) ≡ suc d + n = omega arith in
     subst (λ k. first_in k id bytes ≡ Some r) e
-    (position_from-found (id_eq id) 0 (rows (d + n) bytes) (id_at bytes (20 * (d + n)) ∷ []) r (first_in-more d n r id bytes is))
+    (position_from-found (same_id id) 0 (rows (d + n) bytes) (id_at bytes (20 * (d + n)) ∷ []) r (first_in-more d n r id bytes is))
 
 -- what was found among the first ids was found among more of them
 pub first_in-found : (n m r : ℕ) (id : Id) (bytes : List ℕ) → first_in n id bytes ≡ Some r → n ≤ m → Some r ≡ first_in m id bytes
@@ -135,6 +136,6 @@ its_first id pattern twenty is = ap (λ (xs : List ℕ). record { 0 = xs }) (lai
 
 -- what was found among all rows of a column, which is its bytes' ids
 pub first_in-whole : (ids : List Id) (id : Id) (pattern bytes : List ℕ) (n : ℕ) (r : Option ℕ) → id_at pattern 0 ≡ id → rows n bytes ≡ ids
-    → r ≡ first_in n (id_at pattern 0) bytes → r ≡ position (id_eq id) ids
+    → r ≡ first_in n (id_at pattern 0) bytes → r ≡ position (same_id id) ids
 first_in-whole ids id pattern bytes n r first whole found =
-    found ∙ ap (λ x. first_in n x bytes) first ∙ ap (position_from (id_eq id) 0) whole ∙ sym (position_from-zero (id_eq id) ids)
+    found ∙ ap (λ x. first_in n x bytes) first ∙ ap (position_from (same_id id) 0) whole ∙ sym (position_from-zero (same_id id) ids)

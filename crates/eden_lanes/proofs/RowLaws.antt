@@ -6,7 +6,7 @@ use Rattle.std.specs.List.{list_any}
 use Rattle.std.specs.List.Sorted.{IsStrictlyIncreasing}
 use Rattle.std.proofs.lemmas.Slice.Eq.{bytes_eq-Decides}
 use Rattle.eden_ids.specs.declared.id.Id.{Id}
-use Rattle.eden_ids.specs.Columns.{id_eq}
+use Rattle.eden_ids.specs.Sameness.{same_id}
 use Rattle.eden_lanes.specs.Rows.{differ_from}
 use Rattle.eden_lanes.specs.Laws.{AreThoseApart}
 
@@ -88,7 +88,7 @@ rows_apart same decides xs ys long row =
     (apart_from same decides 0 xs ys row long)
 
 -- ids are the same where their bytes are
-pub id_eq-Decides : (a b : Id) → Decides (id_eq a b) (a ≡ b)
-id_eq-Decides a b =
+pub same_id-Decides : (a b : Id) → Decides (same_id a b) (a ≡ b)
+same_id-Decides a b =
     let bytes = bytes_eq-Decides a.0 b.0 in
     (λ same. ap (λ (xs : List ℕ). record { 0 = xs }) (bytes.0 same), λ same. bytes.1 (ap (λ (x : Id). x.0) same))

@@ -1,6 +1,7 @@
 ghost use Rattle.std.specs.Prelude.{◌≡◌, ◌+◌, ◌*◌, ◌≤◌, [], length, OnOk, IfOk, nat_eq};
 ghost use Rattle.std.specs.List.{position};
-ghost use Rattle.eden_ids.specs.Columns.{id_eq, rows};
+ghost use Rattle.eden_ids.specs.Columns.{rows};
+ghost use Rattle.eden_ids.specs.Sameness.{same_id};
 ghost use Rattle.eden_lanes.specs.Rows.{differing_ids};
 
 use crate::vectors::{same_four_ids, same_id};

@@ -7,7 +7,8 @@ use Rattle.eden_ids.specs.declared.id.Id.{Id}
 use Rattle.eden_ids.specs.declared.content.Kind.{Kind}
 use Rattle.eden_ids.specs.Paths.{clashes, lies_below}
 use Rattle.eden_ids.proofs.FileMapLemmas.{lies_below-itself}
-use Rattle.eden_objects.specs.Objects.{Held, same_bytes}
+use Rattle.eden_objects.specs.Objects.{Held}
+use Rattle.eden_ids.specs.Sameness.{same_bytes}
 use Rattle.eden_objects.specs.Trees.{Entry, is_name}
 use Rattle.eden_objects.specs.Commits.{Row, under, rows_of_kind, entry_rows, entries_rows, find_row, tree_rows}
 use Rattle.eden_objects.specs.Closed.{HasTree, IsClosed, NamesDiffer}

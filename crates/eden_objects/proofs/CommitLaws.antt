@@ -10,7 +10,8 @@ use Rattle.eden_ids.specs.FileMaps.{FileMap, file_at, paths, IsFileMap}
 use Rattle.eden_ids.specs.Paths.{path_fault}
 use Rattle.eden_objects.specs.declared.word.Word.{Word}
 use Rattle.eden_objects.specs.declared.word.Word.TheVariants.{Blob, Tree, Commit}
-use Rattle.eden_objects.specs.Objects.{Held, find, same_id, same_word, zero_id}
+use Rattle.eden_objects.specs.Objects.{Held, find, same_word, zero_id}
+use Rattle.eden_ids.specs.Sameness.{same_id}
 use Rattle.eden_objects.specs.Commits.{Row, tree_rows, tree_named, rows_named, rows_held, commit_rows, map_of_rows, commit_map}
 use Rattle.eden_objects.specs.Closed.{IsHeld, HasTree, IsClosed}
 use Rattle.eden_objects.specs.Laws.{CommitsAreFileMaps, CommitsListTheirRows, RowsRise, RowsAreLegal, RowsAreFiles, RowsNameBlobs}

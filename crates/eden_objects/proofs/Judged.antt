@@ -8,7 +8,8 @@ use Rattle.std.specs.List.Sorted.{IsStrictlySortedBy}
 use Rattle.eden_ids.specs.declared.content.Kind.{Kind}
 use Rattle.eden_objects.specs.declared.fault.PutFault.{PutFault}
 use Rattle.eden_objects.specs.declared.fault.PutFault.TheVariants.{Duplicate, OutOfOrder, BadName, CutShort}
-use Rattle.eden_objects.specs.Objects.{Held, same_bytes}
+use Rattle.eden_objects.specs.Objects.{Held}
+use Rattle.eden_ids.specs.Sameness.{same_bytes}
 use Rattle.eden_objects.specs.Trees.{Entry, cut, read_entry, read_mode, read_kind, read_named, read_id, kind_of_mode, is_name, key, entries, entries_after, entries_of, entries_depth, entries_reach, tree_depth, tree_reach}
 use Rattle.eden_objects.specs.Puts.{entries_fault, entry_fault, fault_after, first_fault, if_so, is_above, word_wanted}
 use Rattle.eden_objects.specs.Closed.{IsHeld, IsTree, NamesDiffer}

@@ -14,7 +14,8 @@ use Rattle.eden_ids.specs.declared.id.Id.{Id}
 use Rattle.eden_ids.specs.declared.content.Kind.{Kind}
 use Rattle.eden_ids.specs.declared.content.Content.{Content}
 use Rattle.eden_ids.specs.FileMaps.{FileMap, file_at, paths, IsFileMap}
-use Rattle.eden_objects.specs.Objects.{Held, same_bytes}
+use Rattle.eden_objects.specs.Objects.{Held}
+use Rattle.eden_ids.specs.Sameness.{same_bytes}
 use Rattle.eden_objects.specs.Commits.{Row, content_of, find_row}
 use Rattle.eden_objects.specs.Walks.{content_found}
 use Rattle.eden_objects.proofs.Clashes.{NoneClash, found_do_not_clash}

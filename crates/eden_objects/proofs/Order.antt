@@ -8,7 +8,7 @@ use Rattle.std.specs.BTreeMap.{is_at}
 use Rattle.std.proofs.lemmas.List.{append-nil}
 use Rattle.eden_ids.specs.declared.content.Kind.{Kind}
 use Rattle.eden_objects.specs.declared.entry.RawEntry.{RawEntry}
-use Rattle.eden_objects.specs.Objects.{same_bytes}
+use Rattle.eden_ids.specs.Sameness.{same_bytes}
 use Rattle.eden_objects.specs.Trees.{Entry, key, key_of}
 use Rattle.eden_objects.specs.Entries.{plain, ending_of, has_name}
 

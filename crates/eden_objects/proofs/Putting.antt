@@ -3,7 +3,8 @@ use Rattle.std.proofs.Common.{◌≡◌, ◌∙◌, refl, ap, Bool, true, false,
 use Rattle.eden_ids.specs.declared.id.Id.{Id}
 use Rattle.eden_objects.specs.declared.store.Object.{Object}
 use Rattle.eden_objects.specs.declared.fault.PutFault.TheVariants.{IdTaken}
-use Rattle.eden_objects.specs.Objects.{Held, find, same_id, zero_id}
+use Rattle.eden_objects.specs.Objects.{Held, find, zero_id}
+use Rattle.eden_ids.specs.Sameness.{same_id}
 use Rattle.eden_objects.specs.Puts.{PutGives, put_outcome}
 use Rattle.eden_objects.specs.Contents.{held_of, standing_answer, is_object}
 

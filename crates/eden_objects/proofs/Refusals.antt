@@ -6,7 +6,8 @@ use Rattle.eden_objects.specs.declared.fault.PutFault.TheVariants.{TooLarge, IdT
 use Rattle.eden_objects.specs.declared.word.Word.{Word}
 use Rattle.eden_objects.specs.declared.word.Word.TheVariants.{Blob, Tree, Commit}
 use Rattle.std.specs.List.{list_any}
-use Rattle.eden_objects.specs.Objects.{Held, find, same_bytes, same_word}
+use Rattle.eden_objects.specs.Objects.{Held, find, same_word}
+use Rattle.eden_ids.specs.Sameness.{same_bytes}
 use Rattle.eden_objects.specs.Trees.{Entry}
 use Rattle.eden_objects.specs.Commits.{tree_named}
 use Rattle.eden_objects.specs.Puts.{PutGives, first_fault, if_so, child_fault, named_fault, commit_fault, commit_outcome, entry_fault, is_above, word_wanted}

@@ -10,7 +10,7 @@ use Rattle.std.specs.Ordering.{is_lt, nat_cmp, ordering_reverse}
 use Rattle.std.specs.declared.cmp.Ordering.TheVariants.{Less, Equal, Greater}
 use Rattle.eden_ids.specs.declared.id.Id.{Id}
 use Rattle.eden_ids.specs.declared.content.Kind.{Kind}
-use Rattle.eden_objects.specs.Objects.{same_bytes}
+use Rattle.eden_ids.specs.Sameness.{same_bytes}
 use Rattle.eden_objects.specs.Trees.{Entry, entries_of, key, key_of}
 use Rattle.eden_objects.specs.Starts.{AreInOrder, AreStarts, entry_at, first_from, is_before}
 use Rattle.eden_objects.specs.Walks.{dir_if, dir_named, file_if, file_named, or_later}

@@ -7,7 +7,8 @@ use Rattle.eden_ids.specs.declared.id.Id.{Id}
 use Rattle.eden_objects.specs.declared.store.Object.{Object}
 use Rattle.eden_objects.specs.declared.word.Word.{Word}
 use Rattle.eden_objects.specs.declared.word.Word.TheVariants.{Tree}
-use Rattle.eden_objects.specs.Objects.{Held, find, same_id, word_text}
+use Rattle.eden_objects.specs.Objects.{Held, find, word_text}
+use Rattle.eden_ids.specs.Sameness.{same_id}
 use Rattle.eden_objects.specs.Commits.{entries_rows}
 use Rattle.eden_objects.specs.Counts.{capped}
 use Rattle.eden_objects.specs.Trees.{Entry, tree_fold, entries_of, entries_depth, entries_reach}

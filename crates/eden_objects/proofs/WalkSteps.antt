@@ -3,7 +3,8 @@ use Rattle.std.proofs.Common.{◌≡◌, ℕ, ◌+◌, ◌<◌, ◌++◌, Bool, 
 use Rattle.std.specs.List.{AllByRecursion}
 use Rattle.eden_ids.specs.declared.id.Id.{Id}
 use Rattle.eden_ids.specs.declared.content.Kind.{Kind}
-use Rattle.eden_objects.specs.Objects.{Held, find, payload_of, same_bytes}
+use Rattle.eden_objects.specs.Objects.{Held, find, payload_of}
+use Rattle.eden_ids.specs.Sameness.{same_bytes}
 use Rattle.eden_objects.specs.Trees.{Entry, cut, entries_of}
 use Rattle.eden_objects.specs.Commits.{find_row, tree_rows, entries_rows}
 use Rattle.eden_objects.specs.Puts.{word_wanted}

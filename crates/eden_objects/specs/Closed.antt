@@ -7,7 +7,8 @@ use Rattle.std.specs.List.Sorted.{IsStrictlySortedBy}
 use Rattle.eden_ids.specs.declared.id.Id.{Id}
 use Rattle.eden_objects.specs.declared.word.Word.{Word}
 use Rattle.eden_objects.specs.declared.word.Word.TheVariants.{Blob, Tree, Commit}
-use Rattle.eden_objects.specs.Objects.{Held, find, same_bytes, word_text}
+use Rattle.eden_objects.specs.Objects.{Held, find, word_text}
+use Rattle.eden_ids.specs.Sameness.{same_bytes}
 use Rattle.eden_objects.specs.Trees.{Entry, entries_of, entries_depth, entries_reach, is_name, key, tree_depth, tree_reach}
 use Rattle.eden_objects.specs.Commits.{tree_named}
 use Rattle.eden_objects.specs.Puts.{word_wanted}

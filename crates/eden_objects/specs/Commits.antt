@@ -11,7 +11,8 @@ use Rattle.eden_ids.specs.declared.hex_text.HexFault.{HexFault}
 use Rattle.eden_ids.specs.Hex.{id_of_hex}
 use Rattle.eden_ids.specs.FileMaps.{FileMap}
 use Rattle.eden_objects.specs.declared.word.Word.TheVariants.{Commit}
-use Rattle.eden_objects.specs.Objects.{Held, find, payload_of, same_bytes, same_id, same_word, zero_id}
+use Rattle.eden_objects.specs.Objects.{Held, find, payload_of, same_word, zero_id}
+use Rattle.eden_ids.specs.Sameness.{same_bytes, same_id}
 use Rattle.eden_objects.specs.Trees.{Entry, tree_fold}
 
 -- a file of a commit: its path, its kind and its blob

@@ -8,7 +8,8 @@ use Rattle.eden_objects.specs.declared.outline.Outline.{Outline}
 use Rattle.eden_objects.specs.declared.store.Object.{Object}
 use Rattle.eden_objects.specs.declared.fault.PutFault.{PutFault}
 use Rattle.eden_objects.specs.declared.fault.PutFault.TheVariants.{IdTaken}
-use Rattle.eden_objects.specs.Objects.{Held, same_word, same_bytes}
+use Rattle.eden_objects.specs.Objects.{Held, same_word}
+use Rattle.eden_ids.specs.Sameness.{same_bytes}
 use Rattle.eden_objects.specs.Counts.{files_of_entries, files_of_tree}
 use Rattle.eden_objects.specs.Starts.{AreStarts}
 use Rattle.eden_objects.specs.Trees.{entries_of, entries_depth, entries_reach, tree_depth, tree_reach}

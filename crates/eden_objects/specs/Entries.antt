@@ -7,7 +7,7 @@ use Rattle.std.specs.List.{list_any}
 use Rattle.std.specs.BTreeSet.{contains}
 use Rattle.eden_ids.specs.declared.content.Kind.{Kind}
 use Rattle.eden_objects.specs.declared.seen.Seen.{Seen}
-use Rattle.eden_objects.specs.Objects.{same_bytes}
+use Rattle.eden_ids.specs.Sameness.{same_bytes}
 use Rattle.eden_ids.specs.declared.id.Id.{Id}
 use Rattle.eden_objects.specs.declared.entry.RawEntry.{RawEntry}
 use Rattle.eden_objects.specs.declared.fault.PutFault.{PutFault}

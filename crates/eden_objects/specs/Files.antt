@@ -1,9 +1,6 @@
 -- The files of a commit by its rows, where an id that is no commit's has none.
 use Rattle.std.specs.Prelude.{ℕ, List, [], Option, Some, None}
-use Rattle.std.specs.Borrow.{Bor}
 use Rattle.eden_ids.specs.declared.id.Id.{Id}
-use Rattle.eden_ids.specs.declared.content.Kind.{Kind}
-use Rattle.eden_ids.specs.declared.content.Content.{Content}
 use Rattle.eden_ids.specs.FileMaps.{FileMap, no_files}
 use Rattle.eden_objects.specs.Objects.{Held}
 use Rattle.eden_objects.specs.Commits.{Row, commit_map}
@@ -19,8 +16,3 @@ commit_files held commit = files_of (commit_map held commit)
 abbrev pub rows_or_none : Option (List Row) → List Row
 rows_or_none None = []
 rows_or_none (Some rows) = rows
-
--- a file whose bytes were lent
-abbrev pub content_seen : Option (Kind × Bor (List ℕ)) → Option Content
-content_seen None = None
-content_seen (Some seen) = Some (record { kind = seen.0; bytes = seen.1.now })

@@ -1,7 +1,7 @@
 -- The objects of a store, newest first, so that what an object names stands behind it.
-use Rattle.std.specs.Prelude.{ℕ, Bool, true, false, nat_eq, List, [], ◌∷◌, codes, replicate, Option, Some, None, if◌then◌else◌}
-use Rattle.std.specs.Cmp.Lexicographic.{pointwise}
+use Rattle.std.specs.Prelude.{ℕ, Bool, true, false, List, [], ◌∷◌, codes, replicate, Option, Some, None, if◌then◌else◌}
 use Rattle.eden_ids.specs.declared.id.Id.{Id}
+use Rattle.eden_ids.specs.Sameness.{same_id}
 use Rattle.eden_objects.specs.declared.word.Word.{Word}
 use Rattle.eden_objects.specs.declared.word.Word.TheVariants.{Blob, Tree, Commit}
 
@@ -16,12 +16,6 @@ same_word Blob Blob = true
 same_word Tree Tree = true
 same_word Commit Commit = true
 same_word _ _ = false
-
-abbrev pub same_bytes : List ℕ → List ℕ → Bool
-same_bytes a b = pointwise nat_eq a b
-
-abbrev pub same_id : Id → Id → Bool
-same_id a b = same_bytes a.0 b.0
 
 -- the id of the empty commit, which no object has
 abbrev pub zero_id : Id

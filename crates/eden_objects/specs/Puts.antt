@@ -10,7 +10,8 @@ use Rattle.eden_objects.specs.declared.word.Word.{Word}
 use Rattle.eden_objects.specs.declared.word.Word.TheVariants.{Blob, Tree, Commit}
 use Rattle.eden_objects.specs.declared.fault.PutFault.{PutFault}
 use Rattle.eden_objects.specs.declared.fault.PutFault.TheVariants.{TooLarge, IdTaken, ZeroId, OutOfOrder, Duplicate, MissingChild, WrongChildKind, TooDeep, PathTooLong, CutShort, BadCommit, NoMemory}
-use Rattle.eden_objects.specs.Objects.{Held, find, same_bytes, same_id, same_word, word_text, zero_id}
+use Rattle.eden_objects.specs.Objects.{Held, find, same_word, word_text, zero_id}
+use Rattle.eden_ids.specs.Sameness.{same_bytes, same_id}
 use Rattle.eden_objects.specs.Trees.{Entry, key, read_entry, entries_of, entries_depth, entries_reach, tree_depth, tree_reach}
 use Rattle.eden_objects.specs.Commits.{tree_named}
 

@@ -8,7 +8,8 @@ use Rattle.eden_ids.specs.declared.content.Kind.TheVariants.{Plain, Exec, Link}
 use Rattle.eden_ids.specs.Paths.{is_component}
 use Rattle.eden_objects.specs.declared.fault.PutFault.{PutFault}
 use Rattle.eden_objects.specs.declared.fault.PutFault.TheVariants.{CutShort, BadMode, BadName}
-use Rattle.eden_objects.specs.Objects.{Held, same_id, same_bytes}
+use Rattle.eden_objects.specs.Objects.{Held}
+use Rattle.eden_ids.specs.Sameness.{same_bytes, same_id}
 
 -- an entry: a file of some kind, or a directory
 pub record Entry : Type 0 where

@@ -3,7 +3,8 @@ use Rattle.std.specs.Prelude.{ℕ, Bool, if◌then◌else◌, List, [], ◌∷�
 use Rattle.eden_ids.specs.declared.id.Id.{Id}
 use Rattle.eden_ids.specs.declared.content.Kind.{Kind}
 use Rattle.eden_ids.specs.declared.content.Content.{Content}
-use Rattle.eden_objects.specs.Objects.{Held, find, payload_of, same_bytes, same_word}
+use Rattle.eden_objects.specs.Objects.{Held, find, payload_of, same_word}
+use Rattle.eden_ids.specs.Sameness.{same_bytes}
 use Rattle.std.specs.Borrow.{Bor}
 use Rattle.eden_objects.specs.declared.entry.RawEntry.{RawEntry}
 use Rattle.eden_objects.specs.Entries.{plain}

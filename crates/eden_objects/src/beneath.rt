@@ -1,11 +1,11 @@
 ghost use Rattle.std.specs.Prelude.{◌≡◌, ◌-◌, filter, length, nat_le};
-ghost use Rattle.eden_ids.specs.FileMaps.{file_at, paths};
+ghost use Rattle.eden_ids.specs.FileMaps.{file_at, paths, lent};
 ghost use Rattle.eden_ids.specs.Paths.{lies_below};
 ghost use Rattle.eden_objects.specs.Commits.{commit_rows, find_row, tree_rows};
 ghost use Rattle.eden_objects.specs.Closed.{HasTree};
 ghost use Rattle.eden_objects.specs.Counts.{files_of_tree};
 ghost use Rattle.eden_objects.specs.Listings.{rows_below};
-ghost use Rattle.eden_objects.specs.Files.{commit_files, content_seen, rows_or_none};
+ghost use Rattle.eden_objects.specs.Files.{commit_files, rows_or_none};
 
 use crate::store::Store;
 use eden_ids::{Id, Kind, Naming};
@@ -16,7 +16,7 @@ impl<N: Naming + Drop> Store<N> {
     /// This takes no memory, and searches one directory for each component of the path.
     #[tactic(auto, using(crate::proofs::FilesOf::file_by_row))]
     pub fn file(&self, commit: Id, path: &[u8]) -> Option<(Kind, &[u8])>
-        ensures { content_seen result ≡ file_at (commit_files self.now commit) path.now }
+        ensures { lent result ≡ file_at (commit_files self.now commit) path.now }
     {
         match self.row(commit, path) {
             Some(found) => Some((found.0, self.payload(found.1))),

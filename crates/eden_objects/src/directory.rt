@@ -1,5 +1,5 @@
 ghost use Rattle.std.specs.Prelude.{◌≡◌, ◌<◌, length, IfSome};
-ghost use Rattle.eden_objects.specs.Objects.{same_bytes};
+ghost use Rattle.eden_ids.specs.Sameness.{same_bytes};
 ghost use Rattle.eden_objects.specs.Starts.{AreInOrder, AreStarts};
 ghost use Rattle.eden_objects.specs.Trees.{entries_of};
 ghost use Rattle.eden_objects.specs.Walks.{entries_read, file_if, file_named, dir_if, dir_named};

@@ -2,7 +2,8 @@
 use Rattle.std.specs.Prelude.{Bool, true, ◌&&◌, ◌||◌, is_some, List, [], ◌∷◌, map}
 use Rattle.eden_ids.specs.declared.id.Id.{Id}
 use Rattle.eden_ids.specs.FileMaps.{PathSet, listing, no_paths, path_set, union}
-use Rattle.eden_objects.specs.Objects.{Held, same_id}
+use Rattle.eden_objects.specs.Objects.{Held}
+use Rattle.eden_ids.specs.Sameness.{same_id}
 use Rattle.eden_objects.specs.Commits.{commit_map}
 use Rattle.eden_history.specs.declared.mark.Marked.{Marked}
 use Rattle.eden_history.specs.Worlds.{Commits}

@@ -1,10 +1,7 @@
 -- Which words are labels.
-use Rattle.std.specs.Prelude.{ℕ, Bool, not, ◌&&◌, ◌||◌, nat_eq, nat_le, if◌then◌else◌, List, length, codes, Option, Some, None}
-use Rattle.std.specs.Cmp.Lexicographic.{pointwise}
+use Rattle.std.specs.Prelude.{ℕ, Bool, not, ◌&&◌, ◌||◌, nat_le, if◌then◌else◌, List, length, codes, Option, Some, None}
 use Rattle.std.specs.List.{list_all}
-
-abbrev pub is_word : List ℕ → List ℕ → Bool
-is_word word name = pointwise nat_eq word name
+use Rattle.eden_ids.specs.Sameness.{same_bytes}
 
 -- a label is 1 to 32 of `a` to `z` and `0` to `9`
 abbrev pub is_label_byte : ℕ → Bool
@@ -15,7 +12,7 @@ is_label word = nat_le 1 (length word) && nat_le (length word) 32 && list_all is
 
 -- the label of the empty commit, which no line binds
 abbrev pub is_empty : List ℕ → Bool
-is_empty label = is_word label (codes "empty")
+is_empty label = same_bytes label (codes "empty")
 
 -- a label that a line reads
 abbrev pub label_read : List ℕ → Option (List ℕ)

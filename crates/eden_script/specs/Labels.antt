@@ -1,16 +1,17 @@
 -- The names that a script gives to objects, and what each is bound to. A label may be bound more than once.
 use Rattle.std.specs.Prelude.{ℕ, Bool, false, ◌&&◌, if◌then◌else◌, List, [], ◌∷◌, reverse, Option, Some, None, option_map, find}
 use Rattle.eden_ids.specs.declared.id.Id.{Id}
-use Rattle.eden_objects.specs.Objects.{same_id, zero_id}
+use Rattle.eden_objects.specs.Objects.{zero_id}
+use Rattle.eden_ids.specs.Sameness.{same_bytes, same_id}
 use Rattle.eden_script.specs.declared.label.Binding.{Binding}
-use Rattle.eden_script.specs.LabelWords.{is_word, is_empty}
+use Rattle.eden_script.specs.LabelWords.{is_empty}
 
 -- ---- the bindings made so far, newest first
 
 -- the id to which a label was bound last
 abbrev pub newest : List Binding → List ℕ → Option Id
 newest [] label = None
-newest (binding ∷ earlier) label = if is_word label binding.label then Some binding.id else newest earlier label
+newest (binding ∷ earlier) label = if same_bytes label binding.label then Some binding.id else newest earlier label
 
 -- what a label is bound to
 abbrev pub bound : List Binding → List ℕ → Option Id

@@ -8,19 +8,20 @@ use Rattle.eden_history.specs.declared.change.Mode.TheVariants.{Normal, Dry, For
 use Rattle.eden_script.specs.declared.command.Command.{Command}
 use Rattle.eden_script.specs.declared.command.Command.TheVariants as line
 use Rattle.eden_script.specs.declared.command.TreeEntry.{TreeEntry}
-use Rattle.eden_script.specs.LabelWords.{is_word, label_read, label_to_bind}
+use Rattle.eden_script.specs.LabelWords.{label_read, label_to_bind}
+use Rattle.eden_ids.specs.Sameness.{same_bytes}
 
 abbrev pub kind_of : List ℕ → Option Kind
 kind_of word =
-    if is_word word (codes "plain") then Some Plain else
-    if is_word word (codes "exec") then Some Exec else
-    if is_word word (codes "link") then Some Link else None
+    if same_bytes word (codes "plain") then Some Plain else
+    if same_bytes word (codes "exec") then Some Exec else
+    if same_bytes word (codes "link") then Some Link else None
 
 abbrev pub mode_of : List ℕ → Option Mode
 mode_of word =
-    if is_word word (codes "normal") then Some Normal else
-    if is_word word (codes "force") then Some Force else
-    if is_word word (codes "dry") then Some Dry else None
+    if same_bytes word (codes "normal") then Some Normal else
+    if same_bytes word (codes "force") then Some Force else
+    if same_bytes word (codes "dry") then Some Dry else None
 
 abbrev pub mount_of : Option (List ℕ) → Option ℕ → Option ℕ → Option Command
 mount_of (Some label) (Some generation) (Some limit) = Some (line.Mount label generation limit)
@@ -84,29 +85,29 @@ tree_of (label ∷ words) = tree_with (label_to_bind label) (entries_of words)
 -- any other line, by its first word and by how many follow
 abbrev pub row_of : List ℕ → List (List ℕ) → Option Command
 row_of first [] =
-    if is_word first (codes "flush") then Some line.Flush else
-    if is_word first (codes "position") then Some line.Position else
-    if is_word first (codes "dirty") then Some line.Dirty else None
+    if same_bytes first (codes "flush") then Some line.Flush else
+    if same_bytes first (codes "position") then Some line.Position else
+    if same_bytes first (codes "dirty") then Some line.Dirty else None
 row_of first (second ∷ []) =
-    if is_word first (codes "remove") then Some (line.Remove second) else
-    if is_word first (codes "read") then Some (line.Read second) else
-    if is_word first (codes "reset") then reset_of (label_read second) else
-    if is_word first (codes "remount") then remount_of (number_of second) else
-    if is_word first (codes "id") then id_of (label_read second) else None
+    if same_bytes first (codes "remove") then Some (line.Remove second) else
+    if same_bytes first (codes "read") then Some (line.Read second) else
+    if same_bytes first (codes "reset") then reset_of (label_read second) else
+    if same_bytes first (codes "remount") then remount_of (number_of second) else
+    if same_bytes first (codes "id") then id_of (label_read second) else None
 row_of first (second ∷ third ∷ []) =
-    if is_word first (codes "rename") then Some (line.Rename second third) else
-    if is_word first (codes "checkout") then checkout_of (label_read second) (mode_of third) else
-    if is_word first (codes "since") then since_of (number_of second) (number_of third) else
-    if is_word first (codes "blob") then blob_of (label_to_bind second) third else
-    if is_word first (codes "commit") then commit_of (label_to_bind second) (label_read third) else None
+    if same_bytes first (codes "rename") then Some (line.Rename second third) else
+    if same_bytes first (codes "checkout") then checkout_of (label_read second) (mode_of third) else
+    if same_bytes first (codes "since") then since_of (number_of second) (number_of third) else
+    if same_bytes first (codes "blob") then blob_of (label_to_bind second) third else
+    if same_bytes first (codes "commit") then commit_of (label_to_bind second) (label_read third) else None
 row_of first (second ∷ third ∷ fourth ∷ []) =
-    if is_word first (codes "mount") then mount_of (label_read second) (number_of third) (number_of fourth) else
-    if is_word first (codes "write") then write_of second (kind_of third) fourth else None
+    if same_bytes first (codes "mount") then mount_of (label_read second) (number_of third) (number_of fourth) else
+    if same_bytes first (codes "write") then write_of second (kind_of third) fourth else None
 row_of first _ = None
 
 -- the words of a line, read by the first of them and by how many they are
 abbrev pub command_of : List (List ℕ) → Option Command
 command_of [] = None
 command_of (first ∷ words) =
-    if is_word first (codes "tree") then tree_of words else
-    if is_word first (codes "list") then Some (line.ListFiles words) else row_of first words
+    if same_bytes first (codes "tree") then tree_of words else
+    if same_bytes first (codes "list") then Some (line.ListFiles words) else row_of first words

@@ -21,7 +21,8 @@ use Rattle.eden_globs.specs.Filters as globs
 use Rattle.eden_objects.specs.Commits.{commit_map}
 use Rattle.eden_objects.specs.declared.fault.PutFault.{PutFault}
 use Rattle.eden_objects.specs.declared.fault.PutFault.TheVariants as put
-use Rattle.eden_objects.specs.Objects.{Held, same_id, zero_id}
+use Rattle.eden_objects.specs.Objects.{Held, zero_id}
+use Rattle.eden_ids.specs.Sameness.{same_id}
 use Rattle.eden_objects.specs.Puts.{Outcome, blob_outcome, tree_outcome, commit_outcome}
 use Rattle.eden_history.specs.declared.answer.Answer.{Answer}
 use Rattle.eden_history.specs.declared.answer.Answer.TheVariants.{At, Checked, Refused}

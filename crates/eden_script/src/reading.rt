@@ -2,7 +2,8 @@
 
 ghost use Rattle.std.specs.Prelude.{◌≡◌, ◌<◌, [], ◌∷◌, length, IfOk, OnSome};
 ghost use Rattle.eden_script.specs.Numbers.{number_of};
-ghost use Rattle.eden_script.specs.LabelWords.{is_word, label_read, label_to_bind};
+ghost use Rattle.eden_script.specs.LabelWords.{label_read, label_to_bind};
+ghost use Rattle.eden_ids.specs.Sameness.{same_bytes};
 ghost use Rattle.eden_script.specs.ScriptLines.{kind_of, mode_of, reset_of, checkout_of, remount_of, mount_of, since_of, write_of, blob_of, commit_of, id_of, entry_of, entry_before, entries_of, tree_of, row_of, command_of};
 
 use crate::command::{Command, TreeEntry};
@@ -15,7 +16,7 @@ use eden_ids::{Kind, Sequence};
 use std::alloc::{AllocError, Global};
 
 fn is_named(word: &Word, name: &[u8]) -> bool
-    ensures { result ≡ is_word word.now name.now }
+    ensures { result ≡ same_bytes word.now name.now }
 {
     word.as_bytes() == name
 }

@@ -16,7 +16,8 @@ use Rattle.eden_ids.specs.declared.content.Kind.{Kind}
 use Rattle.eden_ids.specs.FileMaps.{differ, file_at, listing, path_set, same_file, same_kind}
 use Rattle.eden_ids.proofs.FileMapLemmas.{has-differ, has-path_set, same_path_set}
 use Rattle.eden_objects.specs.declared.word.Word.TheVariants.{Blob}
-use Rattle.eden_objects.specs.Objects.{Held, find, payload_of, same_bytes, same_id, word_text}
+use Rattle.eden_objects.specs.Objects.{Held, find, payload_of, word_text}
+use Rattle.eden_ids.specs.Sameness.{same_bytes, same_id}
 use Rattle.eden_objects.specs.Commits.{Row, commit_map, find_row, map_of_rows}
 use Rattle.eden_objects.specs.Closed.{IsHeld, AllNamed}
 use Rattle.eden_objects.specs.Walks.{content_found}

@@ -12,7 +12,8 @@ use Rattle.eden_ids.specs.declared.id.Id.{Id}
 use Rattle.eden_ids.specs.declared.content.Kind.{Kind}
 use Rattle.eden_ids.specs.declared.content.Kind.TheVariants.{Plain, Exec, Link}
 use Rattle.eden_ids.specs.FileMaps.{same_kind}
-use Rattle.eden_objects.specs.Objects.{Held, same_id}
+use Rattle.eden_objects.specs.Objects.{Held}
+use Rattle.eden_ids.specs.Sameness.{same_id}
 use Rattle.eden_objects.specs.Trees.{Entry, is_name, key, key_of, entries_depth, tree_depth}
 use Rattle.eden_objects.specs.Commits.{Row, under, rows_of_kind, entry_rows, entries_rows, tree_rows}
 use Rattle.eden_objects.specs.Puts.{word_wanted}

@@ -9,9 +9,8 @@ use Rattle.std.specs.Cmp.Lexicographic.{slice_cmp}
 use Rattle.std.specs.FinMap.Entries.{by_order}
 use Rattle.eden_ids.specs.declared.content.Kind.{Kind}
 use Rattle.eden_ids.specs.declared.content.Kind.TheVariants.{Plain, Exec, Link}
-use Rattle.eden_ids.specs.Columns.{id_eq}
+use Rattle.eden_ids.specs.Sameness.{same_id}
 use Rattle.eden_lanes.specs.Rows.{differ_from}
-use Rattle.eden_objects.specs.Objects.{same_id}
 use Rattle.eden_objects.specs.Trees.{Entry, entries_of, key}
 use Rattle.eden_objects.specs.declared.entry.RawEntry.{RawEntry}
 use Rattle.eden_objects.specs.Entries.{option_plain, plain}
@@ -120,9 +119,9 @@ not_both false false = refl
 pub both_told : (k : ℕ) (b : Both) (bs : List Both) (ids kinds : List ℕ) → AreChanges ids kinds k (b ∷ bs)
     → ((is_first k ids || is_first k kinds) ≡ not (same_mode b.0.kind b.1.kind && same_id b.0.id b.1.id)) × AreChanges (rows_after k ids) (rows_after k kinds) (k + 1) bs
 both_told k b bs ids kinds are =
-    let one = row_told id_eq k b.0.id b.1.id (first_ids bs) (second_ids bs) ids are.0 in
+    let one = row_told same_id k b.0.id b.1.id (first_ids bs) (second_ids bs) ids are.0 in
     let two = row_told nat_eq k (kind_byte b.0.kind) (kind_byte b.1.kind) (first_kinds bs) (second_kinds bs) kinds are.1 in (
-      (λ i. one.0 i || two.0 i) ∙ not_both (id_eq b.0.id b.1.id) (nat_eq (kind_byte b.0.kind) (kind_byte b.1.kind)) ∙ ap (λ t. not (t && same_id b.0.id b.1.id)) (kinds_told b.0.kind b.1.kind),
+      (λ i. one.0 i || two.0 i) ∙ not_both (same_id b.0.id b.1.id) (nat_eq (kind_byte b.0.kind) (kind_byte b.1.kind)) ∙ ap (λ t. not (t && same_id b.0.id b.1.id)) (kinds_told b.0.kind b.1.kind),
       (one.1, two.1),
     )
 
@@ -178,9 +177,9 @@ no_bytes (b ∷ bytes) none = absurd (omega (arith, none))
 pub no_left : (left right ids kinds : List ℕ) → length left ≡ 0 → ids ≡ [] → kinds ≡ [] → AreChanges ids kinds 0 (common (entries_of left) (entries_of right))
 no_left left right ids kinds none first second =
     let bs : common (entries_of left) (entries_of right) ≡ [] = ap (λ es. common es (entries_of right)) (no_bytes left none) in
-    (first ∙ ap (λ cs. differ_from id_eq 0 (first_ids cs) (second_ids cs)) (sym bs), second ∙ ap (λ cs. differ_from nat_eq 0 (first_kinds cs) (second_kinds cs)) (sym bs))
+    (first ∙ ap (λ cs. differ_from same_id 0 (first_ids cs) (second_ids cs)) (sym bs), second ∙ ap (λ cs. differ_from nat_eq 0 (first_kinds cs) (second_kinds cs)) (sym bs))
 
 pub no_right : (left right ids kinds : List ℕ) → length right ≡ 0 → ids ≡ [] → kinds ≡ [] → AreChanges ids kinds 0 (common (entries_of left) (entries_of right))
 no_right left right ids kinds none first second =
     let bs : common (entries_of left) (entries_of right) ≡ [] = ap (common (entries_of left)) (no_bytes right none) ∙ none_common (entries_of left) in
-    (first ∙ ap (λ cs. differ_from id_eq 0 (first_ids cs) (second_ids cs)) (sym bs), second ∙ ap (λ cs. differ_from nat_eq 0 (first_kinds cs) (second_kinds cs)) (sym bs))
+    (first ∙ ap (λ cs. differ_from same_id 0 (first_ids cs) (second_ids cs)) (sym bs), second ∙ ap (λ cs. differ_from nat_eq 0 (first_kinds cs) (second_kinds cs)) (sym bs))

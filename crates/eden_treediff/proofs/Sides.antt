@@ -1,7 +1,8 @@
 -- The trees of two commits, and what differs between them.
 use Rattle.std.proofs.Common.{◌≡◌, ℕ, true, false, cond, List, [], ◌∷◌, ◌++◌, Option, Some, None, refl, sym, ap, ◌∙◌}
 use Rattle.eden_ids.specs.declared.id.Id.{Id}
-use Rattle.eden_objects.specs.Objects.{Held, find, same_id, zero_id}
+use Rattle.eden_objects.specs.Objects.{Held, find, zero_id}
+use Rattle.eden_ids.specs.Sameness.{same_id}
 use Rattle.eden_objects.specs.Commits.{Row, commit_map, commit_rows, map_of_rows, rows_held}
 use Rattle.eden_objects.specs.Closed.{HasTree, IsClosed, AllNamed}
 use Rattle.eden_objects.specs.Walks.{tree_seen}

@@ -6,7 +6,7 @@ use Rattle.std.specs.FinMap.Entries.{by_order}
 use Rattle.eden_ids.specs.declared.id.Id.{Id}
 use Rattle.eden_ids.specs.declared.content.Kind.{Kind}
 use Rattle.eden_ids.specs.declared.content.Kind.TheVariants.{Plain, Exec, Link}
-use Rattle.eden_ids.specs.Columns.{id_eq}
+use Rattle.eden_ids.specs.Sameness.{same_id}
 use Rattle.eden_lanes.specs.Rows.{differ_from}
 use Rattle.eden_objects.specs.Trees.{Entry, key}
 use Rattle.eden_treediff.specs.declared.changes.Changes.{Changes}
@@ -48,7 +48,7 @@ second_kinds bs = map (λ b. kind_byte b.1.kind) bs
 
 -- these are the rows, counted from one, at which the ids and the kinds differ
 abbrev pub AreChanges : List ℕ → List ℕ → ℕ → List Both → Type 0
-AreChanges ids kinds row bs = (ids ≡ differ_from id_eq row (first_ids bs) (second_ids bs)) × (kinds ≡ differ_from nat_eq row (first_kinds bs) (second_kinds bs))
+AreChanges ids kinds row bs = (ids ≡ differ_from same_id row (first_ids bs) (second_ids bs)) × (kinds ≡ differ_from nat_eq row (first_kinds bs) (second_kinds bs))
 
 abbrev pub Tells : Changes → List Both → Type 0
 Tells changes bs = AreChanges changes.ids.now changes.kinds.now changes.row bs

@@ -6,7 +6,7 @@ use Rattle.std.specs.FinMap.Entries.{by_order}
 use Rattle.eden_ids.specs.declared.id.Id.{Id}
 use Rattle.eden_ids.specs.declared.content.Kind.{Kind}
 use Rattle.eden_ids.specs.FileMaps.{same_kind}
-use Rattle.eden_objects.specs.Objects.{same_id}
+use Rattle.eden_ids.specs.Sameness.{same_id}
 use Rattle.eden_objects.specs.Trees.{Entry, entries_of, key}
 use Rattle.eden_objects.specs.Entries.{option_plain}
 use Rattle.eden_treediff.specs.declared.pair.Pair.{Pair}

@@ -8,7 +8,7 @@ use Rattle.eden_ids.specs.declared.id.Id.{Id}
 use Rattle.eden_ids.specs.declared.content.Kind.{Kind}
 use Rattle.eden_ids.specs.declared.content.Content.{Content}
 use Rattle.eden_ids.specs.Paths.{lies_below}
-use Rattle.eden_ids.specs.FileMaps.{FileMap, file_at, paths, has_file_above, has_file_below, same_path, IsFileMap}
+use Rattle.eden_ids.specs.FileMaps.{FileMap, file_at, paths, has_file_above, has_file_below, same_path, IsFileMap, lent}
 use Rattle.std.specs.Ordering.{nat_cmp}
 use Rattle.std.specs.Cmp.Lexicographic.{slice_cmp}
 use Rattle.eden_ids.proofs.FileMapLemmas.{same_path-is}
@@ -16,12 +16,13 @@ use Rattle.eden_ids.proofs.TreeMaps.{entries_found}
 use Rattle.eden_objects.specs.Objects.{Held}
 use Rattle.eden_objects.specs.Commits.{Row, commit_rows, commit_map, map_of_rows}
 use Rattle.eden_objects.specs.Closed.{IsClosed}
-use Rattle.eden_objects.specs.Files.{files_of, commit_files, content_seen}
+use Rattle.eden_objects.specs.Files.{files_of, commit_files}
 use Rattle.eden_objects.proofs.CommitLaws.{file_maps}
 use Rattle.eden_history.specs.declared.change.ChangeFault.{ChangeFault}
 use Rattle.eden_history.specs.declared.change.ChangeFault.TheVariants.{NotADirectory, IsADirectory}
 use Rattle.eden_history.specs.Renames.{first_fault}
-use Rattle.eden_history.specs.Renames.{same_place, moved, renamed}
+use Rattle.eden_history.specs.Renames.{moved, renamed}
+use Rattle.eden_ids.specs.Sameness.{same_bytes}
 use Rattle.eden_workcopy.specs.declared.work.WorkCopy.{WorkCopy}
 use Rattle.eden_workcopy.specs.Meanings.{means, FitsIn}
 use Rattle.eden_workcopy.specs.Layers.{Layer, Entry, or_below, over}
@@ -56,7 +57,7 @@ file_told base layer p file is = file_at-over base layer p ∙ ap (λ o. or_belo
 pub file_below : (base : FileMap) (layer : Layer) (p : List ℕ) → fin.get layer p ≡ None → file_at (over base layer) p ≡ file_at base p
 file_below base layer p is = file_at-over base layer p ∙ ap (λ o. or_below o (file_at base p)) is
 
-pub some_seen : (seen : Option (Kind × Bor (List ℕ))) (file : Option Content) → content_seen seen ≡ file → is_some seen ≡ is_some file
+pub some_seen : (seen : Option (Kind × Bor (List ℕ))) (file : Option Content) → lent seen ≡ file → is_some seen ≡ is_some file
 some_seen None file is = ap is_some is
 some_seen (Some x) file is = ap is_some is
 
@@ -152,7 +153,7 @@ pub removed : (base : FileMap) (layer after : Layer) (k path : List ℕ) → aft
 removed base layer after k path is key = ap (over base) is ∙ over-remove base layer k ∙ ap (fin.remove (over base layer)) key
 
 pub shifted : (base : FileMap) (layer after : Layer) (from to old new : List ℕ) (f : Content) → after ≡ fin.insert (fin.insert layer from None) to (Some f) → from ≡ old → to ≡ new
-    → Some f ≡ file_at (over base layer) old → same_place old new ≡ false → over base after ≡ renamed (over base layer) old new
+    → Some f ≡ file_at (over base layer) old → same_bytes old new ≡ false → over base after ≡ renamed (over base layer) old new
 shifted base layer after from to old new f is source target file other =
     ap (over base) is
     ∙ over-move base layer from to f

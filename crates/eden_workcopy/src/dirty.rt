@@ -1,6 +1,6 @@
 ghost use Rattle.std.specs.Prelude.{◌≡◌, ◌++◌, ◌∷◌, [], if◌then◌else◌, not, IfOk, OnOk};
-ghost use Rattle.eden_ids.specs.FileMaps.{differ, file_at, listing, same_file, same_kind};
-ghost use Rattle.eden_objects.specs.Files.{commit_files, content_seen};
+ghost use Rattle.eden_ids.specs.FileMaps.{differ, file_at, listing, same_file, same_kind, lent};
+ghost use Rattle.eden_objects.specs.Files.{commit_files};
 ghost use Rattle.eden_workcopy.specs.Meanings.{means, FitsIn};
 
 use crate::work::WorkCopy;
@@ -20,7 +20,7 @@ pub(crate) fn is_same_kind(kind: Kind, other: Kind) -> bool
 
 /// Whether a file, or that there is none, is what stands below it.
 fn is_same(file: &Option<Content>, below: Option<(Kind, &[u8])>) -> bool
-    ensures { result ≡ same_file file.now (content_seen below.entry) }
+    ensures { result ≡ same_file file.now (lent below.entry) }
 {
     match file {
         None => below.is_none(),

@@ -1,9 +1,9 @@
 ghost use Rattle.std.specs.Prelude.{◌≡◌, ◌≢◌, ℕ, true, List, Some, None, T, map, take, drop, IfOk, IfErr, OnOk};
 ghost use Rattle.std.specs.FinMap as fin;
 ghost use Rattle.std.specs.FinMap.{is_sorted};
-ghost use Rattle.eden_ids.specs.FileMaps.{differ, has, same_file};
+ghost use Rattle.eden_ids.specs.FileMaps.{differ, has, same_file, lent};
 ghost use Rattle.eden_objects.specs.Commits.{commit_map};
-ghost use Rattle.eden_objects.specs.Files.{commit_files, content_seen};
+ghost use Rattle.eden_objects.specs.Files.{commit_files};
 ghost use Rattle.eden_workcopy.specs.Agreements.{Agrees, AllAgree, IsNearer, StaysLean};
 ghost use Rattle.eden_workcopy.specs.Layers.{Entry, by_bytes, place};
 ghost use Rattle.eden_workcopy.specs.Meanings.{means, touched_set, FitsIn};
@@ -30,7 +30,7 @@ pub enum RerootFault {
 
 /// Whether two files are one, where that there is none counts as a file.
 fn is_same_seen(file: Option<(Kind, &[u8])>, other: Option<(Kind, &[u8])>) -> bool
-    ensures { result ≡ same_file (content_seen file.entry) (content_seen other.entry) }
+    ensures { result ≡ same_file (lent file.entry) (lent other.entry) }
 {
     match file {
         None => other.is_none(),

@@ -1,11 +1,12 @@
 ghost use Rattle.std.specs.Prelude.{◌≡◌, ◌≢◌, None, Some, IfOk, IfErr, OnOk, OnErr, is_some, if◌then◌else◌, nat_lt, nat_eq, ◌<◌, ◌&&◌, take, length};
 ghost use Rattle.std.specs.List.{slice_index_or};
 ghost use Rattle.std.specs.FinMap as fin;
-ghost use Rattle.eden_ids.specs.FileMaps.{differ, file_at, has_file_above, has_file_below, listing, paths};
+ghost use Rattle.eden_ids.specs.FileMaps.{differ, file_at, has_file_above, has_file_below, listing, paths, lent};
 ghost use Rattle.eden_objects.specs.Commits.{commit_map};
-ghost use Rattle.eden_objects.specs.Files.{commit_files, content_seen};
+ghost use Rattle.eden_objects.specs.Files.{commit_files};
 ghost use Rattle.eden_history.specs.Renames.{place_fault};
-ghost use Rattle.eden_history.specs.Renames.{absent_fault, rename_fault, renamed, same_place, write_fault};
+ghost use Rattle.eden_history.specs.Renames.{absent_fault, rename_fault, renamed, write_fault};
+ghost use Rattle.eden_ids.specs.Sameness.{same_bytes};
 ghost use Rattle.eden_workcopy.specs.Meanings.{means, FitsIn};
 
 use crate::overlay::Overlay;
@@ -27,7 +28,7 @@ pub struct WorkCopy {
 
 /// The kind and the bytes of a file.
 fn seen(file: &Option<Content>) -> Option<(Kind, &[u8])>
-    ensures { content_seen result ≡ file.now }
+    ensures { lent result ≡ file.now }
 {
     match file {
         Some(content) => Some((content.kind, content.bytes.as_slice())),
@@ -77,7 +78,7 @@ impl WorkCopy {
         store: &'a Store<N>,
         path: &[u8],
     ) -> Option<(Kind, &'a [u8])>
-        ensures { content_seen result ≡ file_at (means store.now self.now) path.now }
+        ensures { lent result ≡ file_at (means store.now self.now) path.now }
     {
         match self.overlay.get(path) {
             Some(file) => seen(file),
@@ -192,7 +193,7 @@ impl WorkCopy {
         old: &Path,
         new: &Path,
     ) -> Option<ChangeFault>
-        ensures { result ≡ (if same_place old.now new.now then None else place_fault (means store.now self.now) new.now) }
+        ensures { result ≡ (if same_bytes old.now new.now then None else place_fault (means store.now self.now) new.now) }
     {
         if old == new {
             None

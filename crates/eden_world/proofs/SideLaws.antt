@@ -5,13 +5,13 @@ use Rattle.std.specs.List.{list_any, slice_index_or}
 use Rattle.std.proofs.lemmas.List.{drop_more}
 use Rattle.std.specs.FinMap as fin
 use Rattle.eden_ids.specs.declared.content.Content.{Content}
-use Rattle.eden_ids.specs.FileMaps.{FileMap, PathSet, differ, file_at, has, listing, path_set, paths, same_file, same_path, union}
+use Rattle.eden_ids.specs.FileMaps.{FileMap, PathSet, differ, file_at, has, listing, path_set, paths, same_file, same_path, union, clashes_any}
 use Rattle.eden_ids.proofs.FileMapLemmas.{has-append, has-differ, has-listing, has-path_set, has-union, path_set-listing, same_file_map}
 use Rattle.eden_ids.proofs.Sifted.{listing_of}
 use Rattle.eden_history.specs.declared.change.Mode.{Mode}
 use Rattle.eden_history.specs.declared.change.Mode.TheVariants.{Normal, Dry, Force}
 use Rattle.std.specs.Prelude.{if◌then◌else◌}
-use Rattle.eden_history.specs.Checkouts.{checked_out, clashes_any, clashes_dirty, conflicts, is_conflict, paths_of_all, rule_of, unclean}
+use Rattle.eden_history.specs.Checkouts.{checked_out, clashes_dirty, conflicts, is_conflict, paths_of_all, rule_of, unclean}
 use Rattle.eden_world.specs.Sides.{IsWithin, differs, is_unclean}
 use Rattle.eden_history.proofs.CheckoutLaws.{file_at-checked_out, has-conflicts, has-unclean}
 use Rattle.eden_world.proofs.Tabulating.{Follows}

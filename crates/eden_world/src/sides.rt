@@ -2,9 +2,9 @@
 
 ghost use Rattle.std.specs.Prelude.{◌≡◌, ◌++◌, ◌∷◌, [], ◌&&◌, ◌||◌, not, if◌then◌else◌, IfOk, OnOk, is_some, filter};
 ghost use Rattle.std.specs.Option.{option_copied};
-ghost use Rattle.eden_ids.specs.FileMaps.{FileMap, differ, file_at, has, listing, path_set, paths, same_file, union};
+ghost use Rattle.eden_ids.specs.FileMaps.{FileMap, differ, file_at, has, listing, path_set, paths, same_file, union, clashes_any};
 ghost use Rattle.eden_objects.specs.Files.{commit_files};
-ghost use Rattle.eden_history.specs.Checkouts.{checked_out, clashes_any, clashes_dirty, conflicts, force_rule, is_blocked, is_clean, is_conflict, normal_rule, paths_of_all, rule_of, unclean};
+ghost use Rattle.eden_history.specs.Checkouts.{checked_out, clashes_dirty, conflicts, force_rule, is_blocked, is_clean, is_conflict, normal_rule, paths_of_all, rule_of, unclean};
 ghost use Rattle.eden_world.specs.Sides.{differs, is_unclean, wanted_at, AreAll, IsWithin};
 
 use crate::commit_files::{files_of_commit, put_file};

@@ -1,5 +1,5 @@
 use Rattle.std.proofs.Common.{◌≡◌, rules, true, false, Some, None, ap, sym, ◌∙◌}
-use Rattle.eden_objects.specs.Objects.{same_id}
+use Rattle.eden_ids.specs.Sameness.{same_id}
 use Rattle.eden_objects.specs.Commits.{commit_map}
 use Rattle.eden_ids.specs.FileMaps.{union}
 use Rattle.eden_treediff.specs.Merges.{differences}

@@ -1,6 +1,7 @@
 use Rattle.std.proofs.Common.{◌≡◌, ◌≢◌, false, not, ap, rules, refl, sym, subst}
 use Rattle.std.specs.Arc.{arc_value}
-use Rattle.eden_history.specs.Renames.{renamed, same_place}
+use Rattle.eden_history.specs.Renames.{renamed}
+use Rattle.eden_ids.specs.Sameness.{same_bytes}
 use Rattle.eden_history.specs.declared.change.Change.TheVariants.{Rename}
 use Rattle.eden_history.specs.Outcome.{world_after}
 use Rattle.eden_accumulate.specs.Mounts.{StandsFor}
@@ -20,7 +21,7 @@ invariant_of-self-in_default-rename g c =
 
 pub append_file-requires-clause-below : goal.append_file-requires-clause-below
 append_file-requires-clause-below g c =
-    let other : same_place c.args.old.now c.args.new.now ≡ false = search rules in
+    let other : same_bytes c.args.old.now c.args.new.now ≡ false = search rules in
     let m = c.self.inside in
     left (arc_value m.store) m.work m.journal.log c.reserve.new.self.log c.args.self.now c.self.view_is c.self.invariant c.reserve.ensures.log
     (Rename c.args.old.now c.args.new.now) c.rename_refusal.result c.rename_refusal.ensures c.in_default.is (ap not other)
@@ -28,7 +29,7 @@ append_file-requires-clause-below g c =
 pub returns-clause-stands : goal.returns-clause-stands
 returns-clause-stands g c =
     λ world h.
-    let other : same_place c.args.old.now c.args.new.now ≡ false = search rules in
+    let other : same_bytes c.args.old.now c.args.new.now ≡ false = search rules in
     let apart : c.args.old.now ≢ c.args.new.now = search rules in
     let m = c.self.inside in
     rename_stands (arc_value m.store) m.work c.rename.new.self m.journal.log c.append_file.new.self.log c.args.self.now c.self.view_is world h
@@ -39,7 +40,7 @@ returns-clause-stands g c =
 
 pub invariant_of-self-2 : goal.invariant_of-self-2
 invariant_of-self-2 g c =
-    let other : same_place c.args.old.now c.args.new.now ≡ false = search rules in
+    let other : same_bytes c.args.old.now c.args.new.now ≡ false = search rules in
     let apart : c.args.old.now ≢ c.args.new.now = search rules in
     let m = c.self.inside in
     let h = subst (λ s. StandsFor s c.self.invariant.0) c.self.view_is c.self.invariant.1 in (

@@ -3,7 +3,7 @@ use Rattle.std.specs.Map.{lookup}
 use Rattle.std.specs.Prelude.{find}
 use Rattle.std.proofs.lemmas.Iterator.{YieldsList-from_slice}
 use Rattle.std.proofs.lemmas.Iterator.Search.{find_from_yields_List}
-use Rattle.eden_objects.specs.Objects.{same_id}
+use Rattle.eden_ids.specs.Sameness.{same_id}
 use Rattle.eden_script.specs.Labels.{still_binds}
 use Rattle.eden_edend.specs.Firsts.{IsFirst}
 use Rattle.eden_edend.proofs.LabelLemmas.{turned_twice}

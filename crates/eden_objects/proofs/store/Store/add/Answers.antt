@@ -1,6 +1,7 @@
 use Rattle.std.proofs.Common.{◌∷◌, ◌∙◌, ap, reverse}
 use Rattle.indexmap.proofs.CallerLemmas.{insert_entry-new}
-use Rattle.eden_objects.specs.Objects.{find, same_id}
+use Rattle.eden_objects.specs.Objects.{find}
+use Rattle.eden_ids.specs.Sameness.{same_id}
 use Rattle.eden_objects.specs.Contents.{held_of, helds}
 use Rattle.eden_objects.proofs.Tables.{absent_in, kept, pushed}
 use Rattle.eden_objects.proofs.store.Store.add.Goals as goal

@@ -1,5 +1,6 @@
 use Rattle.std.proofs.Common.{rules, ◌≡◌, None, Some, false, refl}
-use Rattle.eden_objects.specs.Objects.{find, same_id, zero_id}
+use Rattle.eden_objects.specs.Objects.{find, zero_id}
+use Rattle.eden_ids.specs.Sameness.{same_id}
 use Rattle.eden_objects.specs.Puts.{named}
 use Rattle.eden_objects.specs.Contents.{held_of}
 use Rattle.eden_objects.proofs.Putting.{no_memory, standing}

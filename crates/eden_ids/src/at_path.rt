@@ -1,0 +1,72 @@
+ghost use Rattle.std.specs.Prelude.{◌≡◌, ◌++◌, ◌∷◌, ◌≤◌, [], filter, length, map};
+ghost use Rattle.std.specs.Ordering.{nat_cmp, is_lt};
+ghost use Rattle.std.specs.Cmp.Lexicographic.{slice_cmp};
+ghost use Rattle.std.specs.List.{list_any};
+ghost use Rattle.std.specs.List.Sorted.{IsStrictlySortedBy};
+ghost use Rattle.eden_ids.specs.Paths.{lies_below};
+
+use crate::path::Path;
+
+/// What is kept under a path, in a list in byte order of the paths.
+pub trait AtPath {
+    ghost use Rattle.std.specs.Prelude.{ℕ, List};
+
+    /// The path's bytes.
+    ghost path: { Self → List ℕ };
+
+    /// The path.
+    fn path(&self) -> &Path
+        ensures { result.now ≡ path self.now };
+}
+
+impl AtPath for Path {
+    ghost path = { λ path. path };
+
+    fn path(&self) -> &Path {
+        self
+    }
+}
+
+impl<X> AtPath for (Path, X) {
+    ghost path = { λ entry. entry.0 };
+
+    fn path(&self) -> &Path {
+        &self.0
+    }
+}
+
+/// Whether a path comes, in byte order, before another one with a byte behind it.
+#[tactic(auto, using(crate::proofs::ByteOrder::before_short, crate::proofs::ByteOrder::before_long))]
+fn is_before(path: &[u8], top: &[u8], byte: u8) -> bool
+    ensures { result ≡ is_lt (slice_cmp nat_cmp path.now (top.now ++ byte ∷ [])) }
+{
+    if path.len() <= top.len() {
+        return path.cmp(top).is_le();
+    }
+    path[..top.len()]
+        .cmp(top)
+        .then(path[top.len()].cmp(&byte))
+        .is_lt()
+}
+
+/// What is kept under the paths below a path, of a list in byte order: these stand together, from the path with a slash behind it to
+/// the path with the next byte behind it.
+///
+/// The two ends are searched for by halves. It takes no memory.
+pub fn paths_below<'a, X: AtPath>(items: &'a [X], top: &[u8]) -> &'a [X]
+    requires { IsStrictlySortedBy (slice_cmp nat_cmp) (map X.path items.now) }
+    ensures { result.now ≡ filter (λ x. lies_below (X.path x) top.now) items.now }
+{
+    let start = items.partition_point(|x| is_before(x.path().as_bytes(), top, b'/'));
+    let end = items.partition_point(|x| is_before(x.path().as_bytes(), top, b'/' + 1));
+    &items[start..end]
+}
+
+/// Whether something is kept under a path below a path, in a list in byte order.
+#[tactic(auto, using(crate::proofs::ByteOrder::any_filter))]
+pub fn has_path_below<X: AtPath>(items: &[X], top: &[u8]) -> bool
+    requires { IsStrictlySortedBy (slice_cmp nat_cmp) (map X.path items.now) }
+    ensures { result ≡ list_any (λ x. lies_below (X.path x) top.now) items.now }
+{
+    !paths_below(items, top).is_empty()
+}
