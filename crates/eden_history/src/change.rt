@@ -100,3 +100,13 @@ pub enum ChangeFault {
     #[error("NoMemory")]
     NoMemory,
 }
+
+impl From<NoMemory> for ChangeFault {
+    ghost use Rattle.eden_history.specs.declared.change.ChangeFault.TheVariants as faults;
+
+    ghost from_gives = { λ _ fault. fault ≡ faults.NoMemory };
+
+    fn from(_fault: NoMemory) -> ChangeFault {
+        ChangeFault::NoMemory
+    }
+}

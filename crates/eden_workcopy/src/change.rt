@@ -5,13 +5,13 @@ ghost use Rattle.eden_history.specs.Renames.{absent_fault, rename_fault, renamed
 ghost use Rattle.eden_workcopy.specs.Meanings.{means, FitsIn};
 
 use crate::work::WorkCopy;
+use eden_history::ChangeFault;
 use eden_ids::{Content, Kind, Naming, NoMemory, Path, Sequence};
 use eden_objects::Store;
-use eden_history::ChangeFault;
 use std::alloc::Global;
 
 /// A file of this kind, that holds these bytes.
-fn content(alloc: Global, kind: Kind, bytes: &[u8]) -> Result<Content, NoMemory>
+pub(crate) fn content(alloc: Global, kind: Kind, bytes: &[u8]) -> Result<Content, NoMemory>
     ensures { IfOk result (λ content. content ≡ record { kind = kind; bytes = bytes.now }) }
 {
     match bytes.to_vec(alloc) {
@@ -70,15 +70,7 @@ impl WorkCopy {
         if let Some(fault) = self.write_fault(store, path, bytes) {
             return Err(fault);
         }
-        let Ok(content) = content(self.overlay.allocator(), kind, bytes) else {
-            return Err(ChangeFault::NoMemory);
-        };
-        let Ok(key) = path.copy() else {
-            return Err(ChangeFault::NoMemory);
-        };
-        let Ok(()) = self.overlay.set(key, Some(content)) else {
-            return Err(ChangeFault::NoMemory);
-        };
+        self.put_file(path, kind, bytes)?;
         Ok(())
     }
 
@@ -103,12 +95,7 @@ impl WorkCopy {
         if let Some(fault) = self.absent_fault(store, path) {
             return Err(fault);
         }
-        let Ok(key) = path.copy() else {
-            return Err(ChangeFault::NoMemory);
-        };
-        let Ok(()) = self.overlay.set(key, None) else {
-            return Err(ChangeFault::NoMemory);
-        };
+        self.take_file(path)?;
         Ok(())
     }
 
@@ -135,18 +122,7 @@ impl WorkCopy {
         if let Some(fault) = self.rename_fault(store, old, new) {
             return Err(fault);
         }
-        if old == new {
-            return Ok(());
-        }
-        let Ok(Some(content)) = self.file_copy(store, old) else {
-            return Err(ChangeFault::NoMemory);
-        };
-        let (Ok(from), Ok(to)) = (old.copy(), new.copy()) else {
-            return Err(ChangeFault::NoMemory);
-        };
-        let Ok(()) = self.overlay.shift(from, to, content) else {
-            return Err(ChangeFault::NoMemory);
-        };
+        self.move_file(store, old, new)?;
         Ok(())
     }
 
@@ -159,10 +135,10 @@ impl WorkCopy {
         ensures { IfOk result (λ file. file ≡ file_at (means store.now self.now) path.now) }
     {
         match self.file(store, path.as_bytes()) {
-            Some((kind, bytes)) => match content(self.overlay.allocator(), kind, bytes) {
-                Ok(content) => Ok(Some(content)),
-                Err(_) => Err(NoMemory),
-            },
+            Some((kind, bytes)) => {
+                let content = content(self.overlay.allocator(), kind, bytes)?;
+                Ok(Some(content))
+            }
             None => Ok(None),
         }
     }
@@ -171,12 +147,10 @@ impl WorkCopy {
     pub fn copy(&self) -> Result<WorkCopy, NoMemory>
         ensures { IfOk result (λ work. work ≡ self.now) }
     {
-        match self.overlay.copy() {
-            Ok(overlay) => Ok(WorkCopy {
-                root: self.root,
-                overlay,
-            }),
-            Err(_) => Err(NoMemory),
-        }
+        let overlay = self.overlay.copy()?;
+        Ok(WorkCopy {
+            root: self.root,
+            overlay,
+        })
     }
 }

@@ -9,6 +9,7 @@ mod beneath;
 mod change;
 mod dirty;
 mod entries;
+mod judged;
 mod laws;
 mod list;
 mod overlay;

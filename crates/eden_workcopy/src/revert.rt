@@ -5,9 +5,9 @@ ghost use Rattle.eden_workcopy.specs.Meanings.{means, FitsIn};
 ghost use Rattle.eden_workcopy.specs.Reverts.{revert_fault};
 
 use crate::work::WorkCopy;
+use eden_history::ChangeFault;
 use eden_ids::{Naming, Path};
 use eden_objects::Store;
-use eden_history::ChangeFault;
 
 impl WorkCopy {
     /// Whether the root's commit has a file at a path.

@@ -2,9 +2,9 @@ ghost use Rattle.eden_workcopy.specs.Meanings.{FitsIn};
 
 use crate::{RerootFault, WorkCopy};
 use eden_globs::Filter;
+use eden_history::ChangeFault;
 use eden_ids::{Content, GitNaming, Id, Kind, Path, Sequence};
 use eden_objects::Store;
-use eden_history::ChangeFault;
 use std::alloc::Global;
 use std::test::Fail;
 

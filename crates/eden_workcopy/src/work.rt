@@ -10,9 +10,9 @@ ghost use Rattle.eden_ids.specs.Sameness.{same_bytes};
 ghost use Rattle.eden_workcopy.specs.Meanings.{means, FitsIn};
 
 use crate::overlay::Overlay;
+use eden_history::ChangeFault;
 use eden_ids::{Content, Id, Kind, Naming, NoMemory, Path, Sequence};
 use eden_objects::{NoCommit, Store};
-use eden_history::ChangeFault;
 use std::alloc::Global;
 
 /// The files of a commit, and over them those that were written, renamed or removed since.

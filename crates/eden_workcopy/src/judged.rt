@@ -1,0 +1,75 @@
+//! Changes that were judged before.
+
+ghost use Rattle.std.specs.Prelude.{◌≡◌, None, List, OnOk, OnErr};
+ghost use Rattle.std.specs.FinMap as fin;
+ghost use Rattle.eden_objects.specs.Objects.{Held};
+ghost use Rattle.eden_history.specs.Renames.{rename_fault, renamed, write_fault};
+ghost use Rattle.eden_workcopy.specs.Meanings.{means, FitsIn};
+
+use crate::change::content;
+use crate::work::WorkCopy;
+use eden_ids::{Kind, Naming, NoMemory, Path};
+use eden_objects::Store;
+
+impl WorkCopy {
+    /// Puts a file at a path, in place of the one that stands there, without judging whether it can stand there.
+    ///
+    /// Where nothing stands against it, as `write_fault` tells, root and changes still make a file map. `NoMemory` comes where a growth
+    /// was refused, and changes nothing.
+    pub fn put_file(&mut self, path: &Path, kind: Kind, bytes: &[u8]) -> Result<(), NoMemory>
+        ensures root { self.new.root ≡ self.old.root }
+        ensures files { OnOk result ((held : List Held)
+            → means held self.new ≡ fin.insert (means held self.old) path.now (record { kind = kind; bytes = bytes.now })) }
+        ensures fits { OnOk result ((held : List Held) → FitsIn held self.old
+            → write_fault (means held self.old) path.now bytes.now ≡ None → FitsIn held self.new) }
+        ensures same { OnErr result (self.new ≡ self.old) }
+    {
+        let content = content(self.overlay.allocator(), kind, bytes)?;
+        let key = path.copy()?;
+        self.overlay.set(key, Some(content))?;
+        Ok(())
+    }
+
+    /// Takes the file at a path away, if one stands there.
+    ///
+    /// Root and changes still make a file map. `NoMemory` comes where a growth was refused, and changes nothing.
+    pub fn take_file(&mut self, path: &Path) -> Result<(), NoMemory>
+        ensures root { self.new.root ≡ self.old.root }
+        ensures files { OnOk result ((held : List Held) → means held self.new ≡ fin.remove (means held self.old) path.now) }
+        ensures fits { OnOk result ((held : List Held) → FitsIn held self.old → FitsIn held self.new) }
+        ensures same { OnErr result (self.new ≡ self.old) }
+    {
+        let key = path.copy()?;
+        self.overlay.set(key, None)?;
+        Ok(())
+    }
+
+    /// Takes the file at one path away and puts it at another, in place of the one that stands there, without judging whether it can stand
+    /// there. Where the two paths are one, or no file stands at the first, it changes nothing.
+    ///
+    /// Where nothing stands against it, as `rename_fault` tells, root and changes still make a file map. `NoMemory` comes where a growth
+    /// was refused, and changes nothing.
+    pub fn move_file<N: Naming + Drop>(
+        &mut self,
+        store: &Store<N>,
+        old: &Path,
+        new: &Path,
+    ) -> Result<(), NoMemory>
+        ensures root { self.new.root ≡ self.old.root }
+        ensures files { OnOk result (means store.now self.new ≡ renamed (means store.now self.old) old.now new.now) }
+        ensures fits { OnOk result (FitsIn store.now self.old
+            → rename_fault (means store.now self.old) old.now new.now ≡ None → FitsIn store.now self.new) }
+        ensures same { OnErr result (self.new ≡ self.old) }
+    {
+        if old == new {
+            return Ok(());
+        }
+        let Some(content) = self.file_copy(store, old)? else {
+            return Ok(());
+        };
+        let from = old.copy()?;
+        let to = new.copy()?;
+        self.overlay.shift(from, to, content)?;
+        Ok(())
+    }
+}
