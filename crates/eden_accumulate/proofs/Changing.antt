@@ -19,8 +19,7 @@ use Rattle.eden_history.specs.declared.change.Change.{Change}
 use Rattle.eden_history.specs.declared.change.Change.TheVariants.{Write, Remove, Rename, Flush, Remount}
 use Rattle.eden_history.specs.declared.change.ChangeFault.{ChangeFault}
 use Rattle.eden_history.specs.declared.change.ChangeFault.TheVariants.{GenerationNotNew, NoEntry, SequenceExhausted}
-use Rattle.eden_history.specs.declared.row.Row.{Row}
-use Rattle.eden_history.specs.Worlds.{Commits, WorldState, commits_of, now}
+use Rattle.eden_history.specs.Worlds.{Row, Commits, WorldState, commits_of, now}
 use Rattle.eden_history.specs.Recorded.{delta_of, starts}
 use Rattle.eden_history.specs.Renames.{absent_fault, moved, place_fault, renamed}
 use Rattle.eden_ids.specs.Sameness.{same_bytes}

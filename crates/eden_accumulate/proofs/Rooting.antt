@@ -18,10 +18,9 @@ use Rattle.eden_history.specs.declared.change.Mode.{Mode}
 use Rattle.eden_history.specs.declared.change.Change.{Change}
 use Rattle.eden_history.specs.declared.change.Change.TheVariants.{Checkout, Reset}
 use Rattle.eden_history.specs.declared.position.Position.{Position}
-use Rattle.eden_history.specs.declared.row.Row.{Row}
 use Rattle.eden_history.specs.Checkouts.{checked_out, conflicts, is_dry, unclean}
 use Rattle.eden_history.specs.Named.{held_files}
-use Rattle.eden_history.specs.Worlds.{Commits, WorldState, commits_of, now}
+use Rattle.eden_history.specs.Worlds.{Row, Commits, WorldState, commits_of, now}
 use Rattle.eden_history.specs.Recorded.{delta_of, starts}
 use Rattle.eden_history.specs.Outcome.{answer_at, commit_fault, event_at, is_event, next_files, next_root, next_row, refusal, world_after}
 use Rattle.eden_accumulate.specs.Mounts.{State, StandsFor}

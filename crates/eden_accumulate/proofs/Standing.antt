@@ -1,6 +1,7 @@
 -- A mount that stands for a world stands for it after a change too.
 use Rattle.std.proofs.Common.{◌≡◌, ℕ, ◌-◌, ◌^◌, ◌<◌, Bool, true, false, not, ◌&&◌, nat_lt, List, [], Option, Some, None, refl, sym, ap, subst, ◌∙◌, arith, is_some}
 use Rattle.std.specs.Prelude.{if◌then◌else◌}
+use Rattle.std.specs.Option.{option_or}
 use Rattle.std.proofs.lemmas.Bool.{lt-ltb}
 use Rattle.eden_ids.specs.declared.id.Id.{Id}
 use Rattle.eden_ids.specs.FileMaps.{IsFileMap}
@@ -20,7 +21,6 @@ use Rattle.eden_history.specs.declared.change.ChangeFault.{ChangeFault}
 use Rattle.eden_history.specs.declared.change.ChangeFault.TheVariants.{SequenceExhausted}
 use Rattle.eden_history.specs.declared.position.Position.{Position}
 use Rattle.eden_history.specs.Worlds.{WorldState, commits_of, now, opened, position_of}
-use Rattle.eden_history.specs.Renames.{first_fault}
 use Rattle.eden_history.specs.Recorded.{delta_of, deltas, starts}
 use Rattle.eden_history.specs.Outcome.{answer_at, answer_of, change_fault, is_event, next_files, next_root, refusal, takes_number, world_after}
 use Rattle.eden_history.proofs.Steps.{has-number}
@@ -87,15 +87,15 @@ turned false = refl
 
 pub refusal-numbered : (mount : State) (change : Change) (fault : Option ChangeFault) (world : WorldState) → StandsFor mount world
     → fault ≡ change_fault (commits_of world) (now world) change → takes_number change ≡ true
-    → first_fault fault (number_fault mount.log.head) ≡ refusal (commits_of world) (now world) change
+    → option_or fault (number_fault mount.log.head) ≡ refusal (commits_of world) (now world) change
 unfolding refusal
 refusal-numbered mount change fault world h is takes =
-    ap (λ f. first_fault f (number_fault mount.log.head)) is
-    ∙ ap (λ n. first_fault (change_fault (commits_of world) (now world) change) (number_fault n)) (sequence_is mount world h)
-    ∙ ap (first_fault (change_fault (commits_of world) (now world) change)) (turned (nat_lt (now world).sequence (2 ^ 64 - 1)))
-    ∙ ap (λ b. first_fault (change_fault (commits_of world) (now world) change) (if b && not (nat_lt (now world).sequence (2 ^ 64 - 1)) then Some SequenceExhausted else None)) (sym takes)
+    ap (λ f. option_or f (number_fault mount.log.head)) is
+    ∙ ap (λ n. option_or (change_fault (commits_of world) (now world) change) (number_fault n)) (sequence_is mount world h)
+    ∙ ap (option_or (change_fault (commits_of world) (now world) change)) (turned (nat_lt (now world).sequence (2 ^ 64 - 1)))
+    ∙ ap (λ b. option_or (change_fault (commits_of world) (now world) change) (if b && not (nat_lt (now world).sequence (2 ^ 64 - 1)) then Some SequenceExhausted else None)) (sym takes)
 
-first-alone : (fault : Option ChangeFault) → first_fault fault None ≡ fault
+first-alone : (fault : Option ChangeFault) → option_or fault None ≡ fault
 first-alone None = refl
 first-alone (Some fault) = refl
 
@@ -104,7 +104,7 @@ pub refusal-free : (world : WorldState) (change : Change) (fault : Option Change
 unfolding refusal
 refusal-free world change fault is free =
     is ∙ sym (first-alone (change_fault (commits_of world) (now world) change))
-    ∙ ap (λ b. first_fault (change_fault (commits_of world) (now world) change) (if b && not (nat_lt (now world).sequence (2 ^ 64 - 1)) then Some SequenceExhausted else None)) (sym free)
+    ∙ ap (λ b. option_or (change_fault (commits_of world) (now world) change) (if b && not (nat_lt (now world).sequence (2 ^ 64 - 1)) then Some SequenceExhausted else None)) (sym free)
 
 pub number-left : (n : ℕ) → n < 2 ^ 64 - 1 → number_fault n ≡ None
 number-left n h = ap (λ b. if b then None else Some SequenceExhausted) (lt-ltb n (2 ^ 64 - 1) h)

@@ -135,7 +135,7 @@ fn same_files(
     let listed = mount
         .snapshot()?
         .files(mount.store(), &Filter::parse(alloc, &[])?)?;
-    let files = &world.now().files;
+    let files = world.now().files();
     let mut same = files.paths().count() == listed.len();
     for path in &listed {
         let read = match (mount.read(path), files.get(path)) {
@@ -159,7 +159,7 @@ fn same_dirty(
     let mut same = true;
     for text in PATHS {
         let path = path(alloc, text)?;
-        let differs = world.now().files.get(&path) != clean.now().files.get(&path);
+        let differs = world.now().files().get(&path) != clean.now().files().get(&path);
         same = same && differs == dirty.contains(&path);
     }
     Ok(same)
@@ -172,11 +172,11 @@ fn same_since(
     world: &World<GitNaming>,
     position: &Position,
 ) -> Result<bool, Fail> {
-    let floor = world.floor(alloc)?;
+    let floor = world.floor()?;
     match accumulate(alloc, mount.journal(), position) {
         Ok(range) => {
             let marked = expand(mount.store(), &range)?;
-            let expected = world.marked_since(alloc, position.sequence)?;
+            let expected = world.marked_since(position.sequence)?;
             let good = world.now().status(floor, *position).is_none();
             Ok(good && marked.as_slice() == expected.as_slice())
         }

@@ -98,7 +98,7 @@ fn checkout_of_small_subtrees(rt: HostRuntime) -> Result<(), Fail> {
     assert!(rt; answer == made(alloc, &commits) && answer == world.apply(&change)?);
     assert!(rt; names_one(alloc, &mount, &since)?);
     let marked = expand(mount.store(), &mount.range_since(alloc, &since)?)?;
-    assert!(rt; marked.as_slice() == world.marked_since(alloc, 1)?.as_slice());
+    assert!(rt; marked.as_slice() == world.marked_since(1)?.as_slice());
     assert!(rt; mount.position() == world.position());
     Ok(())
 }

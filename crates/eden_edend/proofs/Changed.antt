@@ -14,8 +14,7 @@ use Rattle.eden_history.specs.declared.change.Change.TheVariants.{Write, Remove,
 use Rattle.eden_history.specs.declared.change.ChangeFault.{ChangeFault}
 use Rattle.eden_history.specs.declared.change.ChangeFault.TheVariants.{NoMemory}
 use Rattle.eden_history.specs.declared.position.Position.{Position}
-use Rattle.eden_history.specs.declared.row.Row.{Row}
-use Rattle.eden_history.specs.Worlds.{Commits, WorldState, commits_of, now, position_of}
+use Rattle.eden_history.specs.Worlds.{Row, Commits, WorldState, commits_of, now, position_of}
 use Rattle.eden_history.specs.Outcome.{Outcome, answer_at, answer_of, answered, extended, outcome, world_after}
 use Rattle.eden_history.specs.Outcome.Outcome.{Refuses as Refused, NoEvent, Next}
 use Rattle.eden_edend.specs.Told.{MountTells, answer_checked, answer_made}

@@ -10,9 +10,7 @@ use Rattle.eden_objects.specs.Files.{files_of}
 use Rattle.eden_objects.proofs.CommitLaws.{file_maps}
 use Rattle.eden_history.specs.declared.change.Change.{Change}
 use Rattle.eden_history.specs.declared.change.Change.TheVariants.{Write, Remove, Rename, Checkout, Reset, Flush, Remount}
-use Rattle.eden_history.specs.declared.row.Row.{Row}
-use Rattle.eden_history.specs.declared.row.Event.{Event}
-use Rattle.eden_history.specs.Worlds.{Commits, WorldState, commits_of, last_row, now}
+use Rattle.eden_history.specs.Worlds.{Row, Event, Commits, WorldState, commits_of, last_row, now}
 use Rattle.eden_history.specs.Named.{held_files}
 use Rattle.eden_history.specs.Outcome.{change_fault, next_files, next_row, refusal}
 use Rattle.eden_history.specs.Legal.{AreMade, IsLegal}

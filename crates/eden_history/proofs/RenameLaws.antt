@@ -1,5 +1,6 @@
 -- A file that may be written or renamed leaves a file map.
 use Rattle.std.proofs.Common.{◌≡◌, ℕ, Bool, true, false, cond, List, Option, Some, None, is_some, refl, sym, ap, ◌∙◌, if◌then◌else◌}
+use Rattle.std.specs.Option.{option_or}
 use Rattle.std.specs.List.{list_any}
 use Rattle.std.specs.FinMap as fin
 use Rattle.eden_ids.specs.declared.content.Content.{Content}
@@ -8,11 +9,11 @@ use Rattle.eden_ids.specs.FileMaps.{FileMap, IsFileMap, file_at, has_file_above,
 use Rattle.eden_ids.proofs.FileMapLemmas.{IsFileMap-insert, IsFileMap-remove, file_at-remove}
 use Rattle.eden_history.specs.declared.change.ChangeFault.{ChangeFault}
 use Rattle.eden_history.specs.declared.change.ChangeFault.TheVariants.{NotADirectory, IsADirectory}
-use Rattle.eden_history.specs.Renames.{absent_fault, first_fault, moved, place_fault, rename_fault, renamed, write_fault}
+use Rattle.eden_history.specs.Renames.{absent_fault, moved, place_fault, rename_fault, renamed, write_fault}
 use Rattle.eden_ids.specs.Sameness.{same_bytes}
 use Rattle.eden_history.proofs.CheckoutLaws.{any_found, any_holds}
 
-pub first-none : (a b : Option ChangeFault) → first_fault a b ≡ None → (a ≡ None) × (b ≡ None)
+pub first-none : (a b : Option ChangeFault) → option_or a b ≡ None → (a ≡ None) × (b ≡ None)
 first-none None b e = (refl, e)
 first-none (Some fault) b e = let bad : ◌≡◌ {A = Option ChangeFault} (Some fault) None = e in cc
 

@@ -1,9 +1,7 @@
 -- A world is legal where its opening row holds a file map and each event is what its change makes of the row before it.
 use Rattle.std.specs.Prelude.{◌≡◌, List, [], ◌∷◌}
 use Rattle.eden_ids.specs.FileMaps.{IsFileMap}
-use Rattle.eden_history.specs.declared.row.Row.{Row}
-use Rattle.eden_history.specs.declared.row.Event.{Event}
-use Rattle.eden_history.specs.Worlds.{Commits, WorldState, commits_of, last_row}
+use Rattle.eden_history.specs.Worlds.{Row, Event, Commits, WorldState, commits_of, last_row}
 use Rattle.eden_history.specs.Outcome.{outcome}
 use Rattle.eden_history.specs.Outcome.Outcome.{Next}
 

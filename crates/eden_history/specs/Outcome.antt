@@ -1,5 +1,6 @@
 -- What a change does to a row: it is refused, or makes no event, or makes the next row.
 use Rattle.std.specs.Prelude.{ℕ, ◌+◌, ◌-◌, ◌^◌, Bool, true, false, not, ◌&&◌, nat_lt, if◌then◌else◌, ◌∷◌, Option, Some, None}
+use Rattle.std.specs.Option.{option_or}
 use Rattle.std.specs.FinMap as fin
 use Rattle.eden_ids.specs.declared.id.Id.{Id}
 use Rattle.eden_ids.specs.FileMaps.{FileMap, listing}
@@ -10,10 +11,8 @@ use Rattle.eden_history.specs.declared.change.Change.TheVariants.{Write, Remove,
 use Rattle.eden_history.specs.declared.change.ChangeFault.{ChangeFault}
 use Rattle.eden_history.specs.declared.change.ChangeFault.TheVariants.{NoCommit, SequenceExhausted, GenerationNotNew}
 use Rattle.eden_history.specs.declared.position.Position.{Position}
-use Rattle.eden_history.specs.declared.row.Row.{Row}
-use Rattle.eden_history.specs.declared.row.Event.{Event}
-use Rattle.eden_history.specs.Worlds.{Commits, WorldState, commits_of, now, position_of}
-use Rattle.eden_history.specs.Renames.{first_fault, absent_fault, write_fault, rename_fault, renamed}
+use Rattle.eden_history.specs.Worlds.{Row, Event, Commits, WorldState, commits_of, now, position_of}
+use Rattle.eden_history.specs.Renames.{absent_fault, write_fault, rename_fault, renamed}
 use Rattle.eden_ids.specs.Sameness.{same_bytes}
 use Rattle.eden_history.specs.Checkouts.{checked_out, conflicts, is_dry}
 use Rattle.eden_history.specs.Named.{held_files, unclean_paths, named}
@@ -47,7 +46,7 @@ takes_number change = is_event change
 -- the first cause of a refusal that stands. Sequence numbers end at 2 ^ 64 - 1
 unfoldable pub refusal : Commits → Row → Change → Option ChangeFault
 refusal commits row change =
-    first_fault (change_fault commits row change)
+    option_or (change_fault commits row change)
     (if takes_number change && not (nat_lt row.sequence (2 ^ 64 - 1)) then Some SequenceExhausted else None)
 
 -- the files after a change of files

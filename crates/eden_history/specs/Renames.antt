@@ -1,16 +1,12 @@
 -- Reading, writing, removing and renaming single files: why each is refused, and the files after a rename.
 use Rattle.std.specs.Prelude.{ℕ, nat_lt, if◌then◌else◌, List, length, Option, Some, None, is_some}
+use Rattle.std.specs.Option.{option_or}
 use Rattle.std.specs.FinMap as fin
 use Rattle.eden_ids.specs.declared.content.Content.{Content}
 use Rattle.eden_ids.specs.FileMaps.{FileMap, file_at, has_file_above, has_file_below}
 use Rattle.eden_ids.specs.Sameness.{same_bytes}
 use Rattle.eden_history.specs.declared.change.ChangeFault.{ChangeFault}
 use Rattle.eden_history.specs.declared.change.ChangeFault.TheVariants.{NotADirectory, IsADirectory, NoEntry, TooLarge}
-
--- the first of two causes that stands
-abbrev pub first_fault : Option ChangeFault → Option ChangeFault → Option ChangeFault
-first_fault None second = second
-first_fault (Some fault) second = Some fault
 
 -- why no file can stand at a path: one of its directories is a file, or it is a directory itself
 abbrev pub place_fault : FileMap → List ℕ → Option ChangeFault
@@ -20,16 +16,16 @@ place_fault files path =
 
 -- why there is no file at a path to be read, removed or renamed
 abbrev pub absent_fault : FileMap → List ℕ → Option ChangeFault
-absent_fault files path = first_fault (place_fault files path) (if is_some (file_at files path) then None else Some NoEntry)
+absent_fault files path = option_or (place_fault files path) (if is_some (file_at files path) then None else Some NoEntry)
 
 -- why these bytes can't be written at a path; a file holds 8 MiB at the most
 abbrev pub write_fault : FileMap → List ℕ → List ℕ → Option ChangeFault
-write_fault files path bytes = first_fault (place_fault files path) (if nat_lt 8388608 (length bytes) then Some TooLarge else None)
+write_fault files path bytes = option_or (place_fault files path) (if nat_lt 8388608 (length bytes) then Some TooLarge else None)
 
 -- why a file can't be renamed: what stands against the old path comes first. A file may be renamed to itself; else the new path has to
 -- be one where a file can stand, over the files before the change
 abbrev pub rename_fault : FileMap → List ℕ → List ℕ → Option ChangeFault
-rename_fault files old new = first_fault (absent_fault files old) (if same_bytes old new then None else place_fault files new)
+rename_fault files old new = option_or (absent_fault files old) (if same_bytes old new then None else place_fault files new)
 
 -- the files without the old path, and with its file at the new one
 abbrev pub moved : FileMap → List ℕ → List ℕ → Option Content → FileMap

@@ -12,9 +12,8 @@ use Rattle.eden_history.specs.declared.message.Reply.TheVariants.{ChangesAre, Re
 use Rattle.eden_history.specs.declared.message.Request.{Request}
 use Rattle.eden_history.specs.declared.message.Request.TheVariants.{Poll}
 use Rattle.eden_history.specs.Worlds.{WorldState, now, position_of}
-use Rattle.eden_history.specs.Status.{status}
+use Rattle.eden_history.specs.Status.{status_of}
 use Rattle.eden_history.specs.Marks.{marked_since}
-use Rattle.eden_history.specs.Recorded.{floor_of}
 use Rattle.eden_history.specs.Spells.{reply_bytes, body_limit}
 
 -- the cause with its number; no status is a want of memory
@@ -42,4 +41,4 @@ polled world query since patterns None = changes_reply world query since pattern
 
 abbrev pub reply_of : WorldState → Request → Reply
 reply_of world (Poll query since patterns) =
-    polled world query since.sequence patterns (status (floor_of world) (now world) since)
+    polled world query since.sequence patterns (status_of world since)

@@ -9,7 +9,6 @@ pub use crate::checkout_laws::checkout_law;
 pub use crate::mark::{Mark, Marked};
 pub use crate::message::{Cause, Query, Reply, Request};
 pub use crate::position::Position;
-pub use crate::row::{Event, Row};
 pub use crate::spelling_law::{frames_law, one_message_law, one_spelling_law};
 pub use crate::touches::{Touch, Touches};
 
@@ -19,8 +18,6 @@ mod checkout_laws;
 mod mark;
 mod message;
 mod position;
-mod refusal;
-mod row;
 mod spelling_law;
 #[cfg(test)]
 mod tests;

@@ -28,26 +28,34 @@ fn marks_of_touches(rt: HostRuntime) -> Result<(), Fail> {
             })?;
         }
     }
-    let paths = [path(alloc, "e")?, path(alloc, "b")?];
-    let marked = touches.marks_of(alloc, paths.as_slice())?.into_vec();
-    for (marked, (at, mark)) in marked.iter().zip([("e", Mark::Root), ("b", Mark::Created)]) {
-        let path = path(alloc, at)?;
-        assert!(rt; marked.copy()? == Marked { mark, path });
-    }
-    let marked = touches.marked(alloc)?.into_vec();
     let expected = [
+        ("e", Mark::Root),
         ("a", Mark::Changed),
         ("b", Mark::Created),
         ("c", Mark::Removed),
         ("d", Mark::Changed),
     ];
+    let mut paths = Vec::new(alloc);
+    for (at, _) in expected {
+        paths.push(path(alloc, at)?)?;
+    }
+    let marked = touches.marks_of(alloc, paths.as_slice())?.into_vec();
     assert_eq!(rt; marked.len(), expected.len());
     for (marked, (at, mark)) in marked.iter().zip(expected) {
-        let wanted = Marked {
-            mark,
-            path: path(alloc, at)?,
-        };
-        assert!(rt; marked.copy()? == wanted);
+        let path = path(alloc, at)?;
+        assert!(rt; marked.copy()? == Marked { mark, path });
+    }
+    let listed = touches.listed(alloc)?.into_vec();
+    let expected = [
+        ("a", false, false),
+        ("b", false, true),
+        ("c", true, false),
+        ("d", true, true),
+    ];
+    assert_eq!(rt; listed.len(), expected.len());
+    for (touch, (at, before, after)) in listed.iter().zip(expected) {
+        assert!(rt; touch.path == path(alloc, at)?);
+        assert_eq!(rt; (touch.before, touch.after), (before, after));
     }
     Ok(())
 }

@@ -53,7 +53,7 @@ impl Model for Touches {
 
 impl Touches {
     ghost use Rattle.std.specs.FinMap as fin;
-    ghost use Rattle.eden_history.specs.Touches.{untouched, touched, touched_by, marked_of, marked_at, mark_told, first_before, listed};
+    ghost use Rattle.eden_history.specs.Touches.{untouched, touched, touched_by, marked_at, mark_told, first_before, listed};
 
     /// No change. It takes no memory.
     pub fn new(alloc: Global) -> Self
@@ -149,21 +149,5 @@ impl Touches {
             }
         }
         Ok(Sequence::from_vec(list))
-    }
-
-    /// The paths, ascending, each with what became of it.
-    pub fn marked(&self, alloc: Global) -> Result<Sequence<Marked>, NoMemory>
-        ensures { IfOk result (λ marked. marked ≡ marked_of self.now) }
-    {
-        let mut marked = Vec::new(alloc);
-        for (path, touch) in self.paths.iter() {
-            let mark = touch.mark();
-            let path = path.copy()?;
-            match marked.push(Marked { mark, path }) {
-                Ok(()) => {}
-                Err(_) => return Err(NoMemory),
-            }
-        }
-        Ok(Sequence::from_vec(marked))
     }
 }

@@ -1,4 +1,4 @@
-//! The ids, paths, contents and file maps that every other crate speaks of.
+//! The ids, paths and contents that every other crate speaks of.
 #![tactic(auto)]
 
 pub use crate::at_path::{AtPath, has_path_below, paths_below};
@@ -7,7 +7,6 @@ pub use crate::content::{Content, Kind};
 pub use crate::file_tree::{
     FileTree, clashes_any, has_file, has_file_above, is_same_at, is_same_file, is_same_kind,
 };
-pub use crate::files::Files;
 pub use crate::hex_text::{HexFault, hex_law, hex_text_law};
 pub use crate::id::Id;
 pub use crate::laws::{file_map_law, path_set_law};
@@ -23,7 +22,6 @@ mod column;
 mod column_tests;
 mod content;
 mod file_tree;
-mod files;
 mod hex_text;
 mod id;
 #[cfg(test)]

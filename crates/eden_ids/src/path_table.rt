@@ -1,9 +1,8 @@
 ghost use Rattle.std.specs.Prelude.{◌≡◌, ◌++◌, IfOk, OnOk, OnErr};
 ghost use Rattle.std.specs.Map.Iter.{deref, ShowsInOrder};
 ghost use Rattle.std.specs.FinMap as fin;
-ghost use Rattle.eden_ids.specs.FileMaps.{listing, no_paths, path_set, paths, union};
+ghost use Rattle.eden_ids.specs.FileMaps.{listing, no_paths, path_set, union};
 
-use crate::files::Files;
 use crate::memory::NoMemory;
 use crate::path::Path;
 use std::alloc::Global;
@@ -55,16 +54,6 @@ impl PathTable {
         ensures { OnOk result (self.new ≡ union (path_set paths.now) self.old) }
     {
         for path in paths {
-            self.add(path)?;
-        }
-        Ok(())
-    }
-
-    /// Adds the paths at which files stand.
-    pub fn add_files(&mut self, files: &Files) -> Result<(), NoMemory>
-        ensures { OnOk result (self.new ≡ union (path_set (paths files.now)) self.old) }
-    {
-        for path in files.paths() {
             self.add(path)?;
         }
         Ok(())

@@ -1,4 +1,4 @@
-use crate::{Content, Files, Id, Kind, Path, PathFault, PathTable, Sequence};
+use crate::{Content, Id, Kind, Path, PathFault, PathTable, Sequence};
 use std::alloc::Global;
 use std::test::Fail;
 
@@ -98,26 +98,6 @@ fn plain(alloc: Global, text: &str) -> Result<Content, Fail> {
 }
 
 #[test]
-fn files_change_one_path_at_a_time(rt: HostRuntime) -> Result<(), Fail> {
-    let alloc = rt.alloc();
-    let mut files = Files::new(alloc);
-    let a = Path::parse(alloc, b"a".as_slice())?;
-    let below = Path::parse(alloc, b"a/b".as_slice())?;
-    files.insert(below.copy()?, plain(alloc, "x")?)?;
-    assert!(rt; files.has_file_below(&a));
-    assert!(rt; !files.has_file_above(&a));
-    assert!(rt; !files.has_file_above(&below));
-    let copy = files.copy()?;
-    files.remove(&below);
-    assert!(rt; files.get(&below).is_none());
-    assert!(rt; !files.has_file_below(&a));
-    assert!(rt; copy.get(&below) == Some(&plain(alloc, "x")?));
-    files.insert(a, plain(alloc, "y")?)?;
-    assert!(rt; files.has_file_above(&below));
-    Ok(())
-}
-
-#[test]
 fn contents_are_copied_whole(rt: HostRuntime) -> Result<(), Fail> {
     let content = plain(rt.alloc(), "hello")?;
     let copy = content.copy()?;
@@ -133,8 +113,6 @@ fn contents_are_copied_whole(rt: HostRuntime) -> Result<(), Fail> {
 #[test]
 fn tables_list_each_path_once(rt: HostRuntime) -> Result<(), Fail> {
     let alloc = rt.alloc();
-    let mut files = Files::new(alloc);
-    files.insert(Path::parse(alloc, b"b".as_slice())?, plain(alloc, "x")?)?;
     let given = [
         Path::parse(alloc, b"c".as_slice())?,
         Path::parse(alloc, b"a".as_slice())?,
@@ -142,10 +120,9 @@ fn tables_list_each_path_once(rt: HostRuntime) -> Result<(), Fail> {
     let mut table = PathTable::new(alloc);
     table.add(&given[0])?;
     table.add_all(&given)?;
-    table.add_files(&files)?;
     let listed = table.list(alloc)?;
-    assert_eq!(rt; listed.len(), 3);
-    for (path, text) in listed.iter().zip(["a", "b", "c"]) {
+    assert_eq!(rt; listed.len(), 2);
+    for (path, text) in listed.iter().zip(["a", "c"]) {
         assert!(rt; path.as_bytes() == text.as_bytes());
     }
     Ok(())

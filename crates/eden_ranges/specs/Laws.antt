@@ -14,8 +14,7 @@ use Rattle.eden_history.specs.declared.position.Position.{Position}
 use Rattle.eden_history.specs.Worlds.{Commits, WorldState, now, position_of}
 use Rattle.eden_history.specs.Legal.{IsLegal}
 use Rattle.eden_history.specs.Marks.{marked_since}
-use Rattle.eden_history.specs.Recorded.{floor_of}
-use Rattle.eden_history.specs.Status.{status}
+use Rattle.eden_history.specs.Status.{status_of}
 use Rattle.eden_ranges.specs.Histories.{history_of}
 use Rattle.eden_ranges.specs.Since.{head_position, log_status, range_of}
 use Rattle.eden_ranges.specs.Expanded.{are_comparable, expanded}
@@ -27,7 +26,7 @@ HeadsAreNow = (world : WorldState) → IsLegal world → (log : Log) → StandsF
 -- a position is refused as the world refuses it
 abbrev pub RefusalsAreTheWorlds : Type 0
 RefusalsAreTheWorlds = (world : WorldState) → IsLegal world → (log : Log) → StandsFor log (history_of world) → (position : Position)
-    → log_status log position ≡ status (floor_of world) (now world) position
+    → log_status log position ≡ status_of world position
 
 -- from a good position the range has the paths that the world's events name since, each with what became of it
 abbrev pub RangesAreTheWorlds : Type 0

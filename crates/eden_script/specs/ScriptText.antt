@@ -44,10 +44,9 @@ use Rattle.eden_script.specs.Labels.{bound, label_of}
 use Rattle.eden_script.specs.ScriptLines.{command_of}
 use Rattle.eden_history.specs.Worlds.{WorldState, commits_of, now, position_of, opened}
 use Rattle.eden_history.specs.Named.{held_files}
-use Rattle.eden_history.specs.Recorded.{floor_of}
 use Rattle.eden_history.specs.Renames.{absent_fault}
 use Rattle.eden_history.specs.Outcome.{answer_of, world_after}
-use Rattle.eden_history.specs.Status.{status}
+use Rattle.eden_history.specs.Status.{status_of}
 use Rattle.eden_history.specs.Marks.{marked_since}
 
 -- ---- texts
@@ -246,7 +245,7 @@ since_text bindings world sequence None = changes_text bindings (marked_since wo
 abbrev pub since_told : List Binding → WorldState → ℕ → ℕ → MountTold
 since_told bindings world generation sequence =
     let position : Position = record { generation = generation; sequence = sequence; root = record { 0 = replicate 20 0 } } in
-    (Some world, since_text bindings world sequence (status (floor_of world) (now world) position))
+    (Some world, since_text bindings world sequence (status_of world position))
 
 -- ---- lines that ask
 

@@ -1,11 +1,12 @@
 -- A path of which the overlay says nothing any more.
 use Rattle.std.proofs.Common.{◌≡◌, ℕ, Bool, true, false, cond, List, Option, Some, None, is_some, refl, sym, ap, ◌∙◌}
+use Rattle.std.specs.Option.{option_or}
 use Rattle.std.specs.Cmp.Lexicographic.{nat_list_cmp_total}
 use Rattle.std.specs.FinMap as fin
 use Rattle.eden_ids.specs.declared.content.Content.{Content}
 use Rattle.eden_ids.specs.FileMaps.{FileMap, IsFileMap, file_at, same_path, put_option, has_file_above, has_file_below}
 use Rattle.eden_ids.proofs.FileMapLemmas.{same_path-is, same_file_map, IsFileMap-insert, IsFileMap-remove}
-use Rattle.eden_history.specs.Renames.{place_fault, first_fault}
+use Rattle.eden_history.specs.Renames.{place_fault}
 use Rattle.eden_workcopy.specs.Layers.{Layer, or_below, over}
 use Rattle.eden_workcopy.specs.Reverts.{revert_fault}
 use Rattle.eden_workcopy.proofs.Overs.{file_at-over}
@@ -31,4 +32,4 @@ revert_fits m base k ok free = by (file_at base k) free
   where
     by : (o : Option Content) → cond (is_some o) (place_fault m k) None ≡ None → IsFileMap (put_option m k o)
     by None e = IsFileMap-remove m k ok
-    by (Some f) e = let apart = place_free (has_file_above m k) (has_file_below m k) None (ap (λ o. first_fault o None) e) in IsFileMap-insert m k f ok apart.0 apart.1
+    by (Some f) e = let apart = place_free (has_file_above m k) (has_file_below m k) None (ap (λ o. option_or o None) e) in IsFileMap-insert m k f ok apart.0 apart.1

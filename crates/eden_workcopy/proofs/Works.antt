@@ -1,6 +1,7 @@
 -- What a working copy means, as its calls have it.
 use Rattle.std.proofs.Common.{◌≡◌, ℕ, Bool, true, false, cond, ◌&&◌, ◌||◌, ◌+◌, ◌<◌, take, nat_eq, nat_le, List, [], ◌∷◌, map, length, Option, Some, None, is_some, refl, sym, ap, subst, ◌∙◌, arith}
 use Rattle.std.specs.Prelude.{IsSome, filter}
+use Rattle.std.specs.Option.{option_or}
 use Rattle.std.specs.Borrow.{Bor}
 use Rattle.std.specs.List.{list_any, AllByRecursion, slice_index_or}
 use Rattle.std.specs.FinMap as fin
@@ -20,7 +21,6 @@ use Rattle.eden_objects.specs.Files.{files_of, commit_files}
 use Rattle.eden_objects.proofs.CommitLaws.{file_maps}
 use Rattle.eden_history.specs.declared.change.ChangeFault.{ChangeFault}
 use Rattle.eden_history.specs.declared.change.ChangeFault.TheVariants.{NotADirectory, IsADirectory}
-use Rattle.eden_history.specs.Renames.{first_fault}
 use Rattle.eden_history.specs.Renames.{moved, renamed}
 use Rattle.eden_ids.specs.Sameness.{same_bytes}
 use Rattle.eden_workcopy.specs.declared.work.WorkCopy.{WorkCopy}
@@ -162,7 +162,7 @@ shifted base layer after from to old new f is source target file other =
     ∙ ap (moved (over base layer) old new) file
     ∙ sym (ap (λ b. cond b (over base layer) (moved (over base layer) old new (file_at (over base layer) old))) other)
 
-pub place_free : (above below : Bool) (later : Option ChangeFault) → first_fault (cond above (Some NotADirectory) (cond below (Some IsADirectory) None)) later ≡ None → (above ≡ false) × (below ≡ false)
+pub place_free : (above below : Bool) (later : Option ChangeFault) → option_or (cond above (Some NotADirectory) (cond below (Some IsADirectory) None)) later ≡ None → (above ≡ false) × (below ≡ false)
 place_free true below later e = absurd (cc)
 place_free false true later e = absurd (cc)
 place_free false false later e = (refl, refl)

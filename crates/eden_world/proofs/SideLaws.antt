@@ -12,7 +12,7 @@ use Rattle.eden_history.specs.declared.change.Mode.{Mode}
 use Rattle.eden_history.specs.declared.change.Mode.TheVariants.{Normal, Dry, Force}
 use Rattle.std.specs.Prelude.{if◌then◌else◌}
 use Rattle.eden_history.specs.Checkouts.{checked_out, clashes_dirty, conflicts, is_conflict, paths_of_all, rule_of, unclean}
-use Rattle.eden_world.specs.Sides.{IsWithin, differs, is_unclean}
+use Rattle.eden_world.specs.internal.Sides.{IsWithin, differs, is_unclean}
 use Rattle.eden_history.proofs.CheckoutLaws.{file_at-checked_out, has-conflicts, has-unclean}
 use Rattle.eden_world.proofs.Tabulating.{Follows}
 

@@ -9,10 +9,8 @@ use Rattle.eden_deltas.specs.Deltas.{cost, is_one}
 use Rattle.eden_deltas.specs.Runs.{add_delta, alone, floor_of_runs, runs}
 use Rattle.eden_deltas.proofs.DeltaLemmas.{is_one-same}
 use Rattle.eden_deltas.proofs.Floors.{floor-ends, floor-none, floor-pays, runs-more, runs-none}
-use Rattle.eden_history.specs.declared.row.Row.{Row}
-use Rattle.eden_history.specs.declared.row.Event.{Event}
-use Rattle.eden_history.specs.Worlds.{last_row}
-use Rattle.eden_world.specs.Paid.{is_paid}
+use Rattle.eden_history.specs.Worlds.{Row, Event, last_row}
+use Rattle.eden_world.specs.internal.Paid.{is_paid}
 use Rattle.eden_history.specs.Recorded.{delta_of, deltas, start, starts}
 use Rattle.eden_history.proofs.Floors.{AreNumbered}
 use Rattle.eden_history.proofs.Touched.{reverse_more}

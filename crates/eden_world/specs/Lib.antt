@@ -1,3 +1,3 @@
-pub mod Sides
-pub mod Stepped
-pub mod Paid
+pub use Rattle.eden_globs.specs.Filters
+pub use Rattle.eden_objects.specs.Commits
+pub mod internal

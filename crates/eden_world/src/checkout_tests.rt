@@ -61,7 +61,7 @@ fn checked(alloc: Global, sequence: u64, root: Id, conflicts: &[&str]) -> Result
 
 /// Whether a plain file with this text stands at a path.
 fn holds(alloc: Global, world: &World<GitNaming>, at: &str, text: &str) -> Result<bool, Fail> {
-    match world.now().files.get(&path(alloc, at)?) {
+    match world.now().files().get(&path(alloc, at)?) {
         Some(content) => Ok(content.bytes.as_slice() == text.as_bytes()),
         None => Ok(false),
     }

@@ -2,8 +2,9 @@ ghost use Rattle.std.specs.Prelude.{◌≡◌, [], IfOk, OnOk, map};
 ghost use Rattle.eden_ids.specs.FileMaps.{file_at, paths, put_option};
 ghost use Rattle.eden_objects.specs.Files.{commit_files};
 
+use crate::files::Files;
 use eden_globs::Filter;
-use eden_ids::{Content, Files, Id, Kind, Naming, NoMemory, Path, Sequence};
+use eden_ids::{Content, Id, Kind, Naming, NoMemory, Path, Sequence};
 use eden_objects::{ListFault, Store};
 use std::alloc::Global;
 

@@ -1,17 +1,30 @@
 //! The plain, slow program that computes what a mount's definitions say: a mount with its whole history.
 //!
 //! It keeps whole file maps and looks at every path, so that it can be read beside the definitions in eden_history. The programs that keep
-//! less are measured by it.
+//! less are measured by it. The plain types of which the definitions speak are handed on from here, and so are
+//! the counting devices.
 #![tactic(auto)]
 
+pub use crate::files::Files;
 pub use crate::reply::{admitted, cause_of, changes_reply};
+pub use crate::row::{Event, Row};
 pub use crate::world::World;
+pub use eden_history::{
+    Answer, Cause, Change, ChangeFault, Mark, Marked, Mode, MountFault, Position, Query, Reply,
+    Request, SinceFault,
+};
+pub use eden_stream::{Counted, Faults};
 
 #[cfg(test)]
 mod checkout_tests;
 mod commit_files;
 mod events;
+mod files;
+#[cfg(test)]
+mod files_tests;
+mod refusal;
 mod reply;
+mod row;
 mod sides;
 #[cfg(test)]
 mod tests;

@@ -5,11 +5,12 @@ ghost use Rattle.std.specs.Option.{option_copied};
 ghost use Rattle.eden_ids.specs.FileMaps.{FileMap, differ, file_at, has, listing, path_set, paths, same_file, union, clashes_any};
 ghost use Rattle.eden_objects.specs.Files.{commit_files};
 ghost use Rattle.eden_history.specs.Checkouts.{checked_out, clashes_dirty, conflicts, force_rule, is_blocked, is_clean, is_conflict, normal_rule, paths_of_all, rule_of, unclean};
-ghost use Rattle.eden_world.specs.Sides.{differs, is_unclean, wanted_at, AreAll, IsWithin};
+ghost use Rattle.eden_world.specs.internal.Sides.{differs, is_unclean, wanted_at, AreAll, IsWithin};
 
 use crate::commit_files::{files_of_commit, put_file};
+use crate::files::Files;
 use eden_history::Mode;
-use eden_ids::{Content, Files, Id, Naming, NoMemory, Path, PathTable, Sequence};
+use eden_ids::{Content, Id, Naming, NoMemory, Path, PathTable, Sequence};
 use eden_objects::Store;
 use std::alloc::Global;
 
@@ -98,9 +99,9 @@ impl Sides {
         let root = files_of_commit(alloc, store, root)?;
         let target = files_of_commit(alloc, store, target)?;
         let mut table = PathTable::new(alloc);
-        table.add_files(&target)?;
-        table.add_files(&root)?;
-        table.add_files(work)?;
+        target.add_paths(&mut table)?;
+        root.add_paths(&mut table)?;
+        work.add_paths(&mut table)?;
         let paths = table.list(alloc)?;
         Ok(Sides {
             root,

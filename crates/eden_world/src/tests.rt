@@ -60,7 +60,7 @@ fn first_run(rt: HostRuntime) -> Result<(), Fail> {
     assert!(rt; world.apply(&write(alloc, "a", "hi")?)? == here(2));
     assert!(rt; world.apply(&write(alloc, "b", "yo")?)? == here(3));
     assert!(rt; world.apply(&remove(alloc, "a")?)? == here(4));
-    let files = &world.now().files;
+    let files = world.now().files();
     assert!(rt; files.get(&path(alloc, "a")?).is_none());
     assert!(rt; files.get(&path(alloc, "b")?).is_some());
     Ok(())
@@ -168,7 +168,7 @@ pub(crate) fn tells(
     marks: &[(&str, Mark)],
 ) -> Result<bool, Fail> {
     let position = world.position();
-    let reply = world.reply(alloc, &poll(alloc, position.generation, since)?)?;
+    let reply = world.reply(&poll(alloc, position.generation, since)?)?;
     let copy = reply.copy()?;
     Ok(reply == told(alloc, position, marks)? && copy == reply)
 }
@@ -182,14 +182,14 @@ pub(crate) fn refuses(
     cause: Cause,
 ) -> Result<bool, Fail> {
     let request = poll(alloc, generation, since)?;
-    Ok(world.reply(alloc, &request.copy()?)? == refused(cause))
+    Ok(world.reply(&request.copy()?)? == refused(cause))
 }
 
 #[test]
 fn refused_positions(rt: HostRuntime) -> Result<(), Fail> {
     let alloc = rt.alloc();
     let world = empty(alloc, 1000)?;
-    assert_eq!(rt; world.floor(alloc)?, 1);
+    assert_eq!(rt; world.floor()?, 1);
     assert!(rt; refuses(alloc, &world, 7, 0, Cause::Truncated(1))?);
     assert!(rt; refuses(alloc, &world, 7, 2, Cause::Ahead(1))?);
     assert!(rt; refuses(alloc, &world, 8, 9, Cause::Stale(7))?);
@@ -303,6 +303,6 @@ fn flush_and_remount(rt: HostRuntime) -> Result<(), Fail> {
     assert!(rt; world.apply(&Change::Remount { generation: 8 })? == at(8, 1, Id::ZERO));
     assert!(rt; refuses(alloc, &world, 7, 3, Cause::Stale(8))?);
     assert!(rt; tells(alloc, &world, 1, &[])?);
-    assert!(rt; world.now().files.get(&path(alloc, "a")?).is_some());
+    assert!(rt; world.now().files().get(&path(alloc, "a")?).is_some());
     Ok(())
 }

@@ -1,6 +1,6 @@
 use Rattle.std.proofs.Common.{◌≡◌, ◌++◌, drop}
 use Rattle.std.specs.Prelude.{filter}
-use Rattle.eden_world.specs.Sides.{wanted_at}
+use Rattle.eden_world.specs.internal.Sides.{wanted_at}
 use Rattle.eden_world.proofs.sides.Sides.listed.Given as goal
 
 abbrev pub invariant-loop-path : goal.invariant-loop-path

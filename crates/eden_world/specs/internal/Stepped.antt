@@ -1,8 +1,7 @@
 -- What a change comes to on a world: an event that is added, or nothing.
 use Rattle.std.specs.Prelude.{◌≡◌, Option, Some, None}
 use Rattle.eden_history.specs.declared.change.Change.{Change}
-use Rattle.eden_history.specs.declared.row.Event.{Event}
-use Rattle.eden_history.specs.Worlds.{WorldState, commits_of, now}
+use Rattle.eden_history.specs.Worlds.{Event, WorldState, commits_of, now}
 use Rattle.eden_history.specs.Outcome.{outcome, world_after}
 use Rattle.eden_history.specs.Outcome.Outcome.{Next}
 

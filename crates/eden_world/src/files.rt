@@ -1,12 +1,12 @@
+//! Whole file maps.
+
 ghost use Rattle.std.specs.Prelude.{◌≡◌, IfOk, OnOk, OnErr};
 ghost use Rattle.std.specs.Option.{option_copied};
 ghost use Rattle.std.specs.FinMap as fin;
 ghost use Rattle.std.specs.Map.Iter.{deref, ShowsInOrder};
-ghost use Rattle.eden_ids.specs.FileMaps.{file_at, no_files, has_file_above, has_file_below, paths};
+ghost use Rattle.eden_ids.specs.FileMaps.{file_at, no_files, has_file_above, has_file_below, path_set, paths, union};
 
-use crate::content::Content;
-use crate::memory::NoMemory;
-use crate::path::Path;
+use eden_ids::{Content, NoMemory, Path, PathTable};
 use std::alloc::Global;
 use std::collections::BTreeMap;
 use std::collections::btree_map::Keys;
@@ -75,6 +75,16 @@ impl Files {
     {
         let keys = self.entries.keys();
         keys
+    }
+
+    /// Adds the paths that hold a file to a table.
+    pub fn add_paths(&self, table: &mut PathTable) -> Result<(), NoMemory>
+        ensures { OnOk result (table.new ≡ union (path_set (paths self.now)) table.old) }
+    {
+        for path in self.paths() {
+            table.add(path)?;
+        }
+        Ok(())
     }
 
     /// Whether a file stands at a proper prefix of the path's components. The time grows with the map.

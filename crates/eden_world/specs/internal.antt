@@ -1,0 +1,4 @@
+-- Words that the code alone uses.
+pub mod Sides
+pub mod Stepped
+pub mod Paid
