@@ -1,4 +1,5 @@
 pub mod CheckoutLaws
+pub mod DirtyFiles
 pub mod RenameLaws
 pub mod Committed
 pub mod Steps

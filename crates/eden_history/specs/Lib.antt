@@ -1,6 +1,7 @@
 pub mod Worlds
 pub mod Renames
 pub mod Checkouts
+pub mod DirtyFiles
 pub mod Named
 pub mod Outcome
 pub mod Legal

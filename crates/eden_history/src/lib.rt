@@ -9,8 +9,10 @@ pub use crate::checkout_laws::checkout_law;
 pub use crate::mark::{Mark, Marked};
 pub use crate::message::{Cause, Query, Reply, Request};
 pub use crate::position::Position;
+pub use crate::sides::Sides;
 pub use crate::spelling_law::{frames_law, one_message_law, one_spelling_law};
 pub use crate::touches::{Touch, Touches};
+pub use crate::tree_faults::{absent_fault, place_fault, rename_fault, write_fault};
 
 mod answer;
 mod change;
@@ -18,7 +20,9 @@ mod checkout_laws;
 mod mark;
 mod message;
 mod position;
+mod sides;
 mod spelling_law;
 #[cfg(test)]
 mod tests;
 mod touches;
+mod tree_faults;

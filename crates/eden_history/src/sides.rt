@@ -1,0 +1,111 @@
+ghost use Rattle.std.specs.Prelude.{◌≡◌, ◌&&◌, ◌||◌, if◌then◌else◌, is_some, not};
+ghost use Rattle.eden_ids.specs.FileMaps.{file_at, lent, paths, same_file};
+ghost use Rattle.eden_history.specs.Checkouts.{clashes_dirty, force_rule, is_blocked, is_clean, is_conflict, normal_rule, rule_of};
+ghost use Rattle.eden_history.specs.DirtyFiles.{dirty_files};
+
+use crate::change::Mode;
+use eden_ids::{FileTree, Kind, Path, clashes_any, has_file, is_same_at};
+
+/// What a checkout is judged by: what a working copy holds, the commit below it, the commit that is checked out, and those files of the
+/// working copy that the commit below it does not hold.
+///
+/// Each question is answered without memory.
+#[derive(Drop)]
+pub struct Sides<'a, W: FileTree, R: FileTree, T: FileTree, D: FileTree> {
+    /// The files of the working copy.
+    pub work: &'a W,
+    /// Those of the commit below it.
+    pub root: &'a R,
+    /// Those of the commit that is checked out.
+    pub target: &'a T,
+    /// The files of the working copy at the paths that are not clean.
+    pub dirty: &'a D,
+    ghost differs: { paths (D.files dirty.now) ≡ paths (dirty_files (W.files work.now) (R.files root.now)) },
+}
+
+impl<'a, W: FileTree, R: FileTree, T: FileTree, D: FileTree> Sides<'a, W, R, T, D> {
+    /// Whether the working copy holds at a path what the commit below it does.
+    pub fn is_clean(&self, path: &[u8]) -> bool
+        ensures { result ≡ is_clean (W.files self.now.work.now) (R.files self.now.root.now) path.now }
+    {
+        is_same_at(self.work, self.root, path)
+    }
+
+    /// Whether a path clashes with a dirty path at which the working copy holds a file.
+    #[tactic(auto, using(crate::proofs::DirtyFiles::dirty_clashes))]
+    pub fn clashes_dirty(&self, path: &Path) -> bool
+        ensures { result ≡ clashes_dirty (W.files self.now.work.now) (R.files self.now.root.now) path.now }
+    {
+        clashes_any(self.dirty, path)
+    }
+
+    /// Whether a path is the target's and clashes with a dirty path at which the working copy holds a file.
+    pub fn is_blocked(&self, path: &Path) -> bool
+        ensures { result ≡ is_blocked (W.files self.now.work.now) (R.files self.now.root.now) (T.files self.now.target.now) path.now }
+    {
+        has_file(self.target, path.as_bytes()) && self.clashes_dirty(path)
+    }
+
+    /// Whether the target has another file at a path than the root, and another than the working copy.
+    fn is_changed_twice(&self, path: &[u8]) -> bool
+        ensures { result ≡ (not (same_file (file_at (R.files self.now.root.now) path.now) (file_at (T.files self.now.target.now) path.now))
+            && not (same_file (file_at (W.files self.now.work.now) path.now) (file_at (T.files self.now.target.now) path.now))) }
+    {
+        !is_same_at(self.root, self.target, path) && !is_same_at(self.work, self.target, path)
+    }
+
+    /// Whether a path is a conflict.
+    pub fn is_conflict(&self, path: &Path) -> bool
+        ensures { result ≡ is_conflict (W.files self.now.work.now) (R.files self.now.root.now) (T.files self.now.target.now) path.now }
+    {
+        if self.is_clean(path.as_bytes()) {
+            self.is_blocked(path)
+        } else {
+            self.is_changed_twice(path.as_bytes())
+        }
+    }
+
+    /// What is to stand at a path after a normal checkout.
+    fn normal_file(&self, path: &Path) -> Option<(Kind, &'a [u8])>
+        ensures { lent result ≡ normal_rule (W.files self.now.work.now) (R.files self.now.root.now) (T.files self.now.target.now) path.now }
+    {
+        if !self.is_clean(path.as_bytes()) {
+            return self.work.file(path.as_bytes());
+        }
+        if self.is_blocked(path) {
+            return None;
+        }
+        self.target.file(path.as_bytes())
+    }
+
+    /// Whether the root or the target has a file at a path.
+    fn is_in_commits(&self, path: &[u8]) -> bool
+        ensures { result ≡ (is_some (file_at (R.files self.now.root.now) path.now) || is_some (file_at (T.files self.now.target.now) path.now)) }
+    {
+        has_file(self.root, path) || has_file(self.target, path)
+    }
+
+    /// What is to stand at a path after a forced checkout.
+    fn force_file(&self, path: &Path) -> Option<(Kind, &'a [u8])>
+        ensures { lent result ≡ force_rule (W.files self.now.work.now) (R.files self.now.root.now) (T.files self.now.target.now) path.now }
+    {
+        if self.is_in_commits(path.as_bytes()) {
+            return self.target.file(path.as_bytes());
+        }
+        if clashes_any(self.target, path) {
+            return None;
+        }
+        self.work.file(path.as_bytes())
+    }
+
+    /// What is to stand at a path after the checkout.
+    pub fn file_after(&self, mode: Mode, path: &Path) -> Option<(Kind, &'a [u8])>
+        ensures { lent result ≡ rule_of mode (W.files self.now.work.now) (R.files self.now.root.now) (T.files self.now.target.now) path.now }
+    {
+        match mode {
+            Mode::Normal => self.normal_file(path),
+            Mode::Dry => self.work.file(path.as_bytes()),
+            Mode::Force => self.force_file(path),
+        }
+    }
+}
