@@ -8,7 +8,7 @@
 
 use eden_globs::Filter;
 use eden_ids::{GitNaming, Id, Kind};
-use eden_objects::{ListFault, PutFault, Store};
+use eden_objects::{CommitFault, PutFault, Store};
 use std::alloc::{AllocError, Global};
 use std::io::{Read, Write};
 use std::process::ExitCode;
@@ -26,7 +26,7 @@ enum Fault {
     Refused(PutFault),
     /// The store does not list a commit that it has.
     #[error("{0}")]
-    Unlisted(ListFault),
+    Unlisted(CommitFault),
     /// A growth was refused.
     #[error("NoMemory")]
     NoMemory,

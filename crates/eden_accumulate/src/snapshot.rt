@@ -11,7 +11,7 @@ use crate::mount::Mount;
 use eden_globs::Filter;
 use eden_history::Position;
 use eden_ids::{Content, Kind, Naming, NoMemory, Path, Sequence};
-use eden_objects::{ListFault, Store};
+use eden_objects::{CommitFault, Store};
 use eden_workcopy::WorkCopy;
 use std::alloc::Global;
 
@@ -69,21 +69,21 @@ impl Snapshot {
         &self,
         store: &Store<N>,
         filter: &Filter,
-    ) -> Result<Vec<Path>, ListFault>
+    ) -> Result<Vec<Path>, CommitFault>
         requires { IsSome (commit_map store.now self.now.position.root) → IsFileMap (seen.seen_files store.now self.now) }
         ensures files { IfOk result (λ paths. paths.items ≡ admitted filter.now (seen.seen_files store.now self.now)) }
         ensures accepts { IfOk result (λ _. IsSome (commit_map store.now self.now.position.root)) }
-        ensures refuses { IfErr result (λ fault. fault ≢ ListFault.NoMemory → commit_map store.now self.now.position.root ≡ None) }
+        ensures refuses { IfErr result (λ fault. fault ≢ CommitFault.NoMemory → commit_map store.now self.now.position.root ≡ None) }
     {
         let Ok(start) = WorkCopy::new(store.allocator(), store, self.position.root) else {
-            return Err(ListFault::NoCommit);
+            return Err(CommitFault::NoCommit);
         };
         let Ok(work) = marked_over(store, start, self.touched.as_slice()) else {
-            return Err(ListFault::NoMemory);
+            return Err(CommitFault::NoMemory);
         };
         match work.list(store, filter) {
             Ok(paths) => Ok(paths),
-            Err(_) => Err(ListFault::NoMemory),
+            Err(_) => Err(CommitFault::NoMemory),
         }
     }
 }

@@ -10,12 +10,11 @@ use crate::conflict::add_if;
 use crate::sides::Sides;
 use crate::table::united;
 use eden_ids::{Id, Naming, NoMemory, Path, Sequence};
-use eden_objects::Store;
+use eden_objects::{CommitFault, Store};
 use eden_treediff::diff;
 use eden_workcopy::WorkCopy;
 use eden_history::Mode;
 use std::alloc::Global;
-use thiserror::Error;
 
 /// What a checkout would make of a working copy, and which paths it concerns.
 #[derive(Drop)]
@@ -26,17 +25,6 @@ pub struct Planned {
     pub unclean: Sequence<Path>,
     /// The paths at which the working copy is in the way of the checkout, in byte order.
     pub conflicts: Sequence<Path>,
-}
-
-/// Why nothing is planned.
-#[derive(Clone, Copy, Debug, PartialEq, Eq, Error)]
-pub enum PlanFault {
-    /// The id is neither that of the empty commit nor that of a commit in the store.
-    #[error("NoCommit")]
-    NoCommit,
-    /// A growth was refused.
-    #[error("NoMemory")]
-    NoMemory,
 }
 
 /// Those of some paths at which a working copy holds a file.
@@ -220,7 +208,7 @@ pub fn plan<N: Naming + Drop>(
     work: &WorkCopy,
     commit: Id,
     mode: Mode,
-) -> Result<Planned, PlanFault>
+) -> Result<Planned, CommitFault>
     requires { FitsIn store.now work.now }
     ensures accepts { IfOk result (λ _. IsSome (commit_map store.now commit)) }
     ensures root { IfOk result (λ planned. planned.next.root ≡ (if is_dry mode then work.now.root else commit)) }
@@ -233,13 +221,13 @@ pub fn plan<N: Naming + Drop>(
         listing (unclean (means store.now work.now) (root_files store.now work.now) (means store.now planned.next) (commit_files store.now commit)))) }
     ensures conflicts { IfOk result (λ planned. planned.conflicts
         ≡ listing (conflicts (means store.now work.now) (root_files store.now work.now) (commit_files store.now commit))) }
-    ensures refuses { IfErr result (λ fault. fault ≢ PlanFault.NoMemory → commit_map store.now commit ≡ None) }
+    ensures refuses { IfErr result (λ fault. fault ≢ CommitFault.NoMemory → commit_map store.now commit ≡ None) }
 {
     let Ok(start) = WorkCopy::new(store.allocator(), store, commit) else {
-        return Err(PlanFault::NoCommit);
+        return Err(CommitFault::NoCommit);
     };
     match plan_from(store, work, start, commit, mode) {
         Ok(planned) => Ok(planned),
-        Err(_) => Err(PlanFault::NoMemory),
+        Err(_) => Err(CommitFault::NoMemory),
     }
 }

@@ -1,7 +1,7 @@
 //! What a checkout of a commit would make of a working copy.
 #![tactic(auto)]
 
-pub use crate::checkout::{PlanFault, Planned, plan};
+pub use crate::checkout::{Planned, plan};
 
 mod below;
 mod checkout;

@@ -1,8 +1,8 @@
 ghost use Rattle.eden_workcopy.specs.Meanings.{FitsIn};
 
-use crate::{PlanFault, Planned, plan};
+use crate::{Planned, plan};
 use eden_ids::{GitNaming, Id, Kind, Path};
-use eden_objects::Store;
+use eden_objects::{CommitFault, Store};
 use eden_workcopy::WorkCopy;
 use eden_history::Mode;
 use std::alloc::Global;
@@ -257,7 +257,7 @@ fn no_commit(rt: HostRuntime) -> Result<(), Fail> {
     let made = over_commit(alloc, commits.store, commits.first)?;
     for mode in [Mode::Normal, Mode::Dry, Mode::Force] {
         let answer = plan(&made.store, &made.work, Id([1; 20]), mode);
-        assert_eq!(rt; answer.err(), Some(PlanFault::NoCommit));
+        assert_eq!(rt; answer.err(), Some(CommitFault::NoCommit));
     }
     Ok(())
 }

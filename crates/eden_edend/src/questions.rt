@@ -19,7 +19,8 @@ use eden_accumulate::{Mount, Position};
 use eden_globs::{Filter, FilterFault};
 use eden_history::SinceFault;
 use eden_ids::{GitNaming, Id, Path, PathFault};
-use eden_ranges::{ExpandFault, expand};
+use eden_objects::CommitFault;
+use eden_ranges::expand;
 use eden_script::Word;
 use std::alloc::{AllocError, Global};
 
@@ -139,8 +140,8 @@ pub(crate) fn tell_since(
     let marked = match expand(mount.store(), &range) {
         Ok(marked) => marked,
         // What a mount gives can be expanded over its objects.
-        Err(ExpandFault::NoCommit) => unreachable!(),
-        Err(ExpandFault::NoMemory) => return Err(AllocError),
+        Err(CommitFault::NoCommit) => unreachable!(),
+        Err(CommitFault::NoMemory) => return Err(AllocError),
     };
     push_changes(text, labels, marked.as_slice(), &range.to)
 }

@@ -1,42 +1,28 @@
--- The files of a commit, looked up and counted by its rows.
-use Rattle.std.proofs.Common.{◌≡◌, ℕ, ◌+◌, ◌-◌, ◌^◌, ◌<◌, Bool, true, false, cond, nat_eq, nat_le, List, [], ◌∷◌, map, length, Option, Some, None, refl, sym, ap, ◌∙◌, arith}
-use Rattle.std.proofs.lemmas.List.{length-map}
+-- The files of a commit, counted by its rows.
+use Rattle.std.proofs.Common.{◌≡◌, ℕ, ◌+◌, ◌^◌, ◌<◌, Bool, true, false, cond, nat_le, List, [], ◌∷◌, map, length, Option, Some, None, refl, sym, ap, ◌∙◌, arith}
 use Rattle.std.specs.Prelude.{filter}
+use Rattle.std.specs.Ordering.{nat_cmp}
+use Rattle.std.specs.Cmp.Lexicographic.{slice_cmp}
+use Rattle.std.specs.List.{list_any}
+use Rattle.std.specs.List.Sorted.{IsStrictlySortedBy}
 use Rattle.eden_ids.specs.declared.id.Id.{Id}
-use Rattle.eden_ids.specs.FileMaps.{file_at, paths, no_files}
+use Rattle.eden_ids.specs.declared.content.Kind.{Kind}
+use Rattle.eden_ids.specs.FileMaps.{FileMap, file_at, paths}
 use Rattle.eden_ids.specs.Paths.{lies_below}
-use Rattle.eden_ids.proofs.FileMapLemmas.{file_at-none}
 use Rattle.eden_objects.specs.Objects.{Held}
 use Rattle.eden_objects.specs.Trees.{Entry}
-use Rattle.eden_objects.specs.Commits.{Row, entries_rows, find_row, commit_rows, map_of_rows}
+use Rattle.eden_objects.specs.Commits.{Row, entries_rows, find_row, tree_rows}
 use Rattle.eden_objects.specs.Closed.{IsClosed}
 use Rattle.eden_objects.specs.Counts.{capped}
 use Rattle.eden_objects.specs.Walks.{content_found}
-use Rattle.eden_objects.specs.Files.{files_of, commit_files, rows_or_none}
+use Rattle.eden_objects.specs.Files.{IsTreeIn, files_at, rows_at}
 use Rattle.eden_objects.proofs.Maps.{file_at-map_of, paths-map_of}
-use Rattle.eden_objects.proofs.CommitLaws.{rows_rise}
-use Rattle.std.specs.FinMap as fin
+use Rattle.eden_objects.proofs.Rising.{rising_law}
 
-by_rows : (held : List Held) (o : Option (List Row)) (p : List ℕ) → file_at (files_of (map_of_rows held o)) p ≡ content_found held (find_row p (rows_or_none o))
-by_rows held None p = file_at-none p
-by_rows held (Some rows) p = file_at-map_of held rows p
-
-pub file_by_row : (held : List Held) (commit : Id) (p : List ℕ) → file_at (commit_files held commit) p ≡ content_found held (find_row p (rows_or_none (commit_rows held commit)))
-file_by_row held commit p = by_rows held (commit_rows held commit) p
-
-no_keys : (es : List (List ℕ)) → length es ≡ 0 → es ≡ []
-no_keys [] e = refl
-no_keys (x ∷ es) e = absurd (omega arith)
-
-no_paths_there : paths no_files ≡ []
-no_paths_there = no_keys (paths no_files) (length-map _ _ ∙ sym (fin.len-entries no_files) ∙ fin.len-empty _ _)
-
-paths_by_rows : (held : List Held) → IsClosed held → (commit : Id) (o : Option (List Row)) → commit_rows held commit ≡ o → paths (files_of (map_of_rows held o)) ≡ map (λ row. row.0) (rows_or_none o)
-paths_by_rows held closed commit None is = no_paths_there
-paths_by_rows held closed commit (Some rows) is = paths-map_of held rows (rows_rise held closed commit rows is)
-
-pub commit_paths : (held : List Held) → IsClosed held → (commit : Id) → paths (commit_files held commit) ≡ map (λ row. row.0) (rows_or_none (commit_rows held commit))
-commit_paths held closed commit = paths_by_rows held closed commit (commit_rows held commit) refl
+rises : (held : List Held) → IsClosed held → (tree : Option Id) → IsTreeIn held tree → IsStrictlySortedBy (slice_cmp nat_cmp) (map (λ row. row.0) (rows_at held tree))
+unfolding IsStrictlySortedBy
+rises held closed None has = tt
+rises held closed (Some tree) has = rising_law held closed tree has
 
 as_many : (test : List ℕ → Bool) (rows : List Row) → length (filter test (map (λ row. row.0) rows)) ≡ length (filter (λ row. test row.0) rows)
 as_many test [] = refl
@@ -47,16 +33,37 @@ as_many test (row ∷ rows) =
       | false ↦ rest
     ]
 
-spent : (a b : ℕ) → nat_eq (a - b) 0 ≡ nat_le a b
-spent a b = grind arith
+-- below a path stand as many files as rows
+pub counted : (held : List Held) (tree : Option Id) (top : List ℕ) → IsClosed held → IsTreeIn held tree
+    → capped (length (filter (λ p. lies_below p top) (paths (files_at held tree)))) ≡ capped (length (filter (λ row. lies_below row.0 top) (rows_at held tree)))
+counted held tree top closed has =
+    ap (λ ps. capped (length (filter (λ p. lies_below p top) ps))) (paths-map_of held (rows_at held tree) (rises held closed tree has))
+    ∙ ap capped (as_many (λ p. lies_below p top) (rows_at held tree))
 
-pub counted : (held : List Held) (commit : Id) (top : List ℕ) (count missing : ℕ) → IsClosed held
-    → missing ≡ count - length (filter (λ row. lies_below row.0 top) (rows_or_none (commit_rows held commit)))
-    → nat_eq missing 0 ≡ nat_le count (length (filter (λ p. lies_below p top) (paths (commit_files held commit))))
-counted held commit top count missing closed is =
-    ap (λ n. nat_eq n 0) is
-    ∙ spent count (length (filter (λ row. lies_below row.0 top) (rows_or_none (commit_rows held commit))))
-    ∙ ap (nat_le count) (sym (ap (λ ps. length (filter (λ p. lies_below p top) ps)) (commit_paths held closed commit) ∙ as_many (λ p. lies_below p top) (rows_or_none (commit_rows held commit))))
+-- a look-up in the files of a tree, and in those of none
+pub file_there : (held : List Held) (at : Option Id) (tree : Id) (files : FileMap) (p : List ℕ) (found : Option (Kind × Id)) → files_at held at ≡ files → at ≡ Some tree
+    → found ≡ find_row p (tree_rows held tree) → content_found held found ≡ file_at files p
+file_there held at tree files p found view is row =
+    ap (content_found held) row ∙ sym (file_at-map_of held (tree_rows held tree) p) ∙ ap (λ t. file_at (files_at held t) p) (sym is) ∙ ap (λ m. file_at m p) view
+
+pub no_file_there : (held : List Held) (at : Option Id) (files : FileMap) (p : List ℕ) → files_at held at ≡ files → at ≡ None → None ≡ file_at files p
+no_file_there held at files p view is = sym (file_at-map_of held [] p) ∙ ap (λ t. file_at (files_at held t) p) (sym is) ∙ ap (λ m. file_at m p) view
+
+pub count_there : (held : List Held) (at : Option Id) (files : FileMap) (top : List ℕ) → IsClosed held → IsTreeIn held at → files_at held at ≡ files
+    → capped (length (filter (λ row. lies_below row.0 top) (rows_at held at))) ≡ capped (length (filter (λ p. lies_below p top) (paths files)))
+count_there held at files top closed has view =
+    sym (counted held at top closed has) ∙ ap (λ m. capped (length (filter (λ p. lies_below p top) (paths m)))) view
+
+pub enough : (n count : ℕ) → count < 2 ^ 64 → nat_le count (capped n) ≡ nat_le count n
+enough n count small = grind (arith, small)
+
+-- there is one just where there is any
+pub any_counted : (test : List ℕ → Bool) (ks : List (List ℕ)) → nat_le 1 (length (filter test ks)) ≡ list_any test ks
+any_counted test [] = refl
+any_counted test (k ∷ ks) = elim (test k) as (λ b. nat_le 1 (length (cond b (k ∷ filter test ks) (filter test ks))) ≡ cond b true (list_any test ks)) [
+  | true ↦ refl
+  | false ↦ any_counted test ks
+]
 
 -- a count that is done
 pub all_counted : (rows : Id → List Row) (files target : ℕ) (es : List Entry) → files < 2 ^ 64 → es ≡ []

@@ -10,6 +10,7 @@ pub mod Blobs
 pub mod CommitLaws
 pub mod Naming
 pub mod FilesOf
+pub mod Grown
 mod Tables
 mod Putting
 mod Cuts

@@ -20,7 +20,7 @@ use Rattle.eden_objects.specs.Commits.{Row, content_of, find_row}
 use Rattle.eden_objects.specs.Walks.{content_found}
 use Rattle.eden_objects.proofs.Clashes.{NoneClash, found_do_not_clash}
 
-abbrev contents : List Held → List Row → List (List ℕ × Content)
+abbrev pub contents : List Held → List Row → List (List ℕ × Content)
 contents held rows = map (λ row. (row.0, content_of held row)) rows
 
 -- the map of some rows

@@ -1,9 +1,11 @@
 -- The files of a commit by its rows, where an id that is no commit's has none.
-use Rattle.std.specs.Prelude.{ℕ, List, [], Option, Some, None}
+use Rattle.std.specs.Prelude.{ℕ, List, [], map, Option, Some, None}
+use Rattle.std.specs.FinMap as fin
 use Rattle.eden_ids.specs.declared.id.Id.{Id}
 use Rattle.eden_ids.specs.FileMaps.{FileMap, no_files}
 use Rattle.eden_objects.specs.Objects.{Held}
-use Rattle.eden_objects.specs.Commits.{Row, commit_map}
+use Rattle.eden_objects.specs.Commits.{Row, commit_map, content_of, tree_rows}
+use Rattle.eden_objects.specs.Closed.{HasTree}
 
 abbrev pub files_of : Option FileMap → FileMap
 files_of None = no_files
@@ -13,6 +15,15 @@ files_of (Some files) = files
 abbrev pub commit_files : List Held → Id → FileMap
 commit_files held commit = files_of (commit_map held commit)
 
-abbrev pub rows_or_none : Option (List Row) → List Row
-rows_or_none None = []
-rows_or_none (Some rows) = rows
+-- a tree of the store, or none: the empty commit has no tree
+abbrev pub IsTreeIn : List Held → Option Id → Type 0
+IsTreeIn held None = Unit {0}
+IsTreeIn held (Some tree) = HasTree held tree
+
+-- its files, by their blobs and then by their bytes
+abbrev pub rows_at : List Held → Option Id → List Row
+rows_at held None = []
+rows_at held (Some tree) = tree_rows held tree
+
+abbrev pub files_at : List Held → Option Id → FileMap
+files_at held tree = fin.from_entries (map (λ row. (row.0, content_of held row)) (rows_at held tree))

@@ -78,3 +78,19 @@ EqualObjectsAreOne = (name : List ℕ → List ℕ → Id) (held : List Held) �
 abbrev pub EqualFilesHaveOneBlob : Type 0
 EqualFilesHaveOneBlob = (name : List ℕ → List ℕ → Id) (held : List Held) → AllNamed name held → (kind : Kind) (i j : Id) → IsHeld held Blob i → IsHeld held Blob j
     → content_found held (Some (kind, i)) ≡ content_found held (Some (kind, j)) → i ≡ j
+
+-- What a closed store has, each closed store has that has all of its objects, as one that it grew into or into which it was copied.
+
+abbrev pub HasAll : List Held → List Held → Type 0
+HasAll held other = (id : Id) (h : Held) → find id held ≡ Some h → find id other ≡ Some h
+
+abbrev pub TreesStay : Type 0
+TreesStay = (held other : List Held) → IsClosed held → IsClosed other → HasAll held other → (id : Id) → HasTree held id → tree_rows other id ≡ tree_rows held id
+
+abbrev pub CommitRowsStay : Type 0
+CommitRowsStay = (held other : List Held) → IsClosed held → IsClosed other → HasAll held other → (commit : Id) (rows : List Row) → commit_rows held commit ≡ Some rows
+    → commit_rows other commit ≡ Some rows
+
+abbrev pub CommitMapsStay : Type 0
+CommitMapsStay = (held other : List Held) → IsClosed held → IsClosed other → HasAll held other → (commit : Id) (files : FileMap) → commit_map held commit ≡ Some files
+    → commit_map other commit ≡ Some files

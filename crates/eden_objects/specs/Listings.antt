@@ -3,8 +3,8 @@ use Rattle.std.specs.Prelude.{◌≡◌, ℕ, Bool, List, [], ◌∷◌, ◌++�
 use Rattle.std.specs.Global.{Vec}
 use Rattle.eden_ids.specs.declared.id.Id.{Id}
 use Rattle.eden_ids.specs.Paths.{lies_below}
-use Rattle.eden_objects.specs.declared.fault.ListFault.{ListFault}
-use Rattle.eden_objects.specs.declared.fault.ListFault.TheVariants.{NoCommit, NoMemory}
+use Rattle.eden_objects.specs.declared.fault.CommitFault.{CommitFault}
+use Rattle.eden_objects.specs.declared.fault.CommitFault.TheVariants.{NoCommit, NoMemory}
 use Rattle.eden_objects.specs.Objects.{Held}
 use Rattle.eden_objects.specs.Commits.{Row, tree_rows}
 use Rattle.eden_objects.specs.Closed.{HasTree}
@@ -18,7 +18,7 @@ abbrev pub rows_behind : (List ℕ → Bool) → List ℕ → List Row → List 
 rows_behind test front rows = filter (λ row. test row.0) (map (behind front) rows)
 
 -- a listing gave its rows, or said why there are none
-abbrev pub Lists : Result (Vec Row) ListFault → Option (List Row) → Type 0
+abbrev pub Lists : Result (Vec Row) CommitFault → Option (List Row) → Type 0
 Lists (Ok rows) answer = answer ≡ Some rows.items
 Lists (Err NoCommit) answer = answer ≡ None
 Lists (Err NoMemory) answer = Unit {0}

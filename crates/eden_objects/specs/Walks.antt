@@ -12,7 +12,7 @@ use Rattle.eden_objects.specs.Trees.{Entry, entries_of}
 use Rattle.eden_objects.specs.Commits.{Row, find_row, tree_named, tree_rows}
 use Rattle.eden_objects.specs.declared.word.Word.TheVariants.{Commit}
 use Rattle.eden_objects.specs.declared.fault.NoCommit.{NoCommit}
-use Rattle.eden_objects.specs.Closed.{HasTree}
+use Rattle.eden_objects.specs.Files.{IsTreeIn, rows_at}
 
 abbrev pub or_later : {A : Type 0} → Option A → Option A → Option A
 or_later None later = later
@@ -64,9 +64,8 @@ tree_seen (Some h) = if same_word h.word Commit then tree_named h.payload else N
 -- the rows of a commit by its tree, of which the empty commit has none
 abbrev pub rows_of_tree : List Held → Result (Option Id) NoCommit → Option (List Row)
 rows_of_tree held (Err fault) = None
-rows_of_tree held (Ok None) = Some []
-rows_of_tree held (Ok (Some tree)) = Some (tree_rows held tree)
+rows_of_tree held (Ok tree) = Some (rows_at held tree)
 
 abbrev pub IsTreeOf : List Held → Result (Option Id) NoCommit → Type 0
-IsTreeOf held (Ok (Some tree)) = HasTree held tree
-IsTreeOf held _ = Unit {0}
+IsTreeOf held (Ok tree) = IsTreeIn held tree
+IsTreeOf held (Err fault) = Unit {0}

@@ -1,3 +1,8 @@
+ghost use Rattle.std.specs.Prelude.{◌≡◌};
+ghost use Rattle.eden_objects.specs.declared.fault.CommitFault.TheVariants as fault;
+
+use eden_ids::NoMemory;
+use std::alloc::{AllocError, AllocFailed};
 use thiserror::Error;
 
 /// Why an object is not put into a store. Of the causes that stand, each put call tells the first in the order that it gives.
@@ -52,13 +57,45 @@ pub enum PutFault {
 #[error("NoCommit")]
 pub struct NoCommit;
 
-/// Why a commit's files are not listed.
+/// Why a call that asks about a commit has no answer.
 #[derive(Clone, Copy, Debug, PartialEq, Eq, Error)]
-pub enum ListFault {
+pub enum CommitFault {
     /// The id is neither that of the empty commit nor that of a commit in the store.
     #[error("NoCommit")]
     NoCommit,
     /// A growth was refused.
     #[error("NoMemory")]
     NoMemory,
+}
+
+impl From<NoCommit> for CommitFault {
+    ghost from_gives = { λ _ e. e ≡ fault.NoCommit };
+
+    fn from(_e: NoCommit) -> CommitFault {
+        CommitFault::NoCommit
+    }
+}
+
+impl From<NoMemory> for CommitFault {
+    ghost from_gives = { λ _ e. e ≡ fault.NoMemory };
+
+    fn from(_e: NoMemory) -> CommitFault {
+        CommitFault::NoMemory
+    }
+}
+
+impl From<AllocError> for CommitFault {
+    ghost from_gives = { λ _ e. e ≡ fault.NoMemory };
+
+    fn from(_e: AllocError) -> CommitFault {
+        CommitFault::NoMemory
+    }
+}
+
+impl<T: Drop> From<AllocFailed<T>> for CommitFault {
+    ghost from_gives = { λ _ e. e ≡ fault.NoMemory };
+
+    fn from(_e: AllocFailed<T>) -> CommitFault {
+        CommitFault::NoMemory
+    }
 }

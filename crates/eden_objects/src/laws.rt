@@ -2,7 +2,7 @@
 
 ghost use Rattle.std.specs.Prelude.{◌≡◌, ℕ, List, Some};
 ghost use Rattle.eden_ids.specs.declared.id.Id.{Id};
-ghost use Rattle.eden_objects.specs.Laws.{TreesUnfold, NamesFound, DirectoriesFound, PathsRise, PathsAreLegal, RowsRise, RowsAreLegal, RowsNameBlobs, CommitsAreFileMaps, CommitsListTheirRows, RowsAreFiles, EqualObjectsAreOne, EqualFilesHaveOneBlob};
+ghost use Rattle.eden_objects.specs.Laws.{TreesUnfold, NamesFound, DirectoriesFound, PathsRise, PathsAreLegal, RowsRise, RowsAreLegal, RowsNameBlobs, CommitsAreFileMaps, CommitsListTheirRows, RowsAreFiles, EqualObjectsAreOne, EqualFilesHaveOneBlob, TreesStay, CommitRowsStay, CommitMapsStay};
 
 /// The files of a tree, in any store that is closed, as `Store::closed_law` says that each is.
 #[tactic(auto, using(crate::proofs::Closed::rows_of_tree, crate::proofs::Lookup::look_file, crate::proofs::Lookup::look_dir, crate::proofs::Rising::rising_law, crate::proofs::Fitting::fitting_law))]
@@ -43,4 +43,15 @@ pub fn same_object_law()
     ensures objects { EqualObjectsAreOne }
     // Two files of one kind hold the same bytes just where they have the same blob.
     ensures files { EqualFilesHaveOneBlob }
+{}
+
+/// What a store has, each store has that has all of its objects: one that it grew into, or one into which they were copied.
+#[tactic(auto, using(crate::proofs::Grown::trees_stay))]
+pub fn grown_law()
+    // A tree has the same files in both,
+    ensures trees { TreesStay }
+    // a commit names the same files,
+    ensures rows { CommitRowsStay }
+    // and stands for the same file map.
+    ensures maps { CommitMapsStay }
 {}

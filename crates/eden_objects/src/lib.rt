@@ -1,16 +1,18 @@
 //! A store of Git's objects, in which every object names earlier ones only.
 #![tactic(auto)]
 
+pub use crate::commit::Commit;
 pub use crate::directory::next_entry;
 pub use crate::entries::Entry;
 pub use crate::entry::RawEntry;
-pub use crate::fault::{ListFault, NoCommit, PutFault};
-pub use crate::laws::{commit_map_law, same_object_law, tree_law};
+pub use crate::fault::{CommitFault, NoCommit, PutFault};
+pub use crate::laws::{commit_map_law, grown_law, same_object_law, tree_law};
 pub use crate::seen::key_order;
 pub use crate::store::Store;
 pub use crate::word::Word;
 
 mod beneath;
+mod commit;
 mod directory;
 mod entries;
 #[cfg(test)]

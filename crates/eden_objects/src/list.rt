@@ -7,7 +7,7 @@ ghost use Rattle.eden_objects.specs.Listings.{IsBelow, Lists, behind, rows_behin
 
 use crate::directory::next_entry;
 use crate::entry::cut;
-use crate::fault::{ListFault, NoCommit};
+use crate::fault::{CommitFault, NoCommit};
 use crate::store::Store;
 use eden_globs::Filter;
 use eden_ids::{Id, Kind, Naming, NoMemory, Path};
@@ -104,13 +104,13 @@ impl<N: Naming + Drop> Store<N> {
     ///
     /// `NoCommit` comes where the id is no commit's; `NoMemory` may stand in place of any answer where a growth was refused. Each
     /// directory is read once.
-    pub fn list(&self, commit: Id, filter: &Filter) -> Result<Vec<(Path, Kind, Id)>, ListFault>
+    pub fn list(&self, commit: Id, filter: &Filter) -> Result<Vec<(Path, Kind, Id)>, CommitFault>
         ensures { Lists result (rows_where (admits filter.now) (commit_rows self.now commit)) }
     {
         match self.root_tree(commit) {
             Ok(Some(tree)) => self.list_tree(tree, filter),
             Ok(None) => Ok(Vec::new(self.allocator())),
-            Err(NoCommit) => Err(ListFault::NoCommit),
+            Err(NoCommit) => Err(CommitFault::NoCommit),
         }
     }
 
@@ -119,18 +119,18 @@ impl<N: Naming + Drop> Store<N> {
     ///
     /// `NoCommit` comes where the id is no commit's; `NoMemory` may stand in place of any answer where a growth was refused. The
     /// directories on the way to the path are searched, and those below it are read; no others are.
-    pub fn list_below(&self, commit: Id, top: &Path) -> Result<Vec<(Path, Kind, Id)>, ListFault>
+    pub fn list_below(&self, commit: Id, top: &Path) -> Result<Vec<(Path, Kind, Id)>, CommitFault>
         ensures { Lists result (rows_where (λ p. lies_below p top.now) (commit_rows self.now commit)) }
     {
         match self.root_tree(commit) {
             Ok(Some(tree)) => self.list_dir(tree, top.as_bytes()),
             Ok(None) => Ok(Vec::new(self.allocator())),
-            Err(NoCommit) => Err(ListFault::NoCommit),
+            Err(NoCommit) => Err(CommitFault::NoCommit),
         }
     }
 
     /// The files of a tree that stand below a path.
-    fn list_dir(&self, tree: Id, path: &[u8]) -> Result<Vec<(Path, Kind, Id)>, ListFault>
+    fn list_dir(&self, tree: Id, path: &[u8]) -> Result<Vec<(Path, Kind, Id)>, CommitFault>
         requires { HasTree self.now tree }
         ensures { Lists result (Some (rows_below self.now tree path.now)) }
     {
@@ -139,7 +139,7 @@ impl<N: Naming + Drop> Store<N> {
         };
         match self.gather_all(dir, path) {
             Ok(rows) => Ok(rows),
-            Err(NoMemory) => Err(ListFault::NoMemory),
+            Err(NoMemory) => Err(CommitFault::NoMemory),
         }
     }
 
@@ -179,13 +179,13 @@ impl<N: Naming + Drop> Store<N> {
 
     /// The files of a tree that a filter admits.
     #[tactic(auto, using(crate::proofs::Gathering::nothing_before))]
-    fn list_tree(&self, tree: Id, filter: &Filter) -> Result<Vec<(Path, Kind, Id)>, ListFault>
+    fn list_tree(&self, tree: Id, filter: &Filter) -> Result<Vec<(Path, Kind, Id)>, CommitFault>
         requires { HasTree self.now tree }
         ensures { Lists result (rows_where (admits filter.now) (Some (tree_rows self.now tree))) }
     {
         match self.gather_behind(tree, filter, Vec::new(self.allocator())) {
             Ok(rows) => Ok(rows),
-            Err(NoMemory) => Err(ListFault::NoMemory),
+            Err(NoMemory) => Err(CommitFault::NoMemory),
         }
     }
 

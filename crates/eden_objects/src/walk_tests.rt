@@ -1,5 +1,5 @@
 use crate::made::{commit_of, push_entry};
-use crate::{ListFault, NoCommit, Store};
+use crate::{CommitFault, NoCommit, Store};
 use eden_globs::Filter;
 use eden_ids::{GitNaming, Id, Kind, Path};
 use std::alloc::Global;
@@ -143,6 +143,54 @@ fn a_file_is_looked_up(rt: HostRuntime) -> Result<(), Fail> {
 }
 
 #[test]
+fn a_commit_that_is_held_tells_its_files(rt: HostRuntime) -> Result<(), Fail> {
+    let alloc = rt.alloc();
+    let mut store = Store::new(alloc, GitNaming);
+    let id = put_files(alloc, &mut store)?;
+    let Some(commit) = store.commit(id) else {
+        return Err(Fail);
+    };
+    for (path, kind, bytes) in [
+        ("a-b", Kind::Plain, "one\n"),
+        ("a/x", Kind::Exec, "two\n"),
+        ("a0", Kind::Link, "a-b"),
+        ("d/e/f", Kind::Plain, "three\n"),
+    ] {
+        let file = commit.file(path.as_bytes());
+        assert_eq!(rt; file, Some((kind, bytes.as_bytes())), "at {path}");
+    }
+    for path in ["a", "a-b/x", "a/y", "d/e", "d/e/f/g", "x"] {
+        assert_eq!(rt; commit.file(path.as_bytes()), None, "at {path}");
+    }
+    for (top, files) in [
+        ("a", 1usize),
+        ("d", 1),
+        ("d/e", 1),
+        ("a-b", 0),
+        ("d/e/f", 0),
+        ("x", 0),
+    ] {
+        assert_eq!(rt; commit.files_below(top.as_bytes()), files, "below {top}");
+        assert_eq!(rt;
+            commit.has_below(top.as_bytes(), 1),
+            files == 1,
+            "below {top}"
+        );
+    }
+    assert!(rt; store.commit(Id::ZERO).is_some());
+    assert!(rt; store.commit(Id([7; 20])).is_none());
+    assert_eq!(rt;
+        store.commit_files(Id([7; 20])).file(b"a-b".as_slice()),
+        None
+    );
+    assert_eq!(rt;
+        store.commit_files(id).file(b"a-b".as_slice()),
+        Some((Kind::Plain, b"one\n".as_slice()))
+    );
+    Ok(())
+}
+
+#[test]
 fn commits_are_told_from_other_objects(rt: HostRuntime) -> Result<(), Fail> {
     let alloc = rt.alloc();
     let mut store = Store::new(alloc, GitNaming);
@@ -157,8 +205,8 @@ fn commits_are_told_from_other_objects(rt: HostRuntime) -> Result<(), Fail> {
     for id in [Id::from_hex(A_B.2.as_bytes())?, Id([7; 20])] {
         assert!(rt; !store.has_commit(id));
         assert_eq!(rt; store.lookup(id, &path), Err(NoCommit));
-        assert!(rt; store.list(id, &all).err() == Some(ListFault::NoCommit));
-        assert!(rt; store.list_below(id, &path).err() == Some(ListFault::NoCommit));
+        assert!(rt; store.list(id, &all).err() == Some(CommitFault::NoCommit));
+        assert!(rt; store.list_below(id, &path).err() == Some(CommitFault::NoCommit));
     }
     Ok(())
 }

@@ -7,12 +7,12 @@ ghost use Rattle.eden_history.specs.Replies.{admitted};
 ghost use Rattle.eden_history.specs.Spells.{reply_bytes};
 ghost use Rattle.eden_query.specs.Raws.{is_answerable, told};
 
-use crate::raw::{AnswerFault, Raw};
+use crate::raw::Raw;
 use eden_globs::Filter;
 use eden_history::{Marked, Reply};
 use eden_ids::{Naming, Sequence};
-use eden_objects::Store;
-use eden_ranges::{ExpandFault, Range, expand};
+use eden_objects::{CommitFault, Store};
+use eden_ranges::{Range, expand};
 use eden_world::{admitted, changes_reply};
 use std::alloc::Global;
 
@@ -22,19 +22,19 @@ fn wanted<N: Naming + Drop>(
     range: &Range,
     store: &Store<N>,
     filter: &Filter,
-) -> Result<Sequence<Marked>, AnswerFault>
+) -> Result<Sequence<Marked>, CommitFault>
     ensures marked { IfOk result (λ marked. marked ≡ admitted filter.now (expanded store.now range.now)) }
     ensures compared { OnOk result (are_comparable (commit_map store.now) range.now.roots ≡ true) }
-    ensures fault { IfErr result (λ fault. fault ≢ AnswerFault.NoMemory → are_comparable (commit_map store.now) range.now.roots ≡ false) }
+    ensures fault { IfErr result (λ fault. fault ≢ CommitFault.NoMemory → are_comparable (commit_map store.now) range.now.roots ≡ false) }
 {
     let marked = match expand(store, range) {
         Ok(marked) => marked,
-        Err(ExpandFault::NoCommit) => return Err(AnswerFault::NoCommit),
-        Err(ExpandFault::NoMemory) => return Err(AnswerFault::NoMemory),
+        Err(CommitFault::NoCommit) => return Err(CommitFault::NoCommit),
+        Err(CommitFault::NoMemory) => return Err(CommitFault::NoMemory),
     };
     match admitted(alloc, Sequence::from_vec(marked), filter) {
         Ok(marked) => Ok(marked),
-        Err(_) => Err(AnswerFault::NoMemory),
+        Err(_) => Err(CommitFault::NoMemory),
     }
 }
 
@@ -50,11 +50,11 @@ pub fn answer<N: Naming + Drop>(
     raw: &Raw,
     store: &Store<N>,
     filter: &Filter,
-) -> Result<Reply, AnswerFault>
+) -> Result<Reply, CommitFault>
     ensures reply { IfOk result (λ reply. reply ≡ told store.now filter.now raw.now) }
     ensures fits { IfOk result (λ reply. length (reply_bytes reply) ≤ 16777216) }
     ensures compared { OnOk result (is_answerable (commit_map store.now) raw.now ≡ true) }
-    ensures fault { IfErr result (λ fault. fault ≢ AnswerFault.NoMemory → is_answerable (commit_map store.now) raw.now ≡ false) }
+    ensures fault { IfErr result (λ fault. fault ≢ CommitFault.NoMemory → is_answerable (commit_map store.now) raw.now ≡ false) }
 {
     match raw {
         Raw::Ranged(query, range) => match wanted(alloc, range, store, filter) {

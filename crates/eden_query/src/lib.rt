@@ -8,7 +8,7 @@ pub use crate::encoding::{encode_reply, encode_request};
 pub use crate::fault::{DecodeFault, EncodeFault};
 pub use crate::laws::{reply_law, request_law};
 pub use crate::limit::BODY_LIMIT;
-pub use crate::raw::{AnswerFault, Raw};
+pub use crate::raw::Raw;
 pub use crate::served::Served;
 pub use crate::serving::serve;
 pub use eden_stream::{FrameFault, ServeFault};

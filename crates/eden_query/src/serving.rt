@@ -13,10 +13,10 @@ use crate::answering::answer;
 use crate::decoding::decode_request;
 use crate::encoding::encode_reply;
 use crate::fault::{DecodeFault, EncodeFault};
-use crate::raw::AnswerFault;
 use crate::served::Served;
 use eden_history::{Reply, Request};
 use eden_ids::{Naming, NoMemory};
+use eden_objects::CommitFault;
 use eden_stream::{
     CountedRead, CountedWrite, FrameFault, FrameServer, ServeFault, Served as Told, serve_frames,
 };
@@ -65,8 +65,8 @@ fn reply_to<N: Naming + Drop, T: Served<N>>(
     match answer(store.allocator(), &raw, store, filter) {
         Ok(reply) => Ok(reply),
         // What a server holds can be answered over its objects.
-        Err(AnswerFault::NoCommit) => unreachable!(),
-        Err(AnswerFault::NoMemory) => Err(NoMemory),
+        Err(CommitFault::NoCommit) => unreachable!(),
+        Err(CommitFault::NoMemory) => Err(NoMemory),
     }
 }
 

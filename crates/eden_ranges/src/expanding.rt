@@ -9,21 +9,9 @@ use crate::ranges::Range;
 use eden_deltas::FileTouch;
 use eden_history::{Marked, Touches};
 use eden_ids::{Id, IdColumn, Naming, NoMemory, Path, PathTable, Sequence};
-use eden_objects::Store;
-use eden_treediff::{DiffFault, diff};
+use eden_objects::{CommitFault, Store};
+use eden_treediff::diff;
 use std::alloc::Global;
-use thiserror::Error;
-
-/// Why a range isn't expanded.
-#[derive(Clone, Copy, Debug, PartialEq, Eq, Error)]
-pub enum ExpandFault {
-    /// Two neighbouring roots of the range differ, and one of them is no commit of the store.
-    #[error("NoCommit")]
-    NoCommit,
-    /// A growth was refused.
-    #[error("NoMemory")]
-    NoMemory,
-}
 
 /// Adds the paths on which two roots differ. Roots that are one are not looked at.
 fn add_differing<N: Naming + Drop>(
@@ -31,22 +19,22 @@ fn add_differing<N: Naming + Drop>(
     table: &mut PathTable,
     left: Id,
     reached: Id,
-) -> Result<(), ExpandFault>
+) -> Result<(), CommitFault>
     ensures paths { OnOk result (table.new ≡ union (commits_differ (commit_map store.now) left reached) table.old) }
     ensures compared { OnOk result (is_comparable (commit_map store.now) left reached ≡ true) }
-    ensures fault { IfErr result (λ fault. fault ≢ ExpandFault.NoMemory → is_comparable (commit_map store.now) left reached ≡ false) }
+    ensures fault { IfErr result (λ fault. fault ≢ CommitFault.NoMemory → is_comparable (commit_map store.now) left reached ≡ false) }
 {
     if left == reached {
         return Ok(());
     }
     let paths = match diff(store, left, reached) {
         Ok(paths) => paths,
-        Err(DiffFault::NoCommit) => return Err(ExpandFault::NoCommit),
-        Err(DiffFault::NoMemory) => return Err(ExpandFault::NoMemory),
+        Err(CommitFault::NoCommit) => return Err(CommitFault::NoCommit),
+        Err(CommitFault::NoMemory) => return Err(CommitFault::NoMemory),
     };
     match table.add_all(paths.as_slice()) {
         Ok(()) => Ok(()),
-        Err(NoMemory) => Err(ExpandFault::NoMemory),
+        Err(NoMemory) => Err(CommitFault::NoMemory),
     }
 }
 
@@ -54,10 +42,10 @@ fn add_differing<N: Naming + Drop>(
 fn differing_paths<N: Naming + Drop>(
     store: &Store<N>,
     roots: &IdColumn,
-) -> Result<PathTable, ExpandFault>
+) -> Result<PathTable, CommitFault>
     ensures paths { IfOk result (λ table. table ≡ differing (commit_map store.now) roots.now) }
     ensures compared { OnOk result (are_comparable (commit_map store.now) roots.now ≡ true) }
-    ensures fault { IfErr result (λ fault. fault ≢ ExpandFault.NoMemory → are_comparable (commit_map store.now) roots.now ≡ false) }
+    ensures fault { IfErr result (λ fault. fault ≢ CommitFault.NoMemory → are_comparable (commit_map store.now) roots.now ≡ false) }
 {
     let mut table = PathTable::new(store.allocator());
     let mut place = roots.len();
@@ -95,21 +83,21 @@ fn add_touched(table: &mut PathTable, touches: &[FileTouch]) -> Result<(), NoMem
 fn named_paths<N: Naming + Drop>(
     store: &Store<N>,
     range: &Range,
-) -> Result<Sequence<Path>, ExpandFault>
+) -> Result<Sequence<Path>, CommitFault>
     ensures paths { IfOk result (λ paths. paths ≡ listing (paths_in store.now range.now)) }
     ensures compared { OnOk result (are_comparable (commit_map store.now) range.now.roots ≡ true) }
-    ensures fault { IfErr result (λ fault. fault ≢ ExpandFault.NoMemory → are_comparable (commit_map store.now) range.now.roots ≡ false) }
+    ensures fault { IfErr result (λ fault. fault ≢ CommitFault.NoMemory → are_comparable (commit_map store.now) range.now.roots ≡ false) }
 {
     let mut table = differing_paths(store, &range.roots)?;
     let Ok(()) = table.add_all(range.unclean.as_slice()) else {
-        return Err(ExpandFault::NoMemory);
+        return Err(CommitFault::NoMemory);
     };
     let Ok(()) = add_touched(&mut table, range.changes.as_slice()) else {
-        return Err(ExpandFault::NoMemory);
+        return Err(CommitFault::NoMemory);
     };
     match table.list(store.allocator()) {
         Ok(paths) => Ok(Sequence::from_vec(paths)),
-        Err(NoMemory) => Err(ExpandFault::NoMemory),
+        Err(NoMemory) => Err(CommitFault::NoMemory),
     }
 }
 
@@ -140,10 +128,10 @@ fn marked(
 /// They are those at which files were changed, the unclean ones, and those on which two neighbouring roots differ. `NoCommit` comes
 /// just where two neighbouring roots are not one and one of them is no commit of the store; `NoMemory` may stand in place of any
 /// answer where a growth was refused. Neighbouring roots that are one cost nothing.
-pub fn expand<N: Naming + Drop>(store: &Store<N>, range: &Range) -> Result<Vec<Marked>, ExpandFault>
+pub fn expand<N: Naming + Drop>(store: &Store<N>, range: &Range) -> Result<Vec<Marked>, CommitFault>
     ensures marked { IfOk result (λ marked. marked.items ≡ expanded store.now range.now) }
     ensures compared { OnOk result (are_comparable (commit_map store.now) range.now.roots ≡ true) }
-    ensures fault { IfErr result (λ fault. fault ≢ ExpandFault.NoMemory → are_comparable (commit_map store.now) range.now.roots ≡ false) }
+    ensures fault { IfErr result (λ fault. fault ≢ CommitFault.NoMemory → are_comparable (commit_map store.now) range.now.roots ≡ false) }
 {
     let paths = named_paths(store, range)?;
     match marked(
@@ -152,6 +140,6 @@ pub fn expand<N: Naming + Drop>(store: &Store<N>, range: &Range) -> Result<Vec<M
         paths.as_slice(),
     ) {
         Ok(marked) => Ok(marked.into_vec()),
-        Err(NoMemory) => Err(ExpandFault::NoMemory),
+        Err(NoMemory) => Err(CommitFault::NoMemory),
     }
 }

@@ -1,7 +1,7 @@
 //! What changed since a position, gathered from a journal, and made into marked paths once the lock is given back.
 #![tactic(auto)]
 
-pub use crate::expanding::{ExpandFault, expand};
+pub use crate::expanding::expand;
 pub use crate::laws::{changes_law, commits_law, range_law};
 pub use crate::ranges::{Range, accumulate};
 

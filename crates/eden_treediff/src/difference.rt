@@ -7,19 +7,7 @@ ghost use Rattle.eden_treediff.specs.Walks.{IsSide, IsSideOf, side_rows};
 use crate::settled::Settled;
 use crate::walk::{Found, walk};
 use eden_ids::{Id, Naming, NoMemory, Path};
-use eden_objects::{NoCommit, Store};
-use thiserror::Error;
-
-/// Why no paths are named.
-#[derive(Clone, Copy, Debug, PartialEq, Eq, Error)]
-pub enum DiffFault {
-    /// One of the two ids is neither that of the empty commit nor that of a commit in the store.
-    #[error("NoCommit")]
-    NoCommit,
-    /// A growth was refused.
-    #[error("NoMemory")]
-    NoMemory,
-}
+use eden_objects::{CommitFault, NoCommit, Store};
 
 /// The tree of a commit, of which the empty commit has none.
 #[tactic(auto, using(crate::proofs::Sides::empty_side, crate::proofs::Sides::side_rows_are, crate::proofs::Sides::side_held, crate::proofs::Sides::no_side))]
@@ -66,19 +54,19 @@ pub fn diff<N: Naming + Drop>(
     store: &Store<N>,
     first: Id,
     second: Id,
-) -> Result<Vec<Path>, DiffFault>
+) -> Result<Vec<Path>, CommitFault>
     ensures paths { IfOk result (λ paths. differences (commit_map store.now first) (commit_map store.now second) ≡ Some paths.items) }
-    ensures fault { IfErr result (λ fault. fault ≢ DiffFault.NoMemory → differences (commit_map store.now first) (commit_map store.now second) ≡ None) }
+    ensures fault { IfErr result (λ fault. fault ≢ CommitFault.NoMemory → differences (commit_map store.now first) (commit_map store.now second) ≡ None) }
 {
     store.closed_law();
     let Ok(tree) = side_of(store, first) else {
-        return Err(DiffFault::NoCommit);
+        return Err(CommitFault::NoCommit);
     };
     let Ok(other) = side_of(store, second) else {
-        return Err(DiffFault::NoCommit);
+        return Err(CommitFault::NoCommit);
     };
     match paths_between(store, tree, other) {
         Ok(paths) => Ok(paths),
-        Err(NoMemory) => Err(DiffFault::NoMemory),
+        Err(NoMemory) => Err(CommitFault::NoMemory),
     }
 }

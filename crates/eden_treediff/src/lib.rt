@@ -11,5 +11,5 @@ mod settled;
 mod tests;
 mod walk;
 
-pub use difference::{DiffFault, diff};
+pub use difference::diff;
 pub use laws::merge_law;

@@ -1,7 +1,7 @@
-use crate::{DiffFault, diff};
+use crate::diff;
 use eden_globs::Filter;
 use eden_ids::{GitNaming, Id, Kind, Path};
-use eden_objects::Store;
+use eden_objects::{CommitFault, Store};
 use std::alloc::Global;
 use std::test::Fail;
 
@@ -316,7 +316,7 @@ fn no_commit(rt: HostRuntime) -> Result<(), Fail> {
     for name in ["b", "t", "unknown"] {
         for (first, second) in [("c", name), (name, "c"), (name, name)] {
             let answer = diff(&world.store, world.id(first), world.id(second));
-            assert_eq!(rt; answer.err(), Some(DiffFault::NoCommit));
+            assert_eq!(rt; answer.err(), Some(CommitFault::NoCommit));
         }
     }
     Ok(())

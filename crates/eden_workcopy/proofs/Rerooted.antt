@@ -9,8 +9,8 @@ use Rattle.eden_ids.specs.declared.content.Content.{Content}
 use Rattle.eden_ids.specs.FileMaps.{FileMap, file_at, same_file, same_path, differ, has, listing, path_set, put_option}
 use Rattle.eden_ids.proofs.FileMapLemmas.{same_path-is, same_path-refl, same_file-is, same_file_map, file_at-insert, file_at-remove, has-differ, has-listing}
 use Rattle.eden_objects.specs.Files.{files_of}
-use Rattle.eden_treediff.specs.declared.difference.DiffFault.{DiffFault}
-use Rattle.eden_treediff.specs.declared.difference.DiffFault.TheVariants.{NoCommit, NoMemory}
+use Rattle.eden_objects.specs.declared.fault.CommitFault.{CommitFault}
+use Rattle.eden_objects.specs.declared.fault.CommitFault.TheVariants.{NoCommit, NoMemory}
 use Rattle.eden_treediff.specs.Merges.{differences}
 use Rattle.eden_workcopy.specs.Agreements.{Agrees, AllAgree, IsLean, IsNearer}
 use Rattle.eden_workcopy.specs.Layers.{Layer, Entry, over}
@@ -160,5 +160,5 @@ same_files base target next layer nothing ps is none touched differing nearer =
     at p None e = here p (has (differ base target) p) refl (file_below base layer p e)
     at p (Some file) e = at_all (over base layer) next (fin.keys layer) p (sym (fin.contains_key-keys layer p) ∙ ap is_some e) touched
 
-pub no_memory_else : (fault : DiffFault) → fault ≡ NoCommit → fault ≢ NoMemory
+pub no_memory_else : (fault : CommitFault) → fault ≡ NoCommit → fault ≢ NoMemory
 no_memory_else fault is other = let bad : NoCommit ≡ NoMemory = sym is ∙ other in absurd (cc)

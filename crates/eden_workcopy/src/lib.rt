@@ -2,7 +2,6 @@
 #![tactic(auto)]
 
 pub use crate::laws::{elsewhere_law, over_law, touched_law};
-pub use crate::reroot::RerootFault;
 pub use crate::work::WorkCopy;
 
 mod beneath;

@@ -13,20 +13,8 @@ use crate::entries::place;
 use crate::overlay::Overlay;
 use crate::work::WorkCopy;
 use eden_ids::{Content, Id, Kind, Naming, NoMemory, Path};
-use eden_objects::Store;
-use eden_treediff::{DiffFault, diff};
-use thiserror::Error;
-
-/// Why a working copy is not put over another commit.
-#[derive(Clone, Copy, Debug, PartialEq, Eq, Error)]
-pub enum RerootFault {
-    /// The id is neither that of the empty commit nor that of a commit in the store.
-    #[error("NoCommit")]
-    NoCommit,
-    /// A growth was refused.
-    #[error("NoMemory")]
-    NoMemory,
-}
+use eden_objects::{CommitFault, Store};
+use eden_treediff::diff;
 
 /// Whether two files are one, where that there is none counts as a file.
 fn is_same_seen(file: Option<(Kind, &[u8])>, other: Option<(Kind, &[u8])>) -> bool
@@ -136,19 +124,19 @@ impl WorkCopy {
         &self,
         store: &Store<N>,
         commit: Id,
-    ) -> Result<WorkCopy, RerootFault>
+    ) -> Result<WorkCopy, CommitFault>
         requires { FitsIn store.now self.now }
         ensures root { IfOk result (λ next. next.root ≡ commit) }
         ensures files { IfOk result (λ next. means store.now next ≡ means store.now self.now) }
         ensures fits { IfOk result (λ next. FitsIn store.now next) }
         ensures lean { IfOk result (λ next. (p : List ℕ) → has (touched_set next) p ≡ true
             → has (differ (means store.now next) (commit_files store.now commit)) p ≡ true) }
-        ensures refuses { IfErr result (λ fault. fault ≢ RerootFault.NoMemory → commit_map store.now commit ≡ None) }
+        ensures refuses { IfErr result (λ fault. fault ≢ CommitFault.NoMemory → commit_map store.now commit ≡ None) }
     {
         let paths = match diff(store, self.root, commit) {
             Ok(paths) => paths,
-            Err(DiffFault::NoCommit) => return Err(RerootFault::NoCommit),
-            Err(DiffFault::NoMemory) => return Err(RerootFault::NoMemory),
+            Err(CommitFault::NoCommit) => return Err(CommitFault::NoCommit),
+            Err(CommitFault::NoMemory) => return Err(CommitFault::NoMemory),
         };
         let mut next = WorkCopy {
             root: commit,
@@ -156,7 +144,7 @@ impl WorkCopy {
         };
         match self.keep_at(store, &mut next, &paths) {
             Ok(()) => Ok(next),
-            Err(NoMemory) => Err(RerootFault::NoMemory),
+            Err(NoMemory) => Err(CommitFault::NoMemory),
         }
     }
 }

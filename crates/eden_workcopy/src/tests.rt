@@ -1,10 +1,10 @@
 ghost use Rattle.eden_workcopy.specs.Meanings.{FitsIn};
 
-use crate::{RerootFault, WorkCopy};
+use crate::WorkCopy;
 use eden_globs::Filter;
 use eden_history::ChangeFault;
 use eden_ids::{Content, GitNaming, Id, Kind, Path, Sequence};
-use eden_objects::Store;
+use eden_objects::{CommitFault, Store};
 use std::alloc::Global;
 use std::test::Fail;
 
@@ -122,7 +122,7 @@ impl Mounted {
     fn is_refused(&self, commit: Id) -> bool {
         matches!(
             self.work.reroot(&self.store, commit),
-            Err(RerootFault::NoCommit)
+            Err(CommitFault::NoCommit)
         )
     }
 

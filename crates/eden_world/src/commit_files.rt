@@ -5,7 +5,7 @@ ghost use Rattle.eden_objects.specs.Files.{commit_files};
 use crate::files::Files;
 use eden_globs::Filter;
 use eden_ids::{Content, Id, Kind, Naming, NoMemory, Path, Sequence};
-use eden_objects::{ListFault, Store};
+use eden_objects::{CommitFault, Store};
 use std::alloc::Global;
 
 /// The filter that admits every path.
@@ -31,8 +31,8 @@ fn rows_of<N: Naming + Drop>(
     store.closed_law();
     match store.list(commit, &filter) {
         Ok(rows) => Ok(rows),
-        Err(ListFault::NoCommit) => Ok(Vec::new(alloc)),
-        Err(ListFault::NoMemory) => Err(NoMemory),
+        Err(CommitFault::NoCommit) => Ok(Vec::new(alloc)),
+        Err(CommitFault::NoMemory) => Err(NoMemory),
     }
 }
 

@@ -1,0 +1,8 @@
+use Rattle.eden_objects.proofs.Grown.{rows_stay, maps_stay}
+use Rattle.eden_objects.proofs.laws.grown_law.Goals as goal
+
+pub returns-clause-rows : goal.returns-clause-rows
+returns-clause-rows c = rows_stay
+
+pub returns-clause-maps : goal.returns-clause-maps
+returns-clause-maps c = maps_stay
