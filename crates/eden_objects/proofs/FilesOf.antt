@@ -1,5 +1,5 @@
 -- The files of a commit, counted by its rows.
-use Rattle.std.proofs.Common.{◌≡◌, ℕ, ◌+◌, ◌^◌, ◌<◌, Bool, true, false, cond, nat_le, List, [], ◌∷◌, map, length, Option, Some, None, refl, sym, ap, ◌∙◌, arith}
+use Rattle.std.proofs.Common.{◌≡◌, ℕ, ◌+◌, ◌^◌, ◌<◌, Bool, true, false, cond, ◌||◌, nat_le, List, [], ◌∷◌, map, length, Option, Some, None, refl, sym, ap, ◌∙◌, arith}
 use Rattle.std.specs.Prelude.{filter}
 use Rattle.std.specs.Ordering.{nat_cmp}
 use Rattle.std.specs.Cmp.Lexicographic.{slice_cmp}
@@ -60,8 +60,8 @@ enough n count small = grind (arith, small)
 -- there is one just where there is any
 pub any_counted : (test : List ℕ → Bool) (ks : List (List ℕ)) → nat_le 1 (length (filter test ks)) ≡ list_any test ks
 any_counted test [] = refl
-any_counted test (k ∷ ks) = elim (test k) as (λ b. nat_le 1 (length (cond b (k ∷ filter test ks) (filter test ks))) ≡ cond b true (list_any test ks)) [
-  | true ↦ refl
+any_counted test (k ∷ ks) = elim (test k) as (λ b. nat_le 1 (length (cond b (k ∷ filter test ks) (filter test ks))) ≡ (b || list_any test ks)) [
+  | true ↦ grind arith
   | false ↦ any_counted test ks
 ]
 

@@ -1,4 +1,4 @@
--- What a commit holds, from Git's tree format: a file entry gives its name, its mode's kind and its blob's payload; a directory entry
+-- What a commit holds, from Git's format of trees and commits (`git cat-file` writes both out): a file entry gives its name, its mode's kind and its blob's payload; a directory entry
 -- gives its name, a slash and each path of its child.
 use Rattle.std.specs.Prelude.{ℕ, Bool, ◌&&◌, if◌then◌else◌, List, [], ◌∷◌, ◌++◌, map, take, drop, codes, nat_eq, Option, Some, None, Result, Ok, Err}
 use Rattle.std.specs.Prelude.{filter}

@@ -5,7 +5,7 @@ use Rattle.eden_ids.specs.Sameness.{same_id}
 use Rattle.eden_objects.specs.declared.word.Word.{Word}
 use Rattle.eden_objects.specs.declared.word.Word.TheVariants.{Blob, Tree, Commit}
 
--- the word by which Git calls a kind of object
+-- the word by which Git calls a kind of object (`git help hash-object`)
 abbrev pub word_text : Word → List ℕ
 word_text Blob = codes "blob"
 word_text Tree = codes "tree"

@@ -1,5 +1,6 @@
--- Git's tree format. A tree's payload is its entries, one behind the other: a mode in octal digits, a space, a name, NUL, and the
--- twenty bytes of an id. In bytes 32 is the space, 0 NUL and 47 the slash.
+-- Git's tree format, as `git cat-file tree` writes it out and decode_tree_entry of Git's tree-walk.c reads it. A tree's payload is its
+-- entries, one behind the other: a mode in octal digits, a space, a name, NUL, and the twenty bytes of an id. In bytes 32 is the space,
+-- 0 NUL and 47 the slash.
 use Rattle.std.specs.Prelude.{ℕ, zero, suc, ◌+◌, Bool, not, ◌&&◌, nat_eq, nat_lt, if◌then◌else◌, List, [], ◌∷◌, ◌++◌, length, take, drop, codes, Option, Some, None, Result, Ok, Err}
 use Rattle.std.specs.List.{list_any}
 use Rattle.eden_ids.specs.declared.id.Id.{Id}
@@ -26,7 +27,8 @@ abbrev pub cut : ℕ → List ℕ → Option (List ℕ × List ℕ)
 cut b [] = None
 cut b (x ∷ rest) = if nat_eq x b then Some ([], rest) else before_more x (cut b rest)
 
--- what a mode says: a directory, or the kind of a file
+-- what a mode says: a directory, or the kind of a file (`git help fast-import` tells the modes; a commit of another repository, 160000, is
+-- none of them here)
 abbrev pub kind_of_mode : List ℕ → Option (Option Kind)
 kind_of_mode mode =
     if same_bytes mode (codes "40000") then Some None else
@@ -69,11 +71,11 @@ abbrev pub entries : ℕ → List ℕ → List Entry
 entries zero bytes = []
 entries (suc n) bytes = entries_after (entries n) (read_entry bytes)
 
--- the entries of a payload, which are no more than its bytes
+-- the entries of a payload; each takes at least one byte, so that no more of them are there than bytes
 abbrev pub entries_of : List ℕ → List Entry
 entries_of payload = entries (length payload) payload
 
--- entries stand in the order of their keys: a directory is compared as if a slash followed its name
+-- entries stand in the order of their keys: a directory is compared as if a slash followed its name (base_name_compare of Git)
 abbrev pub key_of : List ℕ → Option Kind → List ℕ
 key_of name None = name ++ 47 ∷ []
 key_of name (Some kind) = name
@@ -81,7 +83,8 @@ key_of name (Some kind) = name
 abbrev pub key : Entry → List ℕ
 key e = key_of e.name e.kind
 
--- what the tree with an id comes to, by what its entries come to: children are looked for among earlier objects alone
+-- what the tree with an id comes to, by what its entries come to: children are looked for among earlier objects alone. That the object is a
+-- tree isn't asked: what an entry of a directory or a commit names is one, in every closed store, and of other ids nothing is said
 unfoldable pub tree_fold : {A : Type 0} → A → ((Id → A) → List Entry → A) → List Held → Id → A
 tree_fold none step [] id = none
 tree_fold none step (h ∷ earlier) id =
