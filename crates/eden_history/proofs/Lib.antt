@@ -7,4 +7,6 @@ pub mod LegalFiles
 pub mod Touched
 pub mod Ranges
 pub mod Floors
-mod Spelling
+pub mod Spelling
+pub mod BodyLengths
+pub mod Filters

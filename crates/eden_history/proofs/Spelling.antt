@@ -1,11 +1,14 @@
 -- A body spells at most one message, and no frame begins another: two spellings with one front are taken apart field by field.
-use Rattle.std.proofs.Common.{◌≡◌, ℕ, ◌^◌, ◌<◌, ◌≤◌, List, [], ◌∷◌, ◌++◌, length, take, drop, Bool, true, false, cond, eqb, ltb, Option, Some, None, refl, sym, ap, ◌∙◌, append_assoc, arith}
+use Rattle.std.proofs.Common.{◌≡◌, ℕ, suc, ◌^◌, ◌<◌, ◌≤◌, List, [], ◌∷◌, ◌++◌, length, take, drop, Bool, true, false, cond, eqb, ltb, Option, Some, None, refl, sym, ap, ◌∙◌, append_assoc, arith}
 use Rattle.std.specs.Int.{w16, w32, w64, to_be_bytes, from_be_bytes}
 use Rattle.std.specs.List.{flat_map, AllByRecursion}
 use Rattle.std.proofs.lemmas.List.{take_at, drop_at}
 use Rattle.std.proofs.lemmas.List.Concat.{flat_map-cons}
 use Rattle.std.proofs.lemmas.Nat.{from_be_bytes-to_be_bytes_2, from_be_bytes-to_be_bytes_4, from_be_bytes-to_be_bytes_8}
-use Rattle.std.proofs.lemmas.Bool.{ltb-false}
+use Rattle.std.proofs.lemmas.Bool.{ltb-false, eqb-false}
+use Rattle.eden_ids.specs.declared.content.Content.{Content}
+use Rattle.eden_ids.specs.declared.content.Kind.{Kind}
+use Rattle.eden_ids.specs.declared.content.Kind.TheVariants.{Plain, Exec, Link}
 use Rattle.eden_ids.specs.declared.path.PathFault.TheVariants as path_faults
 use Rattle.eden_ids.specs.Paths.{IsPath}
 use Rattle.eden_globs.specs.declared.filter.FilterFault.{FilterFault}
@@ -17,12 +20,12 @@ use Rattle.eden_history.specs.declared.mark.Marked.{Marked}
 use Rattle.eden_history.specs.declared.position.Position.{Position}
 use Rattle.eden_history.specs.declared.message.Query.{Query}
 use Rattle.eden_history.specs.declared.message.Request.{Request}
-use Rattle.eden_history.specs.declared.message.Request.TheVariants.{Poll}
+use Rattle.eden_history.specs.declared.message.Request.TheVariants.{Basis, Poll, Fetch}
 use Rattle.eden_history.specs.declared.message.Cause.{Cause}
 use Rattle.eden_history.specs.declared.message.Cause.TheVariants as causes
 use Rattle.eden_history.specs.declared.message.Reply.{Reply}
-use Rattle.eden_history.specs.declared.message.Reply.TheVariants.{ChangesAre, Refused}
-use Rattle.eden_history.specs.Spells.{query_bytes, IsQuery, position_bytes, IsPosition, text_bytes, IsPathText, filter_bytes, mark_byte, marked_bytes, list_bytes, IsListing, cause_bytes, IsCause, request_bytes, IsRequest, reply_bytes, IsReply, frame, body_limit}
+use Rattle.eden_history.specs.declared.message.Reply.TheVariants.{BasisIs, ChangesAre, ContentIs, Refused}
+use Rattle.eden_history.specs.Spells.{query_bytes, IsQuery, position_bytes, IsPosition, text_bytes, IsPathText, filter_bytes, mark_byte, IsListing, paths_bytes, marked_bytes, list_bytes, paths_of, kind_byte, content_bytes, IsContentText, IsValue, cause_bytes, IsCause, request_bytes, IsRequest, reply_bytes, IsReply, frame, body_limit}
 
 -- ---- fronts of one length
 
@@ -120,12 +123,29 @@ never_understood : (b : Bool) (fault other : FilterFault) (others : Option Filte
 never_understood true fault other others e = cc
 never_understood false fault other others e = cc
 
+-- so many bytes at the most, and one at least
+pub record IsText (limit : ℕ) (text : List ℕ) : Type 0 where
+  pub some : 0 < length text
+  pub few : length text ≤ limit
+
+-- the patterns of a filter are few and short
+pub record FilterFits (patterns : List (List ℕ)) : Type 0 where
+  pub few : length patterns ≤ 32
+  pub texts : AllByRecursion (IsText 256) patterns
+
 -- no pattern is understood yet, so a filter has none
-patterns_short : (patterns : List (List ℕ)) → IsFilter patterns → AllByRecursion IsShort patterns
-patterns_short [] is = tt
-patterns_short (p ∷ ps) is =
+pub filter_fits : (patterns : List (List ℕ)) → IsFilter patterns → FilterFits patterns
+filter_fits [] is = record { few = omega arith; texts = tt }
+filter_fits (p ∷ ps) is =
     let h = no_fault (ltb 32 (length (p ∷ ps))) filter_faults.TooMany _ is in
     absurd (never_understood (ltb 256 (length p)) filter_faults.PatternTooLong (filter_faults.BadPattern 0) (patterns_fault 1 ps) h.1)
+
+texts_short : (patterns : List (List ℕ)) → AllByRecursion (IsText 256) patterns → AllByRecursion IsShort patterns
+texts_short [] is = tt
+texts_short (p ∷ ps) is = (omega (arith, is.0.few), texts_short ps is.1)
+
+patterns_short : (patterns : List (List ℕ)) → IsFilter patterns → AllByRecursion IsShort patterns
+patterns_short patterns is = texts_short patterns (filter_fits patterns is).texts
 
 same_filter : (ps qs : List (List ℕ)) (x y : List ℕ) → IsFilter ps → IsFilter qs → filter_bytes ps ++ x ≡ filter_bytes qs ++ y → (ps ≡ qs) × (x ≡ y)
 same_filter ps qs x y is also e =
@@ -153,12 +173,18 @@ marked_equal m n one two =
     let path : List ℕ → Marked = λ p. record { mark = n.mark; path = p } in
     ap mark one ∙ ap path two
 
-path_short : (path : List ℕ) → IsPath path → IsShort path
-path_short path is =
+pub path_text : (path : List ℕ) → IsPath path → IsText 1024 path
+path_text path is =
     let a = no_fault (eqb (length path) 0) path_faults.Empty _ is in
     let b = no_fault (ltb 1024 (length path)) path_faults.TooLong _ a.1 in
-    let few : length path ≤ 1024 = ltb-false 1024 (length path) b.0 in
-    omega arith
+    let ne : length path ≡ 0 → ⊥ = eqb-false _ _ a.0 in
+    record { some = omega arith; few = ltb-false 1024 (length path) b.0 }
+
+pub path_few : (path : List ℕ) → IsPath path → length path ≤ 1024
+path_few path is = (path_text path is).few
+
+path_short : (path : List ℕ) → IsPath path → IsShort path
+path_short path is = let few = path_few path is in omega arith
 
 same_marked : (m n : Marked) (x y : List ℕ) → IsPathText m.path → IsPathText n.path → marked_bytes m ++ x ≡ marked_bytes n ++ y → (m ≡ n) × (x ≡ y)
 same_marked m n x y is also e =
@@ -172,7 +198,7 @@ list_regroup m ms z = ap (λ (t : List ℕ). t ++ z) (flat_map-cons marked_bytes
 marked_pair_same : (m n : Marked) (ms ns : List Marked) → m ≡ n → ms ≡ ns → m ∷ ms ≡ n ∷ ns
 marked_pair_same m n ms ns one others = ap (λ (z : Marked). z ∷ ms) one ∙ ap (λ (zs : List Marked). n ∷ zs) others
 
-same_all_marked : (ms ns : List Marked) (x y : List ℕ) → AllByRecursion (λ m. IsPathText m.path) ms → AllByRecursion (λ m. IsPathText m.path) ns → length ms ≡ length ns
+same_all_marked : (ms ns : List Marked) (x y : List ℕ) → AllByRecursion IsPathText (paths_of ms) → AllByRecursion IsPathText (paths_of ns) → length ms ≡ length ns
     → flat_map marked_bytes ms ++ x ≡ flat_map marked_bytes ns ++ y → (ms ≡ ns) × (x ≡ y)
 same_all_marked [] [] x y is also len e = (refl, e)
 same_all_marked [] (n ∷ ns) x y is also len e = absurd (omega (arith, len))
@@ -182,11 +208,64 @@ same_all_marked (m ∷ ms) (n ∷ ns) x y is also len e =
     let b = same_all_marked ms ns x y is.1 also.1 (omega (arith, len)) a.1 in
     (marked_pair_same m n ms ns a.0 b.0, b.1)
 
-same_list : (ms ns : List Marked) (x y : List ℕ) → IsListing ms → IsListing ns → list_bytes ms ++ x ≡ list_bytes ns ++ y → (ms ≡ ns) × (x ≡ y)
+paths_len : (ms : List Marked) → length (paths_of ms) ≡ length ms
+paths_len [] = refl
+paths_len (m ∷ ms) = ap suc (paths_len ms)
+
+same_list : (ms ns : List Marked) (x y : List ℕ) → IsListing (paths_of ms) → IsListing (paths_of ns) → list_bytes ms ++ x ≡ list_bytes ns ++ y → (ms ≡ ns) × (x ≡ y)
 same_list ms ns x y is also e =
-    let a = same32 (length ms) (length ns) (flat_map marked_bytes ms ++ x) (flat_map marked_bytes ns ++ y) is.count also.count
+    let a = same32 (length ms) (length ns) (flat_map marked_bytes ms ++ x) (flat_map marked_bytes ns ++ y)
+    (omega (arith, is.count, paths_len ms)) (omega (arith, also.count, paths_len ns))
     (sym (append_assoc (to_be_bytes w32 (length ms)) (flat_map marked_bytes ms) x) ∙ e ∙ append_assoc (to_be_bytes w32 (length ns)) (flat_map marked_bytes ns) y) in
-    same_all_marked ms ns x y is.paths also.paths a.0 a.1
+    same_all_marked ms ns x y is.texts also.texts a.0 a.1
+
+paths_short : (ps : List (List ℕ)) → AllByRecursion IsPathText ps → AllByRecursion IsShort ps
+paths_short [] is = tt
+paths_short (p ∷ ps) is = (path_short p is.0.path, paths_short ps is.1)
+
+same_paths : (ps qs : List (List ℕ)) (x y : List ℕ) → IsListing ps → IsListing qs → paths_bytes ps ++ x ≡ paths_bytes qs ++ y → (ps ≡ qs) × (x ≡ y)
+same_paths ps qs x y is also e =
+    let a = same32 (length ps) (length qs) (flat_map text_bytes ps ++ x) (flat_map text_bytes qs ++ y) is.count also.count
+    (sym (append_assoc (to_be_bytes w32 (length ps)) (flat_map text_bytes ps) x) ∙ e ∙ append_assoc (to_be_bytes w32 (length qs)) (flat_map text_bytes qs) y) in
+    same_texts ps qs x y (paths_short ps is.texts) (paths_short qs also.texts) a.0 a.1
+
+-- ---- contents
+
+kind_of : ℕ → Kind
+kind_of byte = cond (eqb byte 1) Plain (cond (eqb byte 2) Exec Link)
+
+kind_back : (kind : Kind) → kind_of (kind_byte kind) ≡ kind
+unfolding kind_of
+kind_back Plain = refl
+kind_back Exec = refl
+kind_back Link = refl
+
+contents_equal : (c d : Content) → c.kind ≡ d.kind → c.bytes ≡ d.bytes → c ≡ d
+contents_equal c d one two =
+    let kind : Kind → Content = λ k. record { kind = k; bytes = c.bytes } in
+    let bytes : List ℕ → Content = λ b. record { kind = d.kind; bytes = b } in
+    ap kind one ∙ ap bytes two
+
+same_content : (c d : Content) (x y : List ℕ) → IsContentText c → IsContentText d → content_bytes (Some c) ++ x ≡ content_bytes (Some d) ++ y → (c ≡ d) × (x ≡ y)
+same_content c d x y is also e =
+    let a = cons_same (kind_byte c.kind) (kind_byte d.kind) ((to_be_bytes w32 (length c.bytes) ++ c.bytes) ++ x) ((to_be_bytes w32 (length d.bytes) ++ d.bytes) ++ y) e in
+    let b = same32 (length c.bytes) (length d.bytes) (c.bytes ++ x) (d.bytes ++ y) (omega (arith, is.few)) (omega (arith, also.few))
+    (sym (append_assoc (to_be_bytes w32 (length c.bytes)) c.bytes x) ∙ a.1 ∙ append_assoc (to_be_bytes w32 (length d.bytes)) d.bytes y) in
+    let f = same_front c.bytes d.bytes x y b.0 b.1 in
+    (contents_equal c d (sym (kind_back c.kind) ∙ ap kind_of a.0 ∙ kind_back d.kind) f.0, f.1)
+
+no_kind : (kind : Kind) → 0 ≡ kind_byte kind → ⊥
+no_kind Plain e = omega (arith, e)
+no_kind Exec e = omega (arith, e)
+no_kind Link e = omega (arith, e)
+
+same_value : (c d : Option Content) (x y : List ℕ) → IsValue c → IsValue d → content_bytes c ++ x ≡ content_bytes d ++ y → (c ≡ d) × (x ≡ y)
+same_value None None x y is also e = (refl, (cons_same 0 0 x y e).1)
+same_value None (Some d) x y is also e = absurd (no_kind d.kind (cons_same 0 (kind_byte d.kind) x ((to_be_bytes w32 (length d.bytes) ++ d.bytes) ++ y) e).0)
+same_value (Some c) None x y is also e = absurd (no_kind c.kind (sym (cons_same (kind_byte c.kind) 0 ((to_be_bytes w32 (length c.bytes) ++ c.bytes) ++ x) y e).0))
+same_value (Some c) (Some d) x y is also e =
+    let s = same_content c d x y is also e in
+    (ap (λ (z : Content). Some z) s.0, s.1)
 
 -- ---- causes
 
@@ -235,55 +314,114 @@ same_cause c d x y is also e =
 
 -- ---- messages
 
-body_same : (s t : ℕ) (x y : List ℕ) → 1 ∷ s ∷ x ≡ 1 ∷ t ∷ y → (s ≡ t) × (x ≡ y)
-body_same s t x y e = (cc, cc)
+fields_of : (tag : ℕ) (x y : List ℕ) → 1 ∷ tag ∷ x ≡ 1 ∷ tag ∷ y → x ≡ y
+fields_of tag x y e = cc
+
+other_tag : (s t : ℕ) (x y : List ℕ) → eqb s t ≡ false → 1 ∷ s ∷ x ≡ 1 ∷ t ∷ y → ⊥
+other_tag s t x y differ e =
+    let same : s ≡ t = cc in
+    eqb-false s t differ same
 
 closed : (x y : List ℕ) → x ≡ y → x ++ [] ≡ y ++ []
 closed x y e = ap (λ (z : List ℕ). z ++ []) e
 
+bases_equal : (p q : Query) (f g : List (List ℕ)) → p ≡ q → f ≡ g → Basis p f ≡ Basis q g
+bases_equal p q f g one two = cc
+
 polls_equal : (p q : Query) (s t : Position) (f g : List (List ℕ)) → p ≡ q → s ≡ t → f ≡ g → Poll p s f ≡ Poll q t g
 polls_equal p q s t f g one two three = cc
 
+fetches_equal : (p q : Query) (f g : List ℕ) → p ≡ q → f ≡ g → Fetch p f ≡ Fetch q g
+fetches_equal p q f g one two = cc
+
 pub same_request : (x y : Request) → IsRequest x → IsRequest y → request_bytes x ≡ request_bytes y → x ≡ y
+same_request (Basis p f) (Basis q g) is also e =
+    let a = same_query p q (filter_bytes f) (filter_bytes g) is.0 also.0 (fields_of 1 _ _ e) in
+    let b = same_filter f g [] [] is.1.filter also.1.filter (closed (filter_bytes f) (filter_bytes g) a.1) in
+    bases_equal p q f g a.0 b.0
+same_request (Basis p f) (Poll q t g) is also e = absurd (other_tag 1 2 _ _ refl e)
+same_request (Basis p f) (Fetch q g) is also e = absurd (other_tag 1 3 _ _ refl e)
+same_request (Poll p s f) (Basis q g) is also e = absurd (other_tag 2 1 _ _ refl e)
 same_request (Poll p s f) (Poll q t g) is also e =
-    let fields = body_same 2 2 (query_bytes p ++ (position_bytes s ++ filter_bytes f)) (query_bytes q ++ (position_bytes t ++ filter_bytes g)) e in
-    let a = same_query p q (position_bytes s ++ filter_bytes f) (position_bytes t ++ filter_bytes g) is.0 also.0 fields.1 in
+    let a = same_query p q (position_bytes s ++ filter_bytes f) (position_bytes t ++ filter_bytes g) is.0 also.0 (fields_of 2 _ _ e) in
     let b = same_position s t (filter_bytes f) (filter_bytes g) is.1 also.1 a.1 in
     let c = same_filter f g [] [] is.2.filter also.2.filter (closed (filter_bytes f) (filter_bytes g) b.1) in
     polls_equal p q s t f g a.0 b.0 c.0
+same_request (Poll p s f) (Fetch q g) is also e = absurd (other_tag 2 3 _ _ refl e)
+same_request (Fetch p f) (Basis q g) is also e = absurd (other_tag 3 1 _ _ refl e)
+same_request (Fetch p f) (Poll q t g) is also e = absurd (other_tag 3 2 _ _ refl e)
+same_request (Fetch p f) (Fetch q g) is also e =
+    let a = same_query p q (text_bytes f) (text_bytes g) is.0 also.0 (fields_of 3 _ _ e) in
+    let b = same_text f g [] [] (path_short f is.1.path) (path_short g also.1.path) (closed (text_bytes f) (text_bytes g) a.1) in
+    fetches_equal p q f g a.0 b.0
+
+basis_equal : (p q : Query) (s t : Position) (f g : List (List ℕ)) → p ≡ q → s ≡ t → f ≡ g → BasisIs p s f ≡ BasisIs q t g
+basis_equal p q s t f g one two three = cc
 
 changes_equal : (p q : Query) (s t : Position) (f g : List Marked) → p ≡ q → s ≡ t → f ≡ g → ChangesAre p s f ≡ ChangesAre q t g
 changes_equal p q s t f g one two three = cc
+
+content_equal : (p q : Query) (s t : Position) (f g : List ℕ) (c d : Option Content) → p ≡ q → s ≡ t → f ≡ g → c ≡ d → ContentIs p s f c ≡ ContentIs q t g d
+content_equal p q s t f g c d one two three four = cc
 
 refusals_equal : (p q : Query) (c d : Cause) → p ≡ q → c ≡ d → Refused p c ≡ Refused q d
 refusals_equal p q c d one two = cc
 
 pub same_reply : (x y : Reply) → IsReply x → IsReply y → reply_bytes x ≡ reply_bytes y → x ≡ y
+same_reply (BasisIs p s f) (BasisIs q t g) is also e =
+    let a = same_query p q (position_bytes s ++ paths_bytes f) (position_bytes t ++ paths_bytes g) is.0 also.0 (fields_of 129 _ _ e) in
+    let b = same_position s t (paths_bytes f) (paths_bytes g) is.1 also.1 a.1 in
+    let c = same_paths f g [] [] is.2 also.2 (closed (paths_bytes f) (paths_bytes g) b.1) in
+    basis_equal p q s t f g a.0 b.0 c.0
+same_reply (BasisIs p s f) (ChangesAre q t g) is also e = absurd (other_tag 129 130 _ _ refl e)
+same_reply (BasisIs p s f) (ContentIs q t g d) is also e = absurd (other_tag 129 131 _ _ refl e)
+same_reply (BasisIs p s f) (Refused q d) is also e = absurd (other_tag 129 132 _ _ refl e)
+same_reply (ChangesAre p s f) (BasisIs q t g) is also e = absurd (other_tag 130 129 _ _ refl e)
 same_reply (ChangesAre p s f) (ChangesAre q t g) is also e =
-    let fields = body_same 130 130 (query_bytes p ++ (position_bytes s ++ list_bytes f)) (query_bytes q ++ (position_bytes t ++ list_bytes g)) e in
-    let a = same_query p q (position_bytes s ++ list_bytes f) (position_bytes t ++ list_bytes g) is.0 also.0 fields.1 in
+    let a = same_query p q (position_bytes s ++ list_bytes f) (position_bytes t ++ list_bytes g) is.0 also.0 (fields_of 130 _ _ e) in
     let b = same_position s t (list_bytes f) (list_bytes g) is.1 also.1 a.1 in
     let c = same_list f g [] [] is.2 also.2 (closed (list_bytes f) (list_bytes g) b.1) in
     changes_equal p q s t f g a.0 b.0 c.0
-same_reply (ChangesAre p s f) (Refused q d) is also e =
-    let fields = body_same 130 132 (query_bytes p ++ (position_bytes s ++ list_bytes f)) (query_bytes q ++ cause_bytes d) e in
-    absurd (omega (arith, fields.0))
-same_reply (Refused p c) (ChangesAre q t g) is also e =
-    let fields = body_same 132 130 (query_bytes p ++ cause_bytes c) (query_bytes q ++ (position_bytes t ++ list_bytes g)) e in
-    absurd (omega (arith, fields.0))
+same_reply (ChangesAre p s f) (ContentIs q t g d) is also e = absurd (other_tag 130 131 _ _ refl e)
+same_reply (ChangesAre p s f) (Refused q d) is also e = absurd (other_tag 130 132 _ _ refl e)
+same_reply (ContentIs p s f c) (BasisIs q t g) is also e = absurd (other_tag 131 129 _ _ refl e)
+same_reply (ContentIs p s f c) (ChangesAre q t g) is also e = absurd (other_tag 131 130 _ _ refl e)
+same_reply (ContentIs p s f c) (ContentIs q t g d) is also e =
+    let a = same_query p q (position_bytes s ++ (text_bytes f ++ content_bytes c)) (position_bytes t ++ (text_bytes g ++ content_bytes d)) is.0 also.0 (fields_of 131 _ _ e) in
+    let b = same_position s t (text_bytes f ++ content_bytes c) (text_bytes g ++ content_bytes d) is.1 also.1 a.1 in
+    let u = same_text f g (content_bytes c) (content_bytes d) (path_short f is.2.path) (path_short g also.2.path) b.1 in
+    let v = same_value c d [] [] is.3 also.3 (closed (content_bytes c) (content_bytes d) u.1) in
+    content_equal p q s t f g c d a.0 b.0 u.0 v.0
+same_reply (ContentIs p s f c) (Refused q d) is also e = absurd (other_tag 131 132 _ _ refl e)
+same_reply (Refused p c) (BasisIs q t g) is also e = absurd (other_tag 132 129 _ _ refl e)
+same_reply (Refused p c) (ChangesAre q t g) is also e = absurd (other_tag 132 130 _ _ refl e)
+same_reply (Refused p c) (ContentIs q t g d) is also e = absurd (other_tag 132 131 _ _ refl e)
 same_reply (Refused p c) (Refused q d) is also e =
-    let fields = body_same 132 132 (query_bytes p ++ cause_bytes c) (query_bytes q ++ cause_bytes d) e in
-    let a = same_query p q (cause_bytes c) (cause_bytes d) is.0 also.0 fields.1 in
+    let a = same_query p q (cause_bytes c) (cause_bytes d) is.0 also.0 (fields_of 132 _ _ e) in
     let b = same_cause c d [] [] is.1 also.1 (closed (cause_bytes c) (cause_bytes d) a.1) in
     refusals_equal p q c d a.0 b.0
 
+-- a request's tag is below every reply's
+request_tag : (x : Request) → (tag : ℕ) × (rest : List ℕ) × (request_bytes x ≡ 1 ∷ tag ∷ rest) × (tag < 4)
+request_tag (Basis q f) = (1, query_bytes q ++ filter_bytes f, refl, omega arith)
+request_tag (Poll q s f) = (2, query_bytes q ++ (position_bytes s ++ filter_bytes f), refl, omega arith)
+request_tag (Fetch q f) = (3, query_bytes q ++ text_bytes f, refl, omega arith)
+
+reply_tag : (x : Reply) → (tag : ℕ) × (rest : List ℕ) × (reply_bytes x ≡ 1 ∷ tag ∷ rest) × (128 < tag)
+reply_tag (BasisIs q s f) = (129, query_bytes q ++ (position_bytes s ++ paths_bytes f), refl, omega arith)
+reply_tag (ChangesAre q s f) = (130, query_bytes q ++ (position_bytes s ++ list_bytes f), refl, omega arith)
+reply_tag (ContentIs q s f c) = (131, query_bytes q ++ (position_bytes s ++ (text_bytes f ++ content_bytes c)), refl, omega arith)
+reply_tag (Refused q c) = (132, query_bytes q ++ cause_bytes c, refl, omega arith)
+
+tags_same : (s t : ℕ) (x y : List ℕ) → 1 ∷ s ∷ x ≡ 1 ∷ t ∷ y → s ≡ t
+tags_same s t x y e = cc
+
 pub request_is_no_reply : (x : Request) (y : Reply) → request_bytes x ≡ reply_bytes y → ⊥
-request_is_no_reply (Poll p s f) (ChangesAre q t g) e =
-    let fields = body_same 2 130 (query_bytes p ++ (position_bytes s ++ filter_bytes f)) (query_bytes q ++ (position_bytes t ++ list_bytes g)) e in
-    omega (arith, fields.0)
-request_is_no_reply (Poll p s f) (Refused q d) e =
-    let fields = body_same 2 132 (query_bytes p ++ (position_bytes s ++ filter_bytes f)) (query_bytes q ++ cause_bytes d) e in
-    omega (arith, fields.0)
+request_is_no_reply x y e =
+    let a = request_tag x in
+    let b = reply_tag y in
+    let same = tags_same a.0 b.0 a.1 b.1 (sym a.2 ∙ e ∙ b.2) in
+    omega (arith, same, a.3, b.3)
 
 -- ---- frames
 

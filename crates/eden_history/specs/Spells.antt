@@ -1,11 +1,14 @@
 -- Which bytes spell which message. All numbers are unsigned and big-endian. A body is the version 1, a tag, the query and what the
 -- tag calls for; a frame is the length of a body, and the body.
-use Rattle.std.specs.Prelude.{◌≡◌, ℕ, ◌<◌, ◌≤◌, ◌^◌, List, [], ◌∷◌, ◌++◌, length}
+use Rattle.std.specs.Prelude.{◌≡◌, ℕ, ◌<◌, ◌≤◌, ◌^◌, List, [], ◌∷◌, ◌++◌, length, map, nat_lt, if◌then◌else◌, Option, Some, None}
 use Rattle.std.specs.Int.{w16, w32, w64, to_be_bytes}
 use Rattle.std.specs.List.{flat_map, AllByRecursion}
 use Rattle.std.specs.Ordering.{nat_cmp}
 use Rattle.std.specs.Cmp.Lexicographic.{slice_cmp}
 use Rattle.std.specs.declared.cmp.Ordering.TheVariants.{Less}
+use Rattle.eden_ids.specs.declared.content.Content.{Content}
+use Rattle.eden_ids.specs.declared.content.Kind.{Kind}
+use Rattle.eden_ids.specs.declared.content.Kind.TheVariants.{Plain, Exec, Link}
 use Rattle.eden_ids.specs.Paths.{IsPath}
 use Rattle.eden_globs.specs.Filters.{IsFilter}
 use Rattle.eden_history.specs.declared.mark.Mark.{Mark}
@@ -14,11 +17,11 @@ use Rattle.eden_history.specs.declared.mark.Marked.{Marked}
 use Rattle.eden_history.specs.declared.position.Position.{Position}
 use Rattle.eden_history.specs.declared.message.Query.{Query}
 use Rattle.eden_history.specs.declared.message.Request.{Request}
-use Rattle.eden_history.specs.declared.message.Request.TheVariants.{Poll}
+use Rattle.eden_history.specs.declared.message.Request.TheVariants.{Basis, Poll, Fetch}
 use Rattle.eden_history.specs.declared.message.Cause.{Cause}
 use Rattle.eden_history.specs.declared.message.Cause.TheVariants.{Stale, Ahead, Truncated, TooLarge}
 use Rattle.eden_history.specs.declared.message.Reply.{Reply}
-use Rattle.eden_history.specs.declared.message.Reply.TheVariants.{ChangesAre, Refused}
+use Rattle.eden_history.specs.declared.message.Reply.TheVariants.{BasisIs, ChangesAre, ContentIs, Refused}
 
 -- ---- fields
 
@@ -59,6 +62,26 @@ pub record IsFilterText (patterns : List (List ℕ)) : Type 0 where
   pub filter : IsFilter patterns
   pub bytes : AllByRecursion AreBytes patterns
 
+-- the path is above each one of the list that it stands before, so it is enough to look at the next
+abbrev pub IsBelowFirst : List ℕ → List (List ℕ) → Type 0
+IsBelowFirst path [] = Unit {0}
+IsBelowFirst path (next ∷ paths) = slice_cmp nat_cmp path next ≡ Less
+
+-- paths that ascend strictly in byte order
+abbrev pub Ascends : List (List ℕ) → Type 0
+Ascends [] = Unit {0}
+Ascends (path ∷ paths) = IsBelowFirst path paths × Ascends paths
+
+-- paths that may stand in a list
+pub record IsListing (paths : List (List ℕ)) : Type 0 where
+  pub count : length paths < 2 ^ 32
+  pub texts : AllByRecursion IsPathText paths
+  pub ascends : Ascends paths
+
+-- four bytes of count, and each path
+abbrev pub paths_bytes : List (List ℕ) → List ℕ
+paths_bytes paths = to_be_bytes w32 (length paths) ++ flat_map text_bytes paths
+
 abbrev pub mark_byte : Mark → ℕ
 mark_byte Created = 1
 mark_byte Removed = 2
@@ -73,20 +96,28 @@ marked_bytes marked = mark_byte marked.mark ∷ text_bytes marked.path
 abbrev pub list_bytes : List Marked → List ℕ
 list_bytes list = to_be_bytes w32 (length list) ++ flat_map marked_bytes list
 
--- the path is above each one of the list that it stands before, so it is enough to look at the next
-abbrev pub IsBelowFirst : List ℕ → List Marked → Type 0
-IsBelowFirst path [] = Unit {0}
-IsBelowFirst path (next ∷ list) = slice_cmp nat_cmp path next.path ≡ Less
+-- the paths without their marks
+abbrev pub paths_of : List Marked → List (List ℕ)
+paths_of list = map (λ marked. marked.path) list
 
--- paths that ascend strictly in byte order
-abbrev pub Ascends : List Marked → Type 0
-Ascends [] = Unit {0}
-Ascends (marked ∷ list) = IsBelowFirst marked.path list × Ascends list
+abbrev pub kind_byte : Kind → ℕ
+kind_byte Plain = 1
+kind_byte Exec = 2
+kind_byte Link = 3
 
-pub record IsListing (list : List Marked) : Type 0 where
-  pub count : length list < 2 ^ 32
-  pub paths : AllByRecursion (λ marked. IsPathText marked.path) list
-  pub ascends : Ascends list
+-- an absent file is one byte; another is its kind, four bytes of length, and that many bytes
+abbrev pub content_bytes : Option Content → List ℕ
+content_bytes None = 0 ∷ []
+content_bytes (Some content) = kind_byte content.kind ∷ to_be_bytes w32 (length content.bytes) ++ content.bytes
+
+-- a file has 8 MiB at the most
+pub record IsContentText (content : Content) : Type 0 where
+  pub few : length content.bytes ≤ 8388608
+  pub bytes : AreBytes content.bytes
+
+abbrev pub IsValue : Option Content → Type 0
+IsValue None = Unit {0}
+IsValue (Some content) = IsContentText content
 
 -- a cause and its number, which is 0 where it has none
 abbrev pub cause_bytes : Cause → List ℕ
@@ -105,22 +136,34 @@ IsCause TooLarge = Unit {0}
 
 -- the bytes of a request's body, if it has a spelling
 abbrev pub request_bytes : Request → List ℕ
+request_bytes (Basis query filter) = 1 ∷ 1 ∷ query_bytes query ++ filter_bytes filter
 request_bytes (Poll query since filter) = 1 ∷ 2 ∷ query_bytes query ++ (position_bytes since ++ filter_bytes filter)
+request_bytes (Fetch query path) = 1 ∷ 3 ∷ query_bytes query ++ text_bytes path
 
 abbrev pub IsRequest : Request → Type 0
+IsRequest (Basis query filter) = IsQuery query × IsFilterText filter
 IsRequest (Poll query since filter) = IsQuery query × IsPosition since × IsFilterText filter
+IsRequest (Fetch query path) = IsQuery query × IsPathText path
 
 abbrev pub reply_bytes : Reply → List ℕ
+reply_bytes (BasisIs query position paths) = 1 ∷ 129 ∷ query_bytes query ++ (position_bytes position ++ paths_bytes paths)
 reply_bytes (ChangesAre query target marked) = 1 ∷ 130 ∷ query_bytes query ++ (position_bytes target ++ list_bytes marked)
+reply_bytes (ContentIs query position path content) = 1 ∷ 131 ∷ query_bytes query ++ (position_bytes position ++ (text_bytes path ++ content_bytes content))
 reply_bytes (Refused query cause) = 1 ∷ 132 ∷ query_bytes query ++ cause_bytes cause
 
 abbrev pub IsReply : Reply → Type 0
-IsReply (ChangesAre query target marked) = IsQuery query × IsPosition target × IsListing marked
+IsReply (BasisIs query position paths) = IsQuery query × IsPosition position × IsListing paths
+IsReply (ChangesAre query target marked) = IsQuery query × IsPosition target × IsListing (paths_of marked)
+IsReply (ContentIs query position path content) = IsQuery query × IsPosition position × IsPathText path × IsValue content
 IsReply (Refused query cause) = IsQuery query × IsCause cause
 
 -- the most bytes of a body: 16 MiB
 abbrev pub body_limit : ℕ
 body_limit = 16777216
+
+-- a number of bytes, if a body may have so many
+abbrev pub if_small : ℕ → Option ℕ
+if_small count = if nat_lt body_limit count then None else Some count
 
 -- the body spells the request
 pub record SpellsRequest (body : List ℕ) (request : Request) : Type 0 where

@@ -9,6 +9,7 @@ pub use crate::checkout_laws::checkout_law;
 pub use crate::mark::{Mark, Marked};
 pub use crate::message::{Cause, Query, Reply, Request};
 pub use crate::position::Position;
+pub use crate::replies::admitted;
 pub use crate::sides::Sides;
 pub use crate::spelling_law::{frames_law, one_message_law, one_spelling_law};
 pub use crate::touches::{Touch, Touches};
@@ -17,9 +18,11 @@ pub use crate::tree_faults::{absent_fault, place_fault, rename_fault, write_faul
 mod answer;
 mod change;
 mod checkout_laws;
+mod lengths;
 mod mark;
 mod message;
 mod position;
+mod replies;
 mod sides;
 mod spelling_law;
 #[cfg(test)]

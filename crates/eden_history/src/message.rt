@@ -3,7 +3,7 @@ ghost use Rattle.std.specs.Prelude.{◌≡◌, IfOk};
 use crate::mark::Marked;
 use crate::position::Position;
 use eden_globs::Filter;
-use eden_ids::{NoMemory, Sequence};
+use eden_ids::{Content, NoMemory, Path, Sequence};
 
 /// Which question of which client a request asks and a reply answers.
 #[derive(Clone, Copy, Debug, PartialEq, Eq)]
@@ -19,6 +19,13 @@ pub struct Query {
 /// What a client asks of a mount.
 #[derive(Clone, Debug, Drop)]
 pub enum Request {
+    /// Which paths hold a file.
+    Basis {
+        /// Whose question it is.
+        query: Query,
+        /// Which paths are wanted.
+        filter: Filter,
+    },
     /// Which paths changed since a position.
     Poll {
         /// Whose question it is.
@@ -27,6 +34,13 @@ pub enum Request {
         since: Position,
         /// Which paths are wanted.
         filter: Filter,
+    },
+    /// What stands at a path.
+    Fetch {
+        /// Whose question it is.
+        query: Query,
+        /// The path.
+        path: Path,
     },
 }
 
@@ -58,6 +72,15 @@ pub enum Cause {
 /// What a mount answers.
 #[derive(Clone, Debug, PartialEq, Drop)]
 pub enum Reply {
+    /// The paths that hold a file at a position.
+    BasisIs {
+        /// Whose question is answered.
+        query: Query,
+        /// The position at which they hold one.
+        position: Position,
+        /// The paths, ascending in byte order.
+        paths: Sequence<Path>,
+    },
     /// The paths that changed up to a position.
     ChangesAre {
         /// Whose question is answered.
@@ -66,6 +89,17 @@ pub enum Reply {
         target: Position,
         /// The paths, ascending in byte order, and what became of each.
         marked: Sequence<Marked>,
+    },
+    /// What stands at a path.
+    ContentIs {
+        /// Whose question is answered.
+        query: Query,
+        /// The position at which it stands there.
+        position: Position,
+        /// The path.
+        path: Path,
+        /// The file there, or none.
+        content: Option<Content>,
     },
     /// The question can't be answered.
     Refused {

@@ -1,6 +1,5 @@
 pub mod Reading
 pub mod Listing
-pub mod Lengths
 pub mod Answers
 pub mod Raws
 pub mod Mounting

@@ -1,26 +1,35 @@
 -- What is replied, from what a mount told when it was asked.
-use Rattle.std.specs.Prelude.{Bool, true, List, ℕ}
+use Rattle.std.specs.Prelude.{Bool, true, is_some, List, [], ℕ}
 use Rattle.eden_objects.specs.Objects.{Held}
 use Rattle.eden_ranges.specs.Expanded.{are_comparable, expanded}
 use Rattle.eden_history.specs.declared.message.Reply.{Reply}
-use Rattle.eden_history.specs.declared.message.Reply.TheVariants.{ChangesAre, Refused}
+use Rattle.eden_history.specs.declared.message.Reply.TheVariants.{BasisIs, ChangesAre, ContentIs, Refused}
 use Rattle.eden_history.specs.declared.message.Request.{Request}
-use Rattle.eden_history.specs.declared.message.Request.TheVariants.{Poll}
+use Rattle.eden_history.specs.declared.message.Request.TheVariants.{Basis, Poll, Fetch}
 use Rattle.eden_history.specs.Worlds.{Commits}
-use Rattle.eden_history.specs.Replies.{admitted, bounded}
+use Rattle.eden_history.specs.Replies.{admitted, admitted_paths, bounded}
+use Rattle.eden_accumulate.specs.Snapshots.{seen_files}
 use Rattle.eden_query.specs.declared.raw.Raw.{Raw}
 use Rattle.eden_query.specs.declared.raw.Raw.TheVariants as raw
 
--- over a store's objects: of a range the paths that it names and the patterns admit, up to where it ends
+-- over a store's objects: of a range the paths that it names and the patterns admit, up to where it ends; of a snapshot the paths of
+-- its files that they admit; and the content that was held
 abbrev pub told : List Held → List (List ℕ) → Raw → Reply
 told held patterns (raw.Ranged query range) = bounded query (ChangesAre query range.to (admitted patterns (expanded held range)))
+told held patterns (raw.Based query snapshot) = bounded query (BasisIs query snapshot.position (admitted_paths patterns (seen_files held snapshot)))
+told held patterns (raw.Held query position path content) = bounded query (ContentIs query position path content)
 told held patterns (raw.Refused query cause) = Refused query cause
 
--- whether the commits are there that it takes: each two neighbouring roots of a range are one or both commits
+-- whether the commits are there that it takes: each two neighbouring roots of a range are one or both commits, and a snapshot's root
+-- is one
 abbrev pub is_answerable : Commits → Raw → Bool
 is_answerable commits (raw.Ranged query range) = are_comparable commits range.roots
+is_answerable commits (raw.Based query snapshot) = is_some (commits snapshot.position.root)
+is_answerable commits (raw.Held query position path content) = true
 is_answerable commits (raw.Refused query cause) = true
 
--- the patterns of a request's filter
+-- the patterns of a request's filter; one that has no filter has no pattern either
 abbrev pub patterns_of : Request → List (List ℕ)
+patterns_of (Basis query patterns) = patterns
+patterns_of (Fetch query path) = []
 patterns_of (Poll query since patterns) = patterns

@@ -3,6 +3,9 @@ use Rattle.std.specs.Prelude.{◌≡◌, ◌≢◌, ℕ, zero, suc, Bool, true, 
 use Rattle.std.specs.Int.{Width, w16, w32, w64, byte_len, from_be_bytes}
 use Rattle.std.specs.Ordering.{nat_cmp, is_lt}
 use Rattle.std.specs.Cmp.Lexicographic.{slice_cmp}
+use Rattle.eden_ids.specs.declared.content.Content.{Content}
+use Rattle.eden_ids.specs.declared.content.Kind.{Kind}
+use Rattle.eden_ids.specs.declared.content.Kind.TheVariants.{Plain, Exec, Link}
 use Rattle.eden_ids.specs.declared.id.Id.{Id}
 use Rattle.eden_ids.specs.Paths.{path_fault}
 use Rattle.eden_globs.specs.Filters.{filter_fault}
@@ -12,11 +15,11 @@ use Rattle.eden_history.specs.declared.mark.Marked.{Marked}
 use Rattle.eden_history.specs.declared.position.Position.{Position}
 use Rattle.eden_history.specs.declared.message.Query.{Query}
 use Rattle.eden_history.specs.declared.message.Request.{Request}
-use Rattle.eden_history.specs.declared.message.Request.TheVariants.{Poll}
+use Rattle.eden_history.specs.declared.message.Request.TheVariants.{Basis, Poll, Fetch}
 use Rattle.eden_history.specs.declared.message.Cause.{Cause}
 use Rattle.eden_history.specs.declared.message.Cause.TheVariants as causes
 use Rattle.eden_history.specs.declared.message.Reply.{Reply}
-use Rattle.eden_history.specs.declared.message.Reply.TheVariants.{ChangesAre, Refused}
+use Rattle.eden_history.specs.declared.message.Reply.TheVariants.{BasisIs, ChangesAre, ContentIs, Refused}
 use Rattle.eden_query.specs.declared.fault.DecodeFault.{DecodeFault}
 use Rattle.eden_query.specs.declared.fault.DecodeFault.TheVariants.{CutShort, TooLarge, BadTag, BadField, Trailing, Version, NoMemory}
 
@@ -110,6 +113,24 @@ abbrev pub is_above : Option (List ℕ) → List ℕ → Bool
 is_above None path = true
 is_above (Some last) path = is_lt (slice_cmp nat_cmp last path)
 
+unfoldable pub next_at : Option (List ℕ) → List ℕ → Result (List ℕ × List ℕ) DecodeFault
+next_at last bytes = do
+  path ← path_at bytes
+  if is_above last path.0 then Ok path else Err BadField
+
+-- so many paths, of which the first is above a last one
+unfoldable pub paths_at : ℕ → Option (List ℕ) → List ℕ → Result (List (List ℕ) × List ℕ) DecodeFault
+paths_at zero last bytes = Ok ([], bytes)
+paths_at (suc count) last bytes = do
+  first ← next_at last bytes
+  others ← paths_at count (Some first.0) first.1
+  Ok (first.0 ∷ others.0, others.1)
+
+unfoldable pub path_listing_at : List ℕ → Result (List (List ℕ) × List ℕ) DecodeFault
+path_listing_at bytes = do
+  count ← number_at w32 bytes
+  paths_at count.0 None count.1
+
 unfoldable pub marked_at : Option (List ℕ) → List ℕ → Result (Marked × List ℕ) DecodeFault
 marked_at last bytes = do
   mark ← mark_at bytes
@@ -128,6 +149,28 @@ unfoldable pub listing_at : List ℕ → Result (List Marked × List ℕ) Decode
 listing_at bytes = do
   count ← number_at w32 bytes
   list_at count.0 None count.1
+
+abbrev pub kind_of_byte : ℕ → Result Kind DecodeFault
+kind_of_byte byte =
+    if byte == 1 then Ok Plain else
+    if byte == 2 then Ok Exec else
+    if byte == 3 then Ok Link else Err BadField
+
+-- the bytes of a file; a count above 8 MiB is a fault before they are looked for
+unfoldable pub bytes_at : List ℕ → Result (List ℕ × List ℕ) DecodeFault
+bytes_at bytes = do
+  count ← number_at w32 bytes
+  if nat_lt 8388608 count.0 then Err BadField else
+      if nat_lt (length count.1) count.0 then Err CutShort else Ok (take count.0 count.1, drop count.0 count.1)
+
+-- a file, or the lack of one
+unfoldable pub content_at : List ℕ → Result (Option Content × List ℕ) DecodeFault
+content_at bytes = do
+  byte ← byte_at bytes
+  if byte.0 == 0 then Ok (None, byte.1) else do
+    kind ← kind_of_byte byte.0
+    held ← bytes_at byte.1
+    Ok (Some (record { kind = kind; bytes = held.0 }), held.1)
 
 -- the cause of a byte, with its number; the last one has none, which is written as 0
 abbrev pub cause_of : ℕ → ℕ → Result Cause DecodeFault
@@ -157,6 +200,18 @@ tag_at body =
 abbrev pub ended : {A : Type 0} → A → List ℕ → Result A DecodeFault
 ended message rest = if length rest == 0 then Ok message else Err Trailing
 
+unfoldable pub basis_at : List ℕ → Result Request DecodeFault
+basis_at bytes = do
+  query ← query_at bytes
+  filter ← filter_at query.1
+  ended (Basis query.0 filter.0) filter.1
+
+unfoldable pub fetch_at : List ℕ → Result Request DecodeFault
+fetch_at bytes = do
+  query ← query_at bytes
+  path ← path_at query.1
+  ended (Fetch query.0 path.0) path.1
+
 unfoldable pub poll_at : List ℕ → Result Request DecodeFault
 poll_at bytes = do
   query ← query_at bytes
@@ -168,7 +223,24 @@ poll_at bytes = do
 unfoldable pub read_request : List ℕ → Result Request DecodeFault
 read_request body = do
   tag ← tag_at body
-  if tag.0 == 2 then poll_at tag.1 else Err BadTag
+  if tag.0 == 1 then basis_at tag.1 else
+      if tag.0 == 2 then poll_at tag.1 else
+      if tag.0 == 3 then fetch_at tag.1 else Err BadTag
+
+unfoldable pub based_at : List ℕ → Result Reply DecodeFault
+based_at bytes = do
+  query ← query_at bytes
+  position ← position_at query.1
+  paths ← path_listing_at position.1
+  ended (BasisIs query.0 position.0 paths.0) paths.1
+
+unfoldable pub held_at : List ℕ → Result Reply DecodeFault
+held_at bytes = do
+  query ← query_at bytes
+  position ← position_at query.1
+  path ← path_at position.1
+  content ← content_at path.1
+  ended (ContentIs query.0 position.0 path.0 content.0) content.1
 
 unfoldable pub changes_at : List ℕ → Result Reply DecodeFault
 changes_at bytes = do
@@ -187,5 +259,7 @@ refused_at bytes = do
 unfoldable pub read_reply : List ℕ → Result Reply DecodeFault
 read_reply body = do
   tag ← tag_at body
-  if tag.0 == 130 then changes_at tag.1 else
+  if tag.0 == 129 then based_at tag.1 else
+      if tag.0 == 130 then changes_at tag.1 else
+      if tag.0 == 131 then held_at tag.1 else
       if tag.0 == 132 then refused_at tag.1 else Err BadTag

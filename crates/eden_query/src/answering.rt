@@ -1,19 +1,20 @@
 //! What is left to do once a mount was asked.
 
-ghost use Rattle.std.specs.Prelude.{◌≡◌, ◌≢◌, ◌≤◌, length, true, false, IfOk, IfErr, OnOk};
+ghost use Rattle.std.specs.Prelude.{◌≡◌, ◌≢◌, ◌≤◌, length, true, false, is_some, IfOk, IfErr, OnOk};
 ghost use Rattle.eden_objects.specs.Commits.{commit_map};
 ghost use Rattle.eden_ranges.specs.Expanded.{are_comparable, expanded};
-ghost use Rattle.eden_history.specs.Replies.{admitted};
+ghost use Rattle.eden_accumulate.specs.Snapshots.{seen_files};
+ghost use Rattle.eden_history.specs.Replies.{admitted, admitted_paths};
 ghost use Rattle.eden_history.specs.Spells.{reply_bytes};
 ghost use Rattle.eden_query.specs.Raws.{is_answerable, told};
 
 use crate::raw::Raw;
+use eden_accumulate::Snapshot;
 use eden_globs::Filter;
-use eden_history::{Marked, Reply};
-use eden_ids::{Naming, Sequence};
+use eden_history::{Marked, Reply, admitted};
+use eden_ids::{Content, Naming, NoMemory, Path, Sequence};
 use eden_objects::{CommitFault, Store};
 use eden_ranges::{Range, expand};
-use eden_world::{admitted, changes_reply};
 use std::alloc::Global;
 
 /// The paths that the range names and the filter admits.
@@ -27,24 +28,41 @@ fn wanted<N: Naming + Drop>(
     ensures compared { OnOk result (are_comparable (commit_map store.now) range.now.roots ≡ true) }
     ensures fault { IfErr result (λ fault. fault ≢ CommitFault.NoMemory → are_comparable (commit_map store.now) range.now.roots ≡ false) }
 {
-    let marked = match expand(store, range) {
-        Ok(marked) => marked,
-        Err(CommitFault::NoCommit) => return Err(CommitFault::NoCommit),
-        Err(CommitFault::NoMemory) => return Err(CommitFault::NoMemory),
-    };
-    match admitted(alloc, Sequence::from_vec(marked), filter) {
-        Ok(marked) => Ok(marked),
-        Err(_) => Err(CommitFault::NoMemory),
+    let marked = expand(store, range)?;
+    Ok(admitted(alloc, Sequence::from_vec(marked), filter)?)
+}
+
+/// The file that was held, or none.
+fn copy_of(content: &Option<Content>) -> Result<Option<Content>, NoMemory>
+    ensures { IfOk result (λ copy. copy ≡ content.now) }
+{
+    match content {
+        Some(content) => Ok(Some(content.copy()?)),
+        None => Ok(None),
     }
+}
+
+/// The paths of the files that the snapshot shows and the filter admits.
+fn listed<N: Naming + Drop>(
+    snapshot: &Snapshot,
+    store: &Store<N>,
+    filter: &Filter,
+) -> Result<Sequence<Path>, CommitFault>
+    ensures paths { IfOk result (λ paths. paths ≡ admitted_paths filter.now (seen_files store.now snapshot.now)) }
+    ensures listed { OnOk result (is_some (commit_map store.now snapshot.now.position.root) ≡ true) }
+    ensures fault { IfErr result (λ fault. fault ≢ CommitFault.NoMemory → is_some (commit_map store.now snapshot.now.position.root) ≡ false) }
+{
+    Ok(Sequence::from_vec(snapshot.files(store, filter)?))
 }
 
 /// The reply to a request that a mount was asked, with the request's filter and the mount's objects. The mount isn't needed any more.
 ///
-/// Changes whose reply would have a body of more than 16,777,216 bytes are refused as `TooLarge`.
+/// A reply whose body would have more than 16,777,216 bytes is refused as `TooLarge`.
 ///
-/// `NoCommit` comes just where two neighbouring roots of the range are not one and one of them is no commit of the store; of a range
-/// that a mount gave, over that mount's store, it never comes. `NoMemory` may stand in place of any answer where a growth was refused.
-#[tactic(auto, using(crate::proofs::ReplyFits::refusal_fits))]
+/// `NoCommit` comes just where two neighbouring roots of a range are not one and one of them is no commit of the store, or a snapshot's
+/// root is none; of what a mount gave, over that mount's store, it never comes. `NoMemory` may stand in place of any answer where a
+/// growth was refused.
+#[tactic(auto, using(crate::proofs::ReplyFits::refusal_fits, crate::proofs::ReplyFits::bounded_fits))]
 pub fn answer<N: Naming + Drop>(
     alloc: Global,
     raw: &Raw,
@@ -57,10 +75,31 @@ pub fn answer<N: Naming + Drop>(
     ensures fault { IfErr result (λ fault. fault ≢ CommitFault.NoMemory → is_answerable (commit_map store.now) raw.now ≡ false) }
 {
     match raw {
-        Raw::Ranged(query, range) => match wanted(alloc, range, store, filter) {
-            Ok(marked) => Ok(changes_reply(*query, range.to, marked)),
-            Err(fault) => Err(fault),
-        },
+        Raw::Ranged(query, range) => {
+            let reply = Reply::ChangesAre {
+                query: *query,
+                target: range.to,
+                marked: wanted(alloc, range, store, filter)?,
+            };
+            Ok(reply.bounded(*query))
+        }
+        Raw::Based(query, snapshot) => {
+            let reply = Reply::BasisIs {
+                query: *query,
+                position: snapshot.position(),
+                paths: listed(snapshot, store, filter)?,
+            };
+            Ok(reply.bounded(*query))
+        }
+        Raw::Held(query, position, path, content) => {
+            let reply = Reply::ContentIs {
+                query: *query,
+                position: *position,
+                path: path.copy()?,
+                content: copy_of(content)?,
+            };
+            Ok(reply.bounded(*query))
+        }
         Raw::Refused(query, cause) => Ok(Reply::Refused {
             query: *query,
             cause: *cause,

@@ -1,3 +1,5 @@
+use bytes::TryGetError;
+use std::alloc::AllocError;
 use thiserror::Error;
 
 /// Why a message has no frame.
@@ -36,4 +38,26 @@ pub enum DecodeFault {
     /// A growth was refused.
     #[error("NoMemory")]
     NoMemory,
+}
+
+impl From<TryGetError> for DecodeFault {
+    ghost use Rattle.std.specs.Prelude.{◌≡◌};
+    ghost use Rattle.eden_query.specs.declared.fault.DecodeFault.TheVariants.{CutShort};
+
+    ghost from_gives = { λ _ fault. fault ≡ CutShort };
+
+    fn from(_fault: TryGetError) -> DecodeFault {
+        DecodeFault::CutShort
+    }
+}
+
+impl From<AllocError> for DecodeFault {
+    ghost use Rattle.std.specs.Prelude.{◌≡◌};
+    ghost use Rattle.eden_query.specs.declared.fault.DecodeFault.TheVariants.{NoMemory};
+
+    ghost from_gives = { λ _ fault. fault ≡ NoMemory };
+
+    fn from(_fault: AllocError) -> DecodeFault {
+        DecodeFault::NoMemory
+    }
 }

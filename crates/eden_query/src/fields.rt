@@ -1,54 +1,44 @@
 ghost use Rattle.std.specs.Prelude.{◌≡◌, map};
 ghost use Rattle.std.specs.Int.{w16, w32, w64};
-ghost use Rattle.eden_query.specs.Reading.{Gives, byte_at, number_at, text_at, query_at, root_at, position_at, path_of, path_at, patterns_at, filter_of, filter_at, mark_of_byte, mark_at, cause_of, cause_at};
+ghost use Rattle.eden_query.specs.Reading.{Gives, byte_at, number_at, text_at, query_at, root_at, position_at, path_of, path_at, patterns_at, filter_of, filter_at, mark_of_byte, mark_at, kind_of_byte, bytes_at, content_at, cause_of, cause_at};
 
 use crate::fault::DecodeFault;
+use bytes::Buf;
 use eden_globs::{Filter, FilterFault};
 use eden_history::{Cause, Mark, Position, Query};
-use eden_ids::{Id, Path, PathFault};
+use eden_ids::{Content, Id, Kind, Path, PathFault, Sequence};
 use std::alloc::Global;
 
 /// A byte, and the bytes after it. Each reader below gives a field in this way, or the first fault in it.
 pub(crate) fn byte_of(bytes: &[u8]) -> Result<(u8, &[u8]), DecodeFault>
     ensures { Gives (λ x. (x.0, x.1.now)) result (byte_at bytes.now) }
 {
-    match bytes {
-        [] => Err(DecodeFault::CutShort),
-        [byte, rest @ ..] => Ok((*byte, rest)),
-    }
+    let mut rest = bytes;
+    let byte = rest.try_get_u8()?;
+    Ok((byte, rest))
 }
 
 fn u16_of(bytes: &[u8]) -> Result<(u16, &[u8]), DecodeFault>
     ensures { Gives (λ x. (x.0, x.1.now)) result (number_at w16 bytes.now) }
 {
-    if bytes.len() < 2 {
-        return Err(DecodeFault::CutShort);
-    }
-    let (front, rest) = bytes.split_at(2);
-    Ok((u16::from_be_bytes([front[0], front[1]]), rest))
+    let mut rest = bytes;
+    let number = rest.try_get_u16()?;
+    Ok((number, rest))
 }
 
 pub(crate) fn u32_of(bytes: &[u8]) -> Result<(u32, &[u8]), DecodeFault>
     ensures { Gives (λ x. (x.0, x.1.now)) result (number_at w32 bytes.now) }
 {
-    if bytes.len() < 4 {
-        return Err(DecodeFault::CutShort);
-    }
-    let (front, rest) = bytes.split_at(4);
-    let number = u32::from_be_bytes([front[0], front[1], front[2], front[3]]);
+    let mut rest = bytes;
+    let number = rest.try_get_u32()?;
     Ok((number, rest))
 }
 
 fn u64_of(bytes: &[u8]) -> Result<(u64, &[u8]), DecodeFault>
     ensures { Gives (λ x. (x.0, x.1.now)) result (number_at w64 bytes.now) }
 {
-    if bytes.len() < 8 {
-        return Err(DecodeFault::CutShort);
-    }
-    let (front, rest) = bytes.split_at(8);
-    let number = u64::from_be_bytes([
-        front[0], front[1], front[2], front[3], front[4], front[5], front[6], front[7],
-    ]);
+    let mut rest = bytes;
+    let number = rest.try_get_u64()?;
     Ok((number, rest))
 }
 
@@ -86,12 +76,9 @@ pub(crate) fn query_of(bytes: &[u8]) -> Result<(Query, &[u8]), DecodeFault>
 fn root_of(bytes: &[u8]) -> Result<(Id, &[u8]), DecodeFault>
     ensures { Gives (λ x. (x.0, x.1.now)) result (root_at bytes.now) }
 {
-    if bytes.len() < 20 {
-        return Err(DecodeFault::CutShort);
-    }
-    let (front, rest) = bytes.split_at(20);
+    let mut rest = bytes;
     let mut root = [0; 20];
-    root.copy_from_slice(front);
+    rest.try_copy_to_slice(&mut root)?;
     Ok((Id(root), rest))
 }
 
@@ -185,6 +172,54 @@ pub(crate) fn mark_of(bytes: &[u8]) -> Result<(Mark, &[u8]), DecodeFault>
 {
     let (byte, rest) = byte_of(bytes)?;
     Ok((mark_of_byte(byte)?, rest))
+}
+
+fn kind_of_byte(byte: u8) -> Result<Kind, DecodeFault>
+    ensures { result ≡ kind_of_byte byte }
+{
+    match byte {
+        1 => Ok(Kind::Plain),
+        2 => Ok(Kind::Exec),
+        3 => Ok(Kind::Link),
+        _ => Err(DecodeFault::BadField),
+    }
+}
+
+/// The bytes of a file behind their count. None is copied before all of them are there.
+#[tactic(auto, unfolding(crate::specs::Reading::bytes_at))]
+fn bytes_of(bytes: &[u8]) -> Result<(&[u8], &[u8]), DecodeFault>
+    ensures { Gives (λ x. (x.0.now, x.1.now)) result (bytes_at bytes.now) }
+{
+    let (count, rest) = u32_of(bytes)?;
+    if count > 8_388_608 {
+        return Err(DecodeFault::BadField);
+    }
+    let count = count as usize;
+    if rest.len() < count {
+        return Err(DecodeFault::CutShort);
+    }
+    Ok(rest.split_at(count))
+}
+
+/// A file, or the lack of one.
+#[tactic(auto, unfolding(crate::specs::Reading::content_at))]
+pub(crate) fn content_of(
+    alloc: Global,
+    bytes: &[u8],
+) -> Result<(Option<Content>, &[u8]), DecodeFault>
+    ensures { Gives (λ x. (x.0, x.1.now)) result (content_at bytes.now) }
+{
+    let (byte, rest) = byte_of(bytes)?;
+    if byte == 0 {
+        return Ok((None, rest));
+    }
+    let kind = kind_of_byte(byte)?;
+    let (held, rest) = bytes_of(rest)?;
+    let content = Content {
+        kind,
+        bytes: Sequence::from_vec(held.to_vec(alloc)?),
+    };
+    Ok((Some(content), rest))
 }
 
 fn cause_by(byte: u8, value: u64) -> Result<Cause, DecodeFault>

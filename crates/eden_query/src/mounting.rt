@@ -1,10 +1,11 @@
 //! A mount answers requests.
 
-ghost use Rattle.std.specs.Prelude.{◌≡◌, None, IfOk, true};
+ghost use Rattle.std.specs.Prelude.{◌≡◌, ℕ, List, None, IfOk, true};
+ghost use Rattle.eden_ids.specs.FileMaps.{file_at};
 ghost use Rattle.eden_objects.specs.Commits.{commit_map};
 ghost use Rattle.eden_accumulate.specs.Mounts.{StandsFor};
 ghost use Rattle.eden_history.specs.declared.answer.Answer.TheVariants as answer;
-ghost use Rattle.eden_history.specs.Worlds.{WorldState};
+ghost use Rattle.eden_history.specs.Worlds.{WorldState, now};
 ghost use Rattle.eden_history.specs.Replies.{reply_of};
 ghost use Rattle.eden_query.specs.Mounting.{Applies, refusal_of, told_as};
 ghost use Rattle.eden_query.specs.Raws.{is_answerable, patterns_of, told};
@@ -12,10 +13,9 @@ ghost use Rattle.eden_query.specs.Raws.{is_answerable, patterns_of, told};
 use crate::raw::Raw;
 use crate::served::Served;
 use eden_accumulate::{Checked, Mount};
-use eden_history::{Answer, Change, ChangeFault, Position, Request};
-use eden_ids::{Naming, NoMemory};
+use eden_history::{Answer, Change, ChangeFault, Position, Query, Request};
+use eden_ids::{Content, Naming, NoMemory, Path, Sequence};
 use eden_objects::Store;
-use eden_world::cause_of;
 use std::sync::Arc;
 
 /// A refusal as an answer. A want of memory is none.
@@ -66,19 +66,54 @@ fn apply_to<N: Naming + Drop>(mount: &mut Mount<N>, change: &Change) -> Option<A
     }
 }
 
+/// What changed since a position, as it is asked for.
+fn ranged<N: Naming + Drop>(
+    mount: &Mount<N>,
+    query: Query,
+    since: &Position,
+) -> Result<Raw, NoMemory>
+    ensures replies { IfOk result (λ raw. (world : WorldState) → StandsFor mount.now world → (patterns : List (List ℕ))
+        → told mount.now.held patterns raw ≡ reply_of world (Request.Poll query since.now patterns)) }
+    ensures answerable { IfOk result (λ raw. is_answerable (commit_map mount.now.held) raw ≡ true) }
+{
+    match mount.range_since(mount.store().allocator(), since) {
+        Ok(range) => Ok(Raw::Ranged(query, range)),
+        Err(fault) => Ok(Raw::Refused(query, fault.cause()?)),
+    }
+}
+
+/// The file that stands at a path, or none.
+fn content_at<N: Naming + Drop>(
+    mount: &Mount<N>,
+    path: &Path,
+) -> Result<Option<Content>, NoMemory>
+    ensures { IfOk result (λ content. (world : WorldState) → StandsFor mount.now world → content ≡ file_at (now world).files path.now) }
+{
+    let Ok((kind, bytes)) = mount.read(path) else {
+        return Ok(None);
+    };
+    match bytes.to_vec(mount.store().allocator()) {
+        Ok(bytes) => Ok(Some(Content {
+            kind,
+            bytes: Sequence::from_vec(bytes),
+        })),
+        Err(_) => Err(NoMemory),
+    }
+}
+
 /// What a request asks for.
 fn raw_of<N: Naming + Drop>(mount: &Mount<N>, request: &Request) -> Result<Raw, NoMemory>
     ensures replies { IfOk result (λ raw. (world : WorldState) → StandsFor mount.now world
         → told mount.now.held (patterns_of request.now) raw ≡ reply_of world request.now) }
     ensures answerable { IfOk result (λ raw. is_answerable (commit_map mount.now.held) raw ≡ true) }
 {
-    let Request::Poll { query, since, .. } = request;
-    match mount.range_since(mount.store().allocator(), since) {
-        Ok(range) => Ok(Raw::Ranged(*query, range)),
-        Err(fault) => match cause_of(fault) {
-            Ok(cause) => Ok(Raw::Refused(*query, cause)),
-            Err(_) => Err(NoMemory),
-        },
+    match request {
+        Request::Basis { query, .. } => Ok(Raw::Based(*query, mount.snapshot()?)),
+        Request::Poll { query, since, .. } => ranged(mount, *query, since),
+        Request::Fetch { query, path } => {
+            let content = content_at(mount, path)?;
+            Ok(Raw::Held(*query, mount.position(), path.copy()?, content))
+        }
     }
 }
 

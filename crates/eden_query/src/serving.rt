@@ -1,6 +1,6 @@
 //! A server that answers polls over any reader and writer.
 
-ghost use Rattle.std.specs.Prelude.{◌≡◌, ◌≢◌, ◌+◌, ◌≤◌, ℕ, List, length, IsErrOf, IfOk, IfSome};
+ghost use Rattle.std.specs.Prelude.{◌≡◌, ◌≢◌, ◌+◌, ◌≤◌, ℕ, List, [], length, IsErrOf, IfOk, IfSome};
 ghost use Rattle.eden_stream.specs.FrameAnswers.{AnswersBody};
 ghost use Rattle.eden_stream.specs.Counts.{Rose, RoseBy};
 ghost use Rattle.eden_stream.specs.FrameEnds.{Serves};
@@ -8,12 +8,14 @@ ghost use Rattle.eden_history.specs.Worlds.{WorldState};
 ghost use Rattle.eden_history.specs.Replies.{reply_of};
 ghost use Rattle.eden_history.specs.Spells.{reply_bytes};
 ghost use Rattle.eden_query.specs.Answers.{answer_to, frame_fault};
+ghost use Rattle.eden_query.specs.Raws.{patterns_of};
 
 use crate::answering::answer;
 use crate::decoding::decode_request;
 use crate::encoding::encode_reply;
 use crate::fault::{DecodeFault, EncodeFault};
 use crate::served::Served;
+use eden_globs::{Filter, FilterFault};
 use eden_history::{Reply, Request};
 use eden_ids::{Naming, NoMemory};
 use eden_objects::CommitFault;
@@ -47,6 +49,30 @@ fn fault_of_frame(fault: DecodeFault) -> Option<FrameFault>
     }
 }
 
+/// The filter that admits every path.
+fn all(alloc: Global) -> Result<Filter, NoMemory>
+    ensures { IfOk result (λ filter. filter ≡ []) }
+{
+    match Filter::parse(alloc, &[]) {
+        Ok(filter) => Ok(filter),
+        Err(FilterFault::NoMemory) => Err(NoMemory),
+        // No pattern is a filter.
+        Err(_) => unreachable!(),
+    }
+}
+
+/// The request's filter, or the other one where it has none.
+fn filter_of<'a>(request: &'a Request, everything: &'a Filter) -> &'a Filter
+    requires { everything.now ≡ [] }
+    ensures { result.now ≡ patterns_of request.now }
+{
+    match request {
+        Request::Basis { filter, .. } => filter,
+        Request::Poll { filter, .. } => filter,
+        Request::Fetch { .. } => everything,
+    }
+}
+
 /// What the server replies to a request.
 fn reply_to<N: Naming + Drop, T: Served<N>>(
     server: &mut T,
@@ -56,12 +82,10 @@ fn reply_to<N: Naming + Drop, T: Served<N>>(
     ensures fits { IfOk result (λ reply. length (reply_bytes reply) ≤ 16777216) }
     ensures stands { (world : WorldState) → T.stands_for server.old world → T.stands_for server.new world }
 {
-    let raw = match server.hold(STREAM, request) {
-        Ok(raw) => raw,
-        Err(_) => return Err(NoMemory),
-    };
-    let Request::Poll { filter, .. } = request;
+    let raw = server.hold(STREAM, request)?;
     let store = server.store();
+    let everything = all(store.allocator())?;
+    let filter = filter_of(request, &everything);
     match answer(store.allocator(), &raw, store, filter) {
         Ok(reply) => Ok(reply),
         // What a server holds can be answered over its objects.

@@ -2,4 +2,3 @@ mod Listed
 mod Tabulating
 mod SideLaws
 mod Walk
-mod Replying

@@ -6,7 +6,6 @@
 #![tactic(auto)]
 
 pub use crate::files::Files;
-pub use crate::reply::{admitted, cause_of, changes_reply};
 pub use crate::row::{Event, Row};
 pub use crate::world::World;
 pub use eden_history::{

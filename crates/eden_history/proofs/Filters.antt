@@ -4,8 +4,7 @@ use Rattle.std.specs.Global.{Vec}
 use Rattle.std.specs.List.{AllByRecursion}
 use Rattle.std.proofs.lemmas.List.Elements.{All-from_recursion}
 use Rattle.eden_globs.specs.Filters.{lists, filter_fault}
-use Rattle.eden_query.proofs.Numbers.{IsText}
-use Rattle.eden_query.proofs.FieldLaws.{filter_fits}
+use Rattle.eden_history.proofs.Spelling.{IsText, filter_fits}
 
 lists_len : (patterns : List (Vec ℕ)) → length (lists patterns) ≡ length patterns
 lists_len [] = refl

@@ -1,0 +1,61 @@
+//! What a mount's reply to a request is made of.
+
+ghost use Rattle.std.specs.Prelude.{◌≡◌, ◌≢◌, IfOk, OnOk};
+ghost use Rattle.eden_history.specs.Replies.{admitted, bounded, cause_of};
+
+use crate::answer::SinceFault;
+use crate::mark::Marked;
+use crate::message::{Cause, Query, Reply};
+use eden_globs::Filter;
+use eden_ids::{NoMemory, Sequence};
+use std::alloc::Global;
+
+impl SinceFault {
+    /// The cause that a client is told, with its number. Of a want of memory there is none: that stays `NoMemory`.
+    pub fn cause(self) -> Result<Cause, NoMemory>
+        ensures cause { IfOk result (λ cause. cause ≡ cause_of self) }
+        ensures known { OnOk result (self ≢ SinceFault.NoMemory) }
+    {
+        match self {
+            SinceFault::Stale(generation) => Ok(Cause::Stale(generation)),
+            SinceFault::Ahead(head) => Ok(Cause::Ahead(head)),
+            SinceFault::Truncated(floor) => Ok(Cause::Truncated(floor)),
+            SinceFault::NoMemory => Err(NoMemory),
+        }
+    }
+}
+
+/// The marked paths that the filter admits, in their order. `NoMemory` comes where a growth was refused.
+pub fn admitted(
+    alloc: Global,
+    marked: Sequence<Marked>,
+    filter: &Filter,
+) -> Result<Sequence<Marked>, NoMemory>
+    ensures { IfOk result (λ list. list ≡ admitted filter.now marked) }
+{
+    let items = marked.into_vec().into_iter();
+    match items
+        .filter(|marked| filter.admits(&marked.path))
+        .collect(alloc)
+    {
+        Ok(items) => Ok(Sequence::from_vec(items)),
+        Err(_) => Err(NoMemory),
+    }
+}
+
+impl Reply {
+    /// The reply; or, where its body would be longer than 16,777,216 bytes, that the question's reply is `TooLarge`. This takes no
+    /// memory.
+    #[tactic(auto, using(crate::proofs::BodyLengths::kept_small, crate::proofs::BodyLengths::refused_large))]
+    pub fn bounded(self, query: Query) -> Reply
+        ensures { result ≡ bounded query self }
+    {
+        match self.body_len() {
+            Some(_) => self,
+            None => Reply::Refused {
+                query,
+                cause: Cause::TooLarge,
+            },
+        }
+    }
+}
