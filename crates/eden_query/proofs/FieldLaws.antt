@@ -1,6 +1,6 @@
 -- A field that is read is the field that was written, and what was written is read again.
 use Rattle.std.proofs.Common.{◌≡◌, ℕ, zero, suc, ◌^◌, ◌<◌, ◌≤◌, Bool, true, false, ◌||◌, cond, ltb, eqb, List, [], ◌∷◌, ◌++◌, length, take, drop, Option, Some, None, Ok, Err, refl, sym, ap, subst, ◌∙◌, append_assoc, arith, inl, inr, ◌⊎◌}
-use Rattle.std.specs.Prelude.{is_none}
+use Rattle.std.specs.Prelude.{is_none, map, Result}
 use Rattle.std.specs.declared.cmp.Ordering.{Ordering}
 use Rattle.std.specs.declared.cmp.Ordering.TheVariants.{Less, Equal, Greater}
 use Rattle.std.specs.Int.{w32, w64, to_be_bytes}
@@ -10,12 +10,12 @@ use Rattle.std.specs.Cmp.Lexicographic.{slice_cmp}
 use Rattle.std.proofs.lemmas.Bool.{ltb-false, le-ltb, eqb-false, eqb-true, or_parts}
 use Rattle.std.proofs.lemmas.List.{take_at, drop_at, take-append-drop, length-append, length-take}
 use Rattle.std.proofs.lemmas.List.Concat.{flat_map-cons}
-use Rattle.eden_ids.specs.declared.path.PathFault.TheVariants as faults
+use Rattle.eden_ids.specs.declared.content.Content.{Content}
+use Rattle.eden_ids.specs.declared.content.Kind.{Kind}
+use Rattle.eden_ids.specs.declared.content.Kind.TheVariants.{Plain, Exec, Link}
 use Rattle.eden_ids.specs.declared.id.Id.{Id}
 use Rattle.eden_ids.specs.Paths.{path_fault, IsPath}
-use Rattle.eden_globs.specs.declared.filter.FilterFault.{FilterFault}
-use Rattle.eden_globs.specs.declared.filter.FilterFault.TheVariants as filter_faults
-use Rattle.eden_globs.specs.Filters.{filter_fault, first_fault, patterns_fault, IsFilter}
+use Rattle.eden_globs.specs.Filters.{filter_fault, IsFilter}
 use Rattle.eden_history.specs.declared.mark.Mark.{Mark}
 use Rattle.eden_history.specs.declared.mark.Mark.TheVariants.{Created, Removed, Changed, Root}
 use Rattle.eden_history.specs.declared.mark.Marked.{Marked}
@@ -23,10 +23,12 @@ use Rattle.eden_history.specs.declared.position.Position.{Position}
 use Rattle.eden_history.specs.declared.message.Query.{Query}
 use Rattle.eden_history.specs.declared.message.Cause.{Cause}
 use Rattle.eden_history.specs.declared.message.Cause.TheVariants as causes
-use Rattle.eden_history.specs.Spells.{AreBytes, query_bytes, IsQuery, position_bytes, IsPosition, text_bytes, IsPathText, filter_bytes, IsFilterText, mark_byte, marked_bytes, list_bytes, IsBelowFirst, Ascends, IsListing, cause_bytes, IsCause}
+use Rattle.eden_history.specs.Spells.{AreBytes, query_bytes, IsQuery, position_bytes, IsPosition, text_bytes, IsPathText, filter_bytes, IsFilterText, IsBelowFirst, Ascends, IsListing, paths_bytes, mark_byte, marked_bytes, list_bytes, paths_of, kind_byte, content_bytes, IsValue, cause_bytes, IsCause}
+use Rattle.eden_history.proofs.Spelling.{IsText, path_text, filter_fits}
+use Rattle.eden_query.specs.declared.fault.DecodeFault.{DecodeFault}
 use Rattle.eden_query.specs.declared.fault.DecodeFault.TheVariants.{CutShort, BadField}
-use Rattle.eden_query.specs.Reading.{◌>>=◌, byte_at, number_at, text_at, query_at, root_at, position_at, path_of, path_at, patterns_at, filter_of, filter_at, mark_of_byte, mark_at, is_above, marked_at, list_at, listing_at, cause_of, cause_at}
-use Rattle.eden_query.proofs.Numbers.{IsBytes, IsBytes-take, IsBytes-drop, bytes_are, bind_ok, guard_ok, held_ok, ok_is, along, Takes, Takes-then, byte_takes, wide32, wide64, number_takes, number_again, IsText, text_takes, text_again}
+use Rattle.eden_query.specs.Reading.{◌>>=◌, byte_at, number_at, text_at, query_at, root_at, position_at, path_of, path_at, patterns_at, filter_of, filter_at, mark_of_byte, mark_at, is_above, next_at, items_at, path_listing_at, marked_at, listing_at, kind_of_byte, bytes_at, content_at, cause_of, cause_at}
+use Rattle.eden_query.proofs.Numbers.{IsBytes, IsBytes-take, IsBytes-drop, bytes_are, bind_ok, guard_ok, held_ok, ok_is, along, Takes, Takes-then, byte_takes, wide32, wide64, number_takes, number_again, text_takes, text_again}
 
 -- ---- queries
 
@@ -105,21 +107,6 @@ none_is : {A : Type 0} (o : Option A) → is_none o ≡ true → o ≡ None
 none_is None e = refl
 none_is (Some x) e = absurd cc
 
-no_fault : {A : Type 0} (b : Bool) (fault : A) (others : Option A) → cond b (Some fault) others ≡ None → (b ≡ false) × (others ≡ None)
-no_fault true fault others e = absurd cc
-no_fault false fault others e = (refl, e)
-
-path_text : (path : List ℕ) → IsPath path → IsText 1024 path
-path_text path is =
-    let a = no_fault (eqb (length path) 0) faults.Empty _ is in
-    let b = no_fault (ltb 1024 (length path)) faults.TooLong _ a.1 in
-    let ne : length path ≡ 0 → ⊥ = eqb-false _ _ a.0 in
-    record { some = omega arith; few = ltb-false _ _ b.0 }
-
--- a path is short
-pub path_few : (path : List ℕ) → path_fault path ≡ None → length path ≤ 1024
-path_few path is = (path_text path is).few
-
 pub path_takes : (bytes : List ℕ) (x : List ℕ × List ℕ) → IsBytes bytes → path_at bytes ≡ Ok x → Takes bytes (text_bytes x.0) x.1 × IsPathText x.0
 unfolding path_at
 path_takes bytes x fits e =
@@ -163,21 +150,6 @@ patterns_again (p ∷ ps) rest is =
     let regrouped : flat_map text_bytes (p ∷ ps) ++ rest ≡ text_bytes p ++ (flat_map text_bytes ps ++ rest) =
     ap (λ (x : List ℕ). x ++ rest) (flat_map-cons text_bytes p ps) ∙ append_assoc (text_bytes p) (flat_map text_bytes ps) rest in
     ap (patterns_at (suc (length ps))) regrouped ∙ rw (text_again 256 p (flat_map text_bytes ps ++ rest) (omega arith) is.0, patterns_again ps rest is.1) refl
-
--- no pattern is understood yet, so a filter has none
-pub record FilterFits (patterns : List (List ℕ)) : Type 0 where
-  pub few : length patterns ≤ 32
-  pub texts : AllByRecursion (IsText 256) patterns
-
-never_understood : (b : Bool) (fault other : FilterFault) (others : Option FilterFault) → first_fault (cond b (Some fault) (Some other)) others ≡ None → ⊥
-never_understood true fault other others e = cc
-never_understood false fault other others e = cc
-
-pub filter_fits : (patterns : List (List ℕ)) → IsFilter patterns → FilterFits patterns
-filter_fits [] is = record { few = omega arith; texts = tt }
-filter_fits (p ∷ ps) is =
-    let h = no_fault (ltb 32 (length (p ∷ ps))) filter_faults.TooMany _ is in
-    absurd (never_understood (ltb 256 (length p)) filter_faults.PatternTooLong (filter_faults.BadPattern 0) (patterns_fault 1 ps) h.1)
 
 pub filter_takes : (bytes : List ℕ) (x : List (List ℕ) × List ℕ) → IsBytes bytes → filter_at bytes ≡ Ok x → Takes bytes (filter_bytes x.0) x.1 × IsFilterText x.0
 unfolding filter_at
@@ -278,72 +250,217 @@ unfolding marked_at
 marked_again last marked rest is above =
     rw (mark_again marked.mark (text_bytes marked.path ++ rest), path_again marked.path rest is, is_above_again last marked.path above) refl
 
+-- a path that may come after a last one
+pub next_takes : (last : Option (List ℕ)) (bytes : List ℕ) (x : List ℕ × List ℕ) → IsBytes bytes → next_at last bytes ≡ Ok x
+    → Takes bytes (text_bytes x.0) x.1 × IsPathText x.0 × IsAbove last x.0
+unfolding next_at
+next_takes last bytes x fits e =
+    let a = bind_ok (path_at bytes) (λ p. cond (is_above last p.0) (Ok p) (Err BadField)) x e in
+    let t = path_takes bytes a.0 fits a.1 in
+    let h = held_ok (is_above last a.0.0) (Ok a.0) BadField x a.2 in
+    along (λ (y : List ℕ × List ℕ). Takes bytes (text_bytes y.0) y.1 × IsPathText y.0 × IsAbove last y.0) a.0 x h.1
+    (t.0, t.1, above_is last a.0.0 h.0)
+
+pub next_again : (last : Option (List ℕ)) (path : List ℕ) (rest : List ℕ) → IsPath path → IsAbove last path
+    → next_at last (text_bytes path ++ rest) ≡ Ok (path, rest)
+unfolding next_at
+next_again last path rest is above = rw (path_again path rest is, is_above_again last path above) refl
+
 -- paths that ascend from a last one on
-abbrev pub AscendsFrom : Option (List ℕ) → List Marked → Type 0
+abbrev pub AscendsFrom : Option (List ℕ) → List (List ℕ) → Type 0
 AscendsFrom last [] = Unit {0}
-AscendsFrom last (marked ∷ list) = IsAbove last marked.path × AscendsFrom (Some marked.path) list
+AscendsFrom last (path ∷ paths) = IsAbove last path × AscendsFrom (Some path) paths
 
-after_is : (path : List ℕ) (list : List Marked) → AscendsFrom (Some path) list → IsBelowFirst path list × Ascends list
+after_is : (path : List ℕ) (paths : List (List ℕ)) → AscendsFrom (Some path) paths → IsBelowFirst path paths × Ascends paths
 after_is path [] is = (tt, tt)
-after_is path (marked ∷ list) is = (is.0, after_is marked.path list is.1)
+after_is path (next ∷ paths) is = (is.0, after_is next paths is.1)
 
-after_again : (path : List ℕ) (list : List Marked) → IsBelowFirst path list → Ascends list → AscendsFrom (Some path) list
+after_again : (path : List ℕ) (paths : List (List ℕ)) → IsBelowFirst path paths → Ascends paths → AscendsFrom (Some path) paths
 after_again path [] below is = tt
-after_again path (marked ∷ list) below is = (below, after_again marked.path list is.0 is.1)
+after_again path (next ∷ paths) below is = (below, after_again next paths is.0 is.1)
 
-ascends_is : (list : List Marked) → AscendsFrom None list → Ascends list
+ascends_is : (paths : List (List ℕ)) → AscendsFrom None paths → Ascends paths
 ascends_is [] is = tt
-ascends_is (marked ∷ list) is = after_is marked.path list is.1
+ascends_is (path ∷ paths) is = after_is path paths is.1
 
-ascends_again : (list : List Marked) → Ascends list → AscendsFrom None list
+ascends_again : (paths : List (List ℕ)) → Ascends paths → AscendsFrom None paths
 ascends_again [] is = tt
-ascends_again (marked ∷ list) is = (tt, after_again marked.path list is.0 is.1)
+ascends_again (path ∷ paths) is = (tt, after_again path paths is.0 is.1)
 
-abbrev HasPath : Marked → Type 0
-HasPath marked = IsPathText marked.path
+-- items with a path each, of which one is read and written as here
+record ItemLaws (A : Type 0) (path : A → List ℕ) (item_at : Option (List ℕ) → List ℕ → Result (A × List ℕ) DecodeFault) (spell : A → List ℕ) : Type 0 where
+  takes : (last : Option (List ℕ)) (bytes : List ℕ) (x : A × List ℕ) → IsBytes bytes → item_at last bytes ≡ Ok x
+      → Takes bytes (spell x.0) x.1 × IsPathText (path x.0) × IsAbove last (path x.0)
+  again : (last : Option (List ℕ)) (item : A) (rest : List ℕ) → IsPath (path item) → IsAbove last (path item)
+      → item_at last (spell item ++ rest) ≡ Ok (item, rest)
 
-pub list_takes : (count : ℕ) (last : Option (List ℕ)) (bytes : List ℕ) (x : List Marked × List ℕ) → IsBytes bytes → list_at count last bytes ≡ Ok x
-    → Takes bytes (flat_map marked_bytes x.0) x.1 × (length x.0 ≡ count) × AllByRecursion HasPath x.0 × AscendsFrom last x.0
-unfolding list_at
-list_takes zero last bytes x fits e =
-    along (λ (y : List Marked × List ℕ). Takes bytes (flat_map marked_bytes y.0) y.1 × (length y.0 ≡ 0) × AllByRecursion HasPath y.0 × AscendsFrom last y.0) ([], bytes) x e
+items_take : {A : Type 0} (path : A → List ℕ) (item_at : Option (List ℕ) → List ℕ → Result (A × List ℕ) DecodeFault) (spell : A → List ℕ)
+    → ItemLaws A path item_at spell → (count : ℕ) (last : Option (List ℕ)) (bytes : List ℕ) (x : List A × List ℕ) → IsBytes bytes
+    → items_at path item_at count last bytes ≡ Ok x
+    → Takes bytes (flat_map spell x.0) x.1 × (length x.0 ≡ count) × AllByRecursion IsPathText (map path x.0) × AscendsFrom last (map path x.0)
+unfolding items_at
+items_take {A} path item_at spell laws zero last bytes x fits e =
+    along (λ (y : List A × List ℕ). Takes bytes (flat_map spell y.0) y.1 × (length y.0 ≡ 0) × AllByRecursion IsPathText (map path y.0) × AscendsFrom last (map path y.0)) ([], bytes) x e
     (record { parts = refl; rest_fits = fits }, refl, tt, tt)
-list_takes (suc count) last bytes x fits e =
-    let a = bind_ok (marked_at last bytes) (λ first. list_at count (Some first.0.path) first.1 >>= λ others. Ok (first.0 ∷ others.0, others.1)) x e in
-    let b = bind_ok (list_at count (Some a.0.0.path) a.0.1) (λ others. Ok (a.0.0 ∷ others.0, others.1)) x a.2 in
-    let first = marked_takes last bytes a.0 fits a.1 in
-    let others = list_takes count (Some a.0.0.path) a.0.1 b.0 first.0.rest_fits b.1 in
-    let both = Takes-then bytes (marked_bytes a.0.0) a.0.1 (flat_map marked_bytes b.0.0) b.0.1 first.0 others.0 in
-    let made : List Marked × List ℕ = (a.0.0 ∷ b.0.0, b.0.1) in
-    along (λ (y : List Marked × List ℕ). Takes bytes (flat_map marked_bytes y.0) y.1 × (length y.0 ≡ suc count) × AllByRecursion HasPath y.0 × AscendsFrom last y.0) made x b.2
+items_take {A} path item_at spell laws (suc count) last bytes x fits e =
+    let a = bind_ok (item_at last bytes) (λ first. items_at path item_at count (Some (path first.0)) first.1 >>= λ others. Ok (first.0 ∷ others.0, others.1)) x e in
+    let b = bind_ok (items_at path item_at count (Some (path a.0.0)) a.0.1) (λ others. Ok (a.0.0 ∷ others.0, others.1)) x a.2 in
+    let first = laws.takes last bytes a.0 fits a.1 in
+    let others = items_take path item_at spell laws count (Some (path a.0.0)) a.0.1 b.0 first.0.rest_fits b.1 in
+    let both = Takes-then bytes (spell a.0.0) a.0.1 (flat_map spell b.0.0) b.0.1 first.0 others.0 in
+    let made : List A × List ℕ = (a.0.0 ∷ b.0.0, b.0.1) in
+    along (λ (y : List A × List ℕ). Takes bytes (flat_map spell y.0) y.1 × (length y.0 ≡ suc count) × AllByRecursion IsPathText (map path y.0) × AscendsFrom last (map path y.0)) made x b.2
     (rw flat_map-cons both, ap suc others.1, (first.1, others.2), (first.2, others.3))
 
-pub list_again : (list : List Marked) (last : Option (List ℕ)) (rest : List ℕ) → AllByRecursion HasPath list → AscendsFrom last list
-    → list_at (length list) last (flat_map marked_bytes list ++ rest) ≡ Ok (list, rest)
-unfolding list_at
-list_again [] last rest is above = refl
-list_again (m ∷ ms) last rest is above =
-    let regrouped : flat_map marked_bytes (m ∷ ms) ++ rest ≡ marked_bytes m ++ (flat_map marked_bytes ms ++ rest) =
-    ap (λ (x : List ℕ). x ++ rest) (flat_map-cons marked_bytes m ms) ∙ append_assoc (marked_bytes m) (flat_map marked_bytes ms) rest in
-    ap (list_at (suc (length ms)) last) regrouped
-    ∙ rw (marked_again last m (flat_map marked_bytes ms ++ rest) is.0.path above.0, list_again ms (Some m.path) rest is.1 above.1) refl
+items_again : {A : Type 0} (path : A → List ℕ) (item_at : Option (List ℕ) → List ℕ → Result (A × List ℕ) DecodeFault) (spell : A → List ℕ)
+    → ItemLaws A path item_at spell → (list : List A) (last : Option (List ℕ)) (rest : List ℕ)
+    → AllByRecursion IsPathText (map path list) → AscendsFrom last (map path list)
+    → items_at path item_at (length list) last (flat_map spell list ++ rest) ≡ Ok (list, rest)
+unfolding items_at
+items_again path item_at spell laws [] last rest is above = refl
+items_again path item_at spell laws (m ∷ ms) last rest is above =
+    let regrouped : flat_map spell (m ∷ ms) ++ rest ≡ spell m ++ (flat_map spell ms ++ rest) =
+    ap (λ (x : List ℕ). x ++ rest) (flat_map-cons spell m ms) ∙ append_assoc (spell m) (flat_map spell ms) rest in
+    ap (items_at path item_at (suc (length ms)) last) regrouped
+    ∙ rw (laws.again last m (flat_map spell ms ++ rest) is.0.path above.0, items_again path item_at spell laws ms (Some (path m)) rest is.1 above.1) refl
 
-pub listing_takes : (bytes : List ℕ) (x : List Marked × List ℕ) → IsBytes bytes → listing_at bytes ≡ Ok x → Takes bytes (list_bytes x.0) x.1 × IsListing x.0
-unfolding listing_at
-listing_takes bytes x fits e =
-    let a = bind_ok (number_at w32 bytes) (λ n. list_at n.0 None n.1) x e in
+map_length : {A : Type 0} (path : A → List ℕ) (list : List A) → length (map path list) ≡ length list
+map_length path [] = refl
+map_length path (x ∷ list) = ap suc (map_length path list)
+
+map_same : (paths : List (List ℕ)) → map (λ path. path) paths ≡ paths
+map_same [] = refl
+map_same (path ∷ paths) = ap (λ (ps : List (List ℕ)). path ∷ ps) (map_same paths)
+
+-- what a list of items takes, and what is known of its paths
+items_counted : {A : Type 0} (path : A → List ℕ) (item_at : Option (List ℕ) → List ℕ → Result (A × List ℕ) DecodeFault) (spell : A → List ℕ)
+    → ItemLaws A path item_at spell → (bytes : List ℕ) (x : List A × List ℕ) → IsBytes bytes
+    → (number_at w32 bytes >>= λ n. items_at path item_at n.0 None n.1) ≡ Ok x
+    → Takes bytes (to_be_bytes w32 (length x.0) ++ flat_map spell x.0) x.1 × IsListing (map path x.0)
+items_counted path item_at spell laws bytes x fits e =
+    let a = bind_ok (number_at w32 bytes) (λ n. items_at path item_at n.0 None n.1) x e in
     let t0 = number_takes w32 (2 ^ 32) wide32 bytes a.0 fits a.1 in
-    let t1 = list_takes a.0.0 None a.0.1 x t0.0.rest_fits a.2 in
-    let both = Takes-then bytes (to_be_bytes w32 a.0.0) a.0.1 (flat_map marked_bytes x.0) x.1 t0.0 t1.0 in (
-      subst (λ (k : ℕ). Takes bytes (to_be_bytes w32 k ++ flat_map marked_bytes x.0) x.1) (sym t1.1) both,
-      record { count = omega (arith, t1.1, t0.1); paths = t1.2; ascends = ascends_is x.0 t1.3 },
+    let t1 = items_take path item_at spell laws a.0.0 None a.0.1 x t0.0.rest_fits a.2 in
+    let both = Takes-then bytes (to_be_bytes w32 a.0.0) a.0.1 (flat_map spell x.0) x.1 t0.0 t1.0 in (
+      subst (λ (k : ℕ). Takes bytes (to_be_bytes w32 k ++ flat_map spell x.0) x.1) (sym t1.1) both,
+      record { count = omega (arith, t1.1, t0.1, map_length path x.0); texts = t1.2; ascends = ascends_is (map path x.0) t1.3 },
     )
 
-pub listing_again : (list : List Marked) (rest : List ℕ) → IsListing list → listing_at (list_bytes list ++ rest) ≡ Ok (list, rest)
+marked_laws : ItemLaws Marked (λ marked. marked.path) marked_at marked_bytes
+marked_laws = record { takes = marked_takes; again = marked_again }
+
+next_laws : ItemLaws (List ℕ) (λ path. path) next_at text_bytes
+next_laws = record { takes = next_takes; again = next_again }
+
+pub listing_takes : (bytes : List ℕ) (x : List Marked × List ℕ) → IsBytes bytes → listing_at bytes ≡ Ok x → Takes bytes (list_bytes x.0) x.1 × IsListing (paths_of x.0)
+unfolding listing_at
+listing_takes bytes x fits e = items_counted (λ marked. marked.path) marked_at marked_bytes marked_laws bytes x fits e
+
+pub listing_again : (list : List Marked) (rest : List ℕ) → IsListing (paths_of list) → listing_at (list_bytes list ++ rest) ≡ Ok (list, rest)
 unfolding listing_at
 listing_again list rest is =
+    let few : length list < 2 ^ 32 = omega (arith, is.count, map_length (λ (marked : Marked). marked.path) list) in
     ap listing_at (append_assoc (to_be_bytes w32 (length list)) (flat_map marked_bytes list) rest)
-    ∙ rw (number_again w32 (2 ^ 32) wide32 (length list) (flat_map marked_bytes list ++ rest) is.count) (list_again list None rest is.paths (ascends_again list is.ascends))
+    ∙ rw (number_again w32 (2 ^ 32) wide32 (length list) (flat_map marked_bytes list ++ rest) few)
+    (items_again (λ marked. marked.path) marked_at marked_bytes marked_laws list None rest is.texts (ascends_again (paths_of list) is.ascends))
+
+pub path_listing_takes : (bytes : List ℕ) (x : List (List ℕ) × List ℕ) → IsBytes bytes → path_listing_at bytes ≡ Ok x → Takes bytes (paths_bytes x.0) x.1 × IsListing x.0
+unfolding path_listing_at
+path_listing_takes bytes x fits e =
+    let t = items_counted (λ path. path) next_at text_bytes next_laws bytes x fits e in
+    (t.0, subst IsListing (map_same x.0) t.1)
+
+pub path_listing_again : (paths : List (List ℕ)) (rest : List ℕ) → IsListing paths → path_listing_at (paths_bytes paths ++ rest) ≡ Ok (paths, rest)
+unfolding path_listing_at
+path_listing_again paths rest is =
+    ap path_listing_at (append_assoc (to_be_bytes w32 (length paths)) (flat_map text_bytes paths) rest)
+    ∙ rw (number_again w32 (2 ^ 32) wide32 (length paths) (flat_map text_bytes paths ++ rest) is.count)
+    (items_again (λ path. path) next_at text_bytes next_laws paths None rest
+    (subst (AllByRecursion IsPathText) (sym (map_same paths)) is.texts) (subst (AscendsFrom None) (sym (map_same paths)) (ascends_again paths is.ascends)))
+
+-- ---- contents
+
+kind_is : (byte : ℕ) (kind : Kind) → kind_of_byte byte ≡ Ok kind → byte ≡ kind_byte kind
+kind_is byte kind e =
+    elim (chosen (eqb byte 1) (Ok Plain) _ (Ok kind) e) [
+      | inl h ↦ along (λ (k : Kind). byte ≡ kind_byte k) Plain kind h.1 (eqb-true byte 1 h.0)
+      | inr h ↦ elim (chosen (eqb byte 2) (Ok Exec) _ (Ok kind) h.1) [
+        | inl l ↦ along (λ (k : Kind). byte ≡ kind_byte k) Exec kind l.1 (eqb-true byte 2 l.0)
+        | inr l ↦
+            let last = held_ok (eqb byte 3) (Ok Link) BadField kind l.1 in
+            along (λ (k : Kind). byte ≡ kind_byte k) Link kind last.1 (eqb-true byte 3 last.0)
+      ]
+    ]
+
+bytes_take : (bytes : List ℕ) (x : List ℕ × List ℕ) → IsBytes bytes → bytes_at bytes ≡ Ok x
+    → Takes bytes (to_be_bytes w32 (length x.0) ++ x.0) x.1 × (length x.0 ≤ 8388608) × AreBytes x.0
+unfolding bytes_at
+bytes_take bytes x fits e =
+    let b = bind_ok (number_at w32 bytes) (λ n. cond (ltb 8388608 n.0) (Err BadField) (cond (ltb (length n.1) n.0) (Err CutShort) (Ok (take n.0 n.1, drop n.0 n.1)))) x e in
+    let n = b.0 in
+    let t = number_takes w32 (2 ^ 32) wide32 bytes n fits b.1 in
+    let g = guard_ok (ltb 8388608 n.0) BadField (cond (ltb (length n.1) n.0) (Err CutShort) (Ok (take n.0 n.1, drop n.0 n.1))) x b.2 in
+    let few : n.0 ≤ 8388608 = ltb-false _ _ g.0 in
+    let h = guard_ok (ltb (length n.1) n.0) CutShort (Ok (take n.0 n.1, drop n.0 n.1)) x g.1 in
+    let long : n.0 ≤ length n.1 = ltb-false _ _ h.0 in
+    let len : length (take n.0 n.1) ≡ n.0 = omega (arith, length-take n.0 n.1) in
+    let second : Takes n.1 (take n.0 n.1) (drop n.0 n.1) = record { parts = sym (take-append-drop n.0 n.1); rest_fits = IsBytes-drop n.0 n.1 t.0.rest_fits } in
+    let both = Takes-then bytes (to_be_bytes w32 n.0) n.1 (take n.0 n.1) (drop n.0 n.1) t.0 second in
+    let whole : Takes bytes (to_be_bytes w32 (length (take n.0 n.1)) ++ take n.0 n.1) (drop n.0 n.1) =
+    subst (λ (k : ℕ). Takes bytes (to_be_bytes w32 k ++ take n.0 n.1) (drop n.0 n.1)) (sym len) both in
+    along (λ (p : List ℕ × List ℕ). Takes bytes (to_be_bytes w32 (length p.0) ++ p.0) p.1 × (length p.0 ≤ 8388608) × AreBytes p.0) (take n.0 n.1, drop n.0 n.1) x h.1
+    (whole, omega (arith, len, few), bytes_are (take n.0 n.1) (IsBytes-take n.0 n.1 t.0.rest_fits))
+
+bytes_again : (held rest : List ℕ) → length held ≤ 8388608 → bytes_at ((to_be_bytes w32 (length held) ++ held) ++ rest) ≡ Ok (held, rest)
+unfolding bytes_at
+bytes_again held rest is =
+    let few : ltb 8388608 (length held) ≡ false = le-ltb _ _ is in
+    let long : ltb (length (held ++ rest)) (length held) ≡ false = le-ltb _ _ (omega (arith, length-append held rest)) in
+    ap bytes_at (append_assoc (to_be_bytes w32 (length held)) held rest)
+    ∙ rw (number_again w32 (2 ^ 32) wide32 (length held) (held ++ rest) (omega (arith, is)), few, long, take_at held rest (length held) refl, drop_at held rest (length held) refl) refl
+
+abbrev file_at : ℕ × List ℕ → Result (Option Content × List ℕ) DecodeFault
+file_at byte = kind_of_byte byte.0 >>= λ kind. bytes_at byte.1 >>= λ held. Ok (Some (record { kind = kind; bytes = held.0 }), held.1)
+
+file_takes : (byte : ℕ × List ℕ) (x : Option Content × List ℕ) → IsBytes byte.1 → file_at byte ≡ Ok x
+    → Takes (byte.0 ∷ byte.1) (content_bytes x.0) x.1 × IsValue x.0
+file_takes byte x fits e =
+    let a = bind_ok (kind_of_byte byte.0) (λ kind. bytes_at byte.1 >>= λ held. Ok (Some (record { kind = kind; bytes = held.0 }), held.1)) x e in
+    let b = bind_ok (bytes_at byte.1) (λ held. Ok (Some (record { kind = a.0; bytes = held.0 }), held.1)) x a.2 in
+    let t = bytes_take byte.1 b.0 fits b.1 in
+    let made : Option Content × List ℕ = (Some (record { kind = a.0; bytes = b.0.0 }), b.0.1) in
+    let front : byte.0 ∷ byte.1 ≡ kind_byte a.0 ∷ (to_be_bytes w32 (length b.0.0) ++ b.0.0) ++ b.0.1 =
+    ap (λ (k : ℕ). k ∷ byte.1) (kind_is byte.0 a.0 a.1) ∙ ap (λ (r : List ℕ). kind_byte a.0 ∷ r) t.0.parts in
+    along (λ (y : Option Content × List ℕ). Takes (byte.0 ∷ byte.1) (content_bytes y.0) y.1 × IsValue y.0) made x b.2
+    (record { parts = front; rest_fits = t.0.rest_fits }, record { few = t.1; bytes = t.2 })
+
+content_from : (byte : ℕ × List ℕ) (x : Option Content × List ℕ) → IsBytes byte.1 → cond (eqb byte.0 0) (Ok (None, byte.1)) (file_at byte) ≡ Ok x
+    → Takes (byte.0 ∷ byte.1) (content_bytes x.0) x.1 × IsValue x.0
+content_from byte x fits e =
+    elim (chosen (eqb byte.0 0) (Ok (None, byte.1)) (file_at byte) (Ok x) e) [
+      | inl h ↦
+          along (λ (y : Option Content × List ℕ). Takes (byte.0 ∷ byte.1) (content_bytes y.0) y.1 × IsValue y.0) (None, byte.1) x h.1
+          (record { parts = ap (λ (k : ℕ). k ∷ byte.1) (eqb-true byte.0 0 h.0); rest_fits = fits }, tt)
+      | inr h ↦ file_takes byte x fits h.1
+    ]
+
+pub content_takes : (bytes : List ℕ) (x : Option Content × List ℕ) → IsBytes bytes → content_at bytes ≡ Ok x → Takes bytes (content_bytes x.0) x.1 × IsValue x.0
+unfolding content_at
+content_takes bytes x fits e =
+    let a = bind_ok (byte_at bytes) (λ byte. cond (eqb byte.0 0) (Ok (None, byte.1)) (file_at byte)) x e in
+    let t = byte_takes bytes a.0 fits a.1 in
+    let c = content_from a.0 x t.0.rest_fits a.2 in
+    (record { parts = t.0.parts ∙ c.0.parts; rest_fits = c.0.rest_fits }, c.1)
+
+pub content_again : (content : Option Content) (rest : List ℕ) → IsValue content → content_at (content_bytes content ++ rest) ≡ Ok (content, rest)
+unfolding content_at
+content_again None rest is = refl
+content_again (Some content) rest is = file_again content.kind content.bytes rest is.few
+  where
+    file_again : (kind : Kind) (held rest : List ℕ) → length held ≤ 8388608 → content_at (content_bytes (Some (record { kind = kind; bytes = held })) ++ rest) ≡ Ok (Some (record { kind = kind; bytes = held }), rest)
+    file_again Plain held rest few = rw (bytes_again held rest few) refl
+    file_again Exec held rest few = rw (bytes_again held rest few) refl
+    file_again Link held rest few = rw (bytes_again held rest few) refl
 
 -- ---- causes
 

@@ -3,11 +3,10 @@ use Rattle.std.proofs.Common.{◌≡◌, ◌≢◌, ℕ, suc, ◌-◌, ◌+◌, 
 use Rattle.std.proofs.lemmas.List.{append-nil, length-append}
 use Rattle.std.proofs.lemmas.Option.{slice_get-get_or}
 use Rattle.std.proofs.Math.Seq.{get_or-append_seam}
-use Rattle.eden_history.specs.declared.mark.Marked.{Marked}
 use Rattle.eden_query.specs.declared.fault.DecodeFault.{DecodeFault}
 use Rattle.eden_query.specs.declared.fault.DecodeFault.TheVariants.{NoMemory}
-use Rattle.eden_query.specs.Reading.{◌>>=◌, text_at, patterns_at, marked_at, list_at}
-use Rattle.eden_query.specs.Listing.{last_path}
+use Rattle.eden_query.specs.Reading.{◌>>=◌, text_at, patterns_at, items_at}
+use Rattle.eden_query.specs.Listing.{last_by}
 
 -- what was read before, and what is still read
 abbrev pub with_front : {X : Type 0} → List X → Result (List X × List ℕ) DecodeFault → Result (List X × List ℕ) DecodeFault
@@ -48,39 +47,44 @@ patterns_done front count i bytes total none so_far =
     let one : with_front front (patterns_at (count - i) bytes) ≡ Ok (front, bytes) = rw k (ap (λ (xs : List (List ℕ)). Ok (xs, bytes)) (append-nil front)) in
     sym so_far ∙ one
 
--- ---- marked paths
+-- ---- paths that ascend, each in an item
 
-pub last_path-push : (front : List Marked) (marked : Marked) → last_path (front ++ marked ∷ []) ≡ Some marked.path
-last_path-push front marked =
-    let n : length (front ++ marked ∷ []) - 1 ≡ length front = simp length-append (omega arith) in
-    rw (n, slice_get-get_or (front ++ marked ∷ []) (length front) marked (simp length-append (omega arith)), get_or-append_seam front marked [] marked) refl
+pub last_by-push : {A : Type 0} (path : A → List ℕ) (front : List A) (x : A) → last_by path (front ++ x ∷ []) ≡ Some (path x)
+last_by-push path front x =
+    let n : length (front ++ x ∷ []) - 1 ≡ length front = simp length-append (omega arith) in
+    rw (n, slice_get-get_or (front ++ x ∷ []) (length front) x (simp length-append (omega arith)), get_or-append_seam front x [] x) refl
 
-pub list_goes_on : (front : List Marked) (count i : ℕ) (bytes : List ℕ) (marked : Marked) (after : List ℕ) (total : Result (List Marked × List ℕ) DecodeFault)
-    → i < count → marked_at (last_path front) bytes ≡ Ok (marked, after)
-    → with_front front (list_at (count - i) (last_path front) bytes) ≡ total
-    → with_front (front ++ marked ∷ []) (list_at (count - (i + 1)) (last_path (front ++ marked ∷ [])) after) ≡ total
-unfolding list_at
-list_goes_on front count i bytes marked after total more read so_far =
+abbrev Reader : Type 0 → Type 0
+Reader A = Option (List ℕ) → List ℕ → Result (A × List ℕ) DecodeFault
+
+pub items_go_on : {A : Type 0} (path : A → List ℕ) (item_at : Reader A) (front : List A) (count i : ℕ) (bytes : List ℕ) (x : A) (after : List ℕ)
+    (total : Result (List A × List ℕ) DecodeFault) → i < count → item_at (last_by path front) bytes ≡ Ok (x, after)
+    → with_front front (items_at path item_at (count - i) (last_by path front) bytes) ≡ total
+    → with_front (front ++ x ∷ []) (items_at path item_at (count - (i + 1)) (last_by path (front ++ x ∷ [])) after) ≡ total
+unfolding items_at
+items_go_on {A} path item_at front count i bytes x after total more read so_far =
     let k : count - i ≡ suc (count - (i + 1)) = omega arith in
-    let one : with_front front (list_at (count - i) (last_path front) bytes) ≡ with_front (front ++ marked ∷ []) (list_at (count - (i + 1)) (Some marked.path) after) =
-    rw (k, read) (regroup front marked (list_at (count - (i + 1)) (Some marked.path) after)) in
-    let last : last_path (front ++ marked ∷ []) ≡ Some marked.path = last_path-push front marked in
-    ap (λ (l : Option (List ℕ)). with_front (front ++ marked ∷ []) (list_at (count - (i + 1)) l after)) last ∙ (sym one ∙ so_far)
+    let one : with_front front (items_at path item_at (count - i) (last_by path front) bytes) ≡ with_front (front ++ x ∷ []) (items_at path item_at (count - (i + 1)) (Some (path x)) after) =
+    rw (k, read) (regroup front x (items_at path item_at (count - (i + 1)) (Some (path x)) after)) in
+    let last : last_by path (front ++ x ∷ []) ≡ Some (path x) = last_by-push path front x in
+    ap (λ (l : Option (List ℕ)). with_front (front ++ x ∷ []) (items_at path item_at (count - (i + 1)) l after)) last ∙ (sym one ∙ so_far)
 
-pub list_ends : (fault : DecodeFault) (front : List Marked) (count i : ℕ) (bytes : List ℕ) (total : Result (List Marked × List ℕ) DecodeFault)
-    → i < count → (fault ≢ NoMemory → marked_at (last_path front) bytes ≡ Err fault)
-    → with_front front (list_at (count - i) (last_path front) bytes) ≡ total → fault ≢ NoMemory → total ≡ Err fault
-unfolding list_at
-list_ends fault front count i bytes total more read so_far told =
+pub items_end : {A : Type 0} (path : A → List ℕ) (item_at : Reader A) (fault : DecodeFault) (front : List A) (count i : ℕ) (bytes : List ℕ)
+    (total : Result (List A × List ℕ) DecodeFault) → i < count → (fault ≢ NoMemory → item_at (last_by path front) bytes ≡ Err fault)
+    → with_front front (items_at path item_at (count - i) (last_by path front) bytes) ≡ total → fault ≢ NoMemory → total ≡ Err fault
+unfolding items_at
+items_end path item_at fault front count i bytes total more read so_far told =
     let k : count - i ≡ suc (count - (i + 1)) = omega arith in
     let e = read told in
-    let one : with_front front (list_at (count - i) (last_path front) bytes) ≡ Err fault = rw (k, e) refl in
+    let one : with_front front (items_at path item_at (count - i) (last_by path front) bytes) ≡ Err fault = rw (k, e) refl in
     sym so_far ∙ one
 
-pub list_done : (front : List Marked) (count i : ℕ) (bytes : List ℕ) (total : Result (List Marked × List ℕ) DecodeFault)
-    → count ≤ i → with_front front (list_at (count - i) (last_path front) bytes) ≡ total → total ≡ Ok (front, bytes)
-unfolding list_at
-list_done front count i bytes total none so_far =
+pub items_done : {A : Type 0} (path : A → List ℕ) (item_at : Reader A) (front : List A) (count i : ℕ) (bytes : List ℕ)
+    (total : Result (List A × List ℕ) DecodeFault) → count ≤ i
+    → with_front front (items_at path item_at (count - i) (last_by path front) bytes) ≡ total → total ≡ Ok (front, bytes)
+unfolding items_at
+items_done {A} path item_at front count i bytes total none so_far =
     let k : count - i ≡ 0 = omega arith in
-    let one : with_front front (list_at (count - i) (last_path front) bytes) ≡ Ok (front, bytes) = rw k (ap (λ (xs : List Marked). Ok (xs, bytes)) (append-nil front)) in
+    let one : with_front front (items_at path item_at (count - i) (last_by path front) bytes) ≡ Ok (front, bytes) =
+    rw k (ap (λ (xs : List A). Ok (xs, bytes)) (append-nil front)) in
     sym so_far ∙ one

@@ -5,6 +5,7 @@ use Rattle.std.proofs.lemmas.Bool.{cases_lt, ltb-false, le-ltb, eqb-false, eqb-t
 use Rattle.std.proofs.lemmas.List.{take_at, drop_at, take-append-drop, length-append, length-take, get_or-drop, get_or-take, get_or_past, nil_from_length}
 use Rattle.std.proofs.lemmas.Nat.{be_bytes_2, be_bytes_4, be_bytes_8, from_be_bytes-to_be_bytes_2, from_be_bytes-to_be_bytes_4, from_be_bytes-to_be_bytes_8}
 use Rattle.eden_history.specs.Spells.{AreBytes, text_bytes}
+use Rattle.eden_history.proofs.Spelling.{IsText}
 use Rattle.eden_query.specs.declared.fault.DecodeFault.{DecodeFault}
 use Rattle.eden_query.specs.declared.fault.DecodeFault.TheVariants.{CutShort, BadField, Trailing}
 use Rattle.eden_query.specs.Reading.{◌>>=◌, byte_at, number_at, text_at, ended}
@@ -121,10 +122,6 @@ number_again w limit wide n rest lt =
     rw (long, take_at (to_be_bytes w n) rest (byte_len w) len, drop_at (to_be_bytes w n) rest (byte_len w) len, wide.again n lt) refl
 
 -- ---- texts
-
-pub record IsText (limit : ℕ) (text : List ℕ) : Type 0 where
-  pub some : 0 < length text
-  pub few : length text ≤ limit
 
 some_of : (n : ℕ) → eqb n 0 ≡ false → 0 < n
 some_of n e = let ne : n ≡ 0 → ⊥ = eqb-false n 0 e in omega arith

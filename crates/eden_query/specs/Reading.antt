@@ -118,13 +118,18 @@ next_at last bytes = do
   path ← path_at bytes
   if is_above last path.0 then Ok path else Err BadField
 
--- so many paths, of which the first is above a last one
-unfoldable pub paths_at : ℕ → Option (List ℕ) → List ℕ → Result (List (List ℕ) × List ℕ) DecodeFault
-paths_at zero last bytes = Ok ([], bytes)
-paths_at (suc count) last bytes = do
-  first ← next_at last bytes
-  others ← paths_at count (Some first.0) first.1
+-- so many items, each read by what it may come after: the path of the one before it, or a last path
+unfoldable pub items_at : {A : Type 0} → (A → List ℕ) → (Option (List ℕ) → List ℕ → Result (A × List ℕ) DecodeFault) → ℕ → Option (List ℕ) → List ℕ
+    → Result (List A × List ℕ) DecodeFault
+items_at path item_at zero last bytes = Ok ([], bytes)
+items_at path item_at (suc count) last bytes = do
+  first ← item_at last bytes
+  others ← items_at path item_at count (Some (path first.0)) first.1
   Ok (first.0 ∷ others.0, others.1)
+
+-- so many paths that ascend
+abbrev pub paths_at : ℕ → Option (List ℕ) → List ℕ → Result (List (List ℕ) × List ℕ) DecodeFault
+paths_at count last bytes = items_at (λ path. path) next_at count last bytes
 
 unfoldable pub path_listing_at : List ℕ → Result (List (List ℕ) × List ℕ) DecodeFault
 path_listing_at bytes = do
@@ -137,13 +142,9 @@ marked_at last bytes = do
   path ← path_at mark.1
   if is_above last path.0 then Ok (record { mark = mark.0; path = path.0 }, path.1) else Err BadField
 
--- so many marked paths, of which the first is above a last one
-unfoldable pub list_at : ℕ → Option (List ℕ) → List ℕ → Result (List Marked × List ℕ) DecodeFault
-list_at zero last bytes = Ok ([], bytes)
-list_at (suc count) last bytes = do
-  first ← marked_at last bytes
-  others ← list_at count (Some first.0.path) first.1
-  Ok (first.0 ∷ others.0, others.1)
+-- so many marked paths that ascend
+abbrev pub list_at : ℕ → Option (List ℕ) → List ℕ → Result (List Marked × List ℕ) DecodeFault
+list_at count last bytes = items_at (λ marked. marked.path) marked_at count last bytes
 
 unfoldable pub listing_at : List ℕ → Result (List Marked × List ℕ) DecodeFault
 listing_at bytes = do

@@ -1,10 +1,10 @@
 use Rattle.std.proofs.Common.{◌≡◌, ◌-◌, None}
 use Rattle.eden_query.specs.Reading.{list_at}
-use Rattle.eden_query.specs.Listing.{last_path}
+use Rattle.eden_query.specs.Listing.{last_marked}
 use Rattle.eden_query.proofs.Loops.{with_front}
 use Rattle.eden_query.proofs.decoding.list_of.Given as goal
 
 -- what was read, and what is still to be read, is all of it
 abbrev pub invariant-loop : goal.invariant-loop
 invariant-loop l =
-    with_front l.list.items (list_at (l.count - l.counter) (last_path l.list.items) l.rest) ≡ list_at l.count None l.bytes
+    with_front l.list.items (list_at (l.count - l.counter) (last_marked l.list.items) l.rest) ≡ list_at l.count None l.bytes
