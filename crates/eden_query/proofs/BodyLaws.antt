@@ -220,8 +220,12 @@ reply_again (BasisIs query position paths) is limit =
 reply_again (ContentIs query position path content) is limit =
     let rest = query_bytes query ++ (position_bytes position ++ (text_bytes path ++ content_bytes content)) in
     let end : content_at (content_bytes content) ≡ Ok (content, []) = ap content_at (sym (append-nil (content_bytes content))) ∙ content_again content [] is.3 in
-    rw (tag_again 131 rest limit) (rw (query_again query (position_bytes position ++ (text_bytes path ++ content_bytes content)) is.0,
-    position_again position (text_bytes path ++ content_bytes content) is.1, path_again path (content_bytes content) is.2.path, end) refl)
+    rw (tag_again 131 rest limit) (rw (
+      query_again query (position_bytes position ++ (text_bytes path ++ content_bytes content)) is.0,
+      position_again position (text_bytes path ++ content_bytes content) is.1,
+      path_again path (content_bytes content) is.2.path,
+      end,
+    ) refl)
 reply_again (ChangesAre query target marked) is limit =
     let rest = query_bytes query ++ (position_bytes target ++ list_bytes marked) in
     let end : listing_at (list_bytes marked) ≡ Ok (marked, []) = ap listing_at (sym (append-nil (list_bytes marked))) ∙ listing_again marked [] is.2 in

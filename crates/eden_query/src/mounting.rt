@@ -83,10 +83,7 @@ fn ranged<N: Naming + Drop>(
 }
 
 /// The file that stands at a path, or none.
-fn content_at<N: Naming + Drop>(
-    mount: &Mount<N>,
-    path: &Path,
-) -> Result<Option<Content>, NoMemory>
+fn content_at<N: Naming + Drop>(mount: &Mount<N>, path: &Path) -> Result<Option<Content>, NoMemory>
     ensures { IfOk result (λ content. (world : WorldState) → StandsFor mount.now world → content ≡ file_at (now world).files path.now) }
 {
     let Ok((kind, bytes)) = mount.read(path) else {
