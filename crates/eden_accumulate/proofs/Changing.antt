@@ -6,9 +6,9 @@ use Rattle.eden_ids.specs.declared.content.Content.{Content}
 use Rattle.eden_ids.specs.declared.content.Kind.{Kind}
 use Rattle.eden_ids.specs.FileMaps.{FileMap, file_at}
 use Rattle.eden_ids.proofs.FileMapLemmas.{file_at-insert_here, file_at-insert_other, file_at-remove_here}
-use Rattle.eden_deltas.specs.declared.touch.FileTouch.{FileTouch}
+use Rattle.eden_deltas.specs.FilesChanged.{FilesChanged}
 use Rattle.eden_deltas.specs.declared.delta.Delta.TheVariants.{File}
-use Rattle.eden_deltas.specs.Deltas.{touch}
+use Rattle.eden_deltas.specs.Deltas.{touch, touched_at, moved_over}
 use Rattle.eden_objects.specs.Objects.{Held}
 use Rattle.eden_journal.specs.Histories as journal
 use Rattle.eden_journal.specs.Histories.{History, flushed, recorded}
@@ -34,8 +34,8 @@ abbrev pub state : List Held → WorkCopy → journal.Log → State
 state held work log = record { held = held; work = work; log = log }
 
 -- the second log has one more change of files
-abbrev pub GrowsBy : journal.Log → journal.Log → List FileTouch → Type 0
-GrowsBy log more touches = (h : History) → journal.StandsFor log h → journal.StandsFor more (recorded h h.root (File touches))
+abbrev pub GrowsBy : journal.Log → journal.Log → FilesChanged → Type 0
+GrowsBy log more files = (h : History) → journal.StandsFor log h → journal.StandsFor more (recorded h h.root (File files))
 
 -- the same mount, told by other parts
 pub kept : (held : List Held) (work other : WorkCopy) (log more : journal.Log) → other ≡ work → more ≡ log → IsPresent (state held work log) → IsPresent (state held other more)
@@ -51,8 +51,8 @@ left held work log more mount view h same change fault is none takes =
     omega arith
 
 -- a journal that made room first
-pub grown_by : (log other more : journal.Log) (touches : List FileTouch) → other ≡ log
-    → ((h : History) → journal.StandsFor other h → journal.StandsFor more (recorded h h.root (File touches))) → GrowsBy log more touches
+pub grown_by : (log other more : journal.Log) (delta : FilesChanged) → other ≡ log
+    → ((h : History) → journal.StandsFor other h → journal.StandsFor more (recorded h h.root (File delta))) → GrowsBy log more delta
 grown_by log other more touches same grows h is = grows h (subst (λ l. journal.StandsFor l h) (sym same) is)
 
 -- what a change of files makes of a working copy over a store
@@ -70,9 +70,9 @@ pub file_stands : (held : List Held) (old new : WorkCopy) (log more : journal.Lo
     → (world : WorldState) → StandsFor mount world → (change : Change) → starts change ≡ false → next_root (now world) change ≡ (now world).root
     → refusal (commits_of world) (now world) change ≡ None → is_event change ≡ true
     → FitsIn held new → new.root ≡ old.root → means held new ≡ next_files (commits_of world) (now world) change
-    → (touches : List FileTouch) → File touches ≡ delta_of (now world) (event_of world change) → GrowsBy log more touches
+    → (delta : FilesChanged) → File delta ≡ delta_of (now world) (event_of world change) → GrowsBy log more delta
     → StandsFor (state held new more) (world_after world change)
-file_stands held old new log more mount view world h change e stays allowed happens fits root files touches is grows =
+file_stands held old new log more mount view world h change e stays allowed happens fits root files delta is grows =
     let h-old : StandsFor (state held old log) world = subst (λ m. StandsFor m world) (sym view) h in
     made_stands (state held old log) world change (state held new more) (record {
       stood = h-old;
@@ -82,8 +82,8 @@ file_stands held old new log more mount view world h change e stays allowed happ
       fits = fits;
       root = root ∙ h-old.root ∙ sym stays;
       files = files;
-      log = log_recorded world change more (File touches) e is
-          (subst (λ r. journal.StandsFor more (recorded (history_of world) r (File touches))) (sym stays) (grows (history_of world) h-old.log));
+      log = log_recorded world change more (File delta) e is
+          (subst (λ r. journal.StandsFor more (recorded (history_of world) r (File delta))) (sym stays) (grows (history_of world) h-old.log));
     })
 
 -- the files of the mount are the row's
@@ -94,10 +94,10 @@ files_are held old log mount view world h = ap files_of view ∙ h.files
 -- ---- write
 
 delta-written : (commits : Commits) (row : Row) (path : List ℕ) (kind : Kind) (bytes : List ℕ)
-    → File (touch path (is_some (file_at row.files path)) true ∷ []) ≡ delta_of row (event_at commits row (Write path kind bytes) (next_row commits row (Write path kind bytes)))
+    → File (touched_at path (is_some (file_at row.files path)) true) ≡ delta_of row (event_at commits row (Write path kind bytes) (next_row commits row (Write path kind bytes)))
 unfolding next_row next_files
 delta-written commits row path kind bytes =
-    ap (λ b. File (touch path (is_some (file_at row.files path)) b ∷ []))
+    ap (λ b. File (touched_at path (is_some (file_at row.files path)) b))
     (sym (ap is_some (file_at-insert_here row.files path (record { kind = kind; bytes = bytes }))))
 
 files-written : (commits : Commits) (row : Row) (path : List ℕ) (kind : Kind) (bytes : List ℕ)
@@ -109,14 +109,14 @@ pub write_stands : (held : List Held) (old new : WorkCopy) (log more : journal.L
     → (world : WorldState) → StandsFor mount world → (path : List ℕ) (kind : Kind) (bytes : List ℕ)
     → refusal (commits_of world) (now world) (Write path kind bytes) ≡ None
     → Worked held old new (λ m. fin.insert m path (record { kind = kind; bytes = bytes }))
-    → (touches : List FileTouch) → touches ≡ touch path (is_some (file_at (files_of mount) path)) true ∷ [] → GrowsBy log more touches
+    → (delta : FilesChanged) → delta ≡ touched_at path (is_some (file_at (files_of mount) path)) true → GrowsBy log more delta
     → StandsFor (state held new more) (world_after world (Write path kind bytes))
-write_stands held old new log more mount view world h path kind bytes allowed work touches is grows =
+write_stands held old new log more mount view world h path kind bytes allowed work delta is grows =
     file_stands held old new log more mount view world h (Write path kind bytes) refl refl allowed refl work.fits work.root
     (work.files ∙ ap (λ m. fin.insert m path (record { kind = kind; bytes = bytes })) (files_are held old log mount view world h)
     ∙ files-written (commits_of world) (now world) path kind bytes)
-    touches
-    (ap File (is ∙ ap (λ m. touch path (is_some (file_at m path)) true ∷ []) h.files) ∙ delta-written (commits_of world) (now world) path kind bytes)
+    delta
+    (ap File (is ∙ ap (λ m. touched_at path (is_some (file_at m path)) true) h.files) ∙ delta-written (commits_of world) (now world) path kind bytes)
     grows
 
 -- ---- remove
@@ -135,10 +135,10 @@ unfolding refusal
 allowed_files commits row change e = (first-none (change_fault commits row change) _ e).0
 
 delta-removed : (commits : Commits) (row : Row) (path : List ℕ) → is_some (file_at row.files path) ≡ true
-    → File (touch path true false ∷ []) ≡ delta_of row (event_at commits row (Remove path) (next_row commits row (Remove path)))
+    → File (touched_at path true false) ≡ delta_of row (event_at commits row (Remove path) (next_row commits row (Remove path)))
 unfolding next_row next_files
 delta-removed commits row path here =
-    λ i. File (touch path (sym here i) (sym (ap is_some (file_at-remove_here row.files path)) i) ∷ [])
+    λ i. File (touched_at path (sym here i) (sym (ap is_some (file_at-remove_here row.files path)) i))
 
 files-removed : (commits : Commits) (row : Row) (path : List ℕ) → fin.remove row.files path ≡ next_files commits row (Remove path)
 unfolding next_files
@@ -148,12 +148,12 @@ pub remove_stands : (held : List Held) (old new : WorkCopy) (log more : journal.
     → (world : WorldState) → StandsFor mount world → (path : List ℕ)
     → refusal (commits_of world) (now world) (Remove path) ≡ None
     → Worked held old new (λ m. fin.remove m path)
-    → (touches : List FileTouch) → touches ≡ touch path true false ∷ [] → GrowsBy log more touches
+    → (delta : FilesChanged) → delta ≡ touched_at path true false → GrowsBy log more delta
     → StandsFor (state held new more) (world_after world (Remove path))
-remove_stands held old new log more mount view world h path allowed work touches is grows =
+remove_stands held old new log more mount view world h path allowed work delta is grows =
     file_stands held old new log more mount view world h (Remove path) refl refl allowed refl work.fits work.root
     (work.files ∙ ap (λ m. fin.remove m path) (files_are held old log mount view world h) ∙ files-removed (commits_of world) (now world) path)
-    touches
+    delta
     (ap File is ∙ delta-removed (commits_of world) (now world) path (present (now world).files path (allowed_files (commits_of world) (now world) (Remove path) allowed)))
     grows
 
@@ -169,11 +169,11 @@ moved-new : (files : FileMap) (old new : List ℕ) (file : Option Content) → i
 moved-new files old new None here = let bad : false ≡ true = here in cc
 moved-new files old new (Some file) here = ap is_some (file_at-insert_here (fin.remove files old) new file)
 
-abbrev moved_touches : FileMap → List ℕ → List ℕ → List FileTouch
-moved_touches files old new = touch old true false ∷ touch new (is_some (file_at files new)) true ∷ []
+abbrev moved_delta : FileMap → List ℕ → List ℕ → FilesChanged
+moved_delta files old new = moved_over old new (is_some (file_at files new))
 
 delta-renamed : (commits : Commits) (row : Row) (old new : List ℕ) → same_bytes old new ≡ false → old ≢ new → is_some (file_at row.files old) ≡ true
-    → File (moved_touches row.files old new) ≡ delta_of row (event_at commits row (Rename old new) (next_row commits row (Rename old new)))
+    → File (moved_delta row.files old new) ≡ delta_of row (event_at commits row (Rename old new) (next_row commits row (Rename old new)))
 unfolding next_row next_files
 delta-renamed commits row old new other apart here =
     let after : renamed row.files old new ≡ moved row.files old new (file_at row.files old) =
@@ -182,7 +182,7 @@ delta-renamed commits row old new other apart here =
     ap (λ (m : FileMap). is_some (file_at m old)) after ∙ moved-old row.files old new (file_at row.files old) apart here in
     let to : is_some (file_at (renamed row.files old new) new) ≡ true =
     ap (λ (m : FileMap). is_some (file_at m new)) after ∙ moved-new row.files old new (file_at row.files old) here in
-    λ i. File (touch old (sym here i) (sym from i) ∷ touch new (is_some (file_at row.files new)) (sym to i) ∷ [])
+    λ i. File (record { touches = touch old (sym here i) (sym from i) ∷ touch new (is_some (file_at row.files new)) (sym to i) ∷ [] })
 
 files-renamed : (commits : Commits) (row : Row) (old new : List ℕ) → renamed row.files old new ≡ next_files commits row (Rename old new)
 unfolding next_files
@@ -192,15 +192,15 @@ pub rename_stands : (held : List Held) (before after : WorkCopy) (log more : jou
     → (world : WorldState) → StandsFor mount world → (old new : List ℕ)
     → refusal (commits_of world) (now world) (Rename old new) ≡ None → same_bytes old new ≡ false → old ≢ new
     → Worked held before after (λ m. renamed m old new)
-    → (touches : List FileTouch) → touches ≡ moved_touches (files_of mount) old new → GrowsBy log more touches
+    → (delta : FilesChanged) → delta ≡ moved_delta (files_of mount) old new → GrowsBy log more delta
     → StandsFor (state held after more) (world_after world (Rename old new))
-rename_stands held before after log more mount view world h old new allowed other apart work touches is grows =
+rename_stands held before after log more mount view world h old new allowed other apart work delta is grows =
     let here : is_some (file_at (now world).files old) ≡ true =
     present (now world).files old (first-none (absent_fault (now world).files old) _ (allowed_files (commits_of world) (now world) (Rename old new) allowed)).0 in
     file_stands held before after log more mount view world h (Rename old new) refl refl allowed (ap not other) work.fits work.root
     (work.files ∙ ap (λ m. renamed m old new) (files_are held before log mount view world h) ∙ files-renamed (commits_of world) (now world) old new)
-    touches
-    (ap File (is ∙ ap (λ m. moved_touches m old new) h.files) ∙ delta-renamed (commits_of world) (now world) old new other apart here)
+    delta
+    (ap File (is ∙ ap (λ m. moved_delta m old new) h.files) ∙ delta-renamed (commits_of world) (now world) old new other apart here)
     grows
 
 -- ---- flush and remount

@@ -175,7 +175,7 @@ fn same_since(
     let floor = world.floor()?;
     match accumulate(alloc, mount.journal(), position) {
         Ok(range) => {
-            let marked = expand(mount.store(), &range)?;
+            let marked = expand(alloc, mount.store(), &range)?;
             let expected = world.marked_since(position.sequence)?;
             let good = world.now().status(floor, *position).is_none();
             Ok(good && marked.as_slice() == expected.as_slice())

@@ -60,7 +60,7 @@ fn made(alloc: Global, commits: &Commits) -> Answer {
 /// Whether what changed since a position is `f` alone, which the root named: no file was changed, and no path is unclean.
 fn names_one(alloc: Global, mount: &Mount<GitNaming>, since: &Position) -> Result<bool, Fail> {
     let range = mount.range_since(alloc, since)?;
-    let marked = expand(mount.store(), &range)?;
+    let marked = expand(alloc, mount.store(), &range)?;
     let named = [Marked {
         mark: Mark::Root,
         path: path(alloc, "f")?,
@@ -97,7 +97,7 @@ fn checkout_of_small_subtrees(rt: HostRuntime) -> Result<(), Fail> {
     let answer = answer(&mut mount, &change);
     assert!(rt; answer == made(alloc, &commits) && answer == world.apply(&change)?);
     assert!(rt; names_one(alloc, &mount, &since)?);
-    let marked = expand(mount.store(), &mount.range_since(alloc, &since)?)?;
+    let marked = expand(alloc, mount.store(), &mount.range_since(alloc, &since)?)?;
     assert!(rt; marked.as_slice() == world.marked_since(1)?.as_slice());
     assert!(rt; mount.position() == world.position());
     Ok(())

@@ -137,7 +137,7 @@ pub(crate) fn tell_since(
         Ok(range) => range,
         Err(fault) => return tell_since_fault(fault, text),
     };
-    let marked = match expand(mount.store(), &range) {
+    let marked = match expand(alloc, mount.store(), &range) {
         Ok(marked) => marked,
         // What a mount gives can be expanded over its objects.
         Err(CommitFault::NoCommit) => unreachable!(),

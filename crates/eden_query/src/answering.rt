@@ -28,7 +28,7 @@ fn wanted<N: Naming + Drop>(
     ensures compared { OnOk result (are_comparable (commit_map store.now) range.now.roots ≡ true) }
     ensures fault { IfErr result (λ fault. fault ≢ CommitFault.NoMemory → are_comparable (commit_map store.now) range.now.roots ≡ false) }
 {
-    let marked = expand(store, range)?;
+    let marked = expand(alloc, store, range)?;
     Ok(admitted(alloc, Sequence::from_vec(marked), filter)?)
 }
 

@@ -4,5 +4,7 @@ pub mod Newest
 pub mod Ends
 pub mod Relisted
 pub mod Numbered
+pub mod Along
 pub mod Named
+pub mod SinceWorld
 pub mod Bridge

@@ -18,6 +18,7 @@ use Rattle.eden_history.specs.Status.{status_of}
 use Rattle.eden_ranges.specs.Histories.{history_of}
 use Rattle.eden_ranges.specs.Since.{head_position, log_status, range_of}
 use Rattle.eden_ranges.specs.Expanded.{are_comparable, expanded}
+use Rattle.eden_ranges.specs.WorldRanges.{range_in}
 
 -- the head's position is the world's
 abbrev pub HeadsAreNow : Type 0
@@ -33,6 +34,11 @@ abbrev pub RangesAreTheWorlds : Type 0
 RangesAreTheWorlds = (world : WorldState) → IsLegal world → (log : Log) → StandsFor log (history_of world) → (position : Position)
     → log_status log position ≡ None → expanded world.held (range_of log position.sequence) ≡ marked_since world position.sequence
 
+-- from a good position the range is what the world's events since did
+abbrev pub RangesAreSince : Type 0
+RangesAreSince = (world : WorldState) → IsLegal world → (log : Log) → StandsFor log (history_of world) → (position : Position)
+    → log_status log position ≡ None → range_of log position.sequence ≡ range_in world position.sequence
+
 -- roots of which each is a commit can be compared
 abbrev pub CommitsAreComparable : Type 0
 CommitsAreComparable = (commits : Commits) (roots : List Id) → list_all (λ root. is_some (commits root)) roots ≡ true → are_comparable commits roots ≡ true
@@ -45,7 +51,7 @@ touches_here path touches = filter (λ touch. same_path path touch.path) touches
 -- all changes of files at a path, newest first; within a delta the later ones are newer
 abbrev pub touches_at : List ℕ → List Delta → List FileTouch
 touches_at path [] = []
-touches_at path (File touches ∷ older) = reverse (touches_here path touches) ++ touches_at path older
+touches_at path (File files ∷ older) = reverse (touches_here path files.touches) ++ touches_at path older
 touches_at path (Root left unclean ∷ older) = touches_at path older
 
 abbrev pub oldest_of : FileTouch → List FileTouch → FileTouch

@@ -40,6 +40,7 @@ fn add_differing<N: Naming + Drop>(
 
 /// The paths on which neighbouring roots differ.
 fn differing_paths<N: Naming + Drop>(
+    alloc: Global,
     store: &Store<N>,
     roots: &IdColumn,
 ) -> Result<PathTable, CommitFault>
@@ -47,7 +48,7 @@ fn differing_paths<N: Naming + Drop>(
     ensures compared { OnOk result (are_comparable (commit_map store.now) roots.now ≡ true) }
     ensures fault { IfErr result (λ fault. fault ≢ CommitFault.NoMemory → are_comparable (commit_map store.now) roots.now ≡ false) }
 {
-    let mut table = PathTable::new(store.allocator());
+    let mut table = PathTable::new(alloc);
     let mut place = roots.len();
     if place == 0 {
         return Ok(table);
@@ -81,6 +82,7 @@ fn add_touched(table: &mut PathTable, touches: &[FileTouch]) -> Result<(), NoMem
 
 /// The paths that a range names, in byte order.
 fn named_paths<N: Naming + Drop>(
+    alloc: Global,
     store: &Store<N>,
     range: &Range,
 ) -> Result<Sequence<Path>, CommitFault>
@@ -88,14 +90,14 @@ fn named_paths<N: Naming + Drop>(
     ensures compared { OnOk result (are_comparable (commit_map store.now) range.now.roots ≡ true) }
     ensures fault { IfErr result (λ fault. fault ≢ CommitFault.NoMemory → are_comparable (commit_map store.now) range.now.roots ≡ false) }
 {
-    let mut table = differing_paths(store, &range.roots)?;
+    let mut table = differing_paths(alloc, store, &range.roots)?;
     let Ok(()) = table.add_all(range.unclean.as_slice()) else {
         return Err(CommitFault::NoMemory);
     };
     let Ok(()) = add_touched(&mut table, range.changes.as_slice()) else {
         return Err(CommitFault::NoMemory);
     };
-    match table.list(store.allocator()) {
+    match table.list(alloc) {
         Ok(paths) => Ok(Sequence::from_vec(paths)),
         Err(NoMemory) => Err(CommitFault::NoMemory),
     }
@@ -128,17 +130,17 @@ fn marked(
 /// They are those at which files were changed, the unclean ones, and those on which two neighbouring roots differ. `NoCommit` comes
 /// just where two neighbouring roots are not one and one of them is no commit of the store; `NoMemory` may stand in place of any
 /// answer where a growth was refused. Neighbouring roots that are one cost nothing.
-pub fn expand<N: Naming + Drop>(store: &Store<N>, range: &Range) -> Result<Vec<Marked>, CommitFault>
+pub fn expand<N: Naming + Drop>(
+    alloc: Global,
+    store: &Store<N>,
+    range: &Range,
+) -> Result<Vec<Marked>, CommitFault>
     ensures marked { IfOk result (λ marked. marked.items ≡ expanded store.now range.now) }
     ensures compared { OnOk result (are_comparable (commit_map store.now) range.now.roots ≡ true) }
     ensures fault { IfErr result (λ fault. fault ≢ CommitFault.NoMemory → are_comparable (commit_map store.now) range.now.roots ≡ false) }
 {
-    let paths = named_paths(store, range)?;
-    match marked(
-        store.allocator(),
-        range.changes.as_slice(),
-        paths.as_slice(),
-    ) {
+    let paths = named_paths(alloc, store, range)?;
+    match marked(alloc, range.changes.as_slice(), paths.as_slice()) {
         Ok(marked) => Ok(marked.into_vec()),
         Err(NoMemory) => Err(CommitFault::NoMemory),
     }
