@@ -1,14 +1,15 @@
 -- What a session answers to a line, by what the line is.
-use Rattle.std.proofs.Common.{◌≡◌, ℕ, ◌<◌, true, false, nat_lt, List, [], ◌∷◌, ◌++◌, length, Option, Some, None, refl, sym, ap, ◌∙◌, append-nil}
+use Rattle.std.proofs.Common.{◌≡◌, ℕ, List, [], ◌∷◌, ◌++◌, Option, Some, None, refl, sym, ap, ◌∙◌}
 use Rattle.std.specs.Prelude.{option_and_then, option_map}
 use Rattle.eden_script.specs.Words.{words_of}
 use Rattle.eden_stream.specs.Scripts.{in_front}
 use Rattle.eden_stream.specs.Answers.{TakesLine, RefusesLine}
 use Rattle.eden_script.specs.declared.command.Command.{Command}
 use Rattle.eden_script.specs.ScriptLines.{command_of}
-use Rattle.eden_script.specs.ScriptText.{Told, told, is_skipped, before_text, continued, script_text}
+use Rattle.eden_stream.specs.Lines.{IsSpoken}
+use Rattle.eden_script.specs.ScriptText.{Told, told, before_text, continued, script_text}
 use Rattle.eden_accumulate.specs.Mounts.{State}
-use Rattle.eden_edend.specs.SessionScript.{skipped-text, long-text, read-text}
+use Rattle.eden_edend.specs.SessionScript.{spoken-text}
 use Rattle.eden_edend.specs.declared.objects.Objects.{Objects}
 use Rattle.eden_edend.specs.Told.{SessionStands, Tells, session_of}
 
@@ -16,42 +17,23 @@ before-front : (text : List ℕ) (more : Option (List ℕ)) → before_text text
 before-front text None = refl
 before-front text (Some more) = refl
 
-nothing-front : (more : Option (List ℕ)) → more ≡ in_front [] more
-nothing-front None = refl
-nothing-front (Some more) = refl
-
-pub takes_skipped : (mount : Option State) (objects : Objects) (script : List (List ℕ) → Option (List ℕ)) (line text : List ℕ) → SessionStands mount objects script → is_skipped line ≡ true
-    → TakesLine (SessionStands mount objects) script line text text
-takes_skipped mount objects script line text stands e = record {
-  printed = [];
-  next = script;
-  stands = stands;
-  appended = sym (append-nil text);
-  goes_on = λ more. stands.4 (line ∷ more) ∙ skipped-text (session_of stands.0 stands.1 objects.labels) line more e ∙ sym (stands.4 more) ∙ nothing-front (script more);
-}
-
-pub refuses_long : (mount : Option State) (objects : Objects) (script : List (List ℕ) → Option (List ℕ)) (line : List ℕ) → SessionStands mount objects script → is_skipped line ≡ false
-    → 65536 < length line → RefusesLine script line
-refuses_long mount objects script line stands e long = λ more. stands.4 (line ∷ more) ∙ long-text (session_of stands.0 stands.1 objects.labels) line more e long
-
-pub refuses_unread : (mount : Option State) (objects : Objects) (script : List (List ℕ) → Option (List ℕ)) (line : List ℕ) → SessionStands mount objects script → is_skipped line ≡ false
-    → nat_lt 65536 (length line) ≡ false → None ≡ option_and_then command_of (words_of line) → RefusesLine script line
-refuses_unread mount objects script line stands e short unread = λ more.
-    stands.4 (line ∷ more) ∙ read-text (session_of stands.0 stands.1 objects.labels) line more e short
+pub refuses_unread : (mount : Option State) (objects : Objects) (script : List (List ℕ) → Option (List ℕ)) (line : List ℕ) → SessionStands mount objects script → IsSpoken line → None ≡ option_and_then command_of (words_of line) → RefusesLine script line
+refuses_unread mount objects script line stands spoken unread = λ more.
+    stands.4 (line ∷ more) ∙ spoken-text (session_of stands.0 stands.1 objects.labels) line more spoken
     ∙ ap (λ command. continued (option_map (told (session_of stands.0 stands.1 objects.labels)) command) (λ next. script_text next more)) (sym unread)
 
 pub takes_command : (mount next : Option State) (objects after : Objects) (script : List (List ℕ) → Option (List ℕ)) (line old new printed : List ℕ) (command : Command)
-    → (stands : SessionStands mount objects script) → is_skipped line ≡ false → nat_lt 65536 (length line) ≡ false
+    → (stands : SessionStands mount objects script) → IsSpoken line
     → Some command ≡ option_and_then command_of (words_of line)
     → Tells (told (session_of stands.0 stands.1 objects.labels) command) next after [] printed → new ≡ old ++ printed
     → TakesLine (SessionStands next after) script line old new
-takes_command mount next objects after script line old new printed command stands e short read tells grown = record {
+takes_command mount next objects after script line old new printed command stands spoken read tells grown = record {
   printed = step.1;
   next = script_text step.0;
   stands = (step.0.mounted, step.0.held, tells.0, tells.1, λ lines. ap (λ bindings. script_text (session_of step.0.mounted step.0.held bindings) lines) (sym tells.2));
   appended = grown ∙ ap (λ text. old ++ text) tells.3;
   goes_on = λ more.
-      stands.4 (line ∷ more) ∙ read-text (session_of stands.0 stands.1 objects.labels) line more e short
+      stands.4 (line ∷ more) ∙ spoken-text (session_of stands.0 stands.1 objects.labels) line more spoken
       ∙ ap (λ o. continued (option_map (told (session_of stands.0 stands.1 objects.labels)) o) (λ at. script_text at more)) (sym read)
       ∙ before-front step.1 (script_text step.0 more);
 }

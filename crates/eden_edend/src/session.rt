@@ -23,9 +23,6 @@ use eden_script::{Command, push_bytes, words};
 use eden_stream::{Answered, LineMachine};
 use std::alloc::{AllocError, Global};
 
-/// A line of more bytes can't be read, unless it is a comment.
-const LINE_LIMIT: usize = 65_536;
-
 /// A script so far.
 #[derive(Drop)]
 pub(crate) struct Session {
@@ -128,16 +125,6 @@ fn tell_mounted(
     }
 }
 
-/// Whether the line says nothing: it is empty, or a comment.
-fn is_skipped(line: &[u8]) -> bool
-    ensures { result ≡ script.is_skipped line.now }
-{
-    match line {
-        [] => true,
-        [first, ..] => *first == b'#',
-    }
-}
-
 /// What a line asks for, or none where it can't be read.
 fn read_line(alloc: Global, line: &[u8]) -> Result<Option<Command>, AllocError>
     ensures { IfOk result (λ command. command ≡ option_and_then command_of (words_of line.now)) }
@@ -155,12 +142,6 @@ impl LineMachine for Session {
     ghost stands_for = { λ session script. SessionStands session.mount session.objects script };
 
     fn answer(&mut self, line: &[u8], text: &mut Vec<u8>) -> Answered {
-        if is_skipped(line) {
-            return Answered::Done;
-        }
-        if line.len() > LINE_LIMIT {
-            return Answered::BadLine;
-        }
         let command = match read_line(self.alloc, line) {
             Ok(Some(command)) => command,
             Ok(None) => return Answered::BadLine,

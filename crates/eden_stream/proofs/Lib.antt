@@ -1,7 +1,9 @@
 pub mod Account
 pub mod Breaks
 pub mod Cuts
-pub mod Endings
-pub mod FrameAccount
 pub mod FrameCuts
 pub mod FrameEndings
+pub mod LineAnswers
+pub mod LineCuts
+pub mod LineEndings
+pub mod LineFinds

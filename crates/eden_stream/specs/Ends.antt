@@ -3,8 +3,8 @@ use Rattle.std.specs.Prelude.{◌≡◌, ℕ, ◌+◌, List, [], ◌∷◌, ◌+
 use Rattle.std.specs.Io.KnownBytes.{Appends, Consumes, IsAtEnd}
 use Rattle.std.specs.Str.Lines.{lines}
 use Rattle.eden_stream.specs.Lines.{HasNoBreak, IsWholeLines}
-use Rattle.eden_stream.specs.declared.pump.RunFault.{RunFault}
-use Rattle.eden_stream.specs.declared.pump.RunFault.TheVariants.{BadLine, Read, Write, TurnsSpent, NoMemory}
+use Rattle.eden_stream.specs.declared.lines.RunFault.{RunFault}
+use Rattle.eden_stream.specs.declared.lines.RunFault.TheVariants.{BadLine, Read, Write, TurnsSpent, NoMemory}
 
 -- Everything was read, and all that its lines print was written.
 pub record EndsWell (script : List (List ℕ) → Option (List ℕ)) (r0 r1 w0 w1 : Option (List ℕ)) (count : ℕ) : Type 0 where

@@ -2,10 +2,10 @@
 ghost use Rattle.std.specs.Prelude.{◌≡◌, ◌+◌, ◌≤◌, drop, length, take};
 ghost use Rattle.eden_stream.specs.Frames.{told};
 ghost use Rattle.eden_stream.specs.FrameLaws.{IsCutOneWay, IsPrefixFree};
-ghost use Rattle.eden_stream.specs.FrameSteps.{Begins};
+ghost use Rattle.eden_stream.specs.internal.FrameStory.{Begins};
 
 /// The most bytes of a frame's body: 16 MiB.
-const BODY_LIMIT: usize = 16_777_216;
+pub const BODY_LIMIT: usize = 16_777_216;
 
 /// What some bytes begin with.
 pub(crate) enum Front {
@@ -44,15 +44,6 @@ pub(crate) fn measure_front(bytes: &[u8]) -> Front
         return Front::Partial;
     }
     Front::Whole(size)
-}
-
-/// The body of the first frame, of `size` bytes.
-pub(crate) fn body_of(bytes: &[u8], size: usize) -> &[u8]
-    requires { 4 + size ≤ length bytes.now }
-    ensures { result.now ≡ take size (drop 4 bytes.now) }
-{
-    let (_, behind) = bytes.split_at(4);
-    &behind[..size]
 }
 
 /// That a stream is cut into frames in one way, and that no frame is a proper

@@ -18,7 +18,7 @@ fn first_break(bytes: &[u8]) -> Option<usize>
 /// The answered ones stay in front until the next bytes come, and no byte is
 /// looked at twice for the end of a line.
 #[derive(Drop)]
-pub(crate) struct Held {
+pub struct Held {
     bytes: Vec<u8>,
 
     // Where the bytes begin that are not answered yet.
@@ -71,15 +71,6 @@ impl Held {
                 None
             }
         }
-    }
-
-    /// Lets the first line go, of `end` bytes, and its end.
-    pub(crate) fn drop_line(&mut self, end: usize)
-        requires { end < length self.old }
-        ensures { self.new ≡ drop (end + 1) self.old }
-    {
-        self.start = self.start + end + 1;
-        self.searched = self.start;
     }
 
     /// Lets the first `count` bytes go.

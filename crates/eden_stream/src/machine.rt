@@ -18,6 +18,7 @@ pub enum Answered {
 /// A machine that answers the lines of a script, one after another.
 pub trait LineMachine {
     ghost use Rattle.eden_stream.specs.Answers.{AnswersLine};
+    ghost use Rattle.eden_stream.specs.Lines.{IsSpoken};
     ghost use Rattle.eden_stream.specs.Scripts.{IsScript};
 
     // The machine stands for this script: what any list of further lines
@@ -25,8 +26,10 @@ pub trait LineMachine {
     ghost stands_for: { Self → (List (List ℕ) → Option (List ℕ)) → Type 0 };
 
     /// Answers one line, which has no end, and appends what it prints to
-    /// `text`.
+    /// `text`. The line is neither empty nor a comment, and has at most 65,536
+    /// bytes.
     fn answer(&mut self, line: &[u8], text: &mut Vec<u8>) -> Answered
+        requires { IsSpoken line.now }
         ensures { (script : List (List ℕ) → Option (List ℕ)) → stands_for self.old script
             → AnswersLine (stands_for self.new) script line.now text.old.items text.new.items result };
 

@@ -1,7 +1,7 @@
 //! Runs of an echoing machine over devices that give and take little at a time.
-ghost use Rattle.std.specs.Prelude.{◌≡◌, ℕ, List, Option};
-ghost use Rattle.eden_stream.specs.Echo.{echo};
-ghost use Rattle.eden_stream.specs.EchoLaws.{prints_as_echo};
+ghost use Rattle.std.specs.Prelude.{◌≡◌, ◌≢◌, ℕ, List, [], ◌∷◌, ◌++◌, None, slice_index};
+ghost use Rattle.eden_stream.specs.Lines.{IsSpoken};
+ghost use Rattle.eden_stream.specs.Scripts.{IsScript, in_front};
 
 mod frames;
 
@@ -16,18 +16,14 @@ use std::test::*;
 struct Echo;
 
 impl LineMachine for Echo {
-    ghost stands_for = { λ _ script. (lines : List (List ℕ)) → script lines ≡ echo lines };
+    // What says something is printed, but a line that begins with `!` can't be
+    // read.
+    ghost stands_for = { λ _ script. IsScript script
+        × ((line : List ℕ) (more : List (List ℕ)) → IsSpoken line → slice_index line 0 ≡ 33 → script (line ∷ more) ≡ None)
+        × ((line : List ℕ) (more : List (List ℕ)) → IsSpoken line → slice_index line 0 ≢ 33
+        → script (line ∷ more) ≡ in_front (line ++ 10 ∷ []) (script more)) };
 
     fn answer(&mut self, line: &[u8], text: &mut Vec<u8>) -> Answered {
-        if line.is_empty() {
-            return Answered::Done;
-        }
-        if line[0] == b'#' {
-            return Answered::Done;
-        }
-        if line.len() > 65_536 {
-            return Answered::BadLine;
-        }
         if line[0] == b'!' {
             return Answered::BadLine;
         }
@@ -40,7 +36,7 @@ impl LineMachine for Echo {
         }
     }
 
-    ghost lawful = { λ _ script same. prints_as_echo script same };
+    ghost lawful = { λ _ script echoes. echoes.0 };
 }
 
 // Gives at most `most` bytes a read, and none beyond `cut` in the read that

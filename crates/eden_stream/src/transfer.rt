@@ -3,7 +3,7 @@ ghost use Rattle.std.specs.Prelude.{◌≡◌, ◌+◌, ◌<◌, ◌≤◌, [], 
 ghost use Rattle.std.specs.Bool.{OnFalse, OnTrue};
 ghost use Rattle.std.specs.Io.KnownBytes.{Appends};
 ghost use Rattle.eden_stream.specs.Counts.{Grew, Rose, RoseBy};
-ghost use Rattle.eden_stream.specs.Steps.{HasReceived, Sends, Tears};
+ghost use Rattle.eden_stream.specs.internal.Steps.{HasReceived, Sends, Tears};
 
 use super::counts::{CountedRead, CountedWrite};
 use super::held::Held;

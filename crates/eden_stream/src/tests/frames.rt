@@ -1,6 +1,6 @@
 //! Servings by an echoing server over devices that give and take little at a time.
-ghost use Rattle.std.specs.Prelude.{◌≡◌, ℕ, List, ⊤};
-ghost use Rattle.eden_stream.specs.EchoFrames.{echo_body};
+ghost use Rattle.std.specs.Prelude.{◌≡◌, ◌==◌, if◌then◌else◌, ℕ, List, [], ◌∷◌, ◌++◌, Ok, Err, ⊤, slice_index};
+ghost use Rattle.eden_stream.specs.declared.server.FrameFault.TheVariants.{BadTag};
 
 use super::super::{Counted, Faults, FrameFault, FrameServer, ServeFault, Served, serve_frames};
 use super::{Endless, Sink, Source};
@@ -13,7 +13,7 @@ use std::test::*;
 struct EchoServer;
 
 impl FrameServer<EchoServer> for EchoServer {
-    ghost stands_for = { λ _ answers. (body : List ℕ) → answers body ≡ echo_body body };
+    ghost stands_for = { λ _ answers. (body : List ℕ) → answers body ≡ (if slice_index body 0 == 33 then Err BadTag else Ok (body ++ 10 ∷ [])) };
 
     ghost becomes = { λ _ _. ⊤ };
 
