@@ -1,19 +1,21 @@
 -- No change makes two paths clash.
-use Rattle.std.proofs.Common.{◌≡◌, List, [], ◌∷◌, Option, Some, None, refl, sym, subst, ◌∙◌}
+use Rattle.std.proofs.Common.{◌≡◌, ℕ, List, [], ◌∷◌, Option, Some, None, refl, sym, subst, ◌∙◌, arith}
+use Rattle.std.specs.Prelude.{IsSome}
 use Rattle.eden_ids.specs.declared.id.Id.{Id}
 use Rattle.eden_ids.specs.FileMaps.{FileMap, IsFileMap}
 use Rattle.eden_ids.proofs.FileMapLemmas.{IsFileMap-none, IsFileMap-remove}
 use Rattle.eden_objects.specs.Objects.{Held}
-use Rattle.eden_objects.specs.Closed.{IsClosed}
+use Rattle.eden_objects.specs.Closed.{AllNamed, IsClosed}
 use Rattle.eden_objects.specs.Commits.{commit_map}
 use Rattle.eden_objects.specs.Files.{files_of}
 use Rattle.eden_objects.proofs.CommitLaws.{file_maps}
 use Rattle.eden_history.specs.declared.change.Change.{Change}
 use Rattle.eden_history.specs.declared.change.Change.TheVariants.{Write, Remove, Rename, Checkout, Reset, Flush, Remount}
-use Rattle.eden_history.specs.Worlds.{Row, Event, Commits, WorldState, commits_of, last_row, now}
+use Rattle.eden_history.specs.Worlds.{Row, Event, Commits, WorldState, commits_of, last_row, now, opened}
 use Rattle.eden_history.specs.Named.{held_files}
-use Rattle.eden_history.specs.Outcome.{change_fault, next_files, next_row, refusal}
-use Rattle.eden_history.specs.Legal.{AreMade, IsLegal}
+use Rattle.eden_history.specs.Outcome.{change_fault, next_files, next_row, outcome, refusal}
+use Rattle.eden_history.specs.Outcome.Outcome.{Next}
+use Rattle.eden_history.specs.Legal.{AreMade, IsLegal, IsWorld}
 use Rattle.eden_history.proofs.CheckoutLaws.{checked_out_no_clash}
 use Rattle.eden_history.proofs.RenameLaws.{first-none, rename_fits, write_fits}
 use Rattle.eden_history.proofs.Steps.{is_made}
@@ -64,3 +66,27 @@ legal_files world closed legal = made_fits (commits_of world) world.opening worl
 -- the files of a commit are a file map
 pub commit_fits : (held : List Held) → IsClosed held → (id : Id) → IsFileMap (held_files (commit_map held) id)
 commit_fits held closed id = held_fits (commit_map held) (file_maps held closed) id
+
+-- ---- worlds
+
+-- no two paths of the files that a world holds now clash
+pub world_files : (name : List ℕ → List ℕ → Id) (world : WorldState) → IsWorld name world → IsFileMap (now world).files
+world_files name world is = legal_files world is.closed is.legal
+
+-- a mount of a commit, with no event, is a world
+pub world_opens : (name : List ℕ → List ℕ → Id) (held : List Held) (generation limit : ℕ) (root : Id) (files : FileMap) → IsClosed held → AllNamed name held
+    → IsSome (commit_map held root) → files ≡ held_files (commit_map held) root → IsWorld name (opened held generation limit root files)
+world_opens name held generation limit root files closed named there is =
+    record {
+      closed = closed;
+      named = named;
+      legal = (subst IsFileMap (sym is) (commit_fits held closed root), tt);
+      begins = there;
+      number = omega arith;
+    }
+
+-- and so it is with one more event
+pub world_grows : (name : List ℕ → List ℕ → Id) (world : WorldState) (event : Event) → IsWorld name world
+    → outcome (commits_of world) (now world) event.change ≡ Next event → IsWorld name (record world { past = event ∷ world.past })
+world_grows name world event is made =
+    record { closed = is.closed; named = is.named; legal = (is.legal.0, made, is.legal.1); begins = is.begins; number = is.number }

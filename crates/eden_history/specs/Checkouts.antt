@@ -1,5 +1,5 @@
--- What a checkout makes of the files. `work` is what the working copy holds, `root` what the commit below it does, and `target` what the
--- commit that is checked out does.
+-- What a checkout makes of the files, in the modes of EdenFS's CheckoutMode (eden.thrift): NORMAL, DRY_RUN and FORCE. `work` is what
+-- the working copy holds, `root` what the commit below it does, and `target` what the commit that is checked out does.
 use Rattle.std.specs.Prelude.{ℕ, Bool, true, false, not, ◌&&◌, ◌||◌, if◌then◌else◌, List, ◌++◌, Option, None, is_some}
 use Rattle.std.specs.List.{list_any}
 use Rattle.std.specs.FinMap as fin

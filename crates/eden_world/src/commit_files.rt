@@ -4,7 +4,7 @@ ghost use Rattle.eden_objects.specs.Files.{commit_files};
 
 use crate::files::Files;
 use eden_globs::Filter;
-use eden_ids::{Content, Id, Kind, Naming, NoMemory, Path, Sequence};
+use eden_ids::{Content, Id, Kind, Naming, NoMemory, Path};
 use eden_objects::{CommitFault, Store};
 use std::alloc::Global;
 
@@ -46,13 +46,7 @@ fn file_of<N: Naming + Drop>(
     ensures { IfOk result (λ file. file ≡ file_at (commit_files store.now commit) path.now) }
 {
     match store.file(commit, path.as_bytes()) {
-        Some((kind, bytes)) => match bytes.to_vec(alloc) {
-            Ok(bytes) => Ok(Some(Content {
-                kind,
-                bytes: Sequence::from_vec(bytes),
-            })),
-            Err(_) => Err(NoMemory),
-        },
+        Some((kind, bytes)) => Ok(Some(Content::from_bytes(alloc, kind, bytes)?)),
         None => Ok(None),
     }
 }

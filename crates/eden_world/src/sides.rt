@@ -61,13 +61,8 @@ fn clashes_dirty(work: &Files, root: &Files, path: &Path) -> bool
 fn add_if(list: &mut Vec<Path>, path: &Path, wanted: bool) -> Result<(), NoMemory>
     ensures { OnOk result (list.new.items ≡ list.old.items ++ (if wanted then path.now ∷ [] else [])) }
 {
-    if !wanted {
-        return Ok(());
-    }
-    let path = path.copy()?;
-    match list.push(path) {
-        Ok(()) => {}
-        Err(_) => return Err(NoMemory),
+    if wanted {
+        list.push(path.copy()?)?;
     }
     Ok(())
 }
