@@ -89,4 +89,4 @@ world_opens name held generation limit root files closed named there is =
 pub world_grows : (name : List ℕ → List ℕ → Id) (world : WorldState) (event : Event) → IsWorld name world
     → outcome (commits_of world) (now world) event.change ≡ Next event → IsWorld name (record world { past = event ∷ world.past })
 world_grows name world event is made =
-    record { closed = is.closed; named = is.named; legal = (is.legal.0, made, is.legal.1); begins = is.begins; number = is.number }
+    record { closed = is.closed; named = is.named; legal = (is.legal.0, (made, is.legal.1)); begins = is.begins; number = is.number }
