@@ -10,7 +10,7 @@ ghost use Rattle.eden_history.specs.Renames.{absent_fault};
 use eden_history::{ChangeFault, MountFault, Position};
 use eden_ids::{Id, Kind, Naming, Path};
 use eden_journal::Journal;
-use eden_objects::Store;
+use eden_objects::{CommitFault, Store};
 use eden_workcopy::WorkCopy;
 use std::alloc::Global;
 use std::marker::Model;
@@ -48,21 +48,23 @@ impl<N: Naming + Drop> Mount<N> {
 
     /// A mount of a commit, with no event, at number 1 of a generation. The limit is how many bytes the journal may hold.
     ///
-    /// `NoCommit` comes where the id is no commit's. It takes no memory.
+    /// `NoCommit` comes where the id is no commit's, and gives the store back. It takes no memory.
     pub fn mount(
         alloc: Global,
         store: Arc<Store<N>>,
         root: Id,
         generation: u64,
         limit: u64,
-    ) -> Result<Mount<N>, MountFault>
+    ) -> Result<Mount<N>, MountFault<N>>
         ensures stands { IfOk result (λ mount. StandsFor mount (opened (arc_value store) generation limit root (commit_files (arc_value store) root))) }
         ensures accepts { IfOk result (λ _. IsSome (commit_map (arc_value store) root)) }
-        ensures fault { IfErr result (λ fault. fault ≡ MountFault.NoCommit) }
+        ensures cause { IfErr result (λ fault. fault.cause ≡ CommitFault.NoCommit) }
+        ensures back { IfErr result (λ fault. arc_value fault.store ≡ arc_value store) }
         ensures refuses { IfErr result (λ _. commit_map (arc_value store) root ≡ None) }
     {
         let Ok(work) = WorkCopy::new(alloc, &store, root) else {
-            return Err(MountFault::NoCommit);
+            let cause = CommitFault::NoCommit;
+            return Err(MountFault { store, cause });
         };
         Ok(Mount {
             store,

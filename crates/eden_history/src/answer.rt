@@ -49,14 +49,3 @@ pub enum SinceFault {
     #[error("NoMemory")]
     NoMemory,
 }
-
-/// Why a commit can't be mounted.
-#[derive(Clone, Copy, Debug, PartialEq, Eq, Error)]
-pub enum MountFault {
-    /// The id is no commit's.
-    #[error("NoCommit")]
-    NoCommit,
-    /// A growth was refused.
-    #[error("NoMemory")]
-    NoMemory,
-}

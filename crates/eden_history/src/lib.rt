@@ -3,11 +3,12 @@
 //! The definitions stand in `specs/`, one to a file, and every other crate proves its code against them.
 #![tactic(auto)]
 
-pub use crate::answer::{Answer, MountFault, SinceFault};
+pub use crate::answer::{Answer, SinceFault};
 pub use crate::change::{Change, ChangeFault, Mode};
 pub use crate::checkout_laws::checkout_law;
 pub use crate::mark::{Mark, Marked};
 pub use crate::message::{Cause, Query, Reply, Request};
+pub use crate::mount_fault::MountFault;
 pub use crate::position::Position;
 pub use crate::replies::admitted;
 pub use crate::sides::Sides;
@@ -21,6 +22,7 @@ mod checkout_laws;
 mod lengths;
 mod mark;
 mod message;
+mod mount_fault;
 mod position;
 mod replies;
 mod sides;

@@ -1,10 +1,10 @@
 use crate::World;
 use eden_globs::Filter;
 use eden_history::{
-    Answer, Cause, Change, ChangeFault, Mark, Marked, MountFault, Position, Query, Reply, Request,
+    Answer, Cause, Change, ChangeFault, Mark, Marked, Position, Query, Reply, Request,
 };
 use eden_ids::{GitNaming, Id, Kind, Path, Sequence};
-use eden_objects::Store;
+use eden_objects::{CommitFault, Store};
 use std::alloc::Global;
 use std::sync::Arc;
 use std::test::Fail;
@@ -69,9 +69,14 @@ fn first_run(rt: HostRuntime) -> Result<(), Fail> {
 #[test]
 fn no_such_commit(rt: HostRuntime) -> Result<(), Fail> {
     let alloc = rt.alloc();
-    let store = Arc::new(alloc, Store::new(alloc, GitNaming))?;
-    let mounted = World::mount(alloc, store, Id([1; 20]), 7, 1000);
-    assert!(rt; matches!(mounted, Err(MountFault::NoCommit)));
+    let mut store = Store::new(alloc, GitNaming);
+    let blob = store.put_blob(b"x".as_slice())?;
+    let Err(fault) = World::mount(alloc, Arc::new(alloc, store)?, blob, 7, 1000) else {
+        return Err(Fail::new("a blob is no commit"));
+    };
+    // The store comes back as it was.
+    assert!(rt; fault.cause == CommitFault::NoCommit);
+    assert!(rt; fault.store.blob(blob) == Some(b"x".as_slice()));
     Ok(())
 }
 
