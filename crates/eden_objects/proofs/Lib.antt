@@ -19,6 +19,7 @@ pub mod Fuel
 pub mod TreeOf
 pub mod WalkSteps
 pub mod Gathering
+pub mod Legal
 mod Below
 mod Refusals
 mod Order

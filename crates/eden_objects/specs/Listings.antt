@@ -1,8 +1,9 @@
 -- What a listing of a commit gives.
 use Rattle.std.specs.Prelude.{◌≡◌, ℕ, Bool, List, [], ◌∷◌, ◌++◌, map, filter, Option, Some, None, Result, Ok, Err}
 use Rattle.std.specs.Global.{Vec}
+use Rattle.std.specs.List.{AllByRecursion}
 use Rattle.eden_ids.specs.declared.id.Id.{Id}
-use Rattle.eden_ids.specs.Paths.{lies_below}
+use Rattle.eden_ids.specs.Paths.{IsPath, lies_below}
 use Rattle.eden_objects.specs.declared.fault.CommitFault.{CommitFault}
 use Rattle.eden_objects.specs.declared.fault.CommitFault.TheVariants.{NoCommit, NoMemory}
 use Rattle.eden_objects.specs.Objects.{Held}
@@ -12,6 +13,10 @@ use Rattle.eden_objects.specs.Closed.{HasTree}
 -- a row whose path stands behind some bytes
 abbrev pub behind : List ℕ → Row → Row
 behind front row = (front ++ row.0, row.1, row.2)
+
+-- each row's path is a path behind some bytes
+abbrev pub ArePaths : List ℕ → List Row → Type 0
+ArePaths front rows = AllByRecursion (λ row. IsPath (front ++ row.0)) rows
 
 -- the wanted rows of a directory, behind the bytes that its paths begin with
 abbrev pub rows_behind : (List ℕ → Bool) → List ℕ → List Row → List Row

@@ -1,16 +1,16 @@
 ghost use Rattle.std.specs.Prelude.{◌≡◌, ◌++◌, ◌∷◌, [], Some, map, IfOk, OnOk};
 ghost use Rattle.eden_globs.specs.Filters.{admits};
-ghost use Rattle.eden_ids.specs.Paths.{lies_below};
+ghost use Rattle.eden_ids.specs.Paths.{IsPath, lies_below};
 ghost use Rattle.eden_objects.specs.Commits.{commit_rows, rows_where, tree_rows};
 ghost use Rattle.eden_objects.specs.Closed.{HasTree};
-ghost use Rattle.eden_objects.specs.Listings.{IsBelow, Lists, behind, rows_behind, rows_below};
+ghost use Rattle.eden_objects.specs.Listings.{ArePaths, IsBelow, Lists, behind, rows_behind, rows_below};
 
 use crate::directory::next_entry;
 use crate::entry::cut;
 use crate::fault::{CommitFault, NoCommit};
 use crate::store::Store;
 use eden_globs::Filter;
-use eden_ids::{Id, Kind, Naming, NoMemory, Path};
+use eden_ids::{Id, Kind, Naming, NoMemory, Path, PathFault};
 use std::alloc::Global;
 
 /// The files that were found so far, and the bytes that stand before each name of the directory that is read.
@@ -22,6 +22,7 @@ struct Listing {
 
 /// The path that begins with these bytes and ends with a name.
 fn path_behind(alloc: Global, front: &mut Vec<u8>, name: &[u8]) -> Result<Path, NoMemory>
+    requires { IsPath (front.old.items ++ name.now) }
     ensures path { IfOk result (λ path. path ≡ front.old.items ++ name.now) }
     ensures front { OnOk result (front.new.items ≡ front.old.items) }
 {
@@ -33,7 +34,9 @@ fn path_behind(alloc: Global, front: &mut Vec<u8>, name: &[u8]) -> Result<Path, 
     front.truncate(length);
     match parsed {
         Ok(path) => Ok(path),
-        Err(_) => Err(NoMemory),
+        Err(PathFault::NoMemory) => Err(NoMemory),
+        // The bytes are known to be a path.
+        Err(_) => unreachable!(),
     }
 }
 
@@ -70,6 +73,7 @@ impl Listing {
         kind: Kind,
         id: Id,
     ) -> Result<(), NoMemory>
+        requires { IsPath (self.old.front.items ++ name.now) }
         ensures rows { OnOk result (self.new.rows.items
             ≡ self.old.rows.items ++ rows_behind (admits filter.now) self.old.front.items ((name.now, kind, id) ∷ [])) }
         ensures front { OnOk result (self.new.front.items ≡ self.old.front.items) }
@@ -134,6 +138,7 @@ impl<N: Naming + Drop> Store<N> {
         requires { HasTree self.now tree }
         ensures { Lists result (Some (rows_below self.now tree path.now)) }
     {
+        self.closed_law();
         let Some(dir) = self.dir_below(tree, path) else {
             return Ok(Vec::new(self.allocator()));
         };
@@ -169,7 +174,8 @@ impl<N: Naming + Drop> Store<N> {
     /// The files of a tree, behind the path of its directory.
     #[tactic(auto, using(crate::proofs::Gathering::all_wanted))]
     fn gather_all(&self, dir: Id, path: &[u8]) -> Result<Vec<(Path, Kind, Id)>, NoMemory>
-        requires { HasTree self.now dir }
+        requires tree { HasTree self.now dir }
+        requires paths { ArePaths (path.now ++ 47 ∷ []) (tree_rows self.now dir) }
         ensures { IfOk result (λ rows. rows.items ≡ map (behind (path.now ++ 47 ∷ [])) (tree_rows self.now dir)) }
     {
         let front = front_of(self.allocator(), path)?;
@@ -183,6 +189,7 @@ impl<N: Naming + Drop> Store<N> {
         requires { HasTree self.now tree }
         ensures { Lists result (rows_where (admits filter.now) (Some (tree_rows self.now tree))) }
     {
+        self.closed_law();
         match self.gather_behind(tree, filter, Vec::new(self.allocator())) {
             Ok(rows) => Ok(rows),
             Err(NoMemory) => Err(CommitFault::NoMemory),
@@ -196,7 +203,8 @@ impl<N: Naming + Drop> Store<N> {
         filter: &Filter,
         front: Vec<u8>,
     ) -> Result<Vec<(Path, Kind, Id)>, NoMemory>
-        requires { HasTree self.now tree }
+        requires tree { HasTree self.now tree }
+        requires paths { ArePaths front.items (tree_rows self.now tree) }
         ensures { IfOk result (λ rows. rows.items ≡ rows_behind (admits filter.now) front.items (tree_rows self.now tree)) }
     {
         let mut listing = Listing {
@@ -209,7 +217,8 @@ impl<N: Naming + Drop> Store<N> {
 
     /// Adds the files of a tree to a listing, directory by directory. A directory without files is not read.
     fn gather(&self, tree: Id, filter: &Filter, listing: &mut Listing) -> Result<(), NoMemory>
-        requires { HasTree self.now tree }
+        requires tree { HasTree self.now tree }
+        requires paths { ArePaths listing.old.front.items (tree_rows self.now tree) }
         ensures rows { OnOk result (listing.new.rows.items
             ≡ listing.old.rows.items ++ rows_behind (admits filter.now) listing.old.front.items (tree_rows self.now tree)) }
         ensures front { OnOk result (listing.new.front.items ≡ listing.old.front.items) }

@@ -1,28 +1,31 @@
-use Rattle.std.proofs.Common.{rules, ◌≡◌, ℕ, ◌++◌, ◌∷◌, [], List, length, take, ap, sym, subst, ◌∙◌, arith}
+use Rattle.std.proofs.Common.{rules, ◌≡◌, ℕ, ◌<◌, ◌++◌, ◌∷◌, [], List, length, take, ap, sym, subst, ◌∙◌, arith}
 use Rattle.std.specs.List.{AllByRecursion}
 use Rattle.eden_globs.specs.Filters.{admits}
+use Rattle.eden_objects.specs.Objects.{Held}
 use Rattle.eden_objects.specs.Entries.{plain}
 use Rattle.eden_objects.specs.Trees.{Entry, entries_of, entries_depth, tree_depth}
 use Rattle.eden_objects.specs.Commits.{entries_rows, tree_rows}
 use Rattle.eden_objects.specs.Puts.{word_wanted}
 use Rattle.eden_objects.specs.Closed.{IsHeld}
-use Rattle.eden_objects.specs.Listings.{rows_behind}
-use Rattle.eden_objects.proofs.Gathering.{all_listed, all_held, depth_here, one_dir, left, later_held, later_is_below}
+use Rattle.eden_objects.specs.Listings.{ArePaths, rows_behind}
+use Rattle.eden_objects.proofs.Gathering.{all_listed, all_held, depth_here, dir_is_below, dir_is_held, one_dir, left, later_held, later_is_below}
+use Rattle.eden_objects.proofs.Legal.{file_path, dir_paths, later_paths, paths_here}
 use Rattle.eden_objects.proofs.WalkSteps.{entries_in}
 use Rattle.eden_objects.proofs.store.Store.+gather.Goals as goal
 
 pub entries-init : goal.entries-init
 entries-init g t c =
     let same : entries_of c.payload-rest.result.now ≡ entries_in c.args.self.now c.args.tree = ap entries_of c.payload-rest.ensures in
-    let depth = depth_here c.args.self.now c.args.tree c.closed_law.ensures.closed c.requires in
+    let depth = depth_here c.args.self.now c.args.tree c.closed_law.ensures.closed c.requires.tree in
     let whole : entries_depth (tree_depth c.args.self.now) (entries_of c.payload-rest.result.now) ≡ entries_depth (tree_depth c.args.self.now) (entries_in c.args.self.now c.args.tree) =
     ap (entries_depth (tree_depth c.args.self.now)) same in
     record {
       listed =
-          all_listed (admits c.args.filter.now) c.args.listing.now.front.items c.args.self.now c.args.tree c.args.listing.now.rows.items c.closed_law.ensures.closed c.requires
+          all_listed (admits c.args.filter.now) c.args.listing.now.front.items c.args.self.now c.args.tree c.args.listing.now.rows.items c.closed_law.ensures.closed c.requires.tree
           ∙ ap (λ es. c.args.listing.now.rows.items ++ rows_behind (admits c.args.filter.now) c.args.listing.now.front.items (entries_rows (tree_rows c.args.self.now) es)) (sym same);
       front = λ i. c.args.listing.now.front.items;
-      held = subst (λ (es : List Entry). AllByRecursion (λ e. IsHeld c.args.self.now (word_wanted e.kind) e.id) es) (sym same) (all_held c.args.self.now c.args.tree c.closed_law.ensures.closed c.requires);
+      held = subst (λ (es : List Entry). AllByRecursion (λ e. IsHeld c.args.self.now (word_wanted e.kind) e.id) es) (sym same) (all_held c.args.self.now c.args.tree c.closed_law.ensures.closed c.requires.tree);
+      paths = paths_here c.args.listing.now.front.items c.args.self.now c.args.tree (entries_of c.payload-rest.result.now) c.closed_law.ensures.closed c.requires.tree same c.requires.paths;
       below = omega (arith, depth, whole);
     }
 
@@ -46,7 +49,24 @@ entries-preserved-in_default-kind g t c =
           c.truncate.ensures.items ∙ ap (λ n. take n c.gather.new.listing.front.items) length_is
           ∙ left front c.gather.new.listing.front.items c.in-Some.entry.name.now (c.in_ok-gather.ensures.front ∙ entered);
       held = later_held c.args.self.now (plain c.in-Some.entry) (entries_of c.in-Some.after.now) (entries_of c.entries.rest.now) c.in-Some.ensures.entries c.entries.invariant.held;
+      paths = later_paths front (tree_rows c.args.self.now) (plain c.in-Some.entry) (entries_of c.in-Some.after.now) (entries_of c.entries.rest.now) c.in-Some.ensures.entries c.entries.invariant.paths;
       below =
           later_is_below (tree_depth c.args.self.now) (plain c.in-Some.entry) (entries_of c.in-Some.after.now) (entries_of c.entries.rest.now)
           (tree_depth c.args.self.now c.args.tree) c.in-Some.ensures.entries c.entries.invariant.below;
     }
+
+pub gather-requires : goal.gather-requires
+gather-requires g t c κs within =
+    let held : List Held = c.args.self.now in
+    let front : List ℕ = c.args.listing.now.front.items in
+    let entered : c.enter.new.self.front.items ≡ front ++ c.in-Some.entry.name.now ++ 47 ∷ [] =
+    c.in_ok-enter.ensures.front ∙ ap (λ bytes. bytes ++ c.in-Some.entry.name.now ++ 47 ∷ []) c.entries.invariant.front in
+    let tree =
+    dir_is_held held (plain c.in-Some.entry) (entries_of c.in-Some.after.now) (entries_of c.entries.rest.now) c.in-Some.ensures.entries c.in_default-kind.is c.entries.invariant.held in
+    let less : tree_depth held c.in-Some.entry.id < tree_depth held c.args.tree =
+    dir_is_below (tree_depth held) (plain c.in-Some.entry) (entries_of c.in-Some.after.now) (entries_of c.entries.rest.now) (tree_depth held c.args.tree) c.in-Some.ensures.entries
+    c.in_default-kind.is c.entries.invariant.below in
+    let paths : ArePaths c.enter.new.self.front.items (tree_rows held c.in-Some.entry.id) =
+    dir_paths front c.enter.new.self.front.items (tree_rows held) (plain c.in-Some.entry) (entries_of c.in-Some.after.now) (entries_of c.entries.rest.now) c.in-Some.ensures.entries
+    c.in_default-kind.is entered c.entries.invariant.paths in
+    (search rules, (search rules, (tree, paths)))

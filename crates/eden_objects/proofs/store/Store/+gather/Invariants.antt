@@ -5,7 +5,7 @@ use Rattle.eden_objects.specs.Trees.{entries_of, entries_depth, tree_depth}
 use Rattle.eden_objects.specs.Commits.{entries_rows, tree_rows}
 use Rattle.eden_objects.specs.Puts.{word_wanted}
 use Rattle.eden_objects.specs.Closed.{IsHeld}
-use Rattle.eden_objects.specs.Listings.{rows_behind}
+use Rattle.eden_objects.specs.Listings.{ArePaths, rows_behind}
 use Rattle.eden_objects.proofs.store.Store.+gather.Given as goal
 
 abbrev pub decreases-gather : goal.decreases-gather
@@ -17,6 +17,7 @@ invariant-entries g l = record {
       ≡ l.listing.rows.items ++ rows_behind (admits l.filter) l.fn.listing.front.items (entries_rows (tree_rows l.self) (entries_of l.rest));
   front : l.listing.front.items ≡ l.fn.listing.front.items;
   held : AllByRecursion (λ e. IsHeld l.self (word_wanted e.kind) e.id) (entries_of l.rest);
+  paths : ArePaths l.fn.listing.front.items (entries_rows (tree_rows l.self) (entries_of l.rest));
   below : entries_depth (tree_depth l.self) (entries_of l.rest) ≤ tree_depth l.self l.fn.tree;
 }
 
