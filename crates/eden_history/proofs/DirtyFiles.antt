@@ -1,11 +1,13 @@
 -- The files of a working copy that its root does not hold.
-use Rattle.std.proofs.Common.{◌≡◌, ℕ, Bool, true, false, cond, not, ◌&&◌, List, Option, Some, None, is_some, refl, sym, ap, ◌∙◌}
+use Rattle.std.proofs.Common.{◌≡◌, ℕ, Bool, true, false, cond, not, ◌&&◌, List, [], ◌∷◌, map, Option, Some, None, is_some, refl, sym, ap, subst, ◌∙◌}
 use Rattle.std.specs.List.{list_any}
+use Rattle.std.specs.List.Sorted.{IsStrictlySortedBy}
 use Rattle.std.specs.Prelude.{filter}
 use Rattle.std.specs.FinMap as fin
 use Rattle.eden_ids.specs.declared.content.Content.{Content}
 use Rattle.eden_ids.specs.Paths.{clashes}
 use Rattle.eden_ids.specs.FileMaps.{FileMap, clashes_any, file_at, paths, has, listing, differ, path_set}
+use Rattle.eden_ids.proofs.ByteOrder.{fin_keys_rise, order}
 use Rattle.eden_ids.proofs.FileMapLemmas.{has-differ, has-path_set}
 use Rattle.eden_ids.proofs.Sifted.{listing_of}
 use Rattle.eden_ids.proofs.TreeMaps.{listing-same}
@@ -26,6 +28,12 @@ is_dirty_file work root p = ap is_some (file_at-dirty work root p) ∙ turned (n
     turned true (Some f) = refl
     turned false None = refl
     turned false (Some f) = refl
+
+pub clean_is_absent : (work root : FileMap) (p : List ℕ) → is_clean work root p ≡ true → file_at (dirty_files work root) p ≡ None
+clean_is_absent work root p clean = file_at-dirty work root p ∙ ap (λ b. cond (not b) (file_at work p) None) clean
+
+pub dirty_is_there : (work root : FileMap) (p : List ℕ) → is_clean work root p ≡ false → file_at (dirty_files work root) p ≡ file_at work p
+dirty_is_there work root p dirty = file_at-dirty work root p ∙ ap (λ b. cond (not b) (file_at work p) None) dirty
 
 -- ---- as a list
 
@@ -76,3 +84,11 @@ clashes-dirty_files work root p = by_both _ _ there back
 -- any files with the paths of the dirty ones tell it
 pub dirty_clashes : (work root dirty : FileMap) (p : List ℕ) → paths dirty ≡ paths (dirty_files work root) → clashes_any dirty p ≡ clashes_dirty work root p
 dirty_clashes work root dirty p is = ap (list_any (λ q. clashes p q)) is ∙ sym (clashes-dirty_files work root p)
+
+-- the paths of the dirty files stand in byte order
+pub dirty_rise : (work root : FileMap) (ps : List (List ℕ)) → ps ≡ paths (dirty_files work root) → IsStrictlySortedBy order (map (λ p. p) ps)
+dirty_rise work root ps is = subst (IsStrictlySortedBy order) (sym (itself ps ∙ is)) (fin_keys_rise (dirty_files work root))
+  where
+    itself : (qs : List (List ℕ)) → map (λ p. p) qs ≡ qs
+    itself [] = refl
+    itself (q ∷ qs) = ap (λ rest. q ∷ rest) (itself qs)

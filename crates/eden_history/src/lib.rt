@@ -6,6 +6,7 @@
 pub use crate::answer::{Answer, SinceFault};
 pub use crate::change::{Change, ChangeFault, Mode};
 pub use crate::checkout_laws::checkout_law;
+pub use crate::dirty::Dirty;
 pub use crate::mark::{Mark, Marked};
 pub use crate::message::{Cause, Query, Reply, Request};
 pub use crate::mount_fault::MountFault;
@@ -19,6 +20,7 @@ pub use crate::tree_faults::{absent_fault, place_fault, rename_fault, write_faul
 mod answer;
 mod change;
 mod checkout_laws;
+mod dirty;
 mod lengths;
 mod mark;
 mod message;

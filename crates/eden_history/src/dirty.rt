@@ -1,0 +1,36 @@
+ghost use Rattle.std.specs.Prelude.{◌≡◌};
+ghost use Rattle.eden_ids.specs.FileMaps.{paths};
+ghost use Rattle.eden_history.specs.DirtyFiles.{dirty_files};
+
+use eden_ids::{FileTree, Kind, Path, has_path_below, is_same_at};
+
+/// The dirty files: those of a working copy at the paths at which it holds something else than the commit below it.
+#[derive(Drop)]
+pub struct Dirty<'a, W: FileTree, R: FileTree> {
+    /// The files of the working copy.
+    pub work: &'a W,
+    /// Those of the commit below it.
+    pub root: &'a R,
+    /// The paths of the dirty files, in byte order.
+    pub listed: &'a [Path],
+    ghost each: { listed.now ≡ paths (dirty_files (W.files work.now) (R.files root.now)) },
+}
+
+impl<'a, W: FileTree, R: FileTree> FileTree for Dirty<'a, W, R> {
+    ghost use Rattle.eden_history.specs.DirtyFiles.{dirty_files};
+
+    ghost files = { λ d. dirty_files (W.files d.work.now) (R.files d.root.now) };
+
+    #[tactic(auto, using(crate::proofs::DirtyFiles::clean_is_absent, crate::proofs::DirtyFiles::dirty_is_there))]
+    fn file(&self, path: &[u8]) -> Option<(Kind, &[u8])> {
+        if is_same_at(self.work, self.root, path) {
+            None
+        } else {
+            self.work.file(path)
+        }
+    }
+
+    fn has_file_below(&self, path: &Path) -> bool {
+        has_path_below(self.listed, path.as_bytes())
+    }
+}
