@@ -1,16 +1,20 @@
 -- What a mount tells of its past is what the worlds reply for which it stands.
-use Rattle.std.proofs.Common.{◌≡◌, ℕ, List, Some, None, sym, ap, ◌∙◌}
+use Rattle.std.proofs.Common.{◌≡◌, ℕ, List, Option, Some, None, sym, ap, ◌∙◌}
+use Rattle.eden_ids.specs.declared.content.Content.{Content}
+use Rattle.eden_ids.specs.FileMaps.{file_at}
 use Rattle.eden_ranges.specs.declared.ranges.Range.{Range}
-use Rattle.eden_accumulate.specs.Mounts.{State, StandsFor}
+use Rattle.eden_accumulate.specs.Mounts.{State, StandsFor, files_of}
+use Rattle.eden_accumulate.specs.Snapshots.{seen_files}
+use Rattle.eden_accumulate.specs.declared.snapshot.Snapshot.{Snapshot}
 use Rattle.eden_accumulate.specs.Ranges.{EndsNow, IsStatus, Tells}
 use Rattle.eden_history.specs.declared.answer.SinceFault.{SinceFault}
 use Rattle.eden_history.specs.declared.message.Cause.{Cause}
 use Rattle.eden_history.specs.declared.message.Query.{Query}
-use Rattle.eden_history.specs.declared.message.Reply.TheVariants.{ChangesAre, Refused}
-use Rattle.eden_history.specs.declared.message.Request.TheVariants.{Poll}
+use Rattle.eden_history.specs.declared.message.Reply.TheVariants.{BasisIs, ChangesAre, ContentIs, Refused}
+use Rattle.eden_history.specs.declared.message.Request.TheVariants.{Basis, Poll, Fetch}
 use Rattle.eden_history.specs.declared.position.Position.{Position}
-use Rattle.eden_history.specs.Worlds.{WorldState}
-use Rattle.eden_history.specs.Replies.{admitted, bounded, cause_of, polled, reply_of}
+use Rattle.eden_history.specs.Worlds.{WorldState, now, position_of}
+use Rattle.eden_history.specs.Replies.{admitted, admitted_paths, bounded, cause_of, polled, reply_of}
 use Rattle.eden_query.specs.declared.raw.Raw.TheVariants as raw
 use Rattle.eden_query.specs.Raws.{told}
 
@@ -26,3 +30,18 @@ pub refused_tells : (mount : State) (query : Query) (since : Position) (patterns
     → told mount.held patterns (raw.Refused query cause) ≡ reply_of world (Poll query since patterns)
 refused_tells mount query since patterns fault cause is same world h =
     ap (Refused query) same ∙ sym (ap (polled world query since.sequence patterns) (is world h))
+
+pub based_tells : (mount : State) (query : Query) (patterns : List (List ℕ)) (snapshot : Snapshot)
+    → ((world : WorldState) → StandsFor mount world → snapshot.position ≡ position_of (now world))
+    → ((world : WorldState) → StandsFor mount world → (ps : List (List ℕ)) → admitted_paths ps (seen_files mount.held snapshot) ≡ admitted_paths ps (now world).files)
+    → (world : WorldState) → StandsFor mount world
+    → told mount.held patterns (raw.Based query snapshot) ≡ reply_of world (Basis query patterns)
+based_tells mount query patterns snapshot place files world h = λ i. bounded query (BasisIs query (place world h i) (files world h patterns i))
+
+pub held_tells : (mount : State) (query : Query) (patterns : List (List ℕ)) (position : Position) (path : List ℕ) (content : Option Content)
+    → ((world : WorldState) → StandsFor mount world → position ≡ position_of (now world)) → content ≡ file_at (files_of mount) path
+    → (world : WorldState) → StandsFor mount world
+    → told mount.held patterns (raw.Held query position path content) ≡ reply_of world (Fetch query path)
+held_tells mount query patterns position path content place same world h =
+    let value : content ≡ file_at (now world).files path = same ∙ ap (λ f. file_at f path) h.files in
+    λ i. bounded query (ContentIs query (place world h i) path (value i))

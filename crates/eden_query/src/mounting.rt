@@ -3,9 +3,9 @@
 ghost use Rattle.std.specs.Prelude.{◌≡◌, ℕ, List, None, IfOk, true};
 ghost use Rattle.eden_ids.specs.FileMaps.{file_at};
 ghost use Rattle.eden_objects.specs.Commits.{commit_map};
-ghost use Rattle.eden_accumulate.specs.Mounts.{StandsFor};
+ghost use Rattle.eden_accumulate.specs.Mounts.{StandsFor, files_of};
 ghost use Rattle.eden_history.specs.declared.answer.Answer.TheVariants as answer;
-ghost use Rattle.eden_history.specs.Worlds.{WorldState, now};
+ghost use Rattle.eden_history.specs.Worlds.{WorldState};
 ghost use Rattle.eden_history.specs.Replies.{reply_of};
 ghost use Rattle.eden_query.specs.Mounting.{Applies, refusal_of, told_as};
 ghost use Rattle.eden_query.specs.Raws.{is_answerable, patterns_of, told};
@@ -84,21 +84,19 @@ fn ranged<N: Naming + Drop>(
 
 /// The file that stands at a path, or none.
 fn content_at<N: Naming + Drop>(mount: &Mount<N>, path: &Path) -> Result<Option<Content>, NoMemory>
-    ensures { IfOk result (λ content. (world : WorldState) → StandsFor mount.now world → content ≡ file_at (now world).files path.now) }
+    ensures { IfOk result (λ content. content ≡ file_at (files_of mount.now) path.now) }
 {
-    let Ok((kind, bytes)) = mount.read(path) else {
-        return Ok(None);
-    };
-    match bytes.to_vec(mount.store().allocator()) {
-        Ok(bytes) => Ok(Some(Content {
+    match mount.work().file(mount.store(), path) {
+        Some((kind, bytes)) => Ok(Some(Content {
             kind,
-            bytes: Sequence::from_vec(bytes),
+            bytes: Sequence::from_vec(bytes.to_vec(mount.store().allocator())?),
         })),
-        Err(_) => Err(NoMemory),
+        None => Ok(None),
     }
 }
 
 /// What a request asks for.
+#[tactic(auto, using(crate::proofs::Telling::based_tells, crate::proofs::Telling::held_tells))]
 fn raw_of<N: Naming + Drop>(mount: &Mount<N>, request: &Request) -> Result<Raw, NoMemory>
     ensures replies { IfOk result (λ raw. (world : WorldState) → StandsFor mount.now world
         → told mount.now.held (patterns_of request.now) raw ≡ reply_of world request.now) }

@@ -1,7 +1,7 @@
 use crate::{DecodeFault, decode_reply, decode_request, encode_reply, encode_request};
 use eden_globs::Filter;
 use eden_history::{Cause, Mark, Marked, Position, Query, Reply, Request};
-use eden_ids::{Id, Path, Sequence};
+use eden_ids::{Content, Id, Kind, Path, Sequence};
 use std::alloc::Global;
 use std::test::Fail;
 
@@ -96,10 +96,107 @@ fn a_poll_has_its_frame(rt: HostRuntime) -> Result<(), Fail> {
         query,
         since,
         filter,
-    } = &request;
+    } = &request
+    else {
+        return Err(Fail::new("a poll was read as another request"));
+    };
     assert_eq!(rt; *query, QUERY);
     assert_eq!(rt; *since, PLACE);
     assert_eq!(rt; filter.patterns().len(), 0);
+    Ok(())
+}
+
+/// A basis, a poll and a fetch of `a`, each with its body.
+fn requests(alloc: Global) -> Result<Vec<(Request, Vec<u8>)>, Fail> {
+    let mut all = Vec::new(alloc);
+    let basis = Request::Basis {
+        query: QUERY,
+        filter: Filter::parse(alloc, &[])?,
+    };
+    all.push((basis, joined(alloc, &[&[1, 1], &Q, &[0]])?))?;
+    all.push((poll(alloc)?, placed(alloc, &[1, 2], &[0])?))?;
+    let fetch = Request::Fetch {
+        query: QUERY,
+        path: Path::parse(alloc, b"a".as_slice())?,
+    };
+    all.push((fetch, joined(alloc, &[&[1, 3], &Q, &[0, 1, b'a']])?))?;
+    Ok(all)
+}
+
+/// Replies of each kind, each with its body.
+fn replies(alloc: Global) -> Result<Vec<(Reply, Vec<u8>)>, Fail> {
+    let mut all = Vec::new(alloc);
+    let mut paths = Vec::new(alloc);
+    paths.push(Path::parse(alloc, b"a".as_slice())?)?;
+    paths.push(Path::parse(alloc, b"a/b".as_slice())?)?;
+    let basis = Reply::BasisIs {
+        query: QUERY,
+        position: PLACE,
+        paths: Sequence::from_vec(paths),
+    };
+    let list = [0, 0, 0, 2, 0, 1, b'a', 0, 3, b'a', b'/', b'b'];
+    all.push((basis, placed(alloc, &[1, 0x81], &list)?))?;
+    let list = [0, 0, 0, 2, 2, 0, 1, b'a', 4, 0, 1, b'b'];
+    all.push((two_changes(alloc)?, placed(alloc, &[1, 0x82], &list)?))?;
+    let absent = Reply::ContentIs {
+        query: QUERY,
+        position: PLACE,
+        path: Path::parse(alloc, b"a".as_slice())?,
+        content: None,
+    };
+    all.push((absent, placed(alloc, &[1, 0x83], &[0, 1, b'a', 0])?))?;
+    for (kind, byte) in [(Kind::Plain, 1), (Kind::Exec, 2), (Kind::Link, 3)] {
+        let content = Content {
+            kind,
+            bytes: Sequence::from_vec(b"hi".to_vec(alloc)?),
+        };
+        let present = Reply::ContentIs {
+            query: QUERY,
+            position: PLACE,
+            path: Path::parse(alloc, b"a".as_slice())?,
+            content: Some(content),
+        };
+        let fields = [0, 1, b'a', byte, 0, 0, 0, 2, b'h', b'i'];
+        all.push((present, placed(alloc, &[1, 0x83], &fields)?))?;
+    }
+    let refused = Reply::Refused {
+        query: QUERY,
+        cause: Cause::TooLarge,
+    };
+    let value = [4, 0, 0, 0, 0, 0, 0, 0, 0];
+    all.push((refused, joined(alloc, &[&[1, 0x84], &Q, &value])?))?;
+    Ok(all)
+}
+
+/// The frame of a short body.
+fn framed(alloc: Global, body: &[u8]) -> Result<Vec<u8>, Fail> {
+    joined(alloc, &[&[0, 0, 0, body.len() as u8], body])
+}
+
+#[test]
+fn each_request_is_spelled_and_read(rt: HostRuntime) -> Result<(), Fail> {
+    let alloc = rt.alloc();
+    for (request, body) in &requests(alloc)? {
+        let frame = framed(alloc, body.as_slice())?;
+        assert_eq!(rt; encode_request(alloc, request)?, frame);
+        assert_eq!(rt; encode_request(alloc, &request.copy()?)?, frame);
+        let read = decode_request(alloc, body.as_slice())?;
+        assert_eq!(rt; encode_request(alloc, &read)?, frame);
+    }
+    Ok(())
+}
+
+#[test]
+fn each_reply_is_spelled_and_read(rt: HostRuntime) -> Result<(), Fail> {
+    let alloc = rt.alloc();
+    for (reply, body) in &replies(alloc)? {
+        assert_eq!(rt;
+            encode_reply(alloc, reply)?,
+            framed(alloc, body.as_slice())?
+        );
+        assert!(rt; decode_reply(alloc, body.as_slice())? == *reply);
+        assert!(rt; reply.copy()? == *reply);
+    }
     Ok(())
 }
 
@@ -153,10 +250,10 @@ fn bodies_without_a_request(rt: HostRuntime) -> Result<(), Fail> {
     let many_patterns = placed(alloc, &[1, 2], &[0x21])?;
     let empty_pattern = placed(alloc, &[1, 2], &[1, 0, 0])?;
     let long_pattern = placed(alloc, &[1, 2], &[1, 1, 1])?;
-    let pattern = placed(alloc, &[1, 2], &[1, 0, 1, b'a'])?;
+    let bad_pattern = placed(alloc, &[1, 2], &[1, 0, 1, b'['])?;
     let cut_pattern = placed(alloc, &[1, 2], &[1, 0, 2, b'a'])?;
-    let basis = joined(alloc, &[&[1, 1], &Q, &[0]])?;
-    let fetch = joined(alloc, &[&[1, 3], &Q, &[0, 1, b'a']])?;
+    let no_path = joined(alloc, &[&[1, 3], &Q, &[0, 1, b'/']])?;
+    let long_path = joined(alloc, &[&[1, 3], &Q, &[4, 1]])?;
     let unknown = joined(alloc, &[&[1, 5], &Q])?;
     let reply = placed(alloc, &[1, 0x82], &[0, 0, 0, 0])?;
     for (body, fault) in [
@@ -164,13 +261,13 @@ fn bodies_without_a_request(rt: HostRuntime) -> Result<(), Fail> {
         ([2].as_slice(), DecodeFault::Version),
         ([1, 5].as_slice(), DecodeFault::BadTag),
         (unknown.as_slice(), DecodeFault::BadTag),
-        (basis.as_slice(), DecodeFault::BadTag),
-        (fetch.as_slice(), DecodeFault::BadTag),
+        (no_path.as_slice(), DecodeFault::BadField),
+        (long_path.as_slice(), DecodeFault::BadField),
         (reply.as_slice(), DecodeFault::BadTag),
         (many_patterns.as_slice(), DecodeFault::BadField),
         (empty_pattern.as_slice(), DecodeFault::BadField),
         (long_pattern.as_slice(), DecodeFault::BadField),
-        (pattern.as_slice(), DecodeFault::BadField),
+        (bad_pattern.as_slice(), DecodeFault::BadField),
         (cut_pattern.as_slice(), DecodeFault::CutShort),
     ] {
         assert_eq!(rt; request_fault(alloc, body), Some(fault));
@@ -184,7 +281,11 @@ fn bodies_without_a_reply(rt: HostRuntime) -> Result<(), Fail> {
     let too_large_with_value = joined(alloc, &[&[1, 0x84], &Q, &[4, 0, 0, 0, 0, 0, 0, 0, 1]])?;
     let no_cause = joined(alloc, &[&[1, 0x84], &Q, &[0]])?;
     let fifth_cause = joined(alloc, &[&[1, 0x84], &Q, &[5]])?;
-    let basis_is = placed(alloc, &[1, 0x81], &[0xff, 0xff, 0xff, 0xff])?;
+    let many_paths = placed(alloc, &[1, 0x81], &[0xff, 0xff, 0xff, 0xff])?;
+    let same_paths = placed(alloc, &[1, 0x81], &[0, 0, 0, 2, 0, 1, b'a', 0, 1, b'a'])?;
+    let fourth_kind = placed(alloc, &[1, 0x83], &[0, 1, b'a', 4])?;
+    let long_content = placed(alloc, &[1, 0x83], &[0, 1, b'a', 1, 0, 0x80, 0, 1])?;
+    let cut_content = placed(alloc, &[1, 0x83], &[0, 1, b'a', 1, 0, 0x80, 0, 0])?;
     let no_mark = placed(alloc, &[1, 0x82], &[0, 0, 0, 1, 0, 0, 1, b'a'])?;
     let fifth_mark = placed(alloc, &[1, 0x82], &[0, 0, 0, 1, 5])?;
     let empty_path = placed(alloc, &[1, 0x82], &[0, 0, 0, 1, 1, 0, 0])?;
@@ -195,7 +296,11 @@ fn bodies_without_a_reply(rt: HostRuntime) -> Result<(), Fail> {
     for (body, fault) in [
         ([2].as_slice(), DecodeFault::Version),
         (request.as_slice(), DecodeFault::BadTag),
-        (basis_is.as_slice(), DecodeFault::BadTag),
+        (many_paths.as_slice(), DecodeFault::CutShort),
+        (same_paths.as_slice(), DecodeFault::BadField),
+        (fourth_kind.as_slice(), DecodeFault::BadField),
+        (long_content.as_slice(), DecodeFault::BadField),
+        (cut_content.as_slice(), DecodeFault::CutShort),
         (too_large_with_value.as_slice(), DecodeFault::BadField),
         (no_cause.as_slice(), DecodeFault::BadField),
         (fifth_cause.as_slice(), DecodeFault::BadField),
@@ -214,39 +319,23 @@ fn bodies_without_a_reply(rt: HostRuntime) -> Result<(), Fail> {
 #[test]
 fn fronts_are_cut_short(rt: HostRuntime) -> Result<(), Fail> {
     let alloc = rt.alloc();
-    let request = placed(alloc, &[1, 2], &[0])?;
-    for n in 0..request.len() {
-        assert_eq!(rt;
-            request_fault(alloc, &request[..n]),
-            Some(DecodeFault::CutShort),
-            "at {n}"
-        );
-    }
-    let longer = joined(alloc, &[request.as_slice(), &[0]])?;
-    assert_eq!(rt;
-        request_fault(alloc, longer.as_slice()),
-        Some(DecodeFault::Trailing)
-    );
-    let changes = placed(
-        alloc,
-        &[1, 0x82],
-        &[0, 0, 0, 2, 2, 0, 1, b'a', 4, 0, 1, b'b'],
-    )?;
-    let refused = joined(alloc, &[&[1, 0x84], &Q, &[4, 0, 0, 0, 0, 0, 0, 0, 0]])?;
-    for body in [changes.as_slice(), refused.as_slice()] {
-        assert_eq!(rt; reply_fault(alloc, body), None);
+    for (_, body) in &requests(alloc)? {
         for n in 0..body.len() {
-            assert_eq!(rt;
-                reply_fault(alloc, &body[..n]),
-                Some(DecodeFault::CutShort),
-                "at {n}"
-            );
+            let fault = request_fault(alloc, &body[..n]);
+            assert_eq!(rt; fault, Some(DecodeFault::CutShort), "at {n}");
         }
-        let longer = joined(alloc, &[body, &[0]])?;
-        assert_eq!(rt;
-            reply_fault(alloc, longer.as_slice()),
-            Some(DecodeFault::Trailing)
-        );
+        let longer = joined(alloc, &[body.as_slice(), &[0]])?;
+        let fault = request_fault(alloc, longer.as_slice());
+        assert_eq!(rt; fault, Some(DecodeFault::Trailing));
+    }
+    for (_, body) in &replies(alloc)? {
+        for n in 0..body.len() {
+            let fault = reply_fault(alloc, &body[..n]);
+            assert_eq!(rt; fault, Some(DecodeFault::CutShort), "at {n}");
+        }
+        let longer = joined(alloc, &[body.as_slice(), &[0]])?;
+        let fault = reply_fault(alloc, longer.as_slice());
+        assert_eq!(rt; fault, Some(DecodeFault::Trailing));
     }
     Ok(())
 }
@@ -264,6 +353,10 @@ fn a_body_has_16_mebibytes_at_the_most(rt: HostRuntime) -> Result<(), Fail> {
         Some(DecodeFault::TooLarge)
     );
     assert_eq!(rt; body.len(), 16_777_217);
-    assert_eq!(rt; request_fault(alloc, &body[1..]), Some(DecodeFault::BadTag));
+    // A basis with one pattern of 257 bytes.
+    assert_eq!(rt;
+        request_fault(alloc, &body[1..]),
+        Some(DecodeFault::BadField)
+    );
     Ok(())
 }
