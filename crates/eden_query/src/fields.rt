@@ -191,14 +191,14 @@ fn bytes_of(bytes: &[u8]) -> Result<(&[u8], &[u8]), DecodeFault>
     ensures { Gives (λ x. (x.0.now, x.1.now)) result (bytes_at bytes.now) }
 {
     let (count, rest) = u32_of(bytes)?;
-    if count > 8_388_608 {
+    let len = count as usize;
+    if len > Content::LIMIT {
         return Err(DecodeFault::BadField);
     }
-    let count = count as usize;
-    if rest.len() < count {
+    if rest.len() < len {
         return Err(DecodeFault::CutShort);
     }
-    Ok(rest.split_at(count))
+    Ok(rest.split_at(len))
 }
 
 /// A file, or the lack of one.

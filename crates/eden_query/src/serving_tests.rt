@@ -141,63 +141,115 @@ fn stops(number: u64, fault: FrameFault) -> Result<u64, ServeFault> {
     Err(ServeFault::Frame { number, fault })
 }
 
-#[test]
-fn poll_frames(rt: HostRuntime) -> Result<(), Fail> {
-    let alloc = rt.alloc();
+/// A fetch of `a`.
+fn fetch(alloc: Global) -> Result<Vec<u8>, Fail> {
+    joined(alloc, &[&[0, 0, 0, 0x1d, 1, 3], &Q, &[0, 1, b'a']])
+}
+
+/// A basis of all paths.
+fn basis(alloc: Global) -> Result<Vec<u8>, Fail> {
+    joined(alloc, &[&[0, 0, 0, 0x1b, 1, 1], &Q, &[0]])
+}
+
+/// The reply that nothing stands at `a` in the first row of generation 7.
+fn absent(alloc: Global) -> Result<Vec<u8>, Fail> {
+    let place = [0, 0, 0, 0, 0, 0, 0, 7, 0, 0, 0, 0, 0, 0, 0, 1];
+    joined(
+        alloc,
+        &[
+            &[0, 0, 0, 0x42, 1, 0x83],
+            &Q,
+            &place,
+            &ROOT,
+            &[0, 1, b'a', 0],
+        ],
+    )
+}
+
+/// The reply that no path holds a file in the first row of generation 7.
+fn no_paths(alloc: Global) -> Result<Vec<u8>, Fail> {
+    let place = [0, 0, 0, 0, 0, 0, 0, 7, 0, 0, 0, 0, 0, 0, 0, 1];
+    joined(
+        alloc,
+        &[&[0, 0, 0, 0x42, 1, 0x81], &Q, &place, &ROOT, &[0, 0, 0, 0]],
+    )
+}
+
+/// Whether these frames are answered by this text and this end, whole, byte by byte, and cut in two at each place.
+fn answers(
+    alloc: Global,
+    frames: &[u8],
+    text: &[u8],
+    end: Result<u64, ServeFault>,
+) -> Result<bool, Fail> {
     let mut mount = opened(alloc, 1000)?;
-    let one = poll(alloc, 7, 1)?;
-    let mut trailing = joined(alloc, &[&one, &[0]])?;
-    if let Some(length) = trailing.get_mut(3) {
-        *length = 0x40;
+    let mut ways = vec![in alloc; (usize::MAX, usize::MAX), (1, usize::MAX)]?;
+    for cut in 0..frames.len() {
+        ways.push((usize::MAX, cut))?;
     }
-    let two = joined(alloc, &[&one, &one])?;
-    let cut_short = joined(alloc, &[&one, &[0, 0, 0]])?;
-    let past_fault = joined(alloc, &[&[0, 0, 0, 0], &one])?;
-    let reply = no_changes(alloc)?;
-    let replies = joined(alloc, &[&reply, &reply])?;
-    assert_eq!(rt; replies.len(), 140);
-    let nothing = Vec::new(alloc);
-    let ahead = poll(alloc, 7, 2)?;
-    let truncated = poll(alloc, 7, 0)?;
-    let stale = poll(alloc, 8, 9)?;
-    for (frames, text, end) in [
-        (&one, &reply, Ok(1)),
-        (&trailing, &nothing, stops(1, FrameFault::Trailing)),
-        (&two, &replies, Ok(2)),
-        (&cut_short, &reply, stops(2, FrameFault::CutShort)),
-        (&past_fault, &nothing, stops(1, FrameFault::CutShort)),
-        (
-            &joined(alloc, &[&[0, 0, 0, 0]])?,
-            &nothing,
-            stops(1, FrameFault::CutShort),
-        ),
-        (
-            &joined(alloc, &[&[1, 0, 0, 1]])?,
-            &nothing,
-            stops(1, FrameFault::TooLarge),
-        ),
-        (
-            &joined(alloc, &[&[0, 0, 0]])?,
-            &nothing,
-            stops(1, FrameFault::CutShort),
-        ),
-        (&joined(alloc, &[])?, &nothing, Ok(0)),
-        (&ahead, &refusal(alloc, 2, 1)?, Ok(1)),
-        (&truncated, &refusal(alloc, 3, 1)?, Ok(1)),
-        (&stale, &refusal(alloc, 1, 7)?, Ok(1)),
+    let mut same = true;
+    for &(most, cut) in &ways {
+        let (written, ended) = served(alloc, &mut mount, frames, most, cut);
+        same = same && written.as_slice() == text && ended == end;
+    }
+    Ok(same)
+}
+
+#[test]
+fn known_frames(rt: HostRuntime) -> Result<(), Fail> {
+    let alloc = rt.alloc();
+    for (frame, reply) in [
+        (&fetch(alloc)?, &absent(alloc)?),
+        (&basis(alloc)?, &no_paths(alloc)?),
+        (&poll(alloc, 7, 1)?, &no_changes(alloc)?),
+        (&poll(alloc, 7, 2)?, &refusal(alloc, 2, 1)?),
+        (&poll(alloc, 7, 0)?, &refusal(alloc, 3, 1)?),
+        (&poll(alloc, 8, 9)?, &refusal(alloc, 1, 7)?),
     ] {
-        let mut ways = vec![in alloc; (usize::MAX, usize::MAX), (1, usize::MAX)]?;
-        for cut in 0..frames.len() {
-            ways.push((usize::MAX, cut))?;
+        assert!(rt; answers(alloc, frame.as_slice(), reply.as_slice(), Ok(1))?);
+    }
+    Ok(())
+}
+
+#[test]
+fn frame_faults(rt: HostRuntime) -> Result<(), Fail> {
+    let alloc = rt.alloc();
+    let cut_short = stops(1, FrameFault::CutShort);
+    for (bytes, end) in [
+        ([0, 0, 0, 0].as_slice(), cut_short),
+        ([1, 0, 0, 1].as_slice(), stops(1, FrameFault::TooLarge)),
+        ([0, 0, 0].as_slice(), cut_short),
+        (b"".as_slice(), Ok(0)),
+    ] {
+        assert!(rt; answers(alloc, bytes, &[], end)?);
+    }
+    for frame in [&fetch(alloc)?, &poll(alloc, 7, 1)?, &basis(alloc)?] {
+        let mut trailing = joined(alloc, &[frame.as_slice(), &[0]])?;
+        if let Some(length) = trailing.get_mut(3) {
+            *length = length.wrapping_add(1);
         }
-        for &(most, cut) in &ways {
-            let (written, ended) = served(alloc, &mut mount, frames.as_slice(), most, cut);
-            assert!(rt;
-                written.as_slice() == text.as_slice(),
-                "at most {most}, cut at {cut}"
-            );
-            assert!(rt; ended == end, "at most {most}, cut at {cut}");
-        }
+        let end = stops(1, FrameFault::Trailing);
+        assert!(rt; answers(alloc, trailing.as_slice(), &[], end)?);
+        let behind = joined(alloc, &[&[0, 0, 0, 0], frame.as_slice()])?;
+        assert!(rt; answers(alloc, behind.as_slice(), &[], cut_short)?);
+    }
+    Ok(())
+}
+
+#[test]
+fn several_frames(rt: HostRuntime) -> Result<(), Fail> {
+    let alloc = rt.alloc();
+    for (frame, reply) in [
+        (&fetch(alloc)?, &absent(alloc)?),
+        (&poll(alloc, 7, 1)?, &no_changes(alloc)?),
+    ] {
+        let two = joined(alloc, &[frame.as_slice(), frame.as_slice()])?;
+        let replies = joined(alloc, &[reply.as_slice(), reply.as_slice()])?;
+        assert_eq!(rt; replies.len(), 140);
+        assert!(rt; answers(alloc, two.as_slice(), replies.as_slice(), Ok(2))?);
+        let cut = joined(alloc, &[frame.as_slice(), &[0, 0, 0]])?;
+        let end = stops(2, FrameFault::CutShort);
+        assert!(rt; answers(alloc, cut.as_slice(), reply.as_slice(), end)?);
     }
     Ok(())
 }
@@ -206,11 +258,12 @@ fn poll_frames(rt: HostRuntime) -> Result<(), Fail> {
 fn frames_cut_short(rt: HostRuntime) -> Result<(), Fail> {
     let alloc = rt.alloc();
     let mut mount = opened(alloc, 1000)?;
-    let one = poll(alloc, 7, 1)?;
-    for left in 1..one.len() {
-        let (written, ended) = served(alloc, &mut mount, &one[..left], usize::MAX, usize::MAX);
-        assert!(rt; written.is_empty(), "{left} bytes");
-        assert!(rt; ended == stops(1, FrameFault::CutShort), "{left} bytes");
+    for one in [&poll(alloc, 7, 1)?, &fetch(alloc)?, &basis(alloc)?] {
+        for left in 1..one.len() {
+            let (written, ended) = served(alloc, &mut mount, &one[..left], usize::MAX, usize::MAX);
+            assert!(rt; written.is_empty(), "{left} bytes");
+            assert!(rt; ended == stops(1, FrameFault::CutShort), "{left} bytes");
+        }
     }
     Ok(())
 }
@@ -218,18 +271,19 @@ fn frames_cut_short(rt: HostRuntime) -> Result<(), Fail> {
 #[test]
 fn reads_spent(rt: HostRuntime) -> Result<(), Fail> {
     let alloc = rt.alloc();
-    let one = poll(alloc, 7, 1)?;
-    let mut endless = Endless {
-        bytes: one.as_slice(),
-        at: 0,
-    };
-    let mut mount = opened(alloc, 1000)?;
-    let mut written = Vec::new(alloc);
-    let mut reader = Counted::new(&mut endless);
-    let mut writer = Counted::new(&mut written);
-    let ended = serve(alloc, &mut reader, &mut writer, &mut mount);
-    assert_eq!(rt; ended, Err(ServeFault::TurnsSpent));
-    assert_eq!(rt; written.len(), 14_925 * 70);
+    for (one, replies) in [(&poll(alloc, 7, 1)?, 14_925), (&fetch(alloc)?, 30_303)] {
+        let mut endless = Endless {
+            bytes: one.as_slice(),
+            at: 0,
+        };
+        let mut mount = opened(alloc, 1000)?;
+        let mut written = Vec::new(alloc);
+        let mut reader = Counted::new(&mut endless);
+        let mut writer = Counted::new(&mut written);
+        let ended = serve(alloc, &mut reader, &mut writer, &mut mount);
+        assert_eq!(rt; ended, Err(ServeFault::TurnsSpent));
+        assert_eq!(rt; written.len(), replies * 70);
+    }
     Ok(())
 }
 
@@ -246,6 +300,9 @@ fn expected(
         0 => Err(FrameFault::TooLarge),
         1..=3 => Err(FrameFault::CutShort),
         4 => Err(FrameFault::Version),
+        // A basis has an end where the position stands, and a fetch a path, of which a generation is no length.
+        5 if value == 1 => Err(FrameFault::Trailing),
+        5 if value == 3 => Err(FrameFault::BadField),
         5 => Err(FrameFault::BadTag),
         // The query is the reply's.
         6..=29 => {

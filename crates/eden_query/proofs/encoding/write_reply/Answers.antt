@@ -11,7 +11,7 @@ put_list-requires c =
 pub put_paths-requires : goal.put_paths-requires
 put_paths-requires c =
     let is = ap (λ r. length (reply_bytes r)) c.in-BasisIs.is in
-    rw c.as_slice-in-BasisIs.ensures (paths_few c.in-BasisIs.query c.in-BasisIs.position c.in-BasisIs.paths (omega (arith, c.requires.len, c.requires.small, is)))
+    rw c.as_slice.ensures (paths_few c.in-BasisIs.query c.in-BasisIs.position c.in-BasisIs.paths (omega (arith, c.requires.len, c.requires.small, is)))
 
 pub put_content-requires : goal.put_content-requires
 put_content-requires c =
