@@ -1,13 +1,13 @@
 -- A snapshot shows the paths of the files that a mount holds.
-use Rattle.std.proofs.Common.{◌≡◌, ℕ, Bool, true, false, cond, ◌||◌, List, [], ◌∷◌, Option, Some, None, is_some, refl, sym, ap, ◌∙◌}
-use Rattle.std.specs.Prelude.{IsSome, filter}
+use Rattle.std.proofs.Common.{◌≡◌, ℕ, Bool, true, false, not, cond, ◌&&◌, ◌||◌, List, [], ◌∷◌, map, Option, Some, None, is_some, refl, sym, ap, ◌∙◌}
+use Rattle.std.specs.Prelude.{filter, if◌then◌else◌}
+use Rattle.std.proofs.lemmas.Bool.{or_parts}
 use Rattle.std.specs.List.{AllByRecursion, list_any}
 use Rattle.std.specs.FinMap as fin
 use Rattle.eden_globs.specs.Filters.{admits}
-use Rattle.eden_ids.specs.declared.id.Id.{Id}
 use Rattle.eden_ids.specs.declared.content.Content.{Content}
-use Rattle.eden_ids.specs.FileMaps.{FileMap, IsFileMap, file_at, has, listing, path_set, paths, put_option, same_path}
-use Rattle.eden_ids.proofs.FileMapLemmas.{file_at-insert, file_at-remove, has-listing, has-path_set, same_path-is}
+use Rattle.eden_ids.specs.FileMaps.{FileMap, PathSet, file_at, has, listing, path_set, paths, put_option, same_path}
+use Rattle.eden_ids.proofs.FileMapLemmas.{file_at-insert, file_at-remove, has-listing, has-path_set, has-union, has-where, same_path-is}
 use Rattle.eden_ids.proofs.TreeMaps.{listing-same}
 use Rattle.eden_objects.specs.Objects.{Held}
 use Rattle.eden_objects.specs.Files.{commit_files}
@@ -16,13 +16,20 @@ use Rattle.eden_workcopy.specs.Layers.{marked}
 use Rattle.eden_workcopy.specs.Listings.{admitted}
 use Rattle.eden_workcopy.specs.Meanings.{means, touched_of, touched_set}
 use Rattle.eden_workcopy.proofs.Touched.{touched_elsewhere, touched_listed, touched_present}
+use Rattle.eden_accumulate.specs.declared.snapshot.Snapshot.{Snapshot}
 use Rattle.eden_accumulate.specs.Mounts.{State}
+use Rattle.eden_accumulate.specs.Snapshots.{shown, shown_to}
+use Rattle.eden_accumulate.specs.internal.Marked.{is, mark, marked_over}
 use Rattle.eden_accumulate.proofs.Standing.{IsPresent}
-use Rattle.eden_accumulate.specs.Snapshots.{mark, marked_over}
 
--- files stand at the same paths
-abbrev pub SamePaths : FileMap → FileMap → Type 0
-SamePaths files other = (p : List ℕ) → is_some (file_at files p) ≡ is_some (file_at other p)
+-- the paths that say so
+abbrev pub said : Bool → List (List ℕ × Bool) → List (List ℕ)
+said wanted ts = map (λ t. t.0) (filter (λ t. is wanted t.1) ts)
+
+abbrev pub among : List ℕ → List (List ℕ) → Bool
+among p ps = list_any (λ q. same_path p q) ps
+
+-- ---- a file map with marks
 
 put_at : (files : FileMap) (path : List ℕ) (file : Option Content) (p : List ℕ) → file_at (put_option files path file) p ≡ cond (same_path p path) file (file_at files p)
 put_at files path None p = file_at-remove files path p
@@ -32,61 +39,148 @@ marks-are : (b : Bool) → is_some (mark b) ≡ b
 marks-are true = refl
 marks-are false = refl
 
--- where the paths that were marked tell the truth, and so does what is below at the others, all do
-pub marked_at : (files : FileMap) (ts : List (List ℕ × Bool)) (wanted : List ℕ → Bool) → AllByRecursion (λ t. wanted t.0 ≡ t.1) ts
-    → ((p : List ℕ) → list_any (λ q. same_path p q) (marked ts) ≡ false → is_some (file_at files p) ≡ wanted p)
-    → (p : List ℕ) → is_some (file_at (marked_over files ts) p) ≡ wanted p
-marked_at files [] wanted here below p = below p refl
-marked_at files (t ∷ ts) wanted here below p =
-    marked_at (put_option files t.0 (mark t.1)) ts wanted here.1 (λ q none. one q none (same_path q t.0) refl) p
+-- a mark at one path, before those at others
+first-mark : (wanted same more : Bool) (file : Option Content)
+    → cond more wanted (is_some (cond same (mark wanted) file)) ≡ cond (same || more) wanted (is_some file)
+first-mark wanted true true file = refl
+first-mark wanted true false file = marks-are wanted
+first-mark wanted false more file = refl
+
+pub marked_at : (wanted : Bool) (files : FileMap) (ts : List (List ℕ × Bool)) (p : List ℕ)
+    → is_some (file_at (marked_over wanted files ts) p) ≡ cond (among p (said wanted ts)) wanted (is_some (file_at files p))
+marked_at wanted files [] p = refl
+marked_at wanted files (t ∷ ts) p =
+    by (is wanted t.1) (marked_at wanted files ts p) (marked_at wanted (put_option files t.0 (mark wanted)) ts p)
   where
-    one : (q : List ℕ) → list_any (λ r. same_path q r) (marked ts) ≡ false → (b : Bool) → same_path q t.0 ≡ b → is_some (file_at (put_option files t.0 (mark t.1)) q) ≡ wanted q
-    one q none true same =
-        ap is_some (put_at files t.0 (mark t.1) q ∙ ap (λ b. cond b (mark t.1) (file_at files q)) same)
-        ∙ marks-are t.1 ∙ sym here.0 ∙ ap wanted (sym (same_path-is q t.0 same))
-    one q none false other =
-        ap is_some (put_at files t.0 (mark t.1) q ∙ ap (λ b. cond b (mark t.1) (file_at files q)) other)
-        ∙ below q (ap (λ b. b || list_any (λ r. same_path q r) (marked ts)) other ∙ none)
+    by : (b : Bool) → is_some (file_at (marked_over wanted files ts) p) ≡ cond (among p (said wanted ts)) wanted (is_some (file_at files p))
+        → is_some (file_at (marked_over wanted (put_option files t.0 (mark wanted)) ts) p)
+        ≡ cond (among p (said wanted ts)) wanted (is_some (file_at (put_option files t.0 (mark wanted)) p))
+        → is_some (file_at (marked_over wanted (if b then put_option files t.0 (mark wanted) else files) ts) p)
+        ≡ cond (among p (map {A = List ℕ × Bool} (λ t. t.0) (cond b (t ∷ filter (λ t. is wanted t.1) ts) (filter (λ t. is wanted t.1) ts)))) wanted (is_some (file_at files p))
+    by false without with = without
+    by true without with =
+        with
+        ∙ ap (λ f. cond (among p (said wanted ts)) wanted (is_some f)) (put_at files t.0 (mark wanted) p)
+        ∙ first-mark wanted (same_path p t.0) (among p (said wanted ts)) (file_at files p)
 
--- what is known of the paths that changes touched
-pub record Tells (held : List Held) (work : WorkCopy) : Type 0 where
-  pub listed : marked (touched_of work) ≡ listing (touched_set work)
-  pub present : AllByRecursion (λ e. is_some (file_at (means held work) e.0) ≡ e.1) (touched_of work)
-  pub elsewhere : (p : List ℕ) → has (touched_set work) p ≡ false → file_at (means held work) p ≡ file_at (commit_files held work.root) p
+-- ---- what a snapshot shows
 
-pub tells : (held : List Held) (work : WorkCopy) → Tells held work
-tells held work = record {
-  listed = touched_listed work.overlay;
-  present = touched_present (commit_files held work.root) work.overlay;
-  elsewhere = touched_elsewhere (commit_files held work.root) work.overlay;
-}
+-- of a path: whether the commit has it, whether it is absent, and whether it is present
+abbrev is_shown : Bool → Bool → Bool → Bool
+is_shown there absent present = not absent && there || present
 
-pub shown : (held : List Held) (work : WorkCopy) (root : Id) (touched : List (List ℕ × Bool)) → root ≡ work.root → touched ≡ touched_of work
-    → SamePaths (marked_over (commit_files held root) touched) (means held work)
-shown held work root touched is-root is-touched p =
-    (λ i. is_some (file_at (marked_over (commit_files held (is-root i)) (is-touched i)) p))
-    ∙ marked_at (commit_files held work.root) (touched_of work) (λ q. is_some (file_at (means held work) q)) (tells held work).present
-    (λ q none. ap is_some (sym ((tells held work).elsewhere q
-    (has-listing (touched_set work) q ∙ ap (list_any (λ r. same_path q r)) (sym (tells held work).listed) ∙ none)))) p
-
-pub same_paths : (files other : FileMap) → SamePaths files other → paths files ≡ paths other
-same_paths files other same =
-    sym (listing-same (path_set (paths files)) files members)
-    ∙ listing-same (path_set (paths files)) other (λ p. members p ∙ same p)
+has-shown : (held : List Held) (snapshot : Snapshot) (p : List ℕ)
+    → has (shown held snapshot) p
+    ≡ is_shown (is_some (file_at (commit_files held snapshot.position.root) p)) (among p (said false snapshot.touched)) (among p (said true snapshot.touched))
+has-shown held snapshot p =
+    has-union _ _ p
+    ∙ ap (λ b. b || has (path_set (said true snapshot.touched)) p)
+    (has-where (path_set (paths files)) (λ q. not (has (path_set (said false snapshot.touched)) q)) p
+    ∙ ap (λ b. not b && has (path_set (paths files)) p) (has-path_set (said false snapshot.touched) p)
+    ∙ ap (λ b. not (among p (said false snapshot.touched)) && b) (has-path_set (paths files) p ∙ sym (fin.contains_key-keys files p)))
+    ∙ ap (λ b. is_shown (is_some (file_at files p)) (among p (said false snapshot.touched)) b) (has-path_set (said true snapshot.touched) p)
   where
-    members : (p : List ℕ) → has (path_set (paths files)) p ≡ fin.contains_key files p
-    members p = has-path_set (paths files) p ∙ sym (fin.contains_key-keys files p)
+    files : FileMap
+    files = commit_files held snapshot.position.root
 
-still-some : (a b : Option Content) → is_some a ≡ is_some b → IsSome a → IsSome b
-still-some a b e h = sym e ∙ h
+shown-twice : (there absent present : Bool) → is_shown there absent present ≡ cond present true (cond absent false there)
+shown-twice true true true = refl
+shown-twice true true false = refl
+shown-twice true false true = refl
+shown-twice true false false = refl
+shown-twice false true true = refl
+shown-twice false true false = refl
+shown-twice false false true = refl
+shown-twice false false false = refl
 
-pub shown_fits : (files other : FileMap) → SamePaths files other → IsFileMap other → IsFileMap files
-shown_fits files other same fits p q here there =
-    fits p q (still-some (file_at files p) (file_at other p) (same p) here) (still-some (file_at files q) (file_at other q) (same q) there)
+-- a commit's files with marks have the paths that are shown
+pub marks_show : (held : List Held) (snapshot : Snapshot) (patterns : List (List ℕ)) (start : FileMap) → start ≡ commit_files held snapshot.position.root
+    → admitted patterns (marked_over true (marked_over false start snapshot.touched) snapshot.touched) ≡ shown_to patterns held snapshot
+marks_show held snapshot patterns start is-start =
+    ap (λ files. admitted patterns (marked_over true (marked_over false files snapshot.touched) snapshot.touched)) is-start
+    ∙ ap (filter (admits patterns)) (sym (listing-same (shown held snapshot) (marked_over true (marked_over false files snapshot.touched) snapshot.touched) members))
+  where
+    files : FileMap
+    files = commit_files held snapshot.position.root
 
-pub shown_admitted : (files other world : FileMap) → SamePaths files other → other ≡ world → (patterns : List (List ℕ))
-    → admitted patterns files ≡ admitted patterns world
-shown_admitted files other world same is patterns = ap (filter (admits patterns)) (same_paths files other same ∙ ap paths is)
+    members : (p : List ℕ) → has (shown held snapshot) p ≡ fin.contains_key (marked_over true (marked_over false files snapshot.touched) snapshot.touched) p
+    members p =
+        has-shown held snapshot p
+        ∙ shown-twice (is_some (file_at files p)) (among p (said false snapshot.touched)) (among p (said true snapshot.touched))
+        ∙ ap (cond (among p (said true snapshot.touched)) true) (sym (marked_at false files snapshot.touched p))
+        ∙ sym (marked_at true (marked_over false files snapshot.touched) snapshot.touched p)
+
+-- ---- what a mount's snapshot shows
+
+is-it : (b c : Bool) → is b c ≡ true → c ≡ b
+is-it true c e = e
+is-it false false e = refl
+is-it false true e = sym e
+
+-- where the touched paths tell the truth, those that say so are such
+said_is : (truth : List ℕ → Bool) (ts : List (List ℕ × Bool)) (p : List ℕ) (b : Bool) → AllByRecursion (λ t. truth t.0 ≡ t.1) ts → among p (said b ts) ≡ true → truth p ≡ b
+said_is truth [] p b all there = let bad : false ≡ true = there in cc
+said_is truth (t ∷ ts) p b all there = by (is b t.1) refl (said_is truth ts p b all.1) there
+  where
+    here : is b t.1 ≡ true → (among p (said b ts) ≡ true → truth p ≡ b) → (s : Bool) → same_path p t.0 ≡ s → (s || among p (said b ts)) ≡ true → truth p ≡ b
+    here e rest true same there = ap truth (same_path-is p t.0 same) ∙ all.0 ∙ is-it b t.1 e
+    here e rest false same there = rest there
+
+    by : (c : Bool) → is b t.1 ≡ c → (among p (said b ts) ≡ true → truth p ≡ b)
+        → among p (map {A = List ℕ × Bool} (λ t. t.0) (cond c (t ∷ filter (λ t. is b t.1) ts) (filter (λ t. is b t.1) ts))) ≡ true → truth p ≡ b
+    by false e rest there = rest there
+    by true e rest there = here e rest (same_path p t.0) refl there
+
+-- what says neither is not touched
+unsaid : (ts : List (List ℕ × Bool)) (p : List ℕ) → among p (said true ts) ≡ false → among p (said false ts) ≡ false → among p (marked ts) ≡ false
+unsaid [] p standing gone = refl
+unsaid (t ∷ ts) p standing gone = by t.1 (unsaid ts p) standing gone
+  where
+    by : (c : Bool) → (among p (said true ts) ≡ false → among p (said false ts) ≡ false → among p (marked ts) ≡ false)
+        → among p (map {A = List ℕ × Bool} (λ t. t.0) (cond c (t ∷ filter (λ t. t.1) ts) (filter (λ t. t.1) ts))) ≡ false
+        → among p (map {A = List ℕ × Bool} (λ t. t.0) (cond (not c) (t ∷ filter (λ t. not t.1) ts) (filter (λ t. not t.1) ts))) ≡ false
+        → (same_path p t.0 || among p (marked ts)) ≡ false
+    by true rest standing gone =
+        let parts = or_parts (same_path p t.0) _ standing in
+        ap (λ b. b || among p (marked ts)) parts.0 ∙ rest parts.1 gone
+    by false rest standing gone =
+        let parts = or_parts (same_path p t.0) _ gone in
+        ap (λ b. b || among p (marked ts)) parts.0 ∙ rest standing parts.1
+
+-- the paths that a snapshot of a working copy shows are those of its files
+pub shows : (held : List Held) (work : WorkCopy) (snapshot : Snapshot) (patterns : List (List ℕ)) (files : FileMap)
+    → snapshot.position.root ≡ work.root → snapshot.touched ≡ touched_of work → means held work ≡ files → shown_to patterns held snapshot ≡ admitted patterns files
+shows held work snapshot patterns files is-root is-touched is-files =
+    ap (filter (admits patterns)) (listing-same (shown held snapshot) (means held work) members) ∙ ap (admitted patterns) is-files
+  where
+    base : FileMap
+    base = commit_files held work.root
+
+    truth : List ℕ → Bool
+    truth p = is_some (file_at (means held work) p)
+
+    ts : List (List ℕ × Bool)
+    ts = touched_of work
+
+    all : AllByRecursion (λ t. truth t.0 ≡ t.1) ts
+    all = touched_present base work.overlay
+
+    elsewhere : (p : List ℕ) → among p (marked ts) ≡ false → truth p ≡ is_some (file_at base p)
+    elsewhere p none =
+        ap is_some (touched_elsewhere base work.overlay p
+        (has-listing (touched_set work) p ∙ ap (among p) (sym (touched_listed work.overlay)) ∙ none))
+
+    by : (p : List ℕ) (present absent : Bool) → among p (said true ts) ≡ present → among p (said false ts) ≡ absent
+        → is_shown (is_some (file_at base p)) absent present ≡ truth p
+    by p true absent standing gone = shown-twice (is_some (file_at base p)) absent true ∙ sym (said_is truth ts p true all standing)
+    by p false true standing gone = shown-twice (is_some (file_at base p)) true false ∙ sym (said_is truth ts p false all gone)
+    by p false false standing gone = shown-twice (is_some (file_at base p)) false false ∙ sym (elsewhere p (unsaid ts p standing gone))
+
+    members : (p : List ℕ) → has (shown held snapshot) p ≡ fin.contains_key (means held work) p
+    members p =
+        has-shown held snapshot p
+        ∙ (λ i. is_shown (is_some (file_at (commit_files held (is-root i)) p)) (among p (said false (is-touched i))) (among p (said true (is-touched i))))
+        ∙ by p (among p (said true ts)) (among p (said false ts)) refl refl
 
 -- the journal's root is the working copy's
 pub root_is : (mount : State) → IsPresent mount → mount.log.root ≡ mount.work.root

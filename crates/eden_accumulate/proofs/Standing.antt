@@ -13,7 +13,7 @@ use Rattle.eden_objects.specs.Files.{commit_files}
 use Rattle.eden_workcopy.specs.declared.work.WorkCopy.{WorkCopy}
 use Rattle.eden_journal.specs.Histories as journal
 use Rattle.eden_journal.specs.Histories.{History, recorded}
-use Rattle.eden_journal.proofs.Standing.{stands_opened}
+use Rattle.eden_journal.proofs.Standing.{empty_logs_begin}
 use Rattle.eden_ranges.specs.Histories.{history_of}
 use Rattle.eden_workcopy.specs.Meanings.{FitsIn, means}
 use Rattle.eden_history.specs.declared.change.Change.{Change}
@@ -56,25 +56,18 @@ opened_stands held work log generation limit root fits is-root is-files is-log =
       begins = ap is_some is-files;
     }
 
--- a journal that holds nothing stands for one with no event
-log-begun : (log : journal.Log) → log.floor ≡ log.head → log.held ≡ [] → journal.StandsFor log (journal.opened log.generation log.root log.limit log.head)
-log-begun log floor nothing =
-    subst (λ (l : journal.Log). journal.StandsFor l (journal.opened log.generation log.root log.limit log.head))
-    (λ i. record { generation = log.generation; limit = log.limit; root = log.root; head = log.head; floor = sym floor i; held = sym nothing i })
-    (stands_opened log.generation log.root log.limit log.head)
-
 -- a mount that begins with parts that hold nothing of the past
-pub begun_stands : (mount : State) → FitsIn mount.held mount.work → mount.log.root ≡ mount.work.root → mount.log.floor ≡ mount.log.head → mount.log.held ≡ []
-    → StandsFor mount (begun_at mount)
+pub begun_stands : (mount : State) → FitsIn mount.held mount.work → mount.log.root ≡ mount.work.root → ((h : History) × journal.StandsFor mount.log h)
+    → mount.log.held ≡ [] → StandsFor mount (begun_at mount)
 unfolding deltas
-begun_stands mount fits root floor nothing =
+begun_stands mount fits root stands nothing =
     record {
       held = refl;
       fits = fits;
       root = refl;
       files = refl;
       log = subst (λ id. journal.StandsFor mount.log (journal.opened mount.log.generation id mount.log.limit mount.log.head)) root
-          (log-begun mount.log floor nothing);
+          (empty_logs_begin mount.log stands.0 stands.1 nothing);
       legal = (fits.1, tt);
       begins = fits.0;
     }

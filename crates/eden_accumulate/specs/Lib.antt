@@ -1,3 +1,4 @@
 pub mod Mounts
 pub mod Snapshots
 pub mod Ranges
+pub mod internal

@@ -18,11 +18,12 @@ impl<N: Naming + Drop> Mount<N> {
     pub fn from_parts(store: Arc<Store<N>>, work: WorkCopy, journal: Journal) -> Mount<N>
         requires fits { FitsIn (arc_value store) work }
         requires root { journal.log.root ≡ work.root }
-        requires floor { journal.log.floor ≡ journal.log.head }
         requires nothing { journal.log.held ≡ [] }
         ensures value { result ≡ record { held = arc_value store; work = work; log = journal.log } }
         ensures stands { StandsFor result (begun_at result) }
     {
+        // A journal stands for some history, and one that holds nothing also for the one that begins at its head.
+        let _ = journal.head();
         Mount {
             store,
             work,

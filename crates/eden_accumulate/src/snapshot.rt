@@ -1,11 +1,12 @@
 ghost use Rattle.std.specs.Prelude.{◌≡◌, ◌≢◌, None, IsSome, List, ℕ, IfOk, IfErr};
-ghost use Rattle.eden_ids.specs.FileMaps.{IsFileMap};
 ghost use Rattle.eden_objects.specs.Commits.{commit_map};
+ghost use Rattle.eden_objects.specs.Files.{commit_files};
 ghost use Rattle.eden_workcopy.specs.Listings.{admitted};
 ghost use Rattle.eden_workcopy.specs.Meanings.{means, touched_of};
 ghost use Rattle.eden_history.specs.Worlds.{WorldState, now, position_of};
 ghost use Rattle.eden_accumulate.specs.Mounts.{StandsFor};
-ghost use Rattle.eden_accumulate.specs.Snapshots as seen;
+ghost use Rattle.eden_accumulate.specs.Snapshots.{shown_to};
+ghost use Rattle.eden_accumulate.specs.internal.Marked as marks;
 
 use crate::mount::Mount;
 use eden_globs::Filter;
@@ -24,7 +25,7 @@ pub struct Snapshot {
 
 /// A file that stands for any one, or none. It takes no memory.
 fn mark(alloc: Global, present: bool) -> Option<Content>
-    ensures { result ≡ seen.mark present }
+    ensures { result ≡ marks.mark present }
 {
     if present {
         Some(Content {
@@ -36,19 +37,29 @@ fn mark(alloc: Global, present: bool) -> Option<Content>
     }
 }
 
-/// The working copy with such a file, or none, at each of these paths.
+/// Whether an answer is the wanted one.
+fn is(wanted: bool, answer: bool) -> bool
+    ensures { result ≡ marks.is wanted answer }
+{
+    if wanted { answer } else { !answer }
+}
+
+/// The working copy with any file at those of the paths at which one stands, or with none at those at which none does.
 fn marked_over<N: Naming + Drop>(
     store: &Store<N>,
     start: WorkCopy,
     touched: &[(Path, bool)],
+    present: bool,
 ) -> Result<WorkCopy, NoMemory>
     ensures root { IfOk result (λ work. work.root ≡ start.root) }
-    ensures files { IfOk result (λ work. means store.now work ≡ seen.marked_over (means store.now start) touched.now) }
+    ensures files { IfOk result (λ work. means store.now work ≡ marks.marked_over present (means store.now start) touched.now) }
 {
     let mut work = start;
     for entry in touched {
-        let path = entry.0.copy()?;
-        work.set(path, mark(store.allocator(), entry.1))?;
+        if is(present, entry.1) {
+            let path = entry.0.copy()?;
+            work.set(path, mark(store.allocator(), present))?;
+        }
     }
     Ok(work)
 }
@@ -61,30 +72,42 @@ impl Snapshot {
         self.position
     }
 
-    /// The paths of the files that a filter admits, in byte order.
+    /// The paths of the files that a filter admits, in byte order, over a store that has the position's commit.
     ///
-    /// Condition: where the store has the position's commit, no two of the files clash, as over the mount's store. `NoCommit` comes where
-    /// it hasn't, and `NoMemory` may stand in place of any answer where a growth was refused.
+    /// `NoCommit` comes where the store hasn't that commit, and `NoMemory` may stand in place of any answer where a growth was refused.
     pub fn files<N: Naming + Drop>(
         &self,
         store: &Store<N>,
         filter: &Filter,
     ) -> Result<Vec<Path>, CommitFault>
-        requires { IsSome (commit_map store.now self.now.position.root) → IsFileMap (seen.seen_files store.now self.now) }
-        ensures files { IfOk result (λ paths. paths.items ≡ admitted filter.now (seen.seen_files store.now self.now)) }
+        ensures files { IfOk result (λ paths. paths.items ≡ shown_to filter.now store.now self.now) }
         ensures accepts { IfOk result (λ _. IsSome (commit_map store.now self.now.position.root)) }
         ensures refuses { IfErr result (λ fault. fault ≢ CommitFault.NoMemory → commit_map store.now self.now.position.root ≡ None) }
     {
         let Ok(start) = WorkCopy::new(store.allocator(), store, self.position.root) else {
             return Err(CommitFault::NoCommit);
         };
-        let Ok(work) = marked_over(store, start, self.touched.as_slice()) else {
-            return Err(CommitFault::NoMemory);
-        };
-        match work.list(store, filter) {
+        match self.listed(store, start, filter) {
             Ok(paths) => Ok(paths),
-            Err(_) => Err(CommitFault::NoMemory),
+            Err(NoMemory) => Err(CommitFault::NoMemory),
         }
+    }
+
+    /// The same, over a working copy of the position's commit in which nothing has changed.
+    fn listed<N: Naming + Drop>(
+        &self,
+        store: &Store<N>,
+        start: WorkCopy,
+        filter: &Filter,
+    ) -> Result<Vec<Path>, NoMemory>
+        requires there { IsSome (commit_map store.now start.root) }
+        requires files { means store.now start ≡ commit_files store.now self.now.position.root }
+        ensures { IfOk result (λ paths. paths.items ≡ shown_to filter.now store.now self.now) }
+    {
+        let touched = self.touched.as_slice();
+        let less = marked_over(store, start, touched, false)?;
+        let all = marked_over(store, less, touched, true)?;
+        all.list(store, filter)
     }
 }
 
@@ -93,11 +116,9 @@ impl<N: Naming + Drop> Mount<N> {
     pub fn snapshot(&self) -> Result<Snapshot, NoMemory>
         ensures position { IfOk result (λ snapshot. (world : WorldState) → StandsFor self.now world → snapshot.position ≡ position_of (now world)) }
         ensures touched { IfOk result (λ snapshot. snapshot.touched ≡ touched_of self.now.work) }
-        // No two of its files clash, over the mount's store.
-        ensures fits { IfOk result (λ snapshot. IsFileMap (seen.seen_files self.now.held snapshot)) }
-        // What a filter admits of it is what the filter admits of the world's files.
+        // What it shows over the mount's store is what a filter admits of the world's files.
         ensures files { IfOk result (λ snapshot. (world : WorldState) → StandsFor self.now world → (patterns : List (List ℕ))
-            → admitted patterns (seen.seen_files self.now.held snapshot) ≡ admitted patterns (now world).files) }
+            → shown_to patterns self.now.held snapshot ≡ admitted patterns (now world).files) }
     {
         let touched = self.work.touched()?;
         Ok(Snapshot {

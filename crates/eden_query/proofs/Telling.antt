@@ -4,7 +4,7 @@ use Rattle.eden_ids.specs.declared.content.Content.{Content}
 use Rattle.eden_ids.specs.FileMaps.{file_at}
 use Rattle.eden_ranges.specs.declared.ranges.Range.{Range}
 use Rattle.eden_accumulate.specs.Mounts.{State, StandsFor, files_of}
-use Rattle.eden_accumulate.specs.Snapshots.{seen_files}
+use Rattle.eden_accumulate.specs.Snapshots.{shown_to}
 use Rattle.eden_accumulate.specs.declared.snapshot.Snapshot.{Snapshot}
 use Rattle.eden_accumulate.specs.Ranges.{EndsNow, IsStatus, Tells}
 use Rattle.eden_history.specs.declared.answer.SinceFault.{SinceFault}
@@ -33,7 +33,7 @@ refused_tells mount query since patterns fault cause is same world h =
 
 pub based_tells : (mount : State) (query : Query) (patterns : List (List ℕ)) (snapshot : Snapshot)
     → ((world : WorldState) → StandsFor mount world → snapshot.position ≡ position_of (now world))
-    → ((world : WorldState) → StandsFor mount world → (ps : List (List ℕ)) → admitted_paths ps (seen_files mount.held snapshot) ≡ admitted_paths ps (now world).files)
+    → ((world : WorldState) → StandsFor mount world → (ps : List (List ℕ)) → shown_to ps mount.held snapshot ≡ admitted_paths ps (now world).files)
     → (world : WorldState) → StandsFor mount world
     → told mount.held patterns (raw.Based query snapshot) ≡ reply_of world (Basis query patterns)
 based_tells mount query patterns snapshot place files world h = λ i. bounded query (BasisIs query (place world h i) (files world h patterns i))

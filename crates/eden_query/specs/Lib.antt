@@ -2,6 +2,5 @@ pub mod Reading
 pub mod Listing
 pub mod Answers
 pub mod Raws
-pub mod Mounting
 pub mod Servers
 pub mod Laws

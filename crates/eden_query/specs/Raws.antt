@@ -7,8 +7,8 @@ use Rattle.eden_history.specs.declared.message.Reply.TheVariants.{BasisIs, Chang
 use Rattle.eden_history.specs.declared.message.Request.{Request}
 use Rattle.eden_history.specs.declared.message.Request.TheVariants.{Basis, Poll, Fetch}
 use Rattle.eden_history.specs.Worlds.{Commits}
-use Rattle.eden_history.specs.Replies.{admitted, admitted_paths, bounded}
-use Rattle.eden_accumulate.specs.Snapshots.{seen_files}
+use Rattle.eden_history.specs.Replies.{admitted, bounded}
+use Rattle.eden_accumulate.specs.Snapshots.{shown_to}
 use Rattle.eden_query.specs.declared.raw.Raw.{Raw}
 use Rattle.eden_query.specs.declared.raw.Raw.TheVariants as raw
 
@@ -16,7 +16,7 @@ use Rattle.eden_query.specs.declared.raw.Raw.TheVariants as raw
 -- its files that they admit; and the content that was held
 abbrev pub told : List Held → List (List ℕ) → Raw → Reply
 told held patterns (raw.Ranged query range) = bounded query (ChangesAre query range.to (admitted patterns (expanded held range)))
-told held patterns (raw.Based query snapshot) = bounded query (BasisIs query snapshot.position (admitted_paths patterns (seen_files held snapshot)))
+told held patterns (raw.Based query snapshot) = bounded query (BasisIs query snapshot.position (shown_to patterns held snapshot))
 told held patterns (raw.Held query position path content) = bounded query (ContentIs query position path content)
 told held patterns (raw.Refused query cause) = Refused query cause
 

@@ -3,8 +3,8 @@
 ghost use Rattle.std.specs.Prelude.{◌≡◌, ◌≢◌, ◌≤◌, length, true, false, is_some, IfOk, IfErr, OnOk};
 ghost use Rattle.eden_objects.specs.Commits.{commit_map};
 ghost use Rattle.eden_ranges.specs.Expanded.{are_comparable, expanded};
-ghost use Rattle.eden_accumulate.specs.Snapshots.{seen_files};
-ghost use Rattle.eden_history.specs.Replies.{admitted, admitted_paths};
+ghost use Rattle.eden_accumulate.specs.Snapshots.{shown_to};
+ghost use Rattle.eden_history.specs.Replies.{admitted};
 ghost use Rattle.eden_history.specs.Spells.{reply_bytes};
 ghost use Rattle.eden_query.specs.Raws.{is_answerable, told};
 
@@ -48,7 +48,7 @@ fn listed<N: Naming + Drop>(
     store: &Store<N>,
     filter: &Filter,
 ) -> Result<Sequence<Path>, CommitFault>
-    ensures paths { IfOk result (λ paths. paths ≡ admitted_paths filter.now (seen_files store.now snapshot.now)) }
+    ensures paths { IfOk result (λ paths. paths ≡ shown_to filter.now store.now snapshot.now) }
     ensures listed { OnOk result (is_some (commit_map store.now snapshot.now.position.root) ≡ true) }
     ensures fault { IfErr result (λ fault. fault ≢ CommitFault.NoMemory → is_some (commit_map store.now snapshot.now.position.root) ≡ false) }
 {

@@ -4,67 +4,17 @@ ghost use Rattle.std.specs.Prelude.{◌≡◌, ℕ, List, None, IfOk, true};
 ghost use Rattle.eden_ids.specs.FileMaps.{file_at};
 ghost use Rattle.eden_objects.specs.Commits.{commit_map};
 ghost use Rattle.eden_accumulate.specs.Mounts.{StandsFor, files_of};
-ghost use Rattle.eden_history.specs.declared.answer.Answer.TheVariants as answer;
 ghost use Rattle.eden_history.specs.Worlds.{WorldState};
 ghost use Rattle.eden_history.specs.Replies.{reply_of};
-ghost use Rattle.eden_query.specs.Mounting.{Applies, refusal_of, told_as};
 ghost use Rattle.eden_query.specs.Raws.{is_answerable, patterns_of, told};
 
 use crate::raw::Raw;
 use crate::served::Served;
-use eden_accumulate::{Checked, Mount};
-use eden_history::{Answer, Change, ChangeFault, Position, Query, Request};
+use eden_accumulate::Mount;
+use eden_history::{Answer, Change, Position, Query, Request};
 use eden_ids::{Content, Naming, NoMemory, Path, Sequence};
 use eden_objects::Store;
 use std::sync::Arc;
-
-/// A refusal as an answer. A want of memory is none.
-fn refusal_of(fault: ChangeFault) -> Option<Answer>
-    ensures { result ≡ refusal_of fault }
-{
-    match fault {
-        ChangeFault::NoMemory => None,
-        fault => Some(Answer::Refused(fault)),
-    }
-}
-
-/// A call's result as an answer.
-fn at(told: Result<Position, ChangeFault>) -> Option<Answer>
-    ensures { result ≡ told_as answer.At told }
-{
-    match told {
-        Ok(position) => Some(Answer::At(position)),
-        Err(fault) => refusal_of(fault),
-    }
-}
-
-/// A checkout's result as an answer.
-fn checked(told: Result<Checked, ChangeFault>) -> Option<Answer>
-    ensures { result ≡ told_as (λ c. answer.Checked c.position c.conflicts) told }
-{
-    match told {
-        Ok(checked) => Some(Answer::Checked {
-            position: checked.position,
-            conflicts: checked.conflicts,
-        }),
-        Err(fault) => refusal_of(fault),
-    }
-}
-
-/// Makes a change. With no memory it is not made.
-fn apply_to<N: Naming + Drop>(mount: &mut Mount<N>, change: &Change) -> Option<Answer>
-    ensures { Applies mount.old change.now result mount.new }
-{
-    match change {
-        Change::Write { path, kind, bytes } => at(mount.write(path, *kind, bytes.as_slice())),
-        Change::Remove { path } => at(mount.remove(path)),
-        Change::Rename { old, new } => at(mount.rename(old, new)),
-        Change::Checkout { commit, mode } => checked(mount.checkout(*commit, *mode)),
-        Change::Reset { commit } => at(mount.reset(*commit)),
-        Change::Flush => at(mount.flush()),
-        Change::Remount { generation } => at(mount.remount(*generation)),
-    }
-}
 
 /// What changed since a position, as it is asked for.
 fn ranged<N: Naming + Drop>(
@@ -134,9 +84,6 @@ impl<N: Naming + Drop> Served<N> for Mount<N> {
     }
 
     fn apply(&mut self, _caller: u64, change: &Change) -> Result<Answer, NoMemory> {
-        match apply_to(self, change) {
-            Some(answer) => Ok(answer),
-            None => Err(NoMemory),
-        }
+        self.apply(change)
     }
 }

@@ -15,7 +15,7 @@ use Rattle.std.specs.Cmp.Lexicographic.{slice_cmp}
 use Rattle.eden_ids.proofs.FileMapLemmas.{same_path-is}
 use Rattle.eden_ids.proofs.TreeMaps.{entries_found}
 use Rattle.eden_objects.specs.Objects.{Held}
-use Rattle.eden_objects.specs.Commits.{Row, commit_rows, commit_map, map_of_rows}
+use Rattle.eden_objects.specs.Commits.{Row, commit_rows, commit_map, map_of_rows, rows_where}
 use Rattle.eden_objects.specs.Closed.{IsClosed}
 use Rattle.eden_objects.specs.Files.{files_of, commit_files}
 use Rattle.eden_objects.proofs.CommitLaws.{file_maps}
@@ -49,6 +49,14 @@ none_of held (Some rows) e = absurd (cc)
 
 pub no_commit : (held : List Held) (root : Id) → is_some (commit_rows held root) ≡ false → commit_map held root ≡ None
 no_commit held root e = none_of held (commit_rows held root) e
+
+-- a commit that is there has rows to list
+pub listed_there : (held : List Held) (root : Id) (test : List ℕ → Bool) → rows_where test (commit_rows held root) ≡ None → IsSome (commit_map held root) → ⊥
+listed_there held root test none there = by (commit_rows held root) none there
+  where
+    by : (o : Option (List Row)) → rows_where test o ≡ None → IsSome (map_of_rows held o) → ⊥
+    by None none there = cc
+    by (Some rows) none there = cc
 
 -- at a path of the overlay, and at another
 pub file_told : (base : FileMap) (layer : Layer) (p : List ℕ) (file : Option Content) → fin.get layer p ≡ Some file → file_at (over base layer) p ≡ file

@@ -1,18 +1,19 @@
-ghost use Rattle.std.specs.Prelude.{◌≡◌, ◌++◌, ◌&&◌, not, T, map, filter, take, drop, is_some, IfOk, OnOk};
+ghost use Rattle.std.specs.Prelude.{◌≡◌, ◌++◌, ◌&&◌, not, T, map, filter, take, drop, is_some, IsSome, IfOk, OnOk};
 ghost use Rattle.std.specs.FinMap as fin;
 ghost use Rattle.std.specs.FinMap.{is_sorted};
 ghost use Rattle.eden_globs.specs.Filters.{admits};
 ghost use Rattle.eden_ids.specs.FileMaps.{FileMap};
+ghost use Rattle.eden_objects.specs.Commits.{commit_map};
 ghost use Rattle.eden_workcopy.specs.Layers.{Entry, by_bytes, over, place};
 ghost use Rattle.eden_workcopy.specs.Listings.{admitted};
-ghost use Rattle.eden_workcopy.specs.Meanings.{means, FitsIn};
+ghost use Rattle.eden_workcopy.specs.Meanings.{means};
 
 use crate::dirty::add_if;
 use crate::entries::place;
 use crate::work::WorkCopy;
 use eden_globs::Filter;
 use eden_ids::{Content, Id, Kind, Naming, NoMemory, Path};
-use eden_objects::Store;
+use eden_objects::{CommitFault, Store};
 
 /// Whether a file stands at the entry's path and the filter admits it.
 fn is_shown(entry: &(Path, Option<Content>), wanted: &Filter) -> bool
@@ -79,20 +80,22 @@ impl WorkCopy {
 
     /// The paths of the files that a filter admits, in byte order.
     ///
-    /// `NoMemory` comes where a growth was refused. The files of the root's commit are listed once, and each of them is looked for among
-    /// the changes.
+    /// Condition: the store has the root's commit. `NoMemory` comes where a growth was refused. The files of the commit are listed once,
+    /// and each of them is looked for among the changes.
     pub fn list<N: Naming + Drop>(
         &self,
         store: &Store<N>,
         wanted: &Filter,
     ) -> Result<Vec<Path>, NoMemory>
-        requires { FitsIn store.now self.now }
+        requires { IsSome (commit_map store.now self.now.root) }
         ensures { IfOk result (λ paths. paths.items ≡ admitted wanted.now (means store.now self.now)) }
     {
         store.closed_law();
-        // The store has the root, so that only memory can be wanting.
-        let Ok(rows) = store.list(self.root, wanted) else {
-            return Err(NoMemory);
+        let rows = match store.list(self.root, wanted) {
+            Ok(rows) => rows,
+            // The store has the root.
+            Err(CommitFault::NoCommit) => unreachable!(),
+            Err(CommitFault::NoMemory) => return Err(NoMemory),
         };
         self.weave(&rows, wanted)
     }

@@ -1,0 +1,22 @@
+-- What a call that makes a change has told, as an answer.
+use Rattle.std.specs.Prelude.{◌≡◌, Option, Some, None, Result, Ok, Err}
+use Rattle.eden_history.specs.declared.answer.Answer.{Answer}
+use Rattle.eden_history.specs.declared.answer.Answer.TheVariants.{Refused}
+use Rattle.eden_history.specs.declared.change.Change.{Change}
+use Rattle.eden_history.specs.declared.change.ChangeFault.{ChangeFault}
+use Rattle.eden_history.specs.declared.change.ChangeFault.TheVariants.{NoMemory}
+use Rattle.eden_accumulate.specs.Mounts.{Answers, Follows, State}
+
+-- a refusal is an answer, and a want of memory is none
+abbrev pub refused : ChangeFault → Option Answer
+refused NoMemory = None
+refused fault = Some (Refused fault)
+
+abbrev pub told_as : {A : Type 0} → (A → Answer) → Result A ChangeFault → Option Answer
+told_as told (Ok made) = Some (told made)
+told_as told (Err fault) = refused fault
+
+-- an answer is that of each world for which the mount stood, and the mount follows; with no answer it is as it was
+abbrev pub Applies : State → Change → Option Answer → State → Type 0
+Applies old change (Some answer) new = Answers old change answer × Follows old change new
+Applies old change None new = new ≡ old

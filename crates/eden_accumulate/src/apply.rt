@@ -1,0 +1,76 @@
+//! The call behind each change.
+
+ghost use Rattle.std.specs.Prelude.{◌≡◌, IfOk, OnOk, OnErr};
+ghost use Rattle.eden_history.specs.declared.answer.Answer.TheVariants as answer;
+ghost use Rattle.eden_accumulate.specs.Mounts.{Answers, Follows};
+ghost use Rattle.eden_accumulate.specs.internal.Applied as applied;
+
+use crate::mount::Mount;
+use crate::root::Checked;
+use eden_history::{Answer, Change, ChangeFault, Position};
+use eden_ids::{Naming, NoMemory};
+
+/// A refusal as an answer. A want of memory is none.
+fn refused(fault: ChangeFault) -> Option<Answer>
+    ensures { result ≡ applied.refused fault }
+{
+    match fault {
+        ChangeFault::NoMemory => None,
+        fault => Some(Answer::Refused(fault)),
+    }
+}
+
+/// What a change came to, as an answer.
+fn at(told: Result<Position, ChangeFault>) -> Option<Answer>
+    ensures { result ≡ applied.told_as answer.At told }
+{
+    match told {
+        Ok(position) => Some(Answer::At(position)),
+        Err(fault) => refused(fault),
+    }
+}
+
+/// What a checkout came to, as an answer.
+fn checked(told: Result<Checked, ChangeFault>) -> Option<Answer>
+    ensures { result ≡ applied.told_as (λ checked. answer.Checked checked.position checked.conflicts) told }
+{
+    match told {
+        Ok(checked) => Some(Answer::Checked {
+            position: checked.position,
+            conflicts: checked.conflicts,
+        }),
+        Err(fault) => refused(fault),
+    }
+}
+
+impl<N: Naming + Drop> Mount<N> {
+    /// Makes a change by the call of its name, and answers what that call tells: the position after it, of a checkout its conflicts too,
+    /// or why it is refused.
+    ///
+    /// `NoMemory` comes where a growth was refused. After a refusal, and after `NoMemory`, nothing has changed.
+    pub fn apply(&mut self, change: &Change) -> Result<Answer, NoMemory>
+        ensures answers { IfOk result (λ answer. Answers self.old change.now answer) }
+        ensures stands { OnOk result (Follows self.old change.now self.new) }
+        ensures unchanged { OnErr result (self.new ≡ self.old) }
+    {
+        match self.made(change) {
+            Some(answer) => Ok(answer),
+            None => Err(NoMemory),
+        }
+    }
+
+    /// Makes a change, and tells its answer. With no memory it is not made.
+    fn made(&mut self, change: &Change) -> Option<Answer>
+        ensures { applied.Applies self.old change.now result self.new }
+    {
+        match change {
+            Change::Write { path, kind, bytes } => at(self.write(path, *kind, bytes.as_slice())),
+            Change::Remove { path } => at(self.remove(path)),
+            Change::Rename { old, new } => at(self.rename(old, new)),
+            Change::Checkout { commit, mode } => checked(self.checkout(*commit, *mode)),
+            Change::Reset { commit } => at(self.reset(*commit)),
+            Change::Flush => at(self.flush()),
+            Change::Remount { generation } => at(self.remount(*generation)),
+        }
+    }
+}

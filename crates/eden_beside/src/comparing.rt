@@ -1,0 +1,141 @@
+//! A mount and a world side by side, and what each of them says.
+
+use crate::lot::PATHS;
+use crate::stores::path;
+use eden_accumulate::{Mount, expand};
+use eden_globs::Filter;
+use eden_history::{Change, Marked, Position, SinceFault};
+use eden_ids::{Content, GitNaming, Id, Kind, Sequence};
+use eden_objects::Store;
+use eden_world::World;
+use std::alloc::Global;
+use std::fmt::Debug;
+use std::sync::Arc;
+use std::test::Fail;
+
+/// The change that both made last, and where it stands among those of its lot.
+#[derive(Clone, Copy)]
+pub(crate) struct Step<'a> {
+    pub(crate) seed: u64,
+    pub(crate) number: usize,
+    pub(crate) change: &'a Change,
+}
+
+impl Step<'_> {
+    /// That both say the same.
+    pub(crate) fn alike<T: Debug + PartialEq + Drop>(
+        &self,
+        told: T,
+        expected: T,
+    ) -> Result<(), Fail> {
+        if told == expected {
+            return Ok(());
+        }
+        Err(Fail::new(format_args!(
+            "seed {}, step {}: after {:?} the mount says {told:?}, and the world {expected:?}",
+            self.seed, self.number, self.change
+        )))
+    }
+}
+
+/// The kind and the bytes of a file.
+fn seen(file: Option<&Content>) -> Option<(Kind, &[u8])> {
+    let content = file?;
+    Some((content.kind, content.bytes.as_slice()))
+}
+
+/// A mount and a world over the same store.
+#[derive(Drop)]
+pub(crate) struct Pair {
+    pub(crate) mount: Mount<GitNaming>,
+    pub(crate) world: World<GitNaming>,
+}
+
+impl Pair {
+    /// Both of a commit, in generation 7, with a journal of this limit.
+    pub(crate) fn mounted(
+        alloc: Global,
+        store: &Arc<Store<GitNaming>>,
+        root: Id,
+        limit: u64,
+    ) -> Result<Pair, Fail> {
+        Ok(Pair {
+            mount: Mount::mount(alloc, store.clone()?, root, 7, limit)?,
+            world: World::mount(alloc, store.clone()?, root, 7, limit)?,
+        })
+    }
+
+    /// Makes the change on both: they answer alike.
+    pub(crate) fn apply(&mut self, step: &Step) -> Result<(), Fail> {
+        step.alike(
+            self.mount.apply(step.change)?,
+            self.world.apply(step.change)?,
+        )?;
+        step.alike(self.mount.position(), self.world.position())
+    }
+
+    /// The mount lists just the world's files, and reads each of them.
+    pub(crate) fn same_files(&self, alloc: Global, step: &Step) -> Result<(), Fail> {
+        let all = Filter::parse(alloc, &[])?;
+        let listed = self.mount.snapshot()?.files(self.mount.store(), &all)?;
+        let files = self.world.now().files();
+        step.alike(listed.len(), files.paths().count())?;
+        for path in &listed {
+            step.alike(
+                (path, self.mount.read(path).ok()),
+                (path, seen(files.get(path))),
+            )?;
+        }
+        Ok(())
+    }
+
+    /// Of all paths that are used, just those are dirty on which the world differs from a world of its root.
+    pub(crate) fn same_dirty(&self, alloc: Global, step: &Step) -> Result<(), Fail> {
+        let store = self.mount.store();
+        let clean = World::mount(alloc, store.clone()?, self.mount.work().root(), 1, 0)?;
+        let dirty = self.mount.work().dirty(store)?;
+        for text in PATHS {
+            let path = path(alloc, text)?;
+            let differs = self.world.now().files().get(&path) != clean.now().files().get(&path);
+            step.alike((text, dirty.contains(&path)), (text, differs))?;
+        }
+        Ok(())
+    }
+
+    /// What the world says changed since a position.
+    fn world_since(&self, since: &Position) -> Result<Result<Sequence<Marked>, SinceFault>, Fail> {
+        Ok(match self.world.now().status(self.world.floor()?, *since) {
+            Some(fault) => Err(fault),
+            None => Ok(self.world.marked_since(since.sequence)?),
+        })
+    }
+
+    /// Both say the same of what changed since a position.
+    pub(crate) fn same_since(
+        &self,
+        alloc: Global,
+        step: &Step,
+        since: &Position,
+    ) -> Result<(), Fail> {
+        match (
+            self.mount.range_since(alloc, since),
+            self.world_since(since)?,
+        ) {
+            (Ok(range), Ok(expected)) => {
+                let marked = expand(alloc, self.mount.store(), &range)?;
+                step.alike((since, marked.as_slice()), (since, expected.as_slice()))
+            }
+            (told, expected) => step.alike((since, told.err()), (since, expected.err())),
+        }
+    }
+
+    /// Both say the same since each number up to the present one, of the first hundred.
+    pub(crate) fn same_past(&self, alloc: Global, step: &Step) -> Result<(), Fail> {
+        let mut since = self.world.position();
+        for sequence in 0..=since.sequence.min(99) {
+            since.sequence = sequence;
+            self.same_since(alloc, step, &since)?;
+        }
+        Ok(())
+    }
+}

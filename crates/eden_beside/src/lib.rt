@@ -1,0 +1,17 @@
+//! A mount beside the plain, slow program that keeps whole histories: tests make the same changes on both, and compare what they say.
+//!
+//! A crate of its own, so that no crate that ships stands on the plain program.
+#![tactic(auto)]
+
+#[cfg(test)]
+mod changes_tests;
+#[cfg(test)]
+mod comparing;
+#[cfg(test)]
+mod generated_tests;
+#[cfg(test)]
+mod lot;
+#[cfg(test)]
+mod mount_tests;
+#[cfg(test)]
+mod stores;
