@@ -52,7 +52,7 @@ impl<'a, N: Naming + Drop> Sides<'a, N> {
     fn differing(&self) -> Result<Vec<Path>, NoMemory>
         ensures { IfOk result (λ paths. paths.items ≡ listing (differ (root_files self.now.store.now self.now.work.now) (commit_files self.now.store.now self.now.commit))) }
     {
-        match diff(self.store, self.work.root(), self.commit) {
+        match diff(self.store.allocator(), self.store, self.work.root(), self.commit) {
             Ok(paths) => Ok(paths),
             Err(_) => Err(NoMemory),
         }

@@ -15,6 +15,7 @@ use std::alloc::Global;
 
 /// Adds the paths on which two roots differ. Roots that are one are not looked at.
 fn add_differing<N: Naming + Drop>(
+    alloc: Global,
     store: &Store<N>,
     table: &mut PathTable,
     left: Id,
@@ -27,7 +28,7 @@ fn add_differing<N: Naming + Drop>(
     if left == reached {
         return Ok(());
     }
-    let paths = match diff(store, left, reached) {
+    let paths = match diff(alloc, store, left, reached) {
         Ok(paths) => paths,
         Err(CommitFault::NoCommit) => return Err(CommitFault::NoCommit),
         Err(CommitFault::NoMemory) => return Err(CommitFault::NoMemory),
@@ -62,7 +63,7 @@ fn differing_paths<N: Naming + Drop>(
         let Some(reached) = roots.get(place + 1) else {
             break;
         };
-        match add_differing(store, &mut table, left, reached) {
+        match add_differing(alloc, store, &mut table, left, reached) {
             Ok(()) => {}
             Err(fault) => return Err(fault),
         }

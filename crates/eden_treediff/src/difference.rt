@@ -8,6 +8,7 @@ use crate::settled::Settled;
 use crate::walk::{Found, walk};
 use eden_ids::{Id, Naming, NoMemory, Path};
 use eden_objects::{CommitFault, NoCommit, Store};
+use std::alloc::Global;
 
 /// The tree of a commit, of which the empty commit has none.
 #[tactic(auto, using(crate::proofs::Sides::empty_side, crate::proofs::Sides::side_rows_are, crate::proofs::Sides::side_held, crate::proofs::Sides::no_side))]
@@ -26,6 +27,7 @@ fn side_of<N: Naming + Drop>(store: &Store<N>, commit: Id) -> Result<Option<Id>,
 
 /// The paths on which two trees differ.
 fn paths_between<N: Naming + Drop>(
+    alloc: Global,
     store: &Store<N>,
     first: Option<Id>,
     second: Option<Id>,
@@ -35,11 +37,11 @@ fn paths_between<N: Naming + Drop>(
     ensures { IfOk result (λ paths. paths.items ≡ merge_rows (side_rows store.now first) (side_rows store.now second)) }
 {
     let mut found = Found {
-        front: Vec::new(store.allocator()),
-        paths: Vec::new(store.allocator()),
+        front: Vec::new(alloc),
+        paths: Vec::new(alloc),
     };
-    let mut settled = Settled::new(store.allocator());
-    walk(store, first, second, &mut found, &mut settled)?;
+    let mut settled = Settled::new(alloc);
+    walk(alloc, store, first, second, &mut found, &mut settled)?;
     Ok(found.paths)
 }
 
@@ -51,6 +53,7 @@ fn paths_between<N: Naming + Drop>(
 /// pair of trees is read twice without naming a path, wherever and however often the two stand in the commits.
 #[tactic(auto, using(crate::proofs::Sides::no_first, crate::proofs::Sides::no_second))]
 pub fn diff<N: Naming + Drop>(
+    alloc: Global,
     store: &Store<N>,
     first: Id,
     second: Id,
@@ -65,7 +68,7 @@ pub fn diff<N: Naming + Drop>(
     let Ok(other) = side_of(store, second) else {
         return Err(CommitFault::NoCommit);
     };
-    match paths_between(store, tree, other) {
+    match paths_between(alloc, store, tree, other) {
         Ok(paths) => Ok(paths),
         Err(NoMemory) => Err(CommitFault::NoMemory),
     }

@@ -78,7 +78,7 @@ impl World {
     /// The paths that two commits differ on, one a line.
     fn diff(&self, alloc: Global, first: &str, second: &str) -> Result<Vec<u8>, Fail> {
         let mut text = Vec::new(alloc);
-        for path in diff(&self.store, self.id(first), self.id(second))?.iter() {
+        for path in diff(alloc, &self.store, self.id(first), self.id(second))?.iter() {
             text.extend_from_slice(path.as_bytes())?;
             text.push(b'\n')?;
         }
@@ -176,7 +176,7 @@ fn shared_subtrees(rt: HostRuntime) -> Result<(), Fail> {
     let mut world = wide_world(alloc)?;
     let first = wide_commit(alloc, &mut world, "100644 f x", "plain")?;
     let second = wide_commit(alloc, &mut world, "100644 f y", "plain")?;
-    let paths = diff(&world.store, first, second)?;
+    let paths = diff(alloc, &world.store, first, second)?;
     assert_eq!(rt; paths.len(), 1);
     assert!(rt; paths.iter().all(|path| path.as_bytes() == b"f".as_slice()));
     Ok(())
@@ -190,8 +190,8 @@ fn shared_subtrees_with_the_same_files(rt: HostRuntime) -> Result<(), Fail> {
     let same = wide_commit(alloc, &mut world, "100644 f x", "plain and none")?;
     let other = wide_commit(alloc, &mut world, "100644 f y", "plain and none")?;
     assert!(rt; first != same);
-    assert_eq!(rt; diff(&world.store, first, same)?.len(), 0);
-    let paths = diff(&world.store, first, other)?;
+    assert_eq!(rt; diff(alloc, &world.store, first, same)?.len(), 0);
+    let paths = diff(alloc, &world.store, first, other)?;
     assert_eq!(rt; paths.len(), 1);
     assert!(rt; paths.iter().all(|path| path.as_bytes() == b"f".as_slice()));
     Ok(())
@@ -202,8 +202,8 @@ fn shared_subtrees_without_files(rt: HostRuntime) -> Result<(), Fail> {
     let alloc = rt.alloc();
     let mut world = wide_world(alloc)?;
     let commit = wide_commit(alloc, &mut world, "", "none")?;
-    assert_eq!(rt; diff(&world.store, commit, Id::ZERO)?.len(), 0);
-    assert_eq!(rt; diff(&world.store, Id::ZERO, commit)?.len(), 0);
+    assert_eq!(rt; diff(alloc, &world.store, commit, Id::ZERO)?.len(), 0);
+    assert_eq!(rt; diff(alloc, &world.store, Id::ZERO, commit)?.len(), 0);
     Ok(())
 }
 
@@ -297,7 +297,7 @@ fn each_pair_of_a_family(rt: HostRuntime) -> Result<(), Fail> {
             let rows = world.store.list(*first, &all)?;
             let others = world.store.list(*second, &all)?;
             let wanted = plain_diff(alloc, rows.as_slice(), others.as_slice())?;
-            let found = diff(&world.store, *first, *second)?;
+            let found = diff(alloc, &world.store, *first, *second)?;
             assert_eq!(rt; found.as_slice(), wanted.as_slice());
         }
     }
@@ -315,7 +315,7 @@ fn no_commit(rt: HostRuntime) -> Result<(), Fail> {
     let world = world_of(alloc, rows.as_slice())?;
     for name in ["b", "t", "unknown"] {
         for (first, second) in [("c", name), (name, "c"), (name, name)] {
-            let answer = diff(&world.store, world.id(first), world.id(second));
+            let answer = diff(alloc, &world.store, world.id(first), world.id(second));
             assert_eq!(rt; answer.err(), Some(CommitFault::NoCommit));
         }
     }

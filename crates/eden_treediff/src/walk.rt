@@ -93,6 +93,7 @@ fn entries_of<N: Naming + Drop>(store: &Store<N>, side: Option<Id>) -> &[u8]
 /// The entries that both sides have are compared as whole columns, first of ids and then of kinds. A pair of trees that names no path is
 /// remembered, and is not read again.
 pub(crate) fn walk<N: Naming + Drop>(
+    alloc: Global,
     store: &Store<N>,
     first: Option<Id>,
     second: Option<Id>,
@@ -116,7 +117,7 @@ pub(crate) fn walk<N: Naming + Drop>(
     let before = found.paths.len();
     let mut left = entries_of(store, first);
     let mut right = entries_of(store, second);
-    let rows = changed_rows(store.allocator(), left, right)?;
+    let rows = changed_rows(alloc, left, right)?;
     let mut changes = Changes::of(&rows);
     'pairs: while let Some(pair) = next_pair(left, right) {
         left = pair.left;
@@ -125,12 +126,12 @@ pub(crate) fn walk<N: Naming + Drop>(
             continue;
         }
         let Some((name, tree, other)) = pair.directory() else {
-            found.add(store.allocator(), pair.name())?;
+            found.add(alloc, pair.name())?;
             continue;
         };
         let length = found.front.len();
         found.enter(name)?;
-        walk(store, tree, other, found, settled)?;
+        walk(alloc, store, tree, other, found, settled)?;
         found.front.truncate(length);
     }
     if found.paths.len() != before {

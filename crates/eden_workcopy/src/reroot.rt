@@ -133,7 +133,7 @@ impl WorkCopy {
             → has (differ (means store.now next) (commit_files store.now commit)) p ≡ true) }
         ensures refuses { IfErr result (λ fault. fault ≢ CommitFault.NoMemory → commit_map store.now commit ≡ None) }
     {
-        let paths = match diff(store, self.root, commit) {
+        let paths = match diff(self.overlay.allocator(), store, self.root, commit) {
             Ok(paths) => paths,
             Err(CommitFault::NoCommit) => return Err(CommitFault::NoCommit),
             Err(CommitFault::NoMemory) => return Err(CommitFault::NoMemory),
