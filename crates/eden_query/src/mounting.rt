@@ -16,7 +16,20 @@ use eden_ids::{Content, Naming, NoMemory, Path, Sequence};
 use eden_objects::Store;
 use std::sync::Arc;
 
+/// Which files are held, as a basis asks for them.
+#[tactic(auto, using(crate::proofs::Telling::based_tells, crate::proofs::Telling::based_answerable))]
+fn based<N: Naming + Drop>(mount: &Mount<N>, query: Query) -> Result<Raw, NoMemory>
+    ensures replies { IfOk result (λ raw. (world : WorldState) → StandsFor mount.now world → (patterns : List (List ℕ))
+        → told mount.now.held patterns raw ≡ reply_of world (Request.Basis query patterns)) }
+    ensures answerable { IfOk result (λ raw. is_answerable (commit_map mount.now.held) raw ≡ true) }
+{
+    mount.stands_law();
+    let snapshot = mount.snapshot()?;
+    Ok(Raw::Based(query, snapshot))
+}
+
 /// What changed since a position, as it is asked for.
+#[tactic(auto, using(crate::proofs::Telling::ranged_tells, crate::proofs::Telling::refused_tells))]
 fn ranged<N: Naming + Drop>(
     mount: &Mount<N>,
     query: Query,
@@ -46,14 +59,14 @@ fn content_at<N: Naming + Drop>(mount: &Mount<N>, path: &Path) -> Result<Option<
 }
 
 /// What a request asks for.
-#[tactic(auto, using(crate::proofs::Telling::based_tells, crate::proofs::Telling::held_tells))]
+#[tactic(auto, using(crate::proofs::Telling::held_tells))]
 fn raw_of<N: Naming + Drop>(mount: &Mount<N>, request: &Request) -> Result<Raw, NoMemory>
     ensures replies { IfOk result (λ raw. (world : WorldState) → StandsFor mount.now world
         → told mount.now.held (patterns_of request.now) raw ≡ reply_of world request.now) }
     ensures answerable { IfOk result (λ raw. is_answerable (commit_map mount.now.held) raw ≡ true) }
 {
     match request {
-        Request::Basis { query, .. } => Ok(Raw::Based(*query, mount.snapshot()?)),
+        Request::Basis { query, .. } => based(mount, *query),
         Request::Poll { query, since, .. } => ranged(mount, *query, since),
         Request::Fetch { query, path } => {
             let content = content_at(mount, path)?;
