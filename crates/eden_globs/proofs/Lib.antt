@@ -1,1 +1,4 @@
 mod Copies
+mod Splitting
+mod Rows
+pub mod FilterLemmas

@@ -1,6 +1,11 @@
--- What a filter is, and which paths it admits. A list of patterns is a list of lists of bytes.
-use Rattle.std.specs.Prelude.{◌≡◌, ℕ, ◌+◌, Bool, true, false, nat_lt, if◌then◌else◌, List, [], ◌∷◌, length, map, Option, Some, None}
+-- What a filter is, and which paths it admits. A pattern is read as `git help gitignore` reads one, but that it is held against a whole
+-- path. Bytes are numbers: 42 is `*`, 47 is `/`, 63 is `?`, 91 is `[`, 92 is a backslash and 123 is `{`.
+use Rattle.std.specs.Prelude.{◌≡◌, ℕ, ◌+◌, Bool, true, false, not, ◌&&◌, ◌||◌, ◌==◌, nat_lt, if◌then◌else◌, List, [], ◌∷◌, length, map, codes, Option, Some, None}
+use Rattle.std.specs.List.{list_all, list_any}
+use Rattle.std.specs.Option.{option_or}
 use Rattle.std.specs.Global.{Vec}
+use Rattle.eden_ids.specs.Paths.{components}
+use Rattle.eden_ids.specs.Sameness.{same_bytes}
 use Rattle.eden_globs.specs.declared.filter.FilterFault.{FilterFault}
 use Rattle.eden_globs.specs.declared.filter.FilterFault.TheVariants.{TooMany, PatternTooLong, BadPattern}
 
@@ -8,19 +13,28 @@ use Rattle.eden_globs.specs.declared.filter.FilterFault.TheVariants.{TooMany, Pa
 abbrev pub lists : List (Vec ℕ) → List (List ℕ)
 lists vectors = map (λ v. v.items) vectors
 
--- the first of two causes that stands
-abbrev pub first_fault : Option FilterFault → Option FilterFault → Option FilterFault
-first_fault None second = second
-first_fault (Some fault) second = Some fault
+-- ---- what is a pattern
 
--- why the bytes at a place of the list are no pattern: they are longer than 256, or, since none is understood yet, whatever they are
+-- no `[` or `{` stands without a backslash before it, and no backslash at the end; `escaped` says that one stands before the bytes
+abbrev pub is_spelled : Bool → List ℕ → Bool
+is_spelled escaped [] = not escaped
+is_spelled true (b ∷ part) = is_spelled false part
+is_spelled false (b ∷ part) = if b == 92 then is_spelled true part else not (b == 91 || b == 123) && is_spelled false part
+
+-- what may stand between two slashes of a pattern
+abbrev pub is_part : List ℕ → Bool
+is_part part = nat_lt 0 (length part) && is_spelled false part
+
+-- why the bytes at a place of the list are no pattern
 abbrev pub pattern_fault : ℕ → List ℕ → Option FilterFault
-pattern_fault place bytes = if nat_lt 256 (length bytes) then Some PatternTooLong else Some (BadPattern place)
+pattern_fault place bytes =
+    if nat_lt 256 (length bytes) then Some PatternTooLong else
+    if list_all is_part (components bytes) then None else Some (BadPattern place)
 
 -- the first fault of patterns of which the first stands at this place
 abbrev pub patterns_fault : ℕ → List (List ℕ) → Option FilterFault
 patterns_fault place [] = None
-patterns_fault place (bytes ∷ patterns) = first_fault (pattern_fault place bytes) (patterns_fault (place + 1) patterns)
+patterns_fault place (bytes ∷ patterns) = option_or (pattern_fault place bytes) (patterns_fault (place + 1) patterns)
 
 -- the first reason for which a list of patterns is no filter
 abbrev pub filter_fault : List (List ℕ) → Option FilterFault
@@ -29,7 +43,60 @@ filter_fault patterns = if nat_lt 32 (length patterns) then Some TooMany else pa
 abbrev pub IsFilter : List (List ℕ) → Type 0
 IsFilter patterns = filter_fault patterns ≡ None
 
--- whether some pattern admits the path, or there is none; no pattern admits a path yet
+-- ---- what a pattern admits
+
+-- a list passes, or what is left of it behind some of its items
+abbrev pub some_rest : {X : Type 0} → (List X → Bool) → List X → Bool
+some_rest test [] = test []
+some_rest test (x ∷ xs) = test (x ∷ xs) || some_rest test xs
+
+-- there is a first item that passes one test, and what is left behind it passes another
+abbrev pub first_then : {X : Type 0} → (X → Bool) → (List X → Bool) → List X → Bool
+first_then first rest [] = false
+first_then first rest (x ∷ xs) = first x && rest xs
+
+abbrev pub is_none_left : {X : Type 0} → List X → Bool
+is_none_left [] = true
+is_none_left (x ∷ xs) = false
+
+-- a name matches a part of a pattern: `*` is any run of bytes, `?` any one byte, a backslash and a byte that byte, and any other byte
+-- itself; `escaped` says that a backslash stands before the part
+abbrev pub name_matches : Bool → List ℕ → List ℕ → Bool
+name_matches escaped [] name = is_none_left name
+name_matches true (c ∷ part) name = first_then (λ b. c == b) (name_matches false part) name
+name_matches false (c ∷ part) name =
+    if c == 92 then name_matches true part name else
+    if c == 42 then some_rest (name_matches false part) name else
+    if c == 63 then first_then (λ b. true) (name_matches false part) name else first_then (λ b. c == b) (name_matches false part) name
+
+-- the part that stands for any number of names
+abbrev pub is_any_names : List ℕ → Bool
+is_any_names part = same_bytes part (codes "**")
+
+-- the names of a path match the parts of a pattern, from first to last
+abbrev pub path_matches : List (List ℕ) → List (List ℕ) → Bool
+path_matches [] names = is_none_left names
+path_matches (part ∷ parts) names =
+    if is_any_names part then some_rest (path_matches parts) names else first_then (name_matches false part) (path_matches parts) names
+
+abbrev pub pattern_admits : List ℕ → List ℕ → Bool
+pattern_admits pattern path = path_matches (components pattern) (components path)
+
+-- whether some pattern admits the path, or there is none
 abbrev pub admits : List (List ℕ) → List ℕ → Bool
 admits [] path = true
-admits (bytes ∷ patterns) path = false
+admits (bytes ∷ patterns) path = list_any (λ pattern. pattern_admits pattern path) (bytes ∷ patterns)
+
+-- ---- where paths that are admitted can lie
+
+-- the names of a directory match the front of the parts, and a part is left for what lies below it, or some part of the front stands
+-- for any number of names
+abbrev pub enters : List (List ℕ) → List (List ℕ) → Bool
+enters [] names = false
+enters (part ∷ parts) [] = true
+enters (part ∷ parts) (name ∷ names) = is_any_names part || (name_matches false part name && enters parts names)
+
+-- whether some pattern enters the directory, or there is none
+abbrev pub enters_any : List (List ℕ) → List ℕ → Bool
+enters_any [] path = true
+enters_any (bytes ∷ patterns) path = list_any (λ pattern. enters (components pattern) (components path)) (bytes ∷ patterns)

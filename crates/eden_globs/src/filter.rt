@@ -1,6 +1,9 @@
-ghost use Rattle.std.specs.Prelude.{◌≡◌, ◌≢◌, None, Some, map, IfOk, IfErr};
-ghost use Rattle.eden_globs.specs.Filters.{lists, pattern_fault, filter_fault, admits};
+ghost use Rattle.std.specs.Prelude.{◌≡◌, ◌≢◌, ◌==◌, ◌&&◌, ◌||◌, [], false, not, None, Some, map, IfOk, IfErr};
+ghost use Rattle.std.specs.List.{list_all, list_any};
+ghost use Rattle.eden_ids.specs.Paths.{components};
+ghost use Rattle.eden_globs.specs.Filters.{admits, filter_fault, is_part, is_spelled, lists, pattern_admits, pattern_fault};
 
+use crate::matching::is_admitted;
 use eden_ids::{NoMemory, Path};
 use std::alloc::{AllocError, Global};
 use std::fmt;
@@ -24,9 +27,22 @@ pub enum FilterFault {
     NoMemory,
 }
 
+impl From<AllocError> for FilterFault {
+    ghost use Rattle.std.specs.Prelude.{◌≡◌};
+    ghost use Rattle.eden_globs.specs.declared.filter.FilterFault.TheVariants as fault;
+
+    ghost from_gives = { λ _ f. f ≡ fault.NoMemory };
+
+    fn from(_refused: AllocError) -> FilterFault {
+        FilterFault::NoMemory
+    }
+}
+
 /// Which paths are wanted: a list of patterns, of which one has to admit a path. With no pattern every path is admitted.
 ///
-/// No pattern is understood yet, so the list is empty.
+/// A pattern is parts joined by `/`, and admits a path whose names match the parts from first to last. The part `**` stands for any
+/// number of names, none included. In another part `*` stands for any run of bytes, `?` for any one byte, a backslash and a byte for
+/// that byte, and any other byte for itself; a name that begins with a dot is matched as others are.
 #[derive(Drop)]
 pub struct Filter {
     patterns: Vec<Vec<u8>>,
@@ -43,12 +59,55 @@ impl Model for Filter {
     ghost invariant = { λ f. IsFilter (lists f.patterns.items) };
 }
 
+/// Whether a byte may not stand in a pattern; `escaped` says that a backslash stands before it.
+fn is_refused(escaped: bool, byte: u8) -> bool
+    ensures { result ≡ (not escaped && (byte == 91 || byte == 123)) }
+{
+    !escaped && (byte == b'[' || byte == b'{')
+}
+
+/// Whether a byte is a backslash that stands for none.
+fn is_escape(escaped: bool, byte: u8) -> bool
+    ensures { result ≡ (not escaped && byte == 92) }
+{
+    !escaped && byte == b'\\'
+}
+
+/// Whether no `[` or `{` stands in a part without a backslash before it, and no backslash at its end.
+fn is_spelled(part: &[u8]) -> bool
+    ensures { result ≡ is_spelled false part.now }
+{
+    let mut escaped = false;
+    for byte in part {
+        if is_refused(escaped, *byte) {
+            return false;
+        }
+        escaped = is_escape(escaped, *byte);
+    }
+    !escaped
+}
+
+/// Whether the bytes may stand between two slashes of a pattern.
+fn is_part(part: &[u8]) -> bool
+    ensures { result ≡ is_part part.now }
+{
+    !part.is_empty() && is_spelled(part)
+}
+
+fn has_parts_alone(pattern: &[u8]) -> bool
+    ensures { result ≡ list_all is_part (components pattern.now) }
+{
+    pattern.split(|b| *b == b'/').all(is_part)
+}
+
 /// Why the bytes are no pattern; `place` is where they stand in the list.
 fn fault_of_pattern(place: usize, bytes: &[u8]) -> Option<FilterFault>
     ensures { result ≡ pattern_fault place bytes.now }
 {
     if bytes.len() > 256 {
         Some(FilterFault::PatternTooLong)
+    } else if has_parts_alone(bytes) {
+        None
     } else {
         Some(FilterFault::BadPattern(place))
     }
@@ -79,7 +138,28 @@ fn copies(alloc: Global, patterns: &[&[u8]]) -> Result<Vec<Vec<u8>>, AllocError>
     Ok(copies)
 }
 
+/// Whether one of the patterns admits the path.
+fn is_any_admitted(patterns: &[Vec<u8>], path: &Path) -> bool
+    ensures { result ≡ list_any (λ pattern. pattern_admits pattern path.now) (lists patterns.now) }
+{
+    for pattern in patterns {
+        if is_admitted(pattern.as_slice(), path) {
+            return true;
+        }
+    }
+    false
+}
+
 impl Filter {
+    /// The filter without patterns, which admits every path. It takes no memory.
+    pub fn all(alloc: Global) -> Filter
+        ensures { result ≡ [] }
+    {
+        Filter {
+            patterns: Vec::new(alloc),
+        }
+    }
+
     /// Reads a filter, and keeps its patterns.
     ///
     /// Refused as `TooMany`, and then at the first pattern with a fault as `PatternTooLong` or `BadPattern`; `NoMemory` may
@@ -93,10 +173,8 @@ impl Filter {
         if let Some(fault) = fault_of(patterns) {
             return Err(fault);
         }
-        match copies(alloc, patterns) {
-            Ok(patterns) => Ok(Filter { patterns }),
-            Err(_) => Err(FilterFault::NoMemory),
-        }
+        let patterns = copies(alloc, patterns)?;
+        Ok(Filter { patterns })
     }
 
     /// The patterns, in their order. This takes no memory.
@@ -108,20 +186,23 @@ impl Filter {
     }
 
     /// Whether the path is wanted. This takes no memory.
-    pub fn admits(&self, _path: &Path) -> bool
-        ensures { result ≡ admits self.now _path.now }
+    ///
+    /// The time is at most a constant times the length of the patterns times that of the path.
+    #[tactic(auto, using(crate::proofs::FilterLemmas::admits_some, crate::proofs::FilterLemmas::admits_none))]
+    pub fn admits(&self, path: &Path) -> bool
+        ensures { result ≡ admits self.now path.now }
     {
-        self.patterns.is_empty()
+        if self.patterns.is_empty() {
+            return true;
+        }
+        is_any_admitted(self.patterns.as_slice(), path)
     }
 
     /// A filter that is equal to this one. `NoMemory` comes where a growth was refused.
     pub fn copy(&self) -> Result<Filter, NoMemory>
         ensures { IfOk result (λ filter. filter ≡ self.now) }
     {
-        match self.clone() {
-            Ok(filter) => Ok(filter),
-            Err(_) => Err(NoMemory),
-        }
+        Ok(self.clone()?)
     }
 }
 

@@ -4,5 +4,6 @@
 pub use crate::filter::{Filter, FilterFault};
 
 mod filter;
+mod matching;
 #[cfg(test)]
 mod tests;

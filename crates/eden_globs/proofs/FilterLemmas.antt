@@ -1,0 +1,76 @@
+-- What a filter's patterns are, and what a filter admits.
+use Rattle.std.proofs.Common.{◌≡◌, ℕ, suc, zero, ◌+◌, ◌<◌, ◌≤◌, ◌==◌, Bool, true, false, cond, not, ◌&&◌, ◌||◌, nat_lt, List, [], ◌∷◌, drop, length, Option, Some, None, refl, sym, ap, ◌∙◌, arith}
+use Rattle.std.proofs.lemmas.Bool.{eqb-true, ltb-false}
+use Rattle.std.specs.List.{AllByRecursion, list_any, slice_index_or}
+use Rattle.std.specs.Option.{option_or}
+use Rattle.eden_globs.proofs.Rows.{dropped}
+use Rattle.eden_globs.specs.declared.filter.FilterFault.{FilterFault}
+use Rattle.eden_globs.specs.declared.filter.FilterFault.TheVariants.{TooMany, PatternTooLong, BadPattern}
+use Rattle.eden_globs.specs.Filters.{IsFilter, admits, is_spelled, pattern_admits, pattern_fault, patterns_fault}
+
+none_guarded : (b : Bool) (fault : FilterFault) (rest : Option FilterFault) → cond b (Some fault) rest ≡ None → (b ≡ false) × (rest ≡ None)
+none_guarded true fault rest e = absurd (cc)
+none_guarded false fault rest e = (refl, e)
+
+none_first : (a b : Option FilterFault) → option_or a b ≡ None → (a ≡ None) × (b ≡ None)
+none_first None b e = (refl, e)
+none_first (Some fault) b e = absurd (cc)
+
+-- a filter has 32 patterns at the most
+pub filter_few : (patterns : List (List ℕ)) → IsFilter patterns → length patterns ≤ 32
+filter_few patterns e = ltb-false 32 (length patterns) (none_guarded (nat_lt 32 (length patterns)) TooMany (patterns_fault 0 patterns) e).0
+
+some_byte : (place : ℕ) (bytes : List ℕ) → pattern_fault place bytes ≡ None → (1 ≤ length bytes) × (length bytes ≤ 256)
+some_byte place [] e =
+    absurd (let bad : ◌≡◌ {A = Option FilterFault} (Some (BadPattern place)) None = e in cc)
+some_byte place (b ∷ bytes) e = (omega arith, ltb-false 256 (length (b ∷ bytes)) (none_guarded (nat_lt 256 (length (b ∷ bytes))) PatternTooLong _ e).0)
+
+all_short : (place : ℕ) (patterns : List (List ℕ)) → patterns_fault place patterns ≡ None → AllByRecursion (λ p. (1 ≤ length p) × (length p ≤ 256)) patterns
+all_short place [] e = tt
+all_short place (p ∷ ps) e =
+    let both = none_first (pattern_fault place p) (patterns_fault (place + 1) ps) e in
+    (some_byte place p both.0, all_short (place + 1) ps both.1)
+
+-- each pattern of a filter has 1 to 256 bytes
+pub filter_short : (patterns : List (List ℕ)) → IsFilter patterns → AllByRecursion (λ p. (1 ≤ length p) × (length p ≤ 256)) patterns
+filter_short patterns e = all_short 0 patterns (none_guarded (nat_lt 32 (length patterns)) TooMany (patterns_fault 0 patterns) e).1
+
+-- ---- the bytes of a part, from first to last
+
+next_one : (e : Bool) (b : ℕ) (rest : List ℕ) → (not e && (b == 91 || b == 123)) ≡ false → is_spelled (not e && b == 92) rest ≡ is_spelled e (b ∷ rest)
+next_one true b rest free = refl
+next_one false b rest free = by (b == 92) (b == 91 || b == 123) free
+  where
+    by : (t s : Bool) → s ≡ false → is_spelled t rest ≡ cond t (is_spelled true rest) (not s && is_spelled false rest)
+    by true s h = refl
+    by false true h = absurd (cc)
+    by false false h = refl
+
+stop_one : (e : Bool) (b : ℕ) (rest : List ℕ) → (not e && (b == 91 || b == 123)) ≡ true → is_spelled e (b ∷ rest) ≡ false
+stop_one true b rest stop = absurd (cc)
+stop_one false b rest stop = by (b == 92) (b == 91 || b == 123) stop apart
+  where
+    apart : (b == 92) ≡ true → (b == 91 || b == 123) ≡ true → ⊥
+    apart is other = let same : b ≡ 92 = eqb-true b 92 is in let bad : (92 == 91 || 92 == 123) ≡ true = sym (ap (λ n. n == 91 || n == 123) same) ∙ other in absurd (let worse : false ≡ true = bad in cc)
+
+    by : (t s : Bool) → s ≡ true → (t ≡ true → s ≡ true → ⊥) → cond t (is_spelled true rest) (not s && is_spelled false rest) ≡ false
+    by true s h far = absurd (far refl h)
+    by false true h far = refl
+    by false false h far = absurd (cc)
+
+pub spelled_next : (part : List ℕ) (i : ℕ) (e f : Bool) → i < length part → (not e && (slice_index_or part i 0 == 91 || slice_index_or part i 0 == 123)) ≡ false
+    → f ≡ (not e && slice_index_or part i 0 == 92) → is_spelled f (drop (i + 1) part) ≡ is_spelled e (drop i part)
+spelled_next part i e f within free is =
+    ap (λ t. is_spelled t (drop (i + 1) part)) is ∙ next_one e (slice_index_or part i 0) (drop (i + 1) part) free ∙ sym (ap (is_spelled e) (dropped part i 0 within))
+
+pub spelled_stop : (part : List ℕ) (i : ℕ) (e : Bool) → i < length part → (not e && (slice_index_or part i 0 == 91 || slice_index_or part i 0 == 123)) ≡ true → is_spelled e (drop i part) ≡ false
+spelled_stop part i e within stop = ap (is_spelled e) (dropped part i 0 within) ∙ stop_one e (slice_index_or part i 0) (drop (i + 1) part) stop
+
+-- ---- admitting
+
+pub admits_none : (patterns : List (List ℕ)) (path : List ℕ) → patterns ≡ [] → admits patterns path ≡ true
+admits_none patterns path e = ap (λ ps. admits ps path) e
+
+pub admits_some : (patterns : List (List ℕ)) (path : List ℕ) → 0 < length patterns → admits patterns path ≡ list_any (λ pattern. pattern_admits pattern path) patterns
+admits_some [] path h = absurd (omega arith)
+admits_some (p ∷ ps) path h = refl

@@ -1,0 +1,2 @@
+-- What only the matching speaks of.
+pub mod Rows
