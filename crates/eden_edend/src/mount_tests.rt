@@ -67,8 +67,8 @@ const SCRIPTS: [(&str, &str, &str); 13] = [
     ),
     (
         "questions_and_their_refusals",
-        "position;list;dirty;mount empty 7 1000;position;list;list a;read ..;rename .. \\e;reset z;checkout z dry;dirty;write b link t;read b;list",
-        "refused NotMounted;refused NotMounted;refused NotMounted;at 7 1 empty;at 7 1 empty;files 0;refused BadPattern 0;refused BadComponent;refused BadComponent;refused NoLabel;refused NoLabel;dirty 0;at 7 2 empty;link t;files 1;b",
+        "position;list;dirty;mount empty 7 1000;position;list;list a;list [a];read ..;rename .. \\e;reset z;checkout z dry;dirty;write b link t;read b;list",
+        "refused NotMounted;refused NotMounted;refused NotMounted;at 7 1 empty;at 7 1 empty;files 0;files 0;refused BadPattern 0;refused BadComponent;refused BadComponent;refused NoLabel;refused NoLabel;dirty 0;at 7 2 empty;link t;files 1;b",
     ),
 ];
 

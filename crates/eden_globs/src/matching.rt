@@ -123,8 +123,7 @@ fn fill_part(row: &mut [bool], name: &[u8], part: &[u8], escaped: bool)
 
 /// Whether a name matches a part of a pattern. What the cells hold before and after is of no meaning.
 #[tactic(auto, using(crate::proofs::Rows::first_cell))]
-fn is_match(part: &[u8], name: &[u8], cells: &mut [bool])
-    -> bool
+fn is_match(part: &[u8], name: &[u8], cells: &mut [bool]) -> bool
     requires { length name.now < length cells.old }
     ensures size { length cells.new ≡ length cells.old }
     ensures value { result ≡ name_matches false part.now name.now }

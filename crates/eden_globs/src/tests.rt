@@ -10,10 +10,16 @@ fn fault_of(alloc: Global, patterns: &[&[u8]]) -> Option<FilterFault> {
     }
 }
 
+fn is_admitted(alloc: Global, pattern: &str, path: &str) -> Result<bool, Fail> {
+    let filter = Filter::parse(alloc, &[pattern.as_bytes()])?;
+    let path = Path::parse(alloc, path.as_bytes())?;
+    Ok(filter.admits(&path))
+}
+
 #[test]
 fn no_pattern_admits_every_path(rt: HostRuntime) -> Result<(), Fail> {
     let alloc = rt.alloc();
-    let filter = Filter::parse(alloc, &[])?;
+    let filter = Filter::all(alloc);
     assert_eq!(rt; filter.patterns().len(), 0);
     let copy = filter.copy()?;
     assert_eq!(rt; copy.patterns().len(), 0);
@@ -26,23 +32,99 @@ fn no_pattern_admits_every_path(rt: HostRuntime) -> Result<(), Fail> {
 }
 
 #[test]
+fn pattern_table(rt: HostRuntime) -> Result<(), Fail> {
+    let alloc = rt.alloc();
+    for (pattern, path, wanted) in [
+        ("**/x", "x", true),
+        ("**/x", "a/x", true),
+        ("**/x", "a/b/x", true),
+        ("**/x", ".h", false),
+        ("a/**", "x", false),
+        ("a/**", "a/x", true),
+        ("a/**", "a/b/x", true),
+        ("a/**", ".h", false),
+        ("a/**", "a", true),
+        ("*", "x", true),
+        ("*", "a/x", false),
+        ("*", "a/b/x", false),
+        ("*", ".h", true),
+        ("a/*", "x", false),
+        ("a/*", "a/x", true),
+        ("a/*", "a/b/x", false),
+        ("a/*", ".h", false),
+        ("**", "a/b/x", true),
+        ("a/**/x", "a/x", true),
+        ("a/**/x", "a/b/c/x", true),
+        ("a/**/x", "a/b/c", false),
+        ("a**b", "ab", true),
+        ("a**b", "a/b", false),
+        ("?", "x", true),
+        ("?", "xy", false),
+        ("a?b", "a/b", false),
+        ("\\*", "*", true),
+        ("\\*", "x", false),
+        ("\\[a]", "[a]", true),
+        ("}]", "}]", true),
+        ("a*b*c", "aXbXbc", true),
+        ("a*b*c", "aXbXbd", false),
+        ("x", "x/y", false),
+    ] {
+        let admitted = is_admitted(alloc, pattern, path)?;
+        assert_eq!(rt; admitted, wanted, "{pattern} at {path}");
+    }
+    Ok(())
+}
+
+#[test]
+fn hostile_patterns(rt: HostRuntime) -> Result<(), Fail> {
+    let alloc = rt.alloc();
+    let mut stars = Vec::new(alloc);
+    for _ in 0..127 {
+        stars.extend_from_slice(b"*a".as_slice())?;
+    }
+    stars.push(b'b')?;
+    let name = vec![in alloc; b'a'; 255]?;
+    let path = Path::parse(alloc, name.as_slice())?;
+    let filter = Filter::parse(alloc, &[stars.as_slice()])?;
+    assert!(rt; !filter.admits(&path));
+    let mut deep = Vec::new(alloc);
+    for _ in 0..50 {
+        deep.extend_from_slice(b"**/a/".as_slice())?;
+    }
+    deep.push(b'b')?;
+    let mut names = Vec::new(alloc);
+    for _ in 0..63 {
+        names.extend_from_slice(b"a/".as_slice())?;
+    }
+    names.push(b'a')?;
+    let path = Path::parse(alloc, names.as_slice())?;
+    let filter = Filter::parse(alloc, &[deep.as_slice()])?;
+    assert!(rt; !filter.admits(&path));
+    Ok(())
+}
+
+#[test]
 fn refusals(rt: HostRuntime) -> Result<(), Fail> {
     let alloc = rt.alloc();
+    for pattern in ["", "/", "a//b", "/a", "a/", "[a]", "a{", "a\\", "a\\/b"] {
+        assert_eq!(rt;
+            fault_of(alloc, &[b"x".as_slice(), pattern.as_bytes()]),
+            Some(FilterFault::BadPattern(1)),
+            "at {pattern}"
+        );
+    }
     let empty = b"".as_slice();
     assert_eq!(rt; fault_of(alloc, &[empty]), Some(FilterFault::BadPattern(0)));
-    let most = [empty; 32];
-    assert_eq!(rt; fault_of(alloc, &most), Some(FilterFault::BadPattern(0)));
     let many = [empty; 33];
     assert_eq!(rt; fault_of(alloc, &many), Some(FilterFault::TooMany));
+    let most = [b"x".as_slice(); 32];
+    assert_eq!(rt; fault_of(alloc, &most), None);
     let long = vec![in alloc; b'a'; 257]?;
     assert_eq!(rt;
         fault_of(alloc, &[long.as_slice()]),
         Some(FilterFault::PatternTooLong)
     );
     let wide = vec![in alloc; b'a'; 256]?;
-    assert_eq!(rt;
-        fault_of(alloc, &[wide.as_slice()]),
-        Some(FilterFault::BadPattern(0))
-    );
+    assert_eq!(rt; fault_of(alloc, &[wide.as_slice()]), None);
     Ok(())
 }

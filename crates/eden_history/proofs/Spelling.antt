@@ -11,9 +11,8 @@ use Rattle.eden_ids.specs.declared.content.Kind.{Kind}
 use Rattle.eden_ids.specs.declared.content.Kind.TheVariants.{Plain, Exec, Link}
 use Rattle.eden_ids.specs.declared.path.PathFault.TheVariants as path_faults
 use Rattle.eden_ids.specs.Paths.{IsPath}
-use Rattle.eden_globs.specs.declared.filter.FilterFault.{FilterFault}
-use Rattle.eden_globs.specs.declared.filter.FilterFault.TheVariants as filter_faults
-use Rattle.eden_globs.specs.Filters.{IsFilter, first_fault, patterns_fault}
+use Rattle.eden_globs.specs.Filters.{IsFilter}
+use Rattle.eden_globs.proofs.FilterLemmas.{filter_few, filter_short}
 use Rattle.eden_history.specs.declared.mark.Mark.{Mark}
 use Rattle.eden_history.specs.declared.mark.Mark.TheVariants.{Created, Removed, Changed, Root}
 use Rattle.eden_history.specs.declared.mark.Marked.{Marked}
@@ -119,10 +118,6 @@ no_fault : {A : Type 0} (b : Bool) (fault : A) (others : Option A) → cond b (S
 no_fault true fault others e = absurd cc
 no_fault false fault others e = (refl, e)
 
-never_understood : (b : Bool) (fault other : FilterFault) (others : Option FilterFault) → first_fault (cond b (Some fault) (Some other)) others ≡ None → ⊥
-never_understood true fault other others e = cc
-never_understood false fault other others e = cc
-
 -- so many bytes at the most, and one at least
 pub record IsText (limit : ℕ) (text : List ℕ) : Type 0 where
   pub some : 0 < length text
@@ -133,12 +128,12 @@ pub record FilterFits (patterns : List (List ℕ)) : Type 0 where
   pub few : length patterns ≤ 32
   pub texts : AllByRecursion (IsText 256) patterns
 
--- no pattern is understood yet, so a filter has none
+as_texts : (patterns : List (List ℕ)) → AllByRecursion (λ p. (1 ≤ length p) × (length p ≤ 256)) patterns → AllByRecursion (IsText 256) patterns
+as_texts [] all = tt
+as_texts (p ∷ ps) all = (record { some = omega (arith, all.0.0); few = all.0.1 }, as_texts ps all.1)
+
 pub filter_fits : (patterns : List (List ℕ)) → IsFilter patterns → FilterFits patterns
-filter_fits [] is = record { few = omega arith; texts = tt }
-filter_fits (p ∷ ps) is =
-    let h = no_fault (ltb 32 (length (p ∷ ps))) filter_faults.TooMany _ is in
-    absurd (never_understood (ltb 256 (length p)) filter_faults.PatternTooLong (filter_faults.BadPattern 0) (patterns_fault 1 ps) h.1)
+filter_fits patterns is = record { few = filter_few patterns is; texts = as_texts patterns (filter_short patterns is) }
 
 texts_short : (patterns : List (List ℕ)) → AllByRecursion (IsText 256) patterns → AllByRecursion IsShort patterns
 texts_short [] is = tt

@@ -9,5 +9,5 @@ invariant-loop-i l = record {
   later : l.later ≡ slice_index_or l.row l.i false;
   last : slice_index_or l.row l.last false ≡ slice_index_or l.fn.row l.last false;
   done : (k : ℕ) → l.i ≤ k → k < l.last → slice_index_or l.row k false ≡ (slice_index_or l.fn.row k false || slice_index_or l.row (k + 1) false);
-  kept : (k : ℕ) → k < l.i → slice_index_or l.row k false ≡ slice_index_or l.fn.row k false
+  kept : (k : ℕ) → k < l.i → slice_index_or l.row k false ≡ slice_index_or l.fn.row k false;
 }

@@ -20,5 +20,5 @@ loop-i-preserved c =
       done = set_done c.loop-i.row (λ k. name_matches false c.args.part.now (slice_index_or names k []) && slice_index_or c.args.row.now (k + 1) false) i c.both.result (omega arith) c.loop-i.invariant.done
           (c.both.ensures ∙ ap (λ b. b && slice_index_or c.loop-i.row (i + 1) false) (c.is_match.ensures.value ∙ ap (name_matches false c.args.part.now) next.0)
           ∙ ap (λ b. name_matches false c.args.part.now (slice_index_or names i []) && b) (c.loop-i.invariant.kept (i + 1) (omega arith)));
-      kept = set_kept c.loop-i.row c.args.row.now i c.both.result c.loop-i.invariant.kept
+      kept = set_kept c.loop-i.row c.args.row.now i c.both.result c.loop-i.invariant.kept;
     }

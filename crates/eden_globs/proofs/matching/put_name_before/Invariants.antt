@@ -11,5 +11,5 @@ invariant-loop-i l = record {
   short : length l.left ≤ length l.path;
   left : l.i < l.count → components l.left ≡ drop l.i (components l.path);
   done : (k : ℕ) → k < l.i → slice_index_or l.row k false ≡ (name_matches false l.part (slice_index_or (components l.path) k []) && slice_index_or l.fn.row (k + 1) false);
-  kept : (k : ℕ) → l.i ≤ k → slice_index_or l.row k false ≡ slice_index_or l.fn.row k false
+  kept : (k : ℕ) → l.i ≤ k → slice_index_or l.row k false ≡ slice_index_or l.fn.row k false;
 }
