@@ -147,9 +147,7 @@ fn a_commit_that_is_held_tells_its_files(rt: HostRuntime) -> Result<(), Fail> {
     let alloc = rt.alloc();
     let mut store = Store::new(alloc, GitNaming);
     let id = put_files(alloc, &mut store)?;
-    let Some(commit) = store.commit(id) else {
-        return Err(Fail);
-    };
+    let commit = store.commit(id).expect(&rt, "the commit");
     for (path, kind, bytes) in [
         ("a-b", Kind::Plain, "one\n"),
         ("a/x", Kind::Exec, "two\n"),
