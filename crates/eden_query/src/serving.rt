@@ -15,7 +15,7 @@ use crate::decoding::decode_request;
 use crate::encoding::encode_reply;
 use crate::fault::{DecodeFault, EncodeFault};
 use crate::served::Served;
-use eden_globs::{Filter, FilterFault};
+use eden_globs::Filter;
 use eden_history::{Reply, Request};
 use eden_ids::{Naming, NoMemory};
 use eden_objects::CommitFault;
@@ -49,18 +49,6 @@ fn fault_of_frame(fault: DecodeFault) -> Option<FrameFault>
     }
 }
 
-/// The filter that admits every path.
-fn all(alloc: Global) -> Result<Filter, NoMemory>
-    ensures { IfOk result (λ filter. filter ≡ []) }
-{
-    match Filter::parse(alloc, &[]) {
-        Ok(filter) => Ok(filter),
-        Err(FilterFault::NoMemory) => Err(NoMemory),
-        // No pattern is a filter.
-        Err(_) => unreachable!(),
-    }
-}
-
 /// The request's filter, or the other one where it has none.
 fn filter_of<'a>(request: &'a Request, everything: &'a Filter) -> &'a Filter
     requires { everything.now ≡ [] }
@@ -84,7 +72,7 @@ fn reply_to<N: Naming + Drop, T: Served<N>>(
 {
     let raw = server.hold(STREAM, request)?;
     let store = server.store();
-    let everything = all(store.allocator())?;
+    let everything = Filter::all(store.allocator());
     let filter = filter_of(request, &everything);
     match answer(store.allocator(), &raw, store, filter) {
         Ok(reply) => Ok(reply),

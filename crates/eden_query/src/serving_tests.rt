@@ -359,6 +359,62 @@ fn single_byte_changes(rt: HostRuntime) -> Result<(), Fail> {
     Ok(())
 }
 
+/// A mount in generation 7 of the files `d/a` and `e`, which hold `hi`.
+fn two_files(alloc: Global) -> Result<Mount<GitNaming>, Fail> {
+    let mut mount = opened(alloc, 1000)?;
+    for at in [b"d/a".as_slice(), b"e".as_slice()] {
+        let change = Change::Write {
+            path: Path::parse(alloc, at)?,
+            kind: Kind::Exec,
+            bytes: Sequence::from_vec(b"hi".to_vec(alloc)?),
+        };
+        let _ = mount.apply(&change)?;
+    }
+    Ok(mount)
+}
+
+#[test]
+fn basis_of_a_pattern_and_a_file(rt: HostRuntime) -> Result<(), Fail> {
+    let alloc = rt.alloc();
+    let mut mount = two_files(alloc)?;
+    let place = [0, 0, 0, 0, 0, 0, 0, 7, 0, 0, 0, 0, 0, 0, 0, 3];
+    let pattern = [1, 0, 4, b'd', b'/', b'*', b'*'];
+    let path = [0, 3, b'd', b'/', b'a'];
+    let frames = joined(
+        alloc,
+        &[
+            &[0, 0, 0, 0x21, 1, 1],
+            &Q,
+            &pattern,
+            &[0, 0, 0, 0x1f, 1, 3],
+            &Q,
+            &path,
+        ],
+    )?;
+    let content = [2, 0, 0, 0, 2, b'h', b'i'];
+    let replies = joined(
+        alloc,
+        &[
+            &[0, 0, 0, 0x47, 1, 0x81],
+            &Q,
+            &place,
+            &ROOT,
+            &[0, 0, 0, 1],
+            &path,
+            &[0, 0, 0, 0x4a, 1, 0x83],
+            &Q,
+            &place,
+            &ROOT,
+            &path,
+            &content,
+        ],
+    )?;
+    let (written, ended) = served(alloc, &mut mount, frames.as_slice(), 1, usize::MAX);
+    assert_eq!(rt; ended, Ok(2));
+    assert!(rt; written.as_slice() == replies.as_slice());
+    Ok(())
+}
+
 #[test]
 fn small_limit(rt: HostRuntime) -> Result<(), Fail> {
     let alloc = rt.alloc();
@@ -369,7 +425,7 @@ fn small_limit(rt: HostRuntime) -> Result<(), Fail> {
             kind: Kind::Plain,
             bytes: Sequence::from_vec(b"1".to_vec(alloc)?),
         };
-        let _ = mount.apply(0, &change)?;
+        let _ = mount.apply(&change)?;
     }
     let frames = joined(alloc, &[&poll(alloc, 7, 1)?, &poll(alloc, 7, 2)?])?;
     let head = [0, 0, 0, 0x4e, 1, 0x82];
