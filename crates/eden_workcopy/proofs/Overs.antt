@@ -9,6 +9,7 @@ use Rattle.eden_ids.specs.declared.content.Content.{Content}
 use Rattle.eden_ids.specs.Paths.{lies_below}
 use Rattle.eden_ids.specs.FileMaps.{FileMap, file_at, paths, has, path_set, same_path, has_file_above, has_file_below}
 use Rattle.eden_ids.proofs.FileMapLemmas.{same_path-refl, same_path-is, file_at-tabulate, file_at-insert, file_at-remove, same_file_map, has-path_set}
+use Rattle.eden_ids.proofs.TreeQuestions.{any_none, any_some, any_witness}
 use Rattle.eden_ids.proofs.Sifted.{sifted, keys-sifted, has-sifted, listing_of}
 use Rattle.eden_workcopy.specs.Layers.{Layer, or_below, over_rule, over}
 
@@ -64,84 +65,10 @@ over-move base layer old new f = over-insert base (fin.insert layer old None) ne
 pub over-nothing : (base : FileMap) → over base fin.empty ≡ base
 over-nothing base = same_file_map _ _ (λ p. file_at-over base fin.empty p ∙ ap (λ o. or_below o (file_at base p)) (fin.get-empty (slice_cmp nat_cmp) p))
 
--- ---- tests of the paths of a map
-
-true_or : (b : Bool) → (b || true) ≡ true
-true_or true = refl
-true_or false = refl
-
-pub any_some : (test : List ℕ → Bool) (ks : List (List ℕ)) (p : List ℕ) → list_any (λ q. same_path p q) ks ≡ true → test p ≡ true → list_any test ks ≡ true
-any_some test [] p listed e = absurd (cc)
-any_some test (k ∷ ks) p listed e =
-    elim (same_path p k) as (λ b. same_path p k ≡ b → (b || list_any (λ q. same_path p q) ks) ≡ true → (test k || list_any test ks) ≡ true) [
-      | true ↦ λ s _. ap (λ b. b || list_any test ks) (ap test (sym (same_path-is p k s)) ∙ e)
-      | false ↦ λ s more. ap (λ b. test k || b) (any_some test ks p more e) ∙ true_or (test k)
-    ] refl listed
-
-pub any_none : (test : List ℕ → Bool) (ks : List (List ℕ)) → ((p : List ℕ) → list_any (λ q. same_path p q) ks ≡ true → test p ≡ false) → list_any test ks ≡ false
-any_none test [] h = refl
-any_none test (k ∷ ks) h =
-    ap (λ b. b || list_any test ks) (h k (ap (λ b. b || list_any (λ q. same_path k q) ks) (same_path-refl k)))
-    ∙ any_none test ks (λ p listed. h p (ap (λ b. same_path p k || b) listed ∙ true_or (same_path p k)))
-
-pub any_witness : (test : List ℕ → Bool) (ks : List (List ℕ)) → list_any test ks ≡ true → (p : List ℕ) × (list_any (λ q. same_path p q) ks ≡ true) × (test p ≡ true)
-any_witness test [] e = absurd (cc)
-any_witness test (k ∷ ks) e =
-    elim (test k) as (λ b. test k ≡ b → (b || list_any test ks) ≡ true → (p : List ℕ) × (list_any (λ q. same_path p q) (k ∷ ks) ≡ true) × (test p ≡ true)) [
-      | true ↦ λ t _. (k, ap (λ b. b || list_any (λ q. same_path k q) ks) (same_path-refl k), t)
-      | false ↦ λ t more. let found = any_witness test ks more in (found.0, ap (λ b. same_path found.0 k || b) found.1 ∙ true_or (same_path found.0 k), found.2)
-    ] refl e
+-- ---- a file below a path
 
 listed : (m : FileMap) (p : List ℕ) (f : Content) → file_at m p ≡ Some f → list_any (λ q. same_path p q) (paths m) ≡ true
 listed m p f is = sym (fin.contains_key-keys m p) ∙ ap is_some is
-
--- ---- a file above a path
-
-below_parts : (path top : List ℕ) → lies_below path top ≡ true → (take (length top) path ≡ top) × (length top < length path) × (slice_index_or path (length top) 0 ≡ 47)
-below_parts [] [] e = absurd (cc)
-below_parts [] (y ∷ ys) e = absurd (cc)
-below_parts (x ∷ xs) [] e =
-    (refl, omega arith, byte (nat_eq 47 x) refl e)
-  where
-    byte : (b : Bool) → nat_eq 47 x ≡ b → (b && starts_with nat_eq xs []) ≡ true → x ≡ 47
-    byte true is h = grind (arith, is)
-    byte false is h = absurd (cc)
-below_parts (x ∷ xs) (y ∷ ys) e = later (nat_eq y x) refl e (below_parts xs ys)
-  where
-    later : (b : Bool) → nat_eq y x ≡ b → (b && lies_below xs ys) ≡ true → (lies_below xs ys ≡ true → (take (length ys) xs ≡ ys) × (length ys < length xs) × (slice_index_or xs (length ys) 0 ≡ 47))
-        → (take (suc (length ys)) (x ∷ xs) ≡ y ∷ ys) × (suc (length ys) < suc (length xs)) × (slice_index_or xs (length ys) 0 ≡ 47)
-    later true is h more =
-        let rest = more h in
-        let same : x ≡ y = grind (arith, is) in
-        ((λ i. same i ∷ rest.0 i), omega (arith, rest.1), rest.2)
-    later false is h more = absurd (cc)
-
-parts_below : (path : List ℕ) (i : ℕ) → i < length path → slice_index_or path i 0 ≡ 47 → lies_below path (take i path) ≡ true
-parts_below [] i within is = absurd (omega arith)
-parts_below (x ∷ xs) zero within is = rest xs (nat_eq 47 x) (grind (arith, is))
-  where
-    rest : (ys : List ℕ) (b : Bool) → b ≡ true → (b && starts_with nat_eq ys []) ≡ true
-    rest [] b e = ap (λ c. c && true) e
-    rest (y ∷ ys) b e = ap (λ c. c && true) e
-parts_below (x ∷ xs) (suc i) within is =
-    let same : nat_eq x x ≡ true = grind arith in
-    ap (λ b. b && lies_below xs (take i xs)) same ∙ parts_below xs i (omega arith) is
-
-pub some_above : (m : FileMap) (path : List ℕ) (i : ℕ) (f : Content) → i < length path → slice_index_or path i 0 ≡ 47 → file_at m (take i path) ≡ Some f → has_file_above m path ≡ true
-some_above m path i f within slash is = any_some (λ top. lies_below path top) (paths m) (take i path) (listed m (take i path) f is) (parts_below path i within slash)
-
-pub none_above : (m : FileMap) (path : List ℕ) → ((i : ℕ) → i < length path → slice_index_or path i 0 ≡ 47 → file_at m (take i path) ≡ None) → has_file_above m path ≡ false
-none_above m path h =
-    any_none (λ top. lies_below path top) (paths m)
-    (λ top at. elim (lies_below path top) as (λ b. lies_below path top ≡ b → b ≡ false) [
-      | true ↦ λ e.
-          let parts = below_parts path top e in
-          let gone : file_at m top ≡ None = ap (file_at m) (sym parts.0) ∙ h (length top) parts.1 parts.2 in
-          let bad : true ≡ false = sym at ∙ sym (fin.contains_key-keys m top) ∙ ap is_some gone in cc
-      | false ↦ λ e. refl
-    ] refl)
-
--- ---- files below a path
 
 -- paths of two maps that pass tests alike are as many
 same_keys : {X Y : Type 0} (m : fin.FinMap (slice_cmp nat_cmp) X) (n : fin.FinMap (slice_cmp nat_cmp) Y) (s t : List ℕ → Bool) → ((p : List ℕ) → (s p && fin.contains_key m p) ≡ (t p && fin.contains_key n p))

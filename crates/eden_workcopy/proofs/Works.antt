@@ -26,7 +26,7 @@ use Rattle.eden_ids.specs.Sameness.{same_bytes}
 use Rattle.eden_workcopy.specs.declared.work.WorkCopy.{WorkCopy}
 use Rattle.eden_workcopy.specs.Meanings.{means, FitsIn}
 use Rattle.eden_workcopy.specs.Layers.{Layer, Entry, or_below, over}
-use Rattle.eden_workcopy.proofs.Overs.{file_at-over, over-nothing, over-insert, over-remove, over-move, here_below, left_below, some_above, none_above}
+use Rattle.eden_workcopy.proofs.Overs.{file_at-over, over-nothing, over-insert, over-remove, over-move, here_below, left_below}
 
 pub some_rows : (held : List Held) (o : Option (List Row)) → is_some o ≡ true → map_of_rows held o ≡ Some (files_of (map_of_rows held o))
 some_rows held None e = absurd (cc)
@@ -64,10 +64,6 @@ file_told base layer p file is = file_at-over base layer p ∙ ap (λ o. or_belo
 
 pub file_below : (base : FileMap) (layer : Layer) (p : List ℕ) → fin.get layer p ≡ None → file_at (over base layer) p ≡ file_at base p
 file_below base layer p is = file_at-over base layer p ∙ ap (λ o. or_below o (file_at base p)) is
-
-pub some_seen : (seen : Option (Kind × Bor (List ℕ))) (file : Option Content) → lent seen ≡ file → is_some seen ≡ is_some file
-some_seen None file is = ap is_some is
-some_seen (Some x) file is = ap is_some is
 
 -- ---- files below a path
 
@@ -119,37 +115,6 @@ counted_below base layer p hidden none is =
     sym (left_below base layer p hidden
     (λ q f at. no_entry q p f (fin.entries layer) (sym (fin.get-entries layer q) ∙ at) none)
     (is ∙ as_many (λ q. lies_below q p && is_some (file_at base q)) (fin.entries layer)))
-
--- ---- files above a path
-
-abbrev pub stands : FileMap → List ℕ → ℕ → Bool
-stands m path i = nat_eq (slice_index_or path i 0) 47 && is_some (file_at m (take i path))
-
-split : (a b : Bool) → (a && b) ≡ true → (a ≡ true) × (b ≡ true)
-split true true e = (refl, refl)
-split true false e = absurd (cc)
-split false b e = absurd (cc)
-
-pub stands_above : (m : FileMap) (path : List ℕ) (i : ℕ) → i < length path → stands m path i ≡ true → has_file_above m path ≡ true
-stands_above m path i within e =
-    let both = split (nat_eq (slice_index_or path i 0) 47) (is_some (file_at m (take i path))) e in
-    at (file_at m (take i path)) refl both.1 (grind (arith, both.0))
-  where
-    at : (o : Option Content) → file_at m (take i path) ≡ o → is_some o ≡ true → slice_index_or path i 0 ≡ 47 → has_file_above m path ≡ true
-    at None is h slash = absurd (cc)
-    at (Some f) is h slash = some_above m path i f within slash is
-
-pub none_stands : (m : FileMap) (path : List ℕ) → ((i : ℕ) → i < length path → stands m path i ≡ false) → has_file_above m path ≡ false
-none_stands m path h =
-    none_above m path
-    (λ i within slash. at i (file_at m (take i path)) refl (sym (ap (λ b. b && is_some (file_at m (take i path))) (slash_is (slice_index_or path i 0) slash)) ∙ h i within))
-  where
-    slash_is : (b : ℕ) → b ≡ 47 → nat_eq b 47 ≡ true
-    slash_is b e = grind arith
-
-    at : (i : ℕ) (o : Option Content) → file_at m (take i path) ≡ o → is_some (file_at m (take i path)) ≡ false → file_at m (take i path) ≡ None
-    at i None is e = is
-    at i (Some f) is e = let bad : true ≡ false = sym (ap is_some is) ∙ e in absurd (cc)
 
 -- ---- changes
 

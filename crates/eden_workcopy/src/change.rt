@@ -10,19 +10,6 @@ use eden_ids::{Content, Kind, Naming, NoMemory, Path, Sequence};
 use eden_objects::Store;
 use std::alloc::Global;
 
-/// A file of this kind, that holds these bytes.
-pub(crate) fn content(alloc: Global, kind: Kind, bytes: &[u8]) -> Result<Content, NoMemory>
-    ensures { IfOk result (λ content. content ≡ record { kind = kind; bytes = bytes.now }) }
-{
-    match bytes.to_vec(alloc) {
-        Ok(bytes) => Ok(Content {
-            kind,
-            bytes: Sequence::from_vec(bytes),
-        }),
-        Err(_) => Err(NoMemory),
-    }
-}
-
 impl WorkCopy {
     /// The kind and the bytes of the file at a path.
     ///
@@ -136,7 +123,7 @@ impl WorkCopy {
     {
         match self.file(store, path.as_bytes()) {
             Some((kind, bytes)) => {
-                let content = content(self.overlay.allocator(), kind, bytes)?;
+                let content = Content::from_bytes(self.overlay.allocator(), kind, bytes)?;
                 Ok(Some(content))
             }
             None => Ok(None),

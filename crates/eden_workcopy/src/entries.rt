@@ -2,7 +2,6 @@ ghost use Rattle.std.specs.Prelude.{◌≡◌, ◌++◌, ◌∷◌, [], filter, 
 ghost use Rattle.std.specs.Ordering.{is_lt};
 ghost use Rattle.std.specs.FinMap.{is_sorted, put, find};
 ghost use Rattle.eden_ids.specs.FileMaps.{same_path};
-ghost use Rattle.eden_ids.specs.Paths.{lies_below};
 ghost use Rattle.eden_workcopy.specs.Layers.{by_bytes, place, IsThere, Entry};
 
 use eden_ids::{Content, NoMemory, Path};
@@ -20,45 +19,6 @@ pub(crate) fn place(entries: &[(Path, Option<Content>)], path: &[u8]) -> usize
     ensures { result ≡ place path.now entries.now }
 {
     entries.partition_point(|entry| is_before(entry, path))
-}
-
-/// Whether the entry's path comes before another one with a byte behind it.
-#[tactic(auto, using(crate::proofs::Within::before_short, crate::proofs::Within::before_long))]
-fn is_before_in(entry: &(Path, Option<Content>), path: &[u8], byte: u8) -> bool
-    ensures { result ≡ is_lt (by_bytes entry.now.0 (path.now ++ byte ∷ [])) }
-{
-    let bytes = entry.0.as_bytes();
-    if bytes.len() <= path.len() {
-        return bytes.cmp(path).is_le();
-    }
-    bytes[..path.len()]
-        .cmp(path)
-        .then(bytes[path.len()].cmp(&byte))
-        .is_lt()
-}
-
-/// How many entries have paths before this one with a byte behind it.
-fn place_in(entries: &[(Path, Option<Content>)], path: &[u8], byte: u8) -> usize
-    requires { T (is_sorted by_bytes entries.now) }
-    ensures { result ≡ place (path.now ++ byte ∷ []) entries.now }
-{
-    entries.partition_point(|entry| is_before_in(entry, path, byte))
-}
-
-/// The entries whose paths stand below a path.
-///
-/// In byte order they stand together, from the path with a slash behind it to the path with the next byte behind it.
-#[tactic(auto, using(crate::proofs::Within::in_order, crate::proofs::Placing::place_within, crate::proofs::Within::entries_below))]
-pub(crate) fn below<'a>(
-    entries: &'a [(Path, Option<Content>)],
-    path: &[u8],
-) -> &'a [(Path, Option<Content>)]
-    requires { T (is_sorted by_bytes entries.now) }
-    ensures { result.now ≡ filter (λ e. lies_below e.0 path.now) entries.now }
-{
-    let start = place_in(entries, path, b'/');
-    let end = place_in(entries, path, b'/' + 1);
-    &entries[start..end]
 }
 
 /// Whether the entry at a place is that of a path.

@@ -6,9 +6,8 @@ ghost use Rattle.eden_objects.specs.Objects.{Held};
 ghost use Rattle.eden_history.specs.Renames.{rename_fault, renamed, write_fault};
 ghost use Rattle.eden_workcopy.specs.Meanings.{means, FitsIn};
 
-use crate::change::content;
 use crate::work::WorkCopy;
-use eden_ids::{Kind, Naming, NoMemory, Path};
+use eden_ids::{Content, Kind, Naming, NoMemory, Path};
 use eden_objects::Store;
 
 impl WorkCopy {
@@ -24,7 +23,7 @@ impl WorkCopy {
             → write_fault (means held self.old) path.now bytes.now ≡ None → FitsIn held self.new) }
         ensures same { OnErr result (self.new ≡ self.old) }
     {
-        let content = content(self.overlay.allocator(), kind, bytes)?;
+        let content = Content::from_bytes(self.overlay.allocator(), kind, bytes)?;
         let key = path.copy()?;
         self.overlay.set(key, Some(content))?;
         Ok(())

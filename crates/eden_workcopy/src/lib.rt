@@ -3,8 +3,8 @@
 
 pub use crate::laws::{elsewhere_law, over_law, touched_law};
 pub use crate::work::WorkCopy;
+pub use crate::working::Working;
 
-mod beneath;
 mod change;
 mod dirty;
 mod entries;
@@ -18,3 +18,4 @@ mod revert;
 mod tests;
 mod touch;
 mod work;
+mod working;

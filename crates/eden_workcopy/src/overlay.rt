@@ -79,9 +79,7 @@ impl Overlay {
         ensures ok { OnOk result (self.new ≡ fin.insert (fin.insert self.old from None) to (Some content)) }
         ensures err { OnErr result (self.new ≡ self.old) }
     {
-        let Ok(_) = self.entries.reserve(2) else {
-            return Err(NoMemory);
-        };
+        self.entries.reserve(2)?;
         put(&mut self.entries, from, None)?;
         put(&mut self.entries, to, Some(content))?;
         Ok(())
@@ -91,9 +89,7 @@ impl Overlay {
     pub(crate) fn copy(&self) -> Result<Overlay, NoMemory>
         ensures { IfOk result (λ overlay. overlay ≡ self.now) }
     {
-        match self.entries.clone() {
-            Ok(entries) => Ok(Overlay { entries }),
-            Err(_) => Err(NoMemory),
-        }
+        let entries = self.entries.clone()?;
+        Ok(Overlay { entries })
     }
 }

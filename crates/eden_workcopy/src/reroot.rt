@@ -1,33 +1,19 @@
 ghost use Rattle.std.specs.Prelude.{◌≡◌, ◌≢◌, ℕ, true, List, Some, None, T, map, take, drop, IfOk, IfErr, OnOk};
 ghost use Rattle.std.specs.FinMap as fin;
 ghost use Rattle.std.specs.FinMap.{is_sorted};
-ghost use Rattle.eden_ids.specs.FileMaps.{differ, has, same_file, lent};
+ghost use Rattle.eden_ids.specs.FileMaps.{differ, has};
 ghost use Rattle.eden_objects.specs.Commits.{commit_map};
 ghost use Rattle.eden_objects.specs.Files.{commit_files};
 ghost use Rattle.eden_workcopy.specs.Agreements.{Agrees, AllAgree, IsNearer, StaysLean};
 ghost use Rattle.eden_workcopy.specs.Layers.{Entry, by_bytes, place};
 ghost use Rattle.eden_workcopy.specs.Meanings.{means, touched_set, FitsIn};
 
-use crate::dirty::is_same_kind;
 use crate::entries::place;
 use crate::overlay::Overlay;
 use crate::work::WorkCopy;
-use eden_ids::{Content, Id, Kind, Naming, NoMemory, Path};
+use eden_ids::{Content, Id, Naming, NoMemory, Path, is_same_file};
 use eden_objects::{CommitFault, Store};
 use eden_treediff::diff;
-
-/// Whether two files are one, where that there is none counts as a file.
-fn is_same_seen(file: Option<(Kind, &[u8])>, other: Option<(Kind, &[u8])>) -> bool
-    ensures { result ≡ same_file (lent file.entry) (lent other.entry) }
-{
-    match file {
-        None => other.is_none(),
-        Some(file) => match other {
-            None => false,
-            Some(other) => is_same_kind(file.0, other.0) && file.1 == other.1,
-        },
-    }
-}
 
 impl WorkCopy {
     /// Gives another working copy the file that this one has at a path, unless it has it.
@@ -44,7 +30,7 @@ impl WorkCopy {
         ensures lean { OnOk result (StaysLean store.now (means store.now self.now) next.old next.new) }
     {
         let file = self.file(store, path.as_bytes());
-        if is_same_seen(file, next.file(store, path.as_bytes())) {
+        if is_same_file(file, next.file(store, path.as_bytes())) {
             return Ok(());
         }
         let file = self.file_copy(store, path)?;

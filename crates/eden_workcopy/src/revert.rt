@@ -6,23 +6,15 @@ ghost use Rattle.eden_workcopy.specs.Reverts.{revert_fault};
 
 use crate::work::WorkCopy;
 use eden_history::ChangeFault;
-use eden_ids::{Naming, Path};
+use eden_ids::{Naming, Path, has_file};
 use eden_objects::Store;
 
 impl WorkCopy {
-    /// Whether the root's commit has a file at a path.
-    #[tactic(auto, using(crate::proofs::Works::some_seen))]
-    fn has_root_file<N: Naming + Drop>(&self, store: &Store<N>, path: &Path) -> bool
-        ensures { result ≡ is_some (file_at (commit_files store.now self.now.root) path.now) }
-    {
-        store.file(self.root, path.as_bytes()).is_some()
-    }
-
     /// Why the root's file can't stand at a path.
     fn revert_fault<N: Naming + Drop>(&self, store: &Store<N>, path: &Path) -> Option<ChangeFault>
         ensures { result ≡ revert_fault (means store.now self.now) (commit_files store.now self.now.root) path.now }
     {
-        if self.has_root_file(store, path) {
+        if has_file(&store.commit_files(self.root), path.as_bytes()) {
             self.place_fault(store, path)
         } else {
             None

@@ -12,9 +12,7 @@ fn add(touched: &mut Vec<(Path, bool)>, entry: &(Path, Option<Content>)) -> Resu
     ensures { OnOk result (touched.new.items ≡ touched.old.items ++ ((entry.now.0, is_some entry.now.1) ∷ [])) }
 {
     let path = entry.0.copy()?;
-    let Ok(_) = touched.push((path, entry.1.is_some())) else {
-        return Err(NoMemory);
-    };
+    touched.push((path, entry.1.is_some()))?;
     Ok(())
 }
 

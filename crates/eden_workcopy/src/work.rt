@@ -10,7 +10,7 @@ ghost use Rattle.eden_ids.specs.Sameness.{same_bytes};
 ghost use Rattle.eden_workcopy.specs.Meanings.{means, FitsIn};
 
 use crate::overlay::Overlay;
-use eden_history::ChangeFault;
+use eden_history::{ChangeFault, absent_fault, place_fault, rename_fault, write_fault};
 use eden_ids::{Content, Id, Kind, Naming, NoMemory, Path, Sequence};
 use eden_objects::{NoCommit, Store};
 use std::alloc::Global;
@@ -24,16 +24,6 @@ use std::alloc::Global;
 pub struct WorkCopy {
     pub(crate) root: Id,
     pub(crate) overlay: Overlay,
-}
-
-/// The kind and the bytes of a file.
-fn seen(file: &Option<Content>) -> Option<(Kind, &[u8])>
-    ensures { lent result ≡ file.now }
-{
-    match file {
-        Some(content) => Some((content.kind, content.bytes.as_slice())),
-        None => None,
-    }
 }
 
 impl WorkCopy {
@@ -72,7 +62,6 @@ impl WorkCopy {
     /// The kind and the bytes of the file at a path, if one stands there.
     ///
     /// Unlike `read` it does not tell why none does. It takes no memory.
-    #[tactic(auto, using(crate::proofs::Works::file_told, crate::proofs::Works::file_below))]
     pub fn file<'a, N: Naming + Drop>(
         &'a self,
         store: &'a Store<N>,
@@ -80,38 +69,7 @@ impl WorkCopy {
     ) -> Option<(Kind, &'a [u8])>
         ensures { lent result ≡ file_at (means store.now self.now) path.now }
     {
-        match self.overlay.get(path) {
-            Some(file) => seen(file),
-            None => store.file(self.root, path),
-        }
-    }
-
-    /// Whether a slash stands at a place of the path, and a file at what is before it.
-    fn stands_at<N: Naming + Drop>(&self, store: &Store<N>, path: &[u8], at: usize) -> bool
-        requires { at < length path.now }
-        ensures { result ≡ (nat_eq (slice_index_or path.now at 0) 47 && is_some (file_at (means store.now self.now) (take at path.now))) }
-    {
-        path[at] == b'/' && self.has_file(store, &path[..at])
-    }
-
-    /// Whether a file stands at a proper prefix of the path's components.
-    fn has_file_above<N: Naming + Drop>(&self, store: &Store<N>, path: &[u8]) -> bool
-        ensures { result ≡ has_file_above (means store.now self.now) path.now }
-    {
-        for at in 0..path.len() {
-            if self.stands_at(store, path, at) {
-                return true;
-            }
-        }
-        false
-    }
-
-    /// Whether a file stands at a path.
-    #[tactic(auto, using(crate::proofs::Works::some_seen))]
-    fn has_file<N: Naming + Drop>(&self, store: &Store<N>, path: &[u8]) -> bool
-        ensures { result ≡ is_some (file_at (means store.now self.now) path.now) }
-    {
-        self.file(store, path).is_some()
+        self.over(store).file(path)
     }
 
     /// Why no file can stand at a path: a file stands above it, or files stand below it. It takes no memory.
@@ -122,13 +80,7 @@ impl WorkCopy {
     ) -> Option<ChangeFault>
         ensures { result ≡ place_fault (means store.now self.now) path.now }
     {
-        if self.has_file_above(store, path.as_bytes()) {
-            Some(ChangeFault::NotADirectory)
-        } else if self.has_file_below(store, path) {
-            Some(ChangeFault::IsADirectory)
-        } else {
-            None
-        }
+        place_fault(&self.over(store), path)
     }
 
     /// Why no file at a path can be read, removed or renamed. It takes no memory.
@@ -139,21 +91,7 @@ impl WorkCopy {
     ) -> Option<ChangeFault>
         ensures { result ≡ absent_fault (means store.now self.now) path.now }
     {
-        match self.place_fault(store, path) {
-            Some(fault) => Some(fault),
-            None => self.missing_fault(store, path),
-        }
-    }
-
-    /// That no file stands at a path.
-    fn missing_fault<N: Naming + Drop>(&self, store: &Store<N>, path: &Path) -> Option<ChangeFault>
-        ensures { result ≡ (if is_some (file_at (means store.now self.now) path.now) then None else Some ChangeFault.NoEntry) }
-    {
-        if self.has_file(store, path.as_bytes()) {
-            None
-        } else {
-            Some(ChangeFault::NoEntry)
-        }
+        absent_fault(&self.over(store), path)
     }
 
     /// Why bytes can't be written at a path. It takes no memory.
@@ -165,10 +103,7 @@ impl WorkCopy {
     ) -> Option<ChangeFault>
         ensures { result ≡ write_fault (means store.now self.now) path.now bytes.now }
     {
-        match self.place_fault(store, path) {
-            Some(fault) => Some(fault),
-            None => size_fault(bytes),
-        }
+        write_fault(&self.over(store), path, bytes)
     }
 
     /// Why a file can't be renamed: the old path is judged first, and where the two are one, the new one is not. It takes no memory.
@@ -180,36 +115,6 @@ impl WorkCopy {
     ) -> Option<ChangeFault>
         ensures { result ≡ rename_fault (means store.now self.now) old.now new.now }
     {
-        match self.absent_fault(store, old) {
-            Some(fault) => Some(fault),
-            None => self.target_fault(store, old, new),
-        }
-    }
-
-    /// Why no file can be put at the new path of a rename.
-    fn target_fault<N: Naming + Drop>(
-        &self,
-        store: &Store<N>,
-        old: &Path,
-        new: &Path,
-    ) -> Option<ChangeFault>
-        ensures { result ≡ (if same_bytes old.now new.now then None else place_fault (means store.now self.now) new.now) }
-    {
-        if old == new {
-            None
-        } else {
-            self.place_fault(store, new)
-        }
-    }
-}
-
-/// Why a file can't hold these bytes.
-fn size_fault(bytes: &[u8]) -> Option<ChangeFault>
-    ensures { result ≡ (if nat_lt 8388608 (length bytes.now) then Some ChangeFault.TooLarge else None) }
-{
-    if bytes.len() > Content::LIMIT {
-        Some(ChangeFault::TooLarge)
-    } else {
-        None
+        rename_fault(&self.over(store), old, new)
     }
 }

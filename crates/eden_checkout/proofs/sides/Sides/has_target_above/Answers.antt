@@ -1,5 +1,5 @@
 use Rattle.std.proofs.Common.{arith, sym, ◌∙◌}
-use Rattle.eden_workcopy.proofs.Works.{stands_above, none_stands}
+use Rattle.eden_ids.proofs.TreeQuestions.{stands_above, none_stands}
 use Rattle.eden_objects.specs.Files.{commit_files}
 use Rattle.eden_checkout.proofs.sides.Sides.has_target_above.Goals as goal
 

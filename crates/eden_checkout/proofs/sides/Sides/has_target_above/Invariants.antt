@@ -1,5 +1,5 @@
 use Rattle.std.proofs.Common.{◌≡◌, ◌<◌, ℕ, false}
-use Rattle.eden_workcopy.proofs.Works.{stands}
+use Rattle.eden_ids.proofs.TreeQuestions.{stands}
 use Rattle.eden_objects.specs.Files.{commit_files}
 use Rattle.eden_checkout.proofs.sides.Sides.has_target_above.Given as goal
 

@@ -1,11 +1,10 @@
 use Rattle.std.proofs.Common.{◌≡◌, ◌≤◌, length, take, is_some}
 use Rattle.std.specs.Prelude.{filter}
 use Rattle.eden_ids.specs.FileMaps.{file_at}
-use Rattle.eden_objects.specs.Files.{commit_files}
-use Rattle.eden_workcopy.proofs.work.WorkCopy.count_hidden.Given as goal
+use Rattle.eden_workcopy.proofs.working.count_hidden.Given as goal
 
 abbrev pub invariant-loop-entry : goal.invariant-loop-entry
 invariant-loop-entry g l = record {
-  counted : l.hidden ≡ length (filter (λ e. is_some (file_at (commit_files l.store l.self.root) e.0)) (take l.entry-index l.entries));
+  counted : l.hidden ≡ length (filter (λ e. is_some (file_at (g.T.FileTree.files l.base) e.0)) (take l.entry-index l.entries));
   within : l.hidden ≤ l.entry-index;
 }

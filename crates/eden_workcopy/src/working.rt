@@ -1,0 +1,126 @@
+ghost use Rattle.std.specs.Prelude.{◌≡◌, ◌≤◌, filter, length, is_some};
+ghost use Rattle.std.specs.List.{list_any};
+ghost use Rattle.eden_ids.specs.FileMaps.{file_at, has_file_below, lent};
+ghost use Rattle.eden_workcopy.specs.Layers.{over};
+ghost use Rattle.eden_workcopy.specs.Meanings.{means};
+
+use crate::overlay::Overlay;
+use crate::work::WorkCopy;
+use eden_ids::{Content, FileTree, Kind, Naming, Path, has_file, paths_below};
+use eden_objects::{Commit, Store};
+use std::marker::Model;
+
+/// A working copy over its store: the root's commit, found once, and what was changed over it.
+///
+/// Its value is the file map that it holds there. It borrows both, and takes no memory.
+#[derive(Drop)]
+pub struct Working<'a, N: Naming + Drop> {
+    base: Commit<'a, N>,
+    overlay: &'a Overlay,
+}
+
+impl<'a, N: Naming + Drop> Model for Working<'a, N> {
+    ghost use Rattle.std.specs.Coded.{coded_list, coded_ℕ};
+    ghost use Rattle.std.specs.FinMap as fin;
+    ghost use Rattle.eden_ids.specs.contracts.content.Content as content;
+    ghost use Rattle.eden_ids.specs.FileMaps.{FileMap};
+    ghost use Rattle.eden_workcopy.specs.Layers.{over};
+
+    ghost Value = { FileMap };
+
+    ghost coded = { fin.code (coded_list coded_ℕ) content.the_row.coded };
+
+    ghost view = { λ w. over w.base w.overlay.now };
+}
+
+/// The kind and the bytes of a file.
+pub(crate) fn seen(file: &Option<Content>) -> Option<(Kind, &[u8])>
+    ensures { lent result ≡ file.now }
+{
+    match file {
+        Some(content) => Some((content.kind, content.bytes.as_slice())),
+        None => None,
+    }
+}
+
+/// Whether a file stands at the path of some entry.
+fn has_present(entries: &[(Path, Option<Content>)]) -> bool
+    ensures { result ≡ list_any (λ e. is_some e.1) entries.now }
+{
+    entries.iter().any(|entry| entry.1.is_some())
+}
+
+/// How many files of a tree these entries hide.
+fn count_hidden<T: FileTree>(base: &T, entries: &[(Path, Option<Content>)]) -> usize
+    ensures within { result ≤ length entries.now }
+    ensures count { result ≡ length (filter (λ e. is_some (file_at (T.files base.now) e.0)) entries.now) }
+{
+    let mut hidden = 0;
+    for entry in entries {
+        hidden += usize::from(has_file(base, entry.0.as_bytes()));
+    }
+    hidden
+}
+
+/// The file that is seen at a path where an overlay lies over a commit.
+#[tactic(auto, using(crate::proofs::Works::file_told, crate::proofs::Works::file_below))]
+fn file_over<'a, N: Naming + Drop>(
+    base: &Commit<'a, N>,
+    overlay: &'a Overlay,
+    path: &[u8],
+) -> Option<(Kind, &'a [u8])>
+    ensures { lent result ≡ file_at (over base.now overlay.now) path.now }
+{
+    match overlay.get(path) {
+        Some(file) => seen(file),
+        None => base.file(path),
+    }
+}
+
+/// Whether files are seen below a path where an overlay lies over a commit.
+///
+/// One of the overlay tells it. Else there is one where the commit has more files below the path than the overlay hides. Of the overlay
+/// only the entries below the path are looked at.
+fn has_below_over<N: Naming + Drop>(base: &Commit<'_, N>, overlay: &Overlay, path: &Path) -> bool
+    ensures { result ≡ has_file_below (over base.now overlay.now) path.now }
+{
+    let entries = paths_below(overlay.entries(), path.as_bytes());
+    if has_present(entries) {
+        return true;
+    }
+    let hidden = count_hidden(base, entries);
+    base.has_below(path.as_bytes(), hidden + 1)
+}
+
+impl<'a, N: Naming + Drop> Working<'a, N> {
+    /// The kind and the bytes of the file at a path, if one stands there. It takes no memory.
+    pub fn file(&self, path: &[u8]) -> Option<(Kind, &'a [u8])>
+        ensures { lent result ≡ file_at self.now path.now }
+    {
+        file_over(&self.base, self.overlay, path)
+    }
+}
+
+impl<'a, N: Naming + Drop> FileTree for Working<'a, N> {
+    ghost files = { λ w. w };
+
+    fn file(&self, path: &[u8]) -> Option<(Kind, &[u8])> {
+        Working::file(self, path)
+    }
+
+    fn has_file_below(&self, path: &Path) -> bool {
+        has_below_over(&self.base, self.overlay, path)
+    }
+}
+
+impl WorkCopy {
+    /// The working copy over a store, as a tree of files. It takes no memory.
+    pub fn over<'a, N: Naming + Drop>(&'a self, store: &'a Store<N>) -> Working<'a, N>
+        ensures { result ≡ means store.now self.now }
+    {
+        Working {
+            base: store.commit_files(self.root),
+            overlay: &self.overlay,
+        }
+    }
+}
