@@ -4,6 +4,7 @@
 #![tactic(auto)]
 
 pub use crate::mount::Mount;
+pub use crate::range::Changes;
 pub use crate::root::Checked;
 pub use crate::snapshot::Snapshot;
 pub use eden_history::{ChangeFault, Mode, MountFault, Position};

@@ -117,10 +117,7 @@ impl Pair {
         step: &Step,
         since: &Position,
     ) -> Result<(), Fail> {
-        match (
-            self.mount.range_since(alloc, since),
-            self.world_since(since)?,
-        ) {
+        match (self.mount.range_since(since), self.world_since(since)?) {
             (Ok(range), Ok(expected)) => {
                 let marked = expand(alloc, self.mount.store(), &range)?;
                 step.alike((since, marked.as_slice()), (since, expected.as_slice()))

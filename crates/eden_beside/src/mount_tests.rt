@@ -103,7 +103,7 @@ fn made(alloc: Global, commits: &Commits<2>) -> Answer {
 
 /// Whether what changed since a position is `f` alone, which the root named: no file was changed, and no path is unclean.
 fn names_one(alloc: Global, mount: &Mount<GitNaming>, since: &Position) -> Result<bool, Fail> {
-    let range = mount.range_since(alloc, since)?;
+    let range = mount.range_since(since)?;
     let marked = expand(alloc, mount.store(), &range)?;
     let named = [Marked {
         mark: Mark::Root,

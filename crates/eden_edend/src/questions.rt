@@ -133,7 +133,7 @@ pub(crate) fn tell_since(
         sequence,
         root: Id::ZERO,
     };
-    let range = match mount.range_since(alloc, &asked) {
+    let range = match mount.range_since(&asked) {
         Ok(range) => range,
         Err(fault) => return tell_since_fault(fault, text),
     };

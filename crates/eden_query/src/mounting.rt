@@ -39,7 +39,7 @@ fn ranged<N: Naming + Drop>(
         → told mount.now.held patterns raw ≡ reply_of world (Request.Poll query since.now patterns)) }
     ensures answerable { IfOk result (λ raw. is_answerable (commit_map mount.now.held) raw ≡ true) }
 {
-    match mount.range_since(mount.store().allocator(), since) {
+    match mount.range_since(since) {
         Ok(range) => Ok(Raw::Ranged(query, range)),
         Err(fault) => Ok(Raw::Refused(query, fault.cause()?)),
     }

@@ -1,8 +1,10 @@
 use Rattle.std.proofs.Common.{None, Some, sym, ap, ◌∙◌}
+use Rattle.std.specs.Arc.{arc_value}
 use Rattle.eden_ranges.specs.declared.ranges.Range.{Range}
 use Rattle.eden_ranges.specs.Since.{head_position, log_status}
 use Rattle.eden_accumulate.specs.Mounts.{State}
-use Rattle.eden_accumulate.proofs.Ranging.{ends_now, is_status}
+use Rattle.eden_accumulate.proofs.Changing.{state}
+use Rattle.eden_accumulate.proofs.Ranging.{ends_now, is_status, ranged}
 use Rattle.eden_accumulate.proofs.mount.Mount.range_since.Goals as goal
 
 pub returns-in-Ok-clause-accepts : goal.returns-in-Ok-clause-accepts
@@ -20,3 +22,24 @@ pub returns-in-Err-clause-refuses : goal.returns-in-Err-clause-refuses
 returns-in-Err-clause-refuses g c = λ apart.
     is_status c.args.self.now c.args.position.now (Some c.in-Err.fault)
     (ap (λ (m : State). log_status m.log c.args.position.now) (sym c.self.view_is) ∙ c.in-Err.ensures.refused apart)
+
+pub returns-in-Ok-clause-from : goal.returns-in-Ok-clause-from
+returns-in-Ok-clause-from g c = ap (λ (r : Range). r.from) c.in-Ok.ensures.range
+
+pub returns-in-Ok-clause-changes : goal.returns-in-Ok-clause-changes
+returns-in-Ok-clause-changes g c = λ world h.
+    let m = c.self.inside in
+    ap (λ (r : Range). r.changes) (ranged (state (arc_value m.store) m.work m.journal.log) c.args.self.now c.self.view_is c.args.position.now c.in-Ok.range
+    c.in-Ok.ensures.range c.in-Ok.ensures.refused world h)
+
+pub returns-in-Ok-clause-unclean : goal.returns-in-Ok-clause-unclean
+returns-in-Ok-clause-unclean g c = λ world h.
+    let m = c.self.inside in
+    ap (λ (r : Range). r.unclean) (ranged (state (arc_value m.store) m.work m.journal.log) c.args.self.now c.self.view_is c.args.position.now c.in-Ok.range
+    c.in-Ok.ensures.range c.in-Ok.ensures.refused world h)
+
+pub returns-in-Ok-clause-roots : goal.returns-in-Ok-clause-roots
+returns-in-Ok-clause-roots g c = λ world h.
+    let m = c.self.inside in
+    ap (λ (r : Range). r.roots) (ranged (state (arc_value m.store) m.work m.journal.log) c.args.self.now c.self.view_is c.args.position.now c.in-Ok.range
+    c.in-Ok.ensures.range c.in-Ok.ensures.refused world h)
