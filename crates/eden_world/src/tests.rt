@@ -43,7 +43,7 @@ pub(crate) fn at(generation: u64, sequence: u64, root: Id) -> Answer {
 }
 
 /// A mount of the empty commit, in generation 7.
-fn empty(alloc: Global, limit: u64) -> Result<World<GitNaming>, Fail> {
+pub(crate) fn empty(alloc: Global, limit: u64) -> Result<World<GitNaming>, Fail> {
     let store = Arc::new(alloc, Store::new(alloc, GitNaming))?;
     Ok(World::mount(alloc, store, Id::ZERO, 7, limit)?)
 }
