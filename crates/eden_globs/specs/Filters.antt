@@ -86,17 +86,3 @@ pattern_admits pattern path = path_matches (components pattern) (components path
 abbrev pub admits : List (List ℕ) → List ℕ → Bool
 admits [] path = true
 admits (bytes ∷ patterns) path = list_any (λ pattern. pattern_admits pattern path) (bytes ∷ patterns)
-
--- ---- where paths that are admitted can lie
-
--- the names of a directory match the front of the parts, and a part is left for what lies below it, or some part of the front stands
--- for any number of names
-abbrev pub enters : List (List ℕ) → List (List ℕ) → Bool
-enters [] names = false
-enters (part ∷ parts) [] = true
-enters (part ∷ parts) (name ∷ names) = is_any_names part || (name_matches false part name && enters parts names)
-
--- whether some pattern enters the directory, or there is none
-abbrev pub enters_any : List (List ℕ) → List ℕ → Bool
-enters_any [] path = true
-enters_any (bytes ∷ patterns) path = list_any (λ pattern. enters (components pattern) (components path)) (bytes ∷ patterns)
