@@ -7,7 +7,7 @@
 ghost use Rattle.std.specs.Prelude.{◌≡◌, ◌≢◌, ◌<◌, ◌≤◌, ◌+◌, ◌||◌, ◌&&◌, ◌∷◌, ℕ, List, Bool, Some, None, true, false, [], length, IfSome, nat_le};
 ghost use Rattle.std.specs.List.{slice_index_or};
 ghost use Rattle.eden_ids.specs.Paths.{components};
-ghost use Rattle.eden_globs.specs.Filters.{enters, is_any_names, name_matches, path_matches, pattern_admits};
+ghost use Rattle.eden_globs.specs.Filters.{is_any_names, name_matches, path_matches, pattern_admits};
 ghost use Rattle.eden_globs.specs.internal.Rows.{IsRow, is_wanted, left_of};
 
 use eden_ids::Path;
