@@ -1,16 +1,16 @@
 //! `edend run` runs a script from standard input, and writes what it prints to standard output.
 //!
-//! Status 0: the script was run. 1: a line of it can't be read, which standard error tells. 2: the command line is refused, or
+//! Status 0: the script was run, or `--version` was asked for. 1: a line of it can't be read, which standard error tells. 2: the command line is refused, or
 //! asks for help. 3: reading, writing or memory failed, or the reads were spent; standard error tells which.
 #![tactic(auto)]
 
 use clap::Command;
+use clap::error::ErrorKind;
 use eden_edend::{RunFault, run};
 use eden_stream::Counted;
 use std::alloc::{AllocError, Global};
-use std::env;
-use std::io::ErrorKind;
 use std::process::ExitCode;
+use std::{env, io};
 
 /// Runs the script on standard input, and gives the status that the program ends with.
 fn run_script(rt: &HostRuntime) -> u8 {
@@ -31,10 +31,14 @@ fn run_script(rt: &HostRuntime) -> u8 {
     3
 }
 
-/// Reads the command line. Help is an error here too: it runs nothing.
+/// The version that `--version` tells.
+const VERSION: &str = "0.1.0";
+
+/// Reads the command line. Help and the version are errors here too: they run nothing.
 fn read_words(alloc: Global, words: &[String]) -> Result<(), clap::Error> {
     let run = Command::new(alloc, "run").about("Runs a script from standard input");
     let command = Command::new(alloc, "edend")
+        .version(VERSION)
         .about("A mount whose changes are journaled, driven by a script")
         .subcommand_required(true)
         .subcommand(run)?;
@@ -45,7 +49,7 @@ fn read_words(alloc: Global, words: &[String]) -> Result<(), clap::Error> {
 fn main(rt: HostRuntime) -> ExitCode {
     let words: Result<Vec<String>, _> = match env::args(&rt) {
         Ok(words) => words.collect(rt.alloc()),
-        Err(error) if error.kind() == ErrorKind::InvalidData => {
+        Err(error) if error.kind() == io::ErrorKind::InvalidData => {
             let _ = eprintln!(rt; "error: a word of the command line is not UTF-8");
             return ExitCode::from(2);
         }
@@ -57,6 +61,10 @@ fn main(rt: HostRuntime) -> ExitCode {
     };
     match read_words(rt.alloc(), words.as_slice()) {
         Ok(()) => ExitCode::from(run_script(&rt)),
+        Err(error) if error.kind() == ErrorKind::DisplayVersion => {
+            let _ = print!(rt; "{error}");
+            ExitCode::SUCCESS
+        }
         Err(error) => {
             let _ = eprint!(rt; "{error}");
             ExitCode::from(2)
