@@ -1,14 +1,21 @@
 -- What a question to the mount prints.
-use Rattle.std.proofs.Common.{◌≡◌, ℕ, List, ◌++◌, Option, Some, None, codes, ap, ◌∙◌}
+use Rattle.std.proofs.Common.{◌≡◌, ℕ, List, ◌++◌, Option, Some, None, codes, sym, ap, subst, ◌∙◌}
+use Rattle.std.specs.Prelude.{IsSome}
+use Rattle.eden_ids.specs.declared.id.Id.{Id}
 use Rattle.eden_ids.specs.declared.content.Content.{Content}
 use Rattle.eden_ids.specs.FileMaps.{FileMap, differ, file_at, listing}
 use Rattle.eden_objects.specs.Objects.{Held}
+use Rattle.eden_objects.specs.Commits.{commit_map}
 use Rattle.eden_objects.specs.Files.{commit_files}
 use Rattle.eden_workcopy.specs.declared.work.WorkCopy.{WorkCopy}
+use Rattle.eden_workcopy.specs.Listings.{admitted}
 use Rattle.eden_workcopy.specs.Meanings.{means}
 use Rattle.eden_history.specs.declared.change.ChangeFault.{ChangeFault}
-use Rattle.eden_history.specs.Worlds.{WorldState}
+use Rattle.eden_history.specs.declared.position.Position.{Position}
+use Rattle.eden_history.specs.Worlds.{WorldState, now, position_of}
+use Rattle.eden_accumulate.specs.declared.snapshot.Snapshot.{Snapshot}
 use Rattle.eden_accumulate.specs.Mounts.{State, StandsFor}
+use Rattle.eden_accumulate.specs.Snapshots.{shown_to}
 use Rattle.eden_script.specs.ScriptText.{change_fault_text, content_at, content_text, dirty_told, file_text, paths_text, refused_text}
 use Rattle.eden_edend.specs.Told.{MountTells}
 
@@ -19,6 +26,23 @@ file_told files path content absent e there = ap (content_at files path) e ∙ a
 pub fault_told : (files : FileMap) (path : List ℕ) (fault : ChangeFault) (absent : Option ChangeFault) → absent ≡ Some fault
     → content_at files path absent ≡ refused_text (change_fault_text fault)
 fault_told files path fault absent e = ap (content_at files path) e
+
+-- a mount's root is a commit of its objects, so that a snapshot of it can be listed over them
+pub root_there : (mount : State) (snapshot : Snapshot) (held : List Held)
+    → ((world : WorldState) → StandsFor mount world → snapshot.position ≡ position_of (now world))
+    → (world : WorldState) × StandsFor mount world → held ≡ mount.held → IsSome (commit_map held snapshot.position.root)
+root_there mount snapshot held place some same =
+    let root : snapshot.position.root ≡ mount.work.root = ap (λ (p : Position). p.root) (place some.0 some.1) ∙ sym some.1.root in
+    subst (λ (h : List Held). IsSome (commit_map h snapshot.position.root)) (sym same)
+    (subst (λ (r : Id). IsSome (commit_map mount.held r)) (sym root) some.1.fits.0)
+
+-- what a snapshot of a mount shows over the mount's objects is what the world's files are
+pub snapshot_lists : (mount : State) (snapshot : Snapshot) (held : List Held) (patterns listed : List (List ℕ))
+    → ((world : WorldState) → StandsFor mount world → (ps : List (List ℕ)) → shown_to ps mount.held snapshot ≡ admitted ps (now world).files)
+    → held ≡ mount.held → listed ≡ shown_to patterns held snapshot
+    → (world : WorldState) → StandsFor mount world → listed ≡ admitted patterns (now world).files
+snapshot_lists mount snapshot held patterns listed files same shown world h =
+    shown ∙ ap (λ (store : List Held). shown_to patterns store snapshot) same ∙ files world h patterns
 
 pub dirty_tells : (mount : State) (world : WorldState) (held : List Held) (work : WorkCopy) (paths : List (List ℕ)) (name old new : List ℕ) → StandsFor mount world
     → held ≡ mount.held → work ≡ mount.work → paths ≡ listing (differ (means held work) (commit_files held work.root)) → name ≡ codes "dirty "

@@ -4,7 +4,7 @@ use crate::object_tests::prints;
 use std::test::Fail;
 
 /// A name, a script and what it prints; a semicolon ends a line.
-const SCRIPTS: [(&str, &str, &str); 13] = [
+const SCRIPTS: [(&str, &str, &str); 14] = [
     (
         "exec_bit_is_root",
         "blob b x;tree t 100644 f b;commit c t;tree u 100755 f b;commit d u;mount c 7 1000;checkout d normal;since 7 1",
@@ -69,6 +69,11 @@ const SCRIPTS: [(&str, &str, &str); 13] = [
         "questions_and_their_refusals",
         "position;list;dirty;mount empty 7 1000;position;list;list a;list [a];read ..;rename .. \\e;reset z;checkout z dry;dirty;write b link t;read b;list",
         "refused NotMounted;refused NotMounted;refused NotMounted;at 7 1 empty;at 7 1 empty;files 0;files 0;refused BadPattern 0;refused BadComponent;refused BadComponent;refused NoLabel;refused NoLabel;dirty 0;at 7 2 empty;link t;files 1;b",
+    ),
+    (
+        "patterns",
+        "mount empty 7 1000;write dir/a plain 1;write dir/sub/b plain 1;write x plain 1;write [a plain 1;list dir/**;list *;list **/b;list dir/? x;list \\\\[a;list [a];list x [a];list dir//a;list x \\e",
+        "at 7 1 empty;at 7 2 empty;at 7 3 empty;at 7 4 empty;at 7 5 empty;files 2;dir/a;dir/sub/b;files 2;[a;x;files 1;dir/sub/b;files 2;dir/a;x;files 1;[a;refused BadPattern 0;refused BadPattern 1;refused BadPattern 0;refused BadPattern 1",
     ),
 ];
 

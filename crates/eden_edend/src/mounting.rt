@@ -1,7 +1,6 @@
 //! What the line that mounts makes of a session.
 
-ghost use Rattle.std.specs.Prelude.{◌≡◌, List, None, OnOk, IfOk, Option, is_some, true};
-ghost use Rattle.eden_objects.specs.Objects.{Held};
+ghost use Rattle.std.specs.Prelude.{◌≡◌, None, OnOk, IfOk, IsSome};
 ghost use Rattle.eden_objects.specs.Commits.{commit_map};
 ghost use Rattle.eden_objects.specs.Files.{commit_files};
 ghost use Rattle.eden_history.specs.Worlds.{WorldState, opened};
@@ -19,7 +18,6 @@ use std::alloc::{AllocError, Global};
 use std::sync::Arc;
 
 /// Mounts a commit of the store.
-#[tactic(auto, using(eden_history::proofs::Committed::commit_mapped))]
 fn mount_commit(
     alloc: Global,
     store: Store<GitNaming>,
@@ -27,17 +25,19 @@ fn mount_commit(
     generation: u64,
     limit: u64,
 ) -> Result<Mount<GitNaming>, AllocError>
+    requires { IsSome (commit_map store root) }
     ensures { IfOk result (λ mount. StandsFor mount (opened store generation limit root (commit_files store root))) }
 {
     let store = Arc::new(alloc, store)?;
-    // The commit is looked for before, so that only memory can be wanting.
-    let Ok(mount) = Mount::mount(alloc, store, root, generation, limit) else {
-        return Err(AllocError);
-    };
-    Ok(mount)
+    match Mount::mount(alloc, store, root, generation, limit) {
+        Ok(mount) => Ok(mount),
+        // The commit is there.
+        Err(_) => unreachable!(),
+    }
 }
 
 /// Mounts the commit that the label is bound to. The mount takes the store.
+#[tactic(auto, using(eden_history::proofs::Committed::commit_mapped))]
 pub(crate) fn tell_mount(
     alloc: Global,
     mount: &mut Option<Mount<GitNaming>>,

@@ -20,7 +20,6 @@ use eden_globs::{Filter, FilterFault};
 use eden_history::SinceFault;
 use eden_ids::{GitNaming, Id, Path, PathFault};
 use eden_objects::CommitFault;
-use eden_ranges::expand;
 use eden_script::Word;
 use std::alloc::{AllocError, Global};
 
@@ -46,12 +45,27 @@ fn bytes_of(alloc: Global, words: &[Word]) -> Result<Vec<&[u8]>, AllocError>
     Ok(bytes)
 }
 
+/// The paths of the files that the filter admits.
+#[tactic(auto, using(crate::proofs::Asking::root_there, crate::proofs::Asking::snapshot_lists))]
+fn listed(mount: &Mount<GitNaming>, wanted: &Filter) -> Result<Vec<Path>, AllocError>
+    ensures { IfOk result (λ listed. (world : WorldState) → StandsFor mount.now world → listed.items ≡ filter (globs.admits wanted.now) (paths (now world).files)) }
+{
+    mount.stands_law();
+    let Ok(snapshot) = mount.snapshot() else {
+        return Err(AllocError);
+    };
+    match snapshot.files(mount.store(), wanted) {
+        Ok(paths) => Ok(paths),
+        // A mount's root is a commit of its objects.
+        Err(CommitFault::NoCommit) => unreachable!(),
+        Err(CommitFault::NoMemory) => Err(AllocError),
+    }
+}
+
 fn list(mount: &Mount<GitNaming>, wanted: &Filter, text: &mut Vec<u8>) -> Result<(), AllocError>
     ensures { (world : WorldState) → StandsFor mount.now world → OnOk result (text.new.items ≡ text.old.items ++ script.paths_text (codes "files ") (filter (globs.admits wanted.now) (paths (now world).files))) }
 {
-    let Ok(paths) = mount.work().list(mount.store(), wanted) else {
-        return Err(AllocError);
-    };
+    let paths = listed(mount, wanted)?;
     push_listed(text, b"files ".as_slice(), paths.as_slice())
 }
 
@@ -119,7 +133,6 @@ fn tell_since_fault(fault: SinceFault, text: &mut Vec<u8>) -> Result<(), AllocEr
 
 /// Tells what changed since a position.
 pub(crate) fn tell_since(
-    alloc: Global,
     mount: &Mount<GitNaming>,
     labels: &Labels,
     generation: u64,
@@ -133,15 +146,8 @@ pub(crate) fn tell_since(
         sequence,
         root: Id::ZERO,
     };
-    let range = match mount.range_since(&asked) {
-        Ok(range) => range,
-        Err(fault) => return tell_since_fault(fault, text),
-    };
-    let marked = match expand(alloc, mount.store(), &range) {
-        Ok(marked) => marked,
-        // What a mount gives can be expanded over its objects.
-        Err(CommitFault::NoCommit) => unreachable!(),
-        Err(CommitFault::NoMemory) => return Err(AllocError),
-    };
-    push_changes(text, labels, marked.as_slice(), &range.to)
+    match mount.changes_since(&asked) {
+        Ok(changes) => push_changes(text, labels, changes.marked.as_slice(), &changes.to),
+        Err(fault) => tell_since_fault(fault, text),
+    }
 }

@@ -121,7 +121,7 @@ fn tell_mounted(
         Command::Since {
             generation,
             sequence,
-        } => tell_since(alloc, mount, labels, generation, sequence, text),
+        } => tell_since(mount, labels, generation, sequence, text),
     }
 }
 

@@ -286,6 +286,28 @@ fn path_refusals(rt: HostRuntime) -> Result<(), Fail> {
     Ok(())
 }
 
+#[test]
+fn pattern_refusals(rt: HostRuntime) -> Result<(), Fail> {
+    let alloc = rt.alloc();
+    for (patterns, length, text) in [
+        (32, 1, "files 0\n"),
+        (33, 1, "refused TooMany\n"),
+        (1, 256, "files 0\n"),
+        (1, 257, "refused PatternTooLong\n"),
+        (33, 257, "refused TooMany\n"),
+    ] {
+        let mut script = b"mount empty 7 1\nlist".to_vec(alloc)?;
+        for _ in 0..patterns {
+            script.push(b' ')?;
+            push_path(&mut script, length, length)?;
+        }
+        let (printed, ended) = told(alloc, script.as_slice());
+        assert_eq!(rt; ended, Ok(2));
+        assert!(rt; printed.as_slice() == format!(in alloc; "at 7 1 empty\n{text}")?.as_bytes());
+    }
+    Ok(())
+}
+
 /// A line of this many bytes that writes a file.
 fn long_write(alloc: Global, length: usize) -> Result<Vec<u8>, Fail> {
     let mut line = b"write a plain ".to_vec(alloc)?;

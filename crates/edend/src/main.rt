@@ -1,7 +1,9 @@
 //! `edend run` runs a script from standard input, and writes what it prints to standard output.
 //!
-//! Status 0: the script was run, or `--version` was asked for. 1: a line of it can't be read, which standard error tells. 2: the command line is refused, or
-//! asks for help. 3: reading, writing or memory failed, or the reads were spent; standard error tells which.
+//! `edend --version` writes its name and version there.
+//!
+//! Status 0: the script was run, or the version was asked for. 1: a line of the script can't be read, which standard error tells. 2: the
+//! command line is refused, or asks for help. 3: reading, writing or memory failed, or the reads were spent; standard error tells which.
 #![tactic(auto)]
 
 use clap::Command;
