@@ -49,7 +49,7 @@ fn ranged<N: Naming + Drop>(
 fn content_at<N: Naming + Drop>(mount: &Mount<N>, path: &Path) -> Result<Option<Content>, NoMemory>
     ensures { IfOk result (λ content. content ≡ file_at (files_of mount.now) path.now) }
 {
-    match mount.work().file(mount.store(), path) {
+    match mount.work().file(mount.store(), path.as_bytes()) {
         Some((kind, bytes)) => Ok(Some(Content {
             kind,
             bytes: Sequence::from_vec(bytes.to_vec(mount.store().allocator())?),
