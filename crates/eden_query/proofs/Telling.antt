@@ -1,5 +1,5 @@
 -- What a mount tells of its past is what the worlds reply for which it stands.
-use Rattle.std.proofs.Common.{◌≡◌, ℕ, true, List, Option, Some, None, is_some, refl, sym, ap, subst, ◌∙◌}
+use Rattle.std.proofs.Common.{◌≡◌, ℕ, true, List, Option, Some, None, refl, sym, ap, subst, ◌∙◌}
 use Rattle.std.specs.Prelude.{IsSome}
 use Rattle.eden_ids.specs.declared.id.Id.{Id}
 use Rattle.eden_objects.specs.Commits.{commit_map}
@@ -49,10 +49,6 @@ held_tells mount query patterns position path content place same world h =
     let value : content ≡ file_at (now world).files path = same ∙ ap (λ f. file_at f path) h.files in
     λ i. bounded query (ContentIs query (place world h i) path (value i))
 
-some_is : {A : Type 0} (found : Option A) → IsSome found → is_some found ≡ true
-some_is None is = absurd is
-some_is (Some x) is = refl
-
 -- a mount's root is a commit of its objects, so what it holds for a basis can be listed over them
 pub based_answerable : (mount : State) (query : Query) (snapshot : Snapshot)
     → ((world : WorldState) → StandsFor mount world → snapshot.position ≡ position_of (now world))
@@ -60,4 +56,4 @@ pub based_answerable : (mount : State) (query : Query) (snapshot : Snapshot)
     → is_answerable (commit_map mount.held) (raw.Based query snapshot) ≡ true
 based_answerable mount query snapshot place some =
     let root : snapshot.position.root ≡ mount.work.root = ap (λ (p : Position). p.root) (place some.0 some.1) ∙ sym some.1.root in
-    some_is (commit_map mount.held snapshot.position.root) (subst (λ (r : Id). IsSome (commit_map mount.held r)) (sym root) some.1.fits.0)
+    subst (λ (r : Id). IsSome (commit_map mount.held r)) (sym root) some.1.fits.0
