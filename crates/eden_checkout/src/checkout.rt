@@ -9,11 +9,11 @@ ghost use Rattle.eden_checkout.specs.Plans.{root_files};
 use crate::conflict::add_if;
 use crate::sides::Sides;
 use crate::table::united;
+use eden_history::Mode;
 use eden_ids::{Id, Naming, NoMemory, Path, Sequence};
 use eden_objects::{CommitFault, Store};
 use eden_treediff::diff;
 use eden_workcopy::WorkCopy;
-use eden_history::Mode;
 use std::alloc::Global;
 
 /// What a checkout would make of a working copy, and which paths it concerns.
@@ -52,7 +52,12 @@ impl<'a, N: Naming + Drop> Sides<'a, N> {
     fn differing(&self) -> Result<Vec<Path>, NoMemory>
         ensures { IfOk result (λ paths. paths.items ≡ listing (differ (root_files self.now.store.now self.now.work.now) (commit_files self.now.store.now self.now.commit))) }
     {
-        match diff(self.store.allocator(), self.store, self.work.root(), self.commit) {
+        match diff(
+            self.store.allocator(),
+            self.store,
+            self.work.root(),
+            self.commit,
+        ) {
             Ok(paths) => Ok(paths),
             Err(_) => Err(NoMemory),
         }

@@ -8,10 +8,10 @@ ghost use Rattle.eden_checkout.specs.Plans.{root_files};
 
 use crate::compare::is_same;
 use crate::sides::Sides;
+use eden_history::Mode;
 use eden_ids::{Content, Kind, Naming, NoMemory, Path, Sequence};
 use eden_objects::Store;
 use eden_workcopy::WorkCopy;
-use eden_history::Mode;
 use std::alloc::Global;
 
 /// A file in memory of its own.

@@ -1,10 +1,10 @@
 ghost use Rattle.eden_workcopy.specs.Meanings.{FitsIn};
 
 use crate::{Planned, plan};
+use eden_history::Mode;
 use eden_ids::{GitNaming, Id, Kind, Path};
 use eden_objects::{CommitFault, Store};
 use eden_workcopy::WorkCopy;
-use eden_history::Mode;
 use std::alloc::Global;
 use std::test::Fail;
 

@@ -21,12 +21,7 @@ fn basis(alloc: Global, patterns: &[&[u8]]) -> Result<Request, Fail> {
 }
 
 /// The reply that tells that a plain file with this text stands at a path, or that none does.
-fn content(
-    alloc: Global,
-    position: Position,
-    at: &str,
-    text: Option<&str>,
-) -> Result<Reply, Fail> {
+fn content(alloc: Global, position: Position, at: &str, text: Option<&str>) -> Result<Reply, Fail> {
     let content = match text {
         Some(text) => Some(Content::from_bytes(alloc, Kind::Plain, text.as_bytes())?),
         None => None,
