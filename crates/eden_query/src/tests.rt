@@ -170,7 +170,7 @@ fn replies(alloc: Global) -> Result<Vec<(Reply, Vec<u8>)>, Fail> {
 
 /// The frame of a short body.
 fn framed(alloc: Global, body: &[u8]) -> Result<Vec<u8>, Fail> {
-    joined(alloc, &[&[0, 0, 0, body.len() as u8], body])
+    joined(alloc, &[&[0, 0, 0, (body.len() % 256) as u8], body])
 }
 
 #[test]
