@@ -12,3 +12,4 @@ pub mod Marks
 pub mod Recorded
 pub mod Touches
 pub mod Replies
+pub mod Mirrors
