@@ -24,7 +24,8 @@ use Rattle.eden_history.specs.declared.message.Cause.{Cause}
 use Rattle.eden_history.specs.declared.message.Cause.TheVariants as causes
 use Rattle.eden_history.specs.declared.message.Reply.{Reply}
 use Rattle.eden_history.specs.declared.message.Reply.TheVariants.{BasisIs, ChangesAre, ContentIs, Refused}
-use Rattle.eden_history.specs.Spells.{query_bytes, IsQuery, position_bytes, IsPosition, text_bytes, IsPathText, filter_bytes, mark_byte, IsListing, paths_bytes, marked_bytes, list_bytes, paths_of, kind_byte, content_bytes, IsContentText, IsValue, cause_bytes, IsCause, request_bytes, IsRequest, reply_bytes, IsReply, frame, body_limit}
+use Rattle.eden_history.specs.Spells.{query_bytes, IsQuery, position_bytes, IsPosition, text_bytes, IsPathText, filter_bytes, mark_byte, IsListing, paths_bytes, marked_bytes, list_bytes, paths_of, kind_byte, content_bytes, IsContentText, IsValue, cause_bytes, IsCause, request_bytes, IsRequest, reply_bytes, IsReply}
+use Rattle.eden_stream.specs.Frames.{frame, body_limit}
 
 -- ---- fronts of one length
 
@@ -421,6 +422,7 @@ request_is_no_reply x y e =
 -- ---- frames
 
 pub same_frame : (a b x y : List ℕ) → length a ≤ body_limit → length b ≤ body_limit → frame a ++ x ≡ frame b ++ y → (a ≡ b) × (x ≡ y)
+unfolding frame
 same_frame a b x y few also e =
     let s = same32 (length a) (length b) (a ++ x) (b ++ y) (omega (arith, few)) (omega (arith, also))
     (sym (append_assoc (to_be_bytes w32 (length a)) a x) ∙ e ∙ append_assoc (to_be_bytes w32 (length b)) b y) in

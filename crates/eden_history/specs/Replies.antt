@@ -15,7 +15,8 @@ use Rattle.eden_history.specs.declared.message.Request.TheVariants.{Basis, Poll,
 use Rattle.eden_history.specs.Worlds.{WorldState, now, position_of}
 use Rattle.eden_history.specs.Status.{status_of}
 use Rattle.eden_history.specs.Marks.{marked_since}
-use Rattle.eden_history.specs.Spells.{reply_bytes, body_limit}
+use Rattle.eden_stream.specs.Frames.{body_limit}
+use Rattle.eden_history.specs.Spells.{reply_bytes}
 
 -- the cause with its number; no status is a want of memory
 abbrev pub cause_of : SinceFault → Cause

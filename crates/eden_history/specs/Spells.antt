@@ -1,5 +1,5 @@
 -- Which bytes spell which message. All numbers are unsigned and big-endian. A body is the version 1, a tag, the query and what the
--- tag calls for; a frame is the length of a body, and the body.
+-- tag calls for; it stands in a frame (`Rattle.eden_stream.specs.Frames`).
 use Rattle.std.specs.Prelude.{◌≡◌, ℕ, ◌<◌, ◌≤◌, ◌^◌, List, [], ◌∷◌, ◌++◌, length, map, nat_lt, if◌then◌else◌, Option, Some, None}
 use Rattle.std.specs.Int.{w16, w32, w64, to_be_bytes}
 use Rattle.std.specs.List.{flat_map, AllByRecursion}
@@ -11,6 +11,7 @@ use Rattle.eden_ids.specs.declared.content.Kind.{Kind}
 use Rattle.eden_ids.specs.declared.content.Kind.TheVariants.{Plain, Exec, Link}
 use Rattle.eden_ids.specs.Paths.{IsPath}
 use Rattle.eden_globs.specs.Filters.{IsFilter}
+use Rattle.eden_stream.specs.Frames.{body_limit}
 use Rattle.eden_history.specs.declared.mark.Mark.{Mark}
 use Rattle.eden_history.specs.declared.mark.Mark.TheVariants.{Created, Removed, Changed, Root}
 use Rattle.eden_history.specs.declared.mark.Marked.{Marked}
@@ -157,10 +158,6 @@ IsReply (ChangesAre query target marked) = IsQuery query × IsPosition target ×
 IsReply (ContentIs query position path content) = IsQuery query × IsPosition position × IsPathText path × IsValue content
 IsReply (Refused query cause) = IsQuery query × IsCause cause
 
--- the most bytes of a body: 16 MiB
-abbrev pub body_limit : ℕ
-body_limit = 16777216
-
 -- a number of bytes, if a body may have so many
 abbrev pub if_small : ℕ → Option ℕ
 if_small count = if nat_lt body_limit count then None else Some count
@@ -176,7 +173,3 @@ pub record SpellsReply (body : List ℕ) (reply : Reply) : Type 0 where
   pub fields : IsReply reply
   pub bytes : body ≡ reply_bytes reply
   pub limit : length body ≤ body_limit
-
--- four bytes of length, and the body
-abbrev pub frame : List ℕ → List ℕ
-frame body = to_be_bytes w32 (length body) ++ body

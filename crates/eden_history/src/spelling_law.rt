@@ -1,7 +1,8 @@
 ghost use Rattle.std.specs.Prelude.{◌≡◌, ◌≤◌, ◌++◌, ℕ, List, [], length};
 ghost use Rattle.eden_history.specs.declared.message.Request.{Request};
 ghost use Rattle.eden_history.specs.declared.message.Reply.{Reply};
-ghost use Rattle.eden_history.specs.Spells.{SpellsRequest, SpellsReply, frame, body_limit};
+ghost use Rattle.eden_stream.specs.Frames.{frame, body_limit};
+ghost use Rattle.eden_history.specs.Spells.{SpellsRequest, SpellsReply};
 
 /// A message has at most one spelling.
 pub fn one_spelling_law()

@@ -8,7 +8,8 @@ use Rattle.eden_history.specs.declared.message.Query.{Query}
 use Rattle.eden_history.specs.declared.message.Reply.{Reply}
 use Rattle.eden_history.specs.declared.message.Reply.TheVariants.{Refused}
 use Rattle.eden_history.specs.Replies.{bounded}
-use Rattle.eden_history.specs.Spells.{reply_bytes, body_limit}
+use Rattle.eden_history.specs.Spells.{reply_bytes}
+use Rattle.eden_stream.specs.Frames.{body_limit}
 
 refusal-length : (query : Query) (cause : Cause) → length (reply_bytes (Refused query cause)) ≡ 35
 refusal-length query (Stale generation) = refl
