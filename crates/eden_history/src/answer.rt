@@ -26,10 +26,7 @@ impl Answer {
     pub fn copy(&self) -> Result<Answer, NoMemory>
         ensures { IfOk result (λ answer. answer ≡ self.now) }
     {
-        match self.clone() {
-            Ok(answer) => Ok(answer),
-            Err(_) => Err(NoMemory),
-        }
+        Ok(self.clone()?)
     }
 }
 

@@ -65,10 +65,7 @@ impl Change {
     pub fn copy(&self) -> Result<Change, NoMemory>
         ensures { IfOk result (λ change. change ≡ self.now) }
     {
-        match self.clone() {
-            Ok(change) => Ok(change),
-            Err(_) => Err(NoMemory),
-        }
+        Ok(self.clone()?)
     }
 }
 

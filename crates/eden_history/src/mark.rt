@@ -29,9 +29,6 @@ impl Marked {
     pub fn copy(&self) -> Result<Marked, NoMemory>
         ensures { IfOk result (λ marked. marked ≡ self.now) }
     {
-        match self.clone() {
-            Ok(marked) => Ok(marked),
-            Err(_) => Err(NoMemory),
-        }
+        Ok(self.clone()?)
     }
 }

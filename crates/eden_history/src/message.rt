@@ -49,10 +49,7 @@ impl Request {
     pub fn copy(&self) -> Result<Request, NoMemory>
         ensures { IfOk result (λ request. request ≡ self.now) }
     {
-        match self.clone() {
-            Ok(request) => Ok(request),
-            Err(_) => Err(NoMemory),
-        }
+        Ok(self.clone()?)
     }
 }
 

@@ -34,13 +34,10 @@ pub fn admitted(
     ensures { IfOk result (λ list. list ≡ admitted filter.now marked) }
 {
     let items = marked.into_vec().into_iter();
-    match items
+    let wanted = items
         .filter(|marked| filter.admits(&marked.path))
-        .collect(alloc)
-    {
-        Ok(items) => Ok(Sequence::from_vec(items)),
-        Err(_) => Err(NoMemory),
-    }
+        .collect(alloc)?;
+    Ok(Sequence::from_vec(wanted))
 }
 
 impl Reply {

@@ -78,10 +78,7 @@ impl Touches {
         ensures ok { OnOk result (self.new ≡ fin.insert self.old path touch) }
         ensures err { OnErr result (self.new ≡ self.old) }
     {
-        match self.paths.insert(path, touch) {
-            Ok(_) => {}
-            Err(_) => return Err(NoMemory),
-        }
+        self.paths.insert(path, touch)?;
         Ok(())
     }
 
@@ -123,10 +120,7 @@ impl Touches {
         for path in paths {
             let mark = self.mark(path);
             let path = path.copy()?;
-            match list.push(Marked { mark, path }) {
-                Ok(()) => {}
-                Err(_) => return Err(NoMemory),
-            }
+            list.push(Marked { mark, path })?;
         }
         Ok(Sequence::from_vec(list))
     }
@@ -143,10 +137,7 @@ impl Touches {
                 before: touch.before,
                 after: touch.after,
             };
-            match list.push(touch) {
-                Ok(()) => {}
-                Err(_) => return Err(NoMemory),
-            }
+            list.push(touch)?;
         }
         Ok(Sequence::from_vec(list))
     }

@@ -13,7 +13,7 @@ loop-path-init c =
 
 pub loop-path-preserved : goal.loop-path-preserved
 loop-path-preserved c =
-    rw c.in-Ok.ensures.items (
+    rw c.in_ok-push.ensures.items (
     append_assoc c.loop-path.list.items _ _
     ∙ ap (λ rest. c.loop-path.list.items ++ rest) (
     (λ i. record { path = c.in_ok-path.ensures i; before = c.in-Some.touch.now.before; after = c.in-Some.touch.now.after } ∷ map listed_touch c.next.new.self)

@@ -5,5 +5,5 @@ use Rattle.eden_history.proofs.touches.Touches.put.Goals as goal
 
 pub returns-clause-ok : goal.returns-clause-ok
 returns-clause-ok c =
-    map_of-insert c.self.inside.paths c.insert.new.self c.args.path c.args.touch c.in-Ok.ensures.updates
+    map_of-insert c.self.inside.paths c.insert.new.self c.args.path c.args.touch c.in_ok-insert.ensures.updates
     ∙ ap (λ touches. fin.insert touches c.args.path c.args.touch) c.self.view_is
