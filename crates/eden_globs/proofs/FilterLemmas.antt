@@ -1,12 +1,12 @@
 -- What a filter's patterns are, and what a filter admits.
-use Rattle.std.proofs.Common.{◌≡◌, ℕ, suc, zero, ◌+◌, ◌<◌, ◌≤◌, ◌==◌, Bool, true, false, cond, not, ◌&&◌, ◌||◌, nat_lt, List, [], ◌∷◌, drop, length, Option, Some, None, refl, sym, ap, ◌∙◌, arith}
+use Rattle.std.proofs.Common.{◌≡◌, ℕ, ◌+◌, ◌<◌, ◌≤◌, ◌==◌, Bool, true, false, cond, not, ◌&&◌, ◌||◌, nat_lt, List, [], ◌∷◌, drop, length, Option, Some, None, refl, sym, ap, ◌∙◌, arith}
 use Rattle.std.proofs.lemmas.Bool.{eqb-true, ltb-false}
 use Rattle.std.specs.List.{AllByRecursion, list_any, slice_index_or}
 use Rattle.std.specs.Option.{option_or}
 use Rattle.eden_globs.proofs.Rows.{dropped}
 use Rattle.eden_globs.specs.declared.filter.FilterFault.{FilterFault}
 use Rattle.eden_globs.specs.declared.filter.FilterFault.TheVariants.{TooMany, PatternTooLong, BadPattern}
-use Rattle.eden_globs.specs.Filters.{IsFilter, admits, is_spelled, pattern_admits, pattern_fault, patterns_fault}
+use Rattle.eden_globs.specs.Filters.{IsFilter, admits, enters, is_spelled, pattern_admits, pattern_enters, pattern_fault, patterns_fault}
 
 none_guarded : (b : Bool) (fault : FilterFault) (rest : Option FilterFault) → cond b (Some fault) rest ≡ None → (b ≡ false) × (rest ≡ None)
 none_guarded true fault rest e = absurd (cc)
@@ -74,3 +74,10 @@ admits_none patterns path e = ap (λ ps. admits ps path) e
 pub admits_some : (patterns : List (List ℕ)) (path : List ℕ) → 0 < length patterns → admits patterns path ≡ list_any (λ pattern. pattern_admits pattern path) patterns
 admits_some [] path h = absurd (omega arith)
 admits_some (p ∷ ps) path h = refl
+
+pub enters_none : (patterns : List (List ℕ)) (directory : List ℕ) → patterns ≡ [] → enters patterns directory ≡ true
+enters_none patterns directory e = ap (λ ps. enters ps directory) e
+
+pub enters_some : (patterns : List (List ℕ)) (directory : List ℕ) → 0 < length patterns → enters patterns directory ≡ list_any (λ pattern. pattern_enters pattern directory) patterns
+enters_some [] directory h = absurd (omega arith)
+enters_some (p ∷ ps) directory h = refl

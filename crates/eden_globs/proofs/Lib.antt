@@ -1,4 +1,6 @@
 mod Copies
 mod Splitting
 mod Rows
+mod Entering
+mod Plain
 pub mod FilterLemmas

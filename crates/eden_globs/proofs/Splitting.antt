@@ -1,5 +1,5 @@
 -- The components of bytes, one at a time.
-use Rattle.std.proofs.Common.{◌≡◌, ℕ, suc, zero, ◌+◌, ◌-◌, ◌<◌, ◌≤◌, ◌==◌, Bool, true, false, cond, not, nat_eq, nat_lt, List, [], ◌∷◌, ◌++◌, take, drop, length, Option, Some, None, refl, sym, ap, ◌∙◌, arith, add-one}
+use Rattle.std.proofs.Common.{◌≡◌, ℕ, suc, zero, ◌+◌, ◌-◌, ◌<◌, ◌≤◌, ◌==◌, Bool, true, false, cond, not, nat_eq, nat_lt, List, [], ◌∷◌, take, drop, length, Option, Some, None, refl, sym, ap, ◌∙◌, arith, add-one}
 use Rattle.std.proofs.lemmas.List.{length-drop, take_all}
 use Rattle.std.proofs.lemmas.Bool.{ltb-false}
 use Rattle.std.specs.Prelude.{unwrap_or, IfSome}
@@ -11,10 +11,10 @@ use Rattle.eden_ids.specs.declared.path.PathFault.TheVariants.{Empty, TooLong, B
 use Rattle.eden_globs.specs.internal.Rows.{left_of}
 use Rattle.eden_globs.proofs.Rows.{dropped}
 
-here : (b : ℕ) (bytes : List ℕ) → nat_eq b 47 ≡ true → components (b ∷ bytes) ≡ [] ∷ components bytes
+pub here : (b : ℕ) (bytes : List ℕ) → nat_eq b 47 ≡ true → components (b ∷ bytes) ≡ [] ∷ components bytes
 here b bytes e = ap (λ c. cond c ([] ∷ components bytes) (onto_first b (components bytes))) e
 
-later : (b : ℕ) (bytes : List ℕ) → nat_eq b 47 ≡ false → components (b ∷ bytes) ≡ onto_first b (components bytes)
+pub later : (b : ℕ) (bytes : List ℕ) → nat_eq b 47 ≡ false → components (b ∷ bytes) ≡ onto_first b (components bytes)
 later b bytes e = ap (λ c. cond c ([] ∷ components bytes) (onto_first b (components bytes))) e
 
 drop_none : (bytes : List ℕ) → drop 0 bytes ≡ bytes

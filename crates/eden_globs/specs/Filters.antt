@@ -86,3 +86,31 @@ pattern_admits pattern path = path_matches (components pattern) (components path
 abbrev pub admits : List (List ℕ) → List ℕ → Bool
 admits [] path = true
 admits (bytes ∷ patterns) path = list_any (λ pattern. pattern_admits pattern path) (bytes ∷ patterns)
+
+-- ---- where what a filter admits may lie
+
+-- the names of a directory, of which the root, no bytes, has none
+abbrev pub names_of : List ℕ → List (List ℕ)
+names_of [] = []
+names_of (b ∷ directory) = components (b ∷ directory)
+
+-- the names of a directory match the first parts of a pattern, and a part is left for what lies below; or they match up to a part that
+-- stands for any number of names
+abbrev pub parts_enter : List (List ℕ) → List (List ℕ) → Bool
+parts_enter [] names = false
+parts_enter (part ∷ parts) [] = true
+parts_enter (part ∷ parts) (name ∷ names) = is_any_names part || (name_matches false part name && parts_enter parts names)
+
+abbrev pub pattern_enters : List ℕ → List ℕ → Bool
+pattern_enters pattern directory = parts_enter (components pattern) (names_of directory)
+
+-- whether some pattern enters the directory, or there is none
+abbrev pub enters : List (List ℕ) → List ℕ → Bool
+enters [] directory = true
+enters (bytes ∷ patterns) directory = list_any (λ pattern. pattern_enters pattern directory) (bytes ∷ patterns)
+
+-- ---- patterns that name a path
+
+-- each byte of the pattern stands for itself
+abbrev pub is_plain : List ℕ → Bool
+is_plain pattern = not (list_any (λ b. b == 42 || b == 63 || b == 92) pattern)

@@ -1,9 +1,9 @@
-ghost use Rattle.std.specs.Prelude.{◌≡◌, ◌≢◌, ◌==◌, ◌&&◌, ◌||◌, [], false, not, None, Some, map, IfOk, IfErr};
+ghost use Rattle.std.specs.Prelude.{◌≡◌, ◌≢◌, ◌≤◌, ◌==◌, ◌&&◌, ◌||◌, ℕ, List, [], false, true, nat_lt, length, not, None, Some, map, IfOk, IfErr};
 ghost use Rattle.std.specs.List.{list_all, list_any};
-ghost use Rattle.eden_ids.specs.Paths.{components};
-ghost use Rattle.eden_globs.specs.Filters.{admits, filter_fault, is_part, is_spelled, lists, pattern_admits, pattern_fault};
+ghost use Rattle.eden_ids.specs.Paths.{components, lies_below};
+ghost use Rattle.eden_globs.specs.Filters.{admits, enters, filter_fault, is_part, is_spelled, lists, pattern_admits, pattern_enters, pattern_fault};
 
-use crate::matching::is_admitted;
+use crate::matching::{is_admitted, is_entered};
 use eden_ids::{NoMemory, Path};
 use std::alloc::{AllocError, Global};
 use std::fmt;
@@ -150,6 +150,19 @@ fn is_any_admitted(patterns: &[Vec<u8>], path: &Path) -> bool
     false
 }
 
+/// Whether one of the patterns enters a directory that is no longer than a path.
+fn is_any_entered(patterns: &[Vec<u8>], directory: &[u8]) -> bool
+    requires { length directory.now ≤ 1024 }
+    ensures { result ≡ list_any (λ pattern. pattern_enters pattern directory.now) (lists patterns.now) }
+{
+    for pattern in patterns {
+        if is_entered(pattern.as_slice(), directory) {
+            return true;
+        }
+    }
+    false
+}
+
 impl Filter {
     /// The filter without patterns, which admits every path. It takes no memory.
     pub fn all(alloc: Global) -> Filter
@@ -196,6 +209,22 @@ impl Filter {
             return true;
         }
         is_any_admitted(self.patterns.as_slice(), path)
+    }
+
+    /// Whether something that is wanted may lie below a directory, of which the root is no bytes: where it says no, nothing does, and
+    /// the directory need not be read. This takes no memory.
+    ///
+    /// Where it says yes, the directory's names match the first parts of a pattern, and more parts are left, or they do up to a part
+    /// `**`. Of bytes that are longer than a path it says yes. The time is that of `admits`.
+    #[tactic(auto, using(crate::proofs::FilterLemmas::enters_some, crate::proofs::FilterLemmas::enters_none, crate::proofs::Entering::none_outside))]
+    pub fn admits_below(&self, directory: &[u8]) -> bool
+        ensures value { result ≡ (nat_lt 1024 (length directory.now) || enters self.now directory.now) }
+        ensures outside { result ≡ false → (path : List ℕ) → lies_below path directory.now ≡ true → admits self.now path ≡ false }
+    {
+        if self.patterns.is_empty() || directory.len() > 1024 {
+            return true;
+        }
+        is_any_entered(self.patterns.as_slice(), directory)
     }
 
     /// A filter that is equal to this one. `NoMemory` comes where a growth was refused.

@@ -7,7 +7,7 @@
 ghost use Rattle.std.specs.Prelude.{◌≡◌, ◌≢◌, ◌<◌, ◌≤◌, ◌+◌, ◌||◌, ◌&&◌, ◌∷◌, ℕ, List, Bool, Some, None, true, false, [], length, IfSome, nat_le};
 ghost use Rattle.std.specs.List.{slice_index_or};
 ghost use Rattle.eden_ids.specs.Paths.{components};
-ghost use Rattle.eden_globs.specs.Filters.{is_any_names, name_matches, path_matches, pattern_admits};
+ghost use Rattle.eden_globs.specs.Filters.{is_any_names, name_matches, parts_enter, path_matches, pattern_admits, pattern_enters};
 ghost use Rattle.eden_globs.specs.internal.Rows.{IsRow, is_wanted, left_of};
 
 use eden_ids::Path;
@@ -159,6 +159,13 @@ fn put_name_before(row: &mut [bool], path: &[u8], count: usize, part: &[u8], cel
     row[count] = false;
 }
 
+/// Whether a part stands for any number of names.
+fn is_any_names(part: &[u8]) -> bool
+    ensures { result ≡ is_any_names part.now }
+{
+    part == b"**".as_slice()
+}
+
 /// The row of a pattern and a part before it.
 #[tactic(auto, using(crate::proofs::Rows::any_names_first, crate::proofs::Rows::name_first))]
 fn put_part_before(row: &mut [bool], path: &[u8], count: usize, part: &[u8], cells: &mut [bool])
@@ -169,7 +176,7 @@ fn put_part_before(row: &mut [bool], path: &[u8], count: usize, part: &[u8], cel
     ensures cells { length cells.new ≡ length cells.old }
     ensures row { (parts : List (List ℕ)) → IsRow (path_matches parts) (components path.now) row.old → IsRow (path_matches (part.now ∷ parts)) (components path.now) row.new }
 {
-    if part == b"**".as_slice() {
+    if is_any_names(part) {
         put_any_before(row, count);
     } else {
         put_name_before(row, path, count, part, cells);
@@ -216,4 +223,44 @@ pub(crate) fn is_admitted(pattern: &[u8], path: &Path) -> bool
     let mut cells = [false; CELLS];
     fill_path(&mut row, path, count, pattern, &mut cells);
     row[0]
+}
+
+/// Whether names, of which `None` is none, match the first parts of a pattern, and a part is left; or they do up to a part that stands
+/// for any number of names.
+#[tactic(auto, using(crate::proofs::Entering::next_parts, crate::proofs::Entering::any_parts, crate::proofs::Entering::last_part))]
+fn is_way(pattern: &[u8], names: Option<&[u8]>, cells: &mut [bool]) -> bool
+    requires { IfSome names (λ names. length names.now < length cells.old) }
+    ensures size { length cells.new ≡ length cells.old }
+    ensures value { result ≡ parts_enter (components pattern.now) (left_of names.entry) }
+{
+    let (part, parts) = cut(pattern);
+    let Some(names) = names else {
+        return true;
+    };
+    if is_any_names(part) {
+        return true;
+    }
+    let (name, names) = cut(names);
+    let Some(parts) = parts else {
+        return false;
+    };
+    if is_match(part, name, cells) {
+        return is_way(parts, names, cells);
+    }
+    false
+}
+
+/// Whether a pattern enters a directory that is no longer than a path.
+///
+/// It takes at most a constant times the pattern's length times the directory's, whatever the pattern, and no memory.
+#[tactic(auto, using(crate::proofs::Entering::root_entered, crate::proofs::Entering::below_root))]
+pub(crate) fn is_entered(pattern: &[u8], directory: &[u8]) -> bool
+    requires { length directory.now ≤ 1024 }
+    ensures { result ≡ pattern_enters pattern.now directory.now }
+{
+    if directory.is_empty() {
+        return true;
+    }
+    let mut cells = [false; CELLS];
+    is_way(pattern, Some(directory), &mut cells)
 }

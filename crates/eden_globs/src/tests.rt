@@ -75,6 +75,61 @@ fn pattern_table(rt: HostRuntime) -> Result<(), Fail> {
     Ok(())
 }
 
+fn is_entered(alloc: Global, patterns: &[&[u8]], directory: &[u8]) -> Result<bool, Fail> {
+    Ok(Filter::parse(alloc, patterns)?.admits_below(directory))
+}
+
+#[test]
+fn directories(rt: HostRuntime) -> Result<(), Fail> {
+    let alloc = rt.alloc();
+    for (pattern, directory, wanted) in [
+        ("a/b", "", true),
+        ("a/b", "a", true),
+        ("a/b", "a/b", false),
+        ("a/b", "b", false),
+        ("a/b", "a/b/c", false),
+        ("a/**", "a", true),
+        ("a/**", "a/b/c", true),
+        ("a/**", "b", false),
+        ("a/**", "ab", false),
+        ("**", "a/b", true),
+        ("**/x", "a/b", true),
+        ("**/x", "x", true),
+        ("a/**/x", "a/x", true),
+        ("a/**/x", "b/a", false),
+        ("*", "", true),
+        ("*", "a", false),
+        ("*/x", "a", true),
+        ("*/x", ".h", true),
+        ("*/x", "a/b", false),
+        ("a**b/x", "a-b", true),
+        ("a**b/x", "a", false),
+        ("?/x", "a", true),
+        ("?/x", "aa", false),
+        ("\\*/x", "*", true),
+        ("\\*/x", "a", false),
+    ] {
+        let entered = is_entered(alloc, &[pattern.as_bytes()], directory.as_bytes())?;
+        assert_eq!(rt; entered, wanted, "{pattern} at {directory}");
+    }
+    let two = [b"a/x".as_slice(), b"b/*/x".as_slice()];
+    assert!(rt; is_entered(alloc, &two, b"b/c".as_slice())?);
+    assert!(rt; !is_entered(alloc, &two, b"a/c".as_slice())?);
+    assert!(rt; is_entered(alloc, &[], b"a/c".as_slice())?);
+    Ok(())
+}
+
+#[test]
+fn long_directories(rt: HostRuntime) -> Result<(), Fail> {
+    let alloc = rt.alloc();
+    let longest = vec![in alloc; b'a'; 1024]?;
+    assert!(rt; is_entered(alloc, &[b"a*/x".as_slice()], longest.as_slice())?);
+    assert!(rt; !is_entered(alloc, &[b"b*/x".as_slice()], longest.as_slice())?);
+    let longer = vec![in alloc; b'a'; 1025]?;
+    assert!(rt; is_entered(alloc, &[b"b*/x".as_slice()], longer.as_slice())?);
+    Ok(())
+}
+
 #[test]
 fn hostile_patterns(rt: HostRuntime) -> Result<(), Fail> {
     let alloc = rt.alloc();

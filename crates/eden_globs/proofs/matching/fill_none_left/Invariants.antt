@@ -1,4 +1,4 @@
-use Rattle.std.proofs.Common.{◌≡◌, ◌<◌, ◌≤◌, ℕ, false, length}
+use Rattle.std.proofs.Common.{◌≡◌, ◌<◌, ℕ, false, length}
 use Rattle.std.specs.List.{slice_index_or}
 use Rattle.eden_globs.proofs.matching.fill_none_left.Given as goal
 

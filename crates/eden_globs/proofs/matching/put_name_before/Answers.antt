@@ -1,4 +1,4 @@
-use Rattle.std.proofs.Common.{◌≡◌, ◌+◌, ◌<◌, ◌≤◌, subst, ◌&&◌, ℕ, [], false, length, arith, rules, sym, ap, ◌∙◌}
+use Rattle.std.proofs.Common.{◌+◌, ◌<◌, ◌≤◌, subst, ◌&&◌, [], false, length, arith, rules, sym, ap, ◌∙◌}
 use Rattle.std.specs.List.{slice_index_or}
 use Rattle.eden_ids.specs.Paths.{components}
 use Rattle.eden_globs.specs.Filters.{name_matches}
