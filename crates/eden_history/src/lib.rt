@@ -7,6 +7,7 @@ pub use crate::answer::{Answer, SinceFault};
 pub use crate::change::{Change, ChangeFault, Mode};
 pub use crate::checkout_laws::checkout_law;
 pub use crate::dirty::Dirty;
+pub use crate::files::Files;
 pub use crate::mark::{Mark, Marked};
 pub use crate::message::{Cause, Query, Reply, Request};
 pub use crate::mount_fault::MountFault;
@@ -22,6 +23,9 @@ mod answer;
 mod change;
 mod checkout_laws;
 mod dirty;
+mod files;
+#[cfg(test)]
+mod files_tests;
 mod lengths;
 mod mark;
 mod message;

@@ -1,9 +1,9 @@
-ghost use Rattle.std.specs.Prelude.{◌≡◌, [], IfOk, OnOk, map};
-ghost use Rattle.eden_ids.specs.FileMaps.{file_at, paths, put_option};
+ghost use Rattle.std.specs.Prelude.{◌≡◌, [], IfOk, map};
+ghost use Rattle.eden_ids.specs.FileMaps.{file_at, paths};
 ghost use Rattle.eden_objects.specs.Files.{commit_files};
 
-use crate::files::Files;
 use eden_globs::Filter;
+use eden_history::Files;
 use eden_ids::{Content, Id, Kind, Naming, NoMemory, Path};
 use eden_objects::{CommitFault, Store};
 use std::alloc::Global;
@@ -51,23 +51,6 @@ fn file_of<N: Naming + Drop>(
     }
 }
 
-/// Puts a file at a path, or takes the one there away.
-pub(crate) fn put_file(
-    files: &mut Files,
-    path: &Path,
-    file: Option<Content>,
-) -> Result<(), NoMemory>
-    ensures { OnOk result (files.new ≡ put_option files.old path.now file) }
-{
-    match file {
-        Some(content) => files.insert(path.copy()?, content),
-        None => {
-            files.remove(path);
-            Ok(())
-        }
-    }
-}
-
 /// The files of a commit, all of them; none where the id is no commit's.
 pub(crate) fn files_of_commit<N: Naming + Drop>(
     alloc: Global,
@@ -80,7 +63,7 @@ pub(crate) fn files_of_commit<N: Naming + Drop>(
     let mut files = Files::new(alloc);
     for row in rows.iter() {
         let file = file_of(alloc, store, commit, &row.0)?;
-        put_file(&mut files, &row.0, file)?;
+        files.put(&row.0, file)?;
     }
     Ok(files)
 }

@@ -5,12 +5,11 @@
 //! so are the counting devices.
 #![tactic(auto)]
 
-pub use crate::files::Files;
 pub use crate::row::{Event, Row};
 pub use crate::world::World;
 pub use eden_history::{
-    Answer, Cause, Change, ChangeFault, Mark, Marked, Mode, MountFault, Position, Query, Reply,
-    Request, SinceFault,
+    Answer, Cause, Change, ChangeFault, Files, Mark, Marked, Mode, MountFault, Position, Query,
+    Reply, Request, SinceFault,
 };
 pub use eden_stream::{Counted, Faults};
 
@@ -18,9 +17,6 @@ pub use eden_stream::{Counted, Faults};
 mod checkout_tests;
 mod commit_files;
 mod events;
-mod files;
-#[cfg(test)]
-mod files_tests;
 mod refusal;
 mod reply;
 #[cfg(test)]

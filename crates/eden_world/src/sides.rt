@@ -7,9 +7,8 @@ ghost use Rattle.eden_objects.specs.Files.{commit_files};
 ghost use Rattle.eden_history.specs.Checkouts.{checked_out, clashes_dirty, conflicts, force_rule, is_blocked, is_clean, is_conflict, normal_rule, paths_of_all, rule_of, unclean};
 ghost use Rattle.eden_world.specs.internal.Sides.{differs, is_unclean, wanted_at, AreAll, IsWithin};
 
-use crate::commit_files::{files_of_commit, put_file};
-use crate::files::Files;
-use eden_history::Mode;
+use crate::commit_files::files_of_commit;
+use eden_history::{Files, Mode};
 use eden_ids::{Content, Id, Naming, NoMemory, Path, PathTable, Sequence};
 use eden_objects::Store;
 use std::alloc::Global;
@@ -170,7 +169,7 @@ impl Sides {
         let mut files = Files::new(alloc);
         for path in self.paths.iter() {
             let file = copied(self.file_after(work, path, mode))?;
-            put_file(&mut files, path, file)?;
+            files.put(path, file)?;
         }
         Ok(files)
     }

@@ -11,7 +11,7 @@ loop-row-init g c =
 
 pub loop-row-preserved : goal.loop-row-preserved
 loop-row-preserved g c =
-    subst (Follows (file_at (commit_files c.args.store.now c.args.commit)) _) (sym c.in_ok-put_file.ensures)
+    subst (Follows (file_at (commit_files c.args.store.now c.args.commit)) _) (sym c.in_ok-put.ensures.ok)
     (rows_on (file_at (commit_files c.args.store.now c.args.commit)) c.deref-row-items.result.now c.loop-row.row-index c.loop-row.files
     c.row-item.result c.in_ok-file.file (omega arith) c.row-item.is c.loop-row.invariant c.in_ok-file.ensures)
 

@@ -14,7 +14,7 @@ loop-path-preserved c =
     let same : c.deref-path-items.result.now ≡ c.args.self.now.paths.items = search rules in
     let at : c.path-item.result ≡ get_or c.args.self.now.paths.items c.loop-path.path-index c.path-item.result =
     c.path-item.is ∙ ap (λ ps. get_or ps c.loop-path.path-index c.path-item.result) same in
-    subst (Follows (rule_of c.args.mode c.args.work.now c.args.self.now.root c.args.self.now.target) _) (sym c.in_ok-put_file.ensures)
+    subst (Follows (rule_of c.args.mode c.args.work.now c.args.self.now.root c.args.self.now.target) _) (sym c.in_ok-put.ensures.ok)
     (goes_on-at (rule_of c.args.mode c.args.work.now c.args.self.now.root c.args.self.now.target) c.args.self.now.paths.items c.loop-path.path-index c.loop-path.files
     c.path-item.result c.in_ok-file.file (omega arith) at c.loop-path.invariant (c.in_ok-file.ensures ∙ c.file_after.ensures))
 

@@ -4,7 +4,7 @@ ghost use Rattle.std.specs.Prelude.{◌≡◌, IfOk, OnOk, OnErr};
 ghost use Rattle.std.specs.Option.{option_copied};
 ghost use Rattle.std.specs.FinMap as fin;
 ghost use Rattle.std.specs.Map.Iter.{deref, ShowsInOrder};
-ghost use Rattle.eden_ids.specs.FileMaps.{file_at, no_files, has_file_above, has_file_below, path_set, paths, union};
+ghost use Rattle.eden_ids.specs.FileMaps.{file_at, no_files, has_file_above, has_file_below, path_set, paths, put_option, union};
 
 use eden_ids::{Content, NoMemory, Path, PathTable};
 use std::alloc::Global;
@@ -58,6 +58,20 @@ impl Files {
         match self.entries.insert(path, content) {
             Ok(_) => Ok(()),
             Err(_) => Err(NoMemory),
+        }
+    }
+
+    /// Puts a file at a path, or takes the one there away. `NoMemory` changes nothing.
+    pub fn put(&mut self, path: &Path, file: Option<Content>) -> Result<(), NoMemory>
+        ensures ok { OnOk result (self.new ≡ put_option self.old path.now file) }
+        ensures err { OnErr result (self.new ≡ self.old) }
+    {
+        match file {
+            Some(content) => self.insert(path.copy()?, content),
+            None => {
+                self.remove(path);
+                Ok(())
+            }
         }
     }
 

@@ -6,7 +6,7 @@ use Rattle.std.specs.List.{list_any}
 use Rattle.eden_ids.specs.Paths.{lies_below}
 use Rattle.eden_ids.specs.FileMaps.{has_file_above}
 use Rattle.eden_ids.proofs.TreeMaps.{keys-map_of}
-use Rattle.eden_world.proofs.files.Files.has_file_above.Goals as goal
+use Rattle.eden_history.proofs.files.Files.has_file_above.Goals as goal
 
 pub returns : goal.returns
 returns c =
