@@ -4,10 +4,10 @@ use Rattle.std.proofs.lemmas.Bool.{cases_Bool}
 use Rattle.std.specs.List.{AllByRecursion}
 use Rattle.eden_ids.specs.declared.id.Id.{Id}
 use Rattle.eden_ids.specs.declared.content.Kind.{Kind}
-use Rattle.eden_objects.specs.declared.word.Word.TheVariants.{Blob}
+use Rattle.eden_git.specs.declared.word.Word.TheVariants.{Blob}
 use Rattle.eden_objects.specs.Objects.{Held, find}
 use Rattle.eden_ids.specs.Sameness.{same_id}
-use Rattle.eden_objects.specs.Trees.{Entry, entries_of}
+use Rattle.eden_git.specs.Trees.{Entry, entries_of}
 use Rattle.eden_objects.specs.Commits.{Row, under, rows_of_kind, entry_rows, entries_rows, tree_rows}
 use Rattle.eden_objects.specs.Puts.{word_wanted}
 use Rattle.eden_objects.specs.Closed.{IsHeld, HasTree, IsTree, IsSound, IsClosed}

@@ -9,10 +9,10 @@ use Rattle.eden_ids.specs.Paths.{clashes, lies_below}
 use Rattle.eden_ids.proofs.FileMapLemmas.{lies_below-itself}
 use Rattle.eden_objects.specs.Objects.{Held}
 use Rattle.eden_ids.specs.Sameness.{same_bytes}
-use Rattle.eden_objects.specs.Trees.{Entry, is_name}
+use Rattle.eden_git.specs.Trees.{Entry, is_name}
 use Rattle.eden_objects.specs.Commits.{Row, under, rows_of_kind, entry_rows, entries_rows, find_row, tree_rows}
 use Rattle.eden_objects.specs.Closed.{HasTree, IsClosed, NamesDiffer}
-use Rattle.eden_objects.proofs.Slashes.{has_slash, name_has_none, name_not_below, below_name, below_under}
+use Rattle.eden_git.proofs.Slashes.{has_slash, name_has_none, name_not_below, below_name, below_under}
 use Rattle.eden_objects.proofs.Lookup.{turn}
 use Rattle.eden_objects.proofs.ByTrees.{IsStep, by_trees}
 

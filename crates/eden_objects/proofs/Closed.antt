@@ -5,12 +5,14 @@ use Rattle.std.proofs.lemmas.Slice.Eq.{bytes_eq-Decides}
 use Rattle.std.specs.List.{AllByRecursion}
 use Rattle.eden_ids.specs.declared.id.Id.{Id}
 use Rattle.eden_ids.specs.declared.content.Kind.{Kind}
-use Rattle.eden_objects.specs.declared.word.Word.{Word}
-use Rattle.eden_objects.specs.declared.word.Word.TheVariants.{Blob, Tree, Commit}
+use Rattle.eden_git.specs.declared.word.Word.{Word}
+use Rattle.eden_git.specs.declared.word.Word.TheVariants.{Blob, Tree, Commit}
 use Rattle.eden_objects.specs.Objects.{Held, find}
 use Rattle.eden_ids.specs.Sameness.{same_id}
-use Rattle.eden_objects.specs.Trees.{Entry, entries_of, tree_fold, greater, depth_of, reach_of, entries_depth, entries_reach, tree_depth, tree_reach}
-use Rattle.eden_objects.specs.Commits.{Row, rows_of_kind, entry_rows, entries_rows, tree_rows, tree_named}
+use Rattle.eden_git.specs.Trees.{Entry, entries_of}
+use Rattle.eden_objects.specs.Trees.{tree_fold, greater, depth_of, reach_of, entries_depth, entries_reach, tree_depth, tree_reach}
+use Rattle.eden_objects.specs.Commits.{Row, rows_of_kind, entry_rows, entries_rows, tree_rows}
+use Rattle.eden_git.specs.Commits.{tree_named}
 use Rattle.eden_objects.specs.Puts.{word_wanted}
 use Rattle.eden_objects.specs.Closed.{IsHeld, HasTree, IsTree, IsSound, IsClosed}
 

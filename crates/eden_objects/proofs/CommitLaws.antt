@@ -8,11 +8,13 @@ use Rattle.std.specs.List.Sorted.{IsStrictlySortedBy}
 use Rattle.eden_ids.specs.declared.id.Id.{Id}
 use Rattle.eden_ids.specs.FileMaps.{FileMap, file_at, paths, IsFileMap}
 use Rattle.eden_ids.specs.Paths.{path_fault}
-use Rattle.eden_objects.specs.declared.word.Word.{Word}
-use Rattle.eden_objects.specs.declared.word.Word.TheVariants.{Blob, Tree, Commit}
-use Rattle.eden_objects.specs.Objects.{Held, find, same_word, zero_id}
+use Rattle.eden_git.specs.declared.word.Word.{Word}
+use Rattle.eden_git.specs.declared.word.Word.TheVariants.{Blob, Tree, Commit}
+use Rattle.eden_objects.specs.Objects.{Held, find, zero_id}
+use Rattle.eden_git.specs.Words.{same_word}
 use Rattle.eden_ids.specs.Sameness.{same_id}
-use Rattle.eden_objects.specs.Commits.{Row, tree_rows, tree_named, rows_named, rows_held, commit_rows, map_of_rows, commit_map}
+use Rattle.eden_objects.specs.Commits.{Row, tree_rows, rows_named, rows_held, commit_rows, map_of_rows, commit_map}
+use Rattle.eden_git.specs.Commits.{tree_named}
 use Rattle.eden_objects.specs.Closed.{IsHeld, HasTree, IsClosed}
 use Rattle.eden_objects.specs.Laws.{CommitsAreFileMaps, CommitsListTheirRows, RowsRise, RowsAreLegal, RowsAreFiles, RowsNameBlobs}
 use Rattle.eden_objects.proofs.Closed.{commit_in}

@@ -7,10 +7,11 @@ use Rattle.eden_ids.specs.declared.id.Id.{Id}
 use Rattle.eden_ids.specs.declared.content.Kind.{Kind}
 use Rattle.eden_ids.specs.Paths.{components, is_component, path_fault}
 use Rattle.eden_objects.specs.Objects.{Held}
-use Rattle.eden_objects.specs.Trees.{entries_of, is_name, depth_of, reach_of, entries_depth, entries_reach, tree_depth, tree_reach}
+use Rattle.eden_git.specs.Trees.{entries_of, is_name}
+use Rattle.eden_objects.specs.Trees.{depth_of, reach_of, entries_depth, entries_reach, tree_depth, tree_reach}
 use Rattle.eden_objects.specs.Commits.{Row, under, rows_of_kind, entry_rows, entries_rows, tree_rows}
 use Rattle.eden_objects.specs.Closed.{HasTree, IsClosed, IsTree}
-use Rattle.eden_objects.proofs.Slashes.{has_slash, name_has_none}
+use Rattle.eden_git.proofs.Slashes.{has_slash, name_has_none}
 use Rattle.eden_objects.proofs.Closed.{tree_in, depth_of_tree, reach_of_tree, greater_first, greater_second}
 use Rattle.eden_objects.proofs.ByTrees.{IsStep, by_trees}
 

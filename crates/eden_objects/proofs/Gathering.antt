@@ -9,7 +9,8 @@ use Rattle.eden_globs.specs.Filters.{admits}
 use Rattle.eden_ids.specs.declared.id.Id.{Id}
 use Rattle.eden_ids.specs.declared.content.Kind.{Kind}
 use Rattle.eden_objects.specs.Objects.{Held, payload_of}
-use Rattle.eden_objects.specs.Trees.{Entry, entries_of, entries_depth, tree_depth}
+use Rattle.eden_git.specs.Trees.{Entry, entries_of}
+use Rattle.eden_objects.specs.Trees.{entries_depth, tree_depth}
 use Rattle.eden_objects.specs.Commits.{Row, under, rows_of_kind, entry_rows, entries_rows, tree_rows}
 use Rattle.eden_objects.specs.Puts.{word_wanted}
 use Rattle.eden_objects.specs.Closed.{IsHeld, HasTree, IsClosed}

@@ -7,10 +7,12 @@ use Rattle.eden_ids.specs.declared.id.Id.{Id}
 use Rattle.eden_ids.specs.declared.content.Kind.{Kind}
 use Rattle.eden_ids.specs.FileMaps.{FileMap}
 use Rattle.eden_ids.specs.Sameness.{same_id}
-use Rattle.eden_objects.specs.declared.word.Word.TheVariants.{Blob, Tree, Commit}
-use Rattle.eden_objects.specs.Objects.{Held, find, payload_of, same_word, zero_id}
-use Rattle.eden_objects.specs.Trees.{Entry, entries_of}
-use Rattle.eden_objects.specs.Commits.{Row, commit_map, commit_rows, entries_rows, map_of_rows, rows_held, rows_named, tree_named, tree_rows}
+use Rattle.eden_git.specs.declared.word.Word.TheVariants.{Blob, Tree, Commit}
+use Rattle.eden_objects.specs.Objects.{Held, find, payload_of, zero_id}
+use Rattle.eden_git.specs.Words.{same_word}
+use Rattle.eden_git.specs.Trees.{Entry, entries_of}
+use Rattle.eden_objects.specs.Commits.{Row, commit_map, commit_rows, entries_rows, map_of_rows, rows_held, rows_named, tree_rows}
+use Rattle.eden_git.specs.Commits.{tree_named}
 use Rattle.eden_objects.specs.Puts.{word_wanted}
 use Rattle.eden_objects.specs.Closed.{HasTree, IsClosed, IsHeld, IsSound, IsTree}
 use Rattle.eden_objects.specs.Laws.{HasAll, TreesStay, CommitRowsStay, CommitMapsStay}

@@ -7,44 +7,16 @@ use Rattle.std.specs.List.{AllByRecursion, list_any}
 use Rattle.std.specs.List.Sorted.{IsStrictlySortedBy}
 use Rattle.eden_ids.specs.declared.content.Kind.{Kind}
 use Rattle.eden_objects.specs.declared.fault.PutFault.{PutFault}
-use Rattle.eden_objects.specs.declared.fault.PutFault.TheVariants.{Duplicate, OutOfOrder, BadName, CutShort}
+use Rattle.eden_git.specs.declared.fault.EntryFault.{EntryFault}
+use Rattle.eden_objects.specs.declared.fault.PutFault.TheVariants.{Duplicate, OutOfOrder}
 use Rattle.eden_objects.specs.Objects.{Held}
 use Rattle.eden_ids.specs.Sameness.{same_bytes}
-use Rattle.eden_objects.specs.Trees.{Entry, cut, read_entry, read_mode, read_kind, read_named, read_id, kind_of_mode, is_name, key, entries, entries_after, entries_of, entries_depth, entries_reach, tree_depth, tree_reach}
+use Rattle.eden_git.specs.Trees.{Entry, cut, read_entry, read_mode, read_kind, read_named, read_id, kind_of_mode, is_name, key, entries, entries_after, entries_of}
+use Rattle.eden_objects.specs.Trees.{entries_depth, entries_reach, tree_depth, tree_reach}
 use Rattle.eden_objects.specs.Puts.{entries_fault, entry_fault, fault_after, first_fault, if_so, is_above, word_wanted}
 use Rattle.eden_objects.specs.Closed.{IsHeld, IsTree, NamesDiffer}
 use Rattle.eden_objects.proofs.Refusals.{entry_held}
-use Rattle.eden_objects.proofs.Reading.{read_shorter}
-
--- the name of an entry that was read is a name
-
-entry_or : Result (Entry × List ℕ) PutFault → List ℕ → List ℕ
-entry_or (Ok read) other = read.0.name
-entry_or (Err fault) other = other
-
-name_id : (kind : Option Kind) (name rest : List ℕ) (r : Entry × List ℕ) → read_id kind name rest ≡ Ok r → is_name r.0.name ≡ true
-unfolding entry_or
-name_id kind name rest r h = by (is_name name) refl (nat_lt (length rest) 20) h where
-  by : (good : Bool) → is_name name ≡ good → (short : Bool) → cond (not good) (Err BadName) (cond short (Err CutShort)
-      (Ok (record { name = name; kind = kind; id = record { 0 = take 20 rest } }, drop 20 rest))) ≡ Ok r → is_name r.0.name ≡ true
-  by true good false is = ap is_name (ap (λ read. entry_or read []) (sym is)) ∙ good
-  by true good true is = cc is
-  by false good short is = cc is
-
-name_named : (kind : Option Kind) (parts : Option (List ℕ × List ℕ)) (r : Entry × List ℕ) → read_named kind parts ≡ Ok r → is_name r.0.name ≡ true
-name_named kind None r h = cc h
-name_named kind (Some parts) r h = name_id kind parts.0 parts.1 r h
-
-name_kind : (kind : Option (Option Kind)) (rest : List ℕ) (r : Entry × List ℕ) → read_kind kind rest ≡ Ok r → is_name r.0.name ≡ true
-name_kind None rest r h = cc h
-name_kind (Some kind) rest r h = name_named kind (cut 0 rest) r h
-
-name_mode : (parts : Option (List ℕ × List ℕ)) (r : Entry × List ℕ) → read_mode parts ≡ Ok r → is_name r.0.name ≡ true
-name_mode None r h = cc h
-name_mode (Some parts) r h = name_kind (kind_of_mode parts.0) parts.1 r h
-
-name_read : (bytes : List ℕ) (r : Entry × List ℕ) → read_entry bytes ≡ Ok r → is_name r.0.name ≡ true
-name_read bytes r h = name_mode (cut 32 bytes) r h
+use Rattle.eden_git.proofs.Reading.{name_read, read_shorter}
 
 -- what an entry without a fault has beside its object
 
@@ -140,7 +112,7 @@ judged : (n : ℕ) (held : List Held) (earlier : List Entry) (bytes : List ℕ) 
 judged zero held earlier bytes fits h = nothing_sound held earlier
 judged (suc n) held earlier [] fits h = nothing_sound held earlier
 judged (suc n) held earlier (b ∷ bytes) fits h = by (read_entry (b ∷ bytes)) refl h (λ e rest. judged n held (e ∷ earlier) rest) where
-  by : (r : Result (Entry × List ℕ) PutFault) → read_entry (b ∷ bytes) ≡ r → fault_after held earlier (entries_fault n held) r ≡ None
+  by : (r : Result (Entry × List ℕ) EntryFault) → read_entry (b ∷ bytes) ≡ r → fault_after held earlier (entries_fault n held) r ≡ None
       → ((e : Entry) (rest : List ℕ) → length rest ≤ n → entries_fault n held (e ∷ earlier) rest ≡ None → Sound held (e ∷ earlier) (entries n rest))
       → Sound held earlier (entries_after (entries n) r)
   by (Err fault) is h more = cc h

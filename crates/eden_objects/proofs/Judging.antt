@@ -4,9 +4,10 @@ use Rattle.eden_objects.specs.declared.fault.PutFault.{PutFault}
 use Rattle.eden_objects.specs.declared.seen.Seen.{Seen}
 use Rattle.eden_objects.specs.declared.size.Size.{Size}
 use Rattle.eden_objects.specs.Objects.{Held}
-use Rattle.eden_objects.specs.Trees.{Entry, read_entry, entries, entries_after, entries_of, greater, depth_of, reach_of, entries_depth, entries_reach, tree_depth, tree_reach}
+use Rattle.eden_git.specs.Trees.{Entry, read_entry, entries, entries_after, entries_of}
+use Rattle.eden_objects.specs.Trees.{greater, depth_of, reach_of, entries_depth, entries_reach, tree_depth, tree_reach}
 use Rattle.eden_objects.specs.Puts.{entries_fault, entry_fault, fault_after, first_fault}
-use Rattle.eden_objects.specs.Entries.{HasSeen}
+use Rattle.eden_objects.specs.Earlier.{HasSeen}
 
 -- the step of the definitions, where bytes are left
 
@@ -66,12 +67,6 @@ begins held payload seen size new depth reach = (
   ap (λ a. greater a (entries_depth (tree_depth held) (entries_of payload))) depth ∙ greater-zero (entries_depth (tree_depth held) (entries_of payload)),
   ap (λ a. greater a (entries_reach (tree_reach held) (entries_of payload))) reach ∙ greater-zero (entries_reach (tree_reach held) (entries_of payload)),
 )
-
-pub read_fault : (held : List Held) (payload : List ℕ) (seen : Seen) (size : Size) (rest : List ℕ) (fault : PutFault)
-    → Judging held payload seen size rest → 0 < length rest → read_entry rest ≡ Err fault
-    → entries_fault (length payload) held [] payload ≡ Some fault
-read_fault held payload seen size rest fault j some is =
-    j.4 ∙ fault_step j.1 held j.0 rest j.2 some ∙ ap (fault_after held j.0 (entries_fault (j.1 - 1) held)) is
 
 pub stands : (held : List Held) (payload : List ℕ) (seen : Seen) (size : Size) (rest : List ℕ) (e : Entry) (behind : List ℕ) (fault : PutFault)
     → Judging held payload seen size rest → 0 < length rest → read_entry rest ≡ Ok (e, behind)

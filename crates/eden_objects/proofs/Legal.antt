@@ -6,7 +6,7 @@ use Rattle.eden_ids.specs.declared.id.Id.{Id}
 use Rattle.eden_ids.specs.declared.content.Kind.{Kind}
 use Rattle.eden_ids.specs.Paths.{IsPath, lies_below}
 use Rattle.eden_objects.specs.Objects.{Held}
-use Rattle.eden_objects.specs.Trees.{Entry}
+use Rattle.eden_git.specs.Trees.{Entry}
 use Rattle.eden_objects.specs.Commits.{Row, under, rows_of_kind, entry_rows, entries_rows, tree_rows}
 use Rattle.eden_objects.specs.Closed.{HasTree, IsClosed}
 use Rattle.eden_objects.specs.Listings.{ArePaths, IsBelow, behind, rows_below}

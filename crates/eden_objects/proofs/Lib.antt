@@ -1,5 +1,4 @@
 pub mod Closed
-pub mod Slashes
 pub mod Lookup
 pub mod ByTrees
 pub mod Rising
@@ -13,17 +12,12 @@ pub mod FilesOf
 pub mod Grown
 mod Tables
 mod Putting
-mod Cuts
-mod Reading
-pub mod Fuel
 pub mod TreeOf
 pub mod WalkSteps
 pub mod Gathering
 pub mod Legal
 mod Below
 mod Refusals
-mod Order
+mod Noted
 mod Judging
 mod Judged
-mod Starts
-mod Searching

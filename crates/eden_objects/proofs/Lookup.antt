@@ -6,11 +6,12 @@ use Rattle.std.specs.List.{AllByRecursion}
 use Rattle.eden_ids.specs.declared.id.Id.{Id}
 use Rattle.eden_ids.specs.declared.content.Kind.{Kind}
 use Rattle.eden_ids.specs.Sameness.{same_bytes}
-use Rattle.eden_objects.specs.Trees.{Entry, cut, is_name}
+use Rattle.eden_git.specs.Trees.{Entry, cut, is_name}
 use Rattle.eden_objects.specs.Commits.{Row, under, rows_of_kind, entry_rows, entries_rows, find_row}
 use Rattle.eden_objects.specs.Closed.{NamesDiffer}
-use Rattle.eden_objects.specs.Walks.{or_later, file_if, file_named, dir_if, dir_named, then_find}
-use Rattle.eden_objects.proofs.Slashes.{has_slash, name_has_none, cut_none, cut_some, not_under, not_slashed, same_under}
+use Rattle.eden_git.specs.Directories.{or_later, file_if, file_named, dir_if, dir_named}
+use Rattle.eden_objects.specs.Walks.{then_find}
+use Rattle.eden_git.proofs.Slashes.{has_slash, name_has_none, cut_none, cut_some, not_under, not_slashed, same_under}
 
 abbrev pub AllNames : List Entry → Type 0
 AllNames es = AllByRecursion (λ e. is_name e.name ≡ true) es

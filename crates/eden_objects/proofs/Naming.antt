@@ -3,7 +3,8 @@ use Rattle.std.proofs.Common.{◌≡◌, ℕ, inl, inr, List, [], ◌∷◌, Opt
 use Rattle.std.proofs.lemmas.Bool.{cases_Bool}
 use Rattle.eden_ids.specs.declared.id.Id.{Id}
 use Rattle.eden_ids.specs.declared.content.Content.{Content}
-use Rattle.eden_objects.specs.Objects.{Held, find, payload_of, word_text}
+use Rattle.eden_objects.specs.Objects.{Held, find, payload_of}
+use Rattle.eden_git.specs.Words.{word_text}
 use Rattle.eden_ids.specs.Sameness.{same_id}
 use Rattle.eden_objects.specs.Closed.{AllNamed}
 use Rattle.eden_objects.specs.Laws.{EqualObjectsAreOne, EqualFilesHaveOneBlob}

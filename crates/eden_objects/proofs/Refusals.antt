@@ -3,13 +3,14 @@ use Rattle.std.proofs.Common.{◌≡◌, ◌≢◌, ◌∙◌, sym, refl, ap, �
 use Rattle.eden_ids.specs.declared.id.Id.{Id}
 use Rattle.eden_objects.specs.declared.fault.PutFault.{PutFault}
 use Rattle.eden_objects.specs.declared.fault.PutFault.TheVariants.{TooLarge, IdTaken, ZeroId, BadMode, BadName, OutOfOrder, Duplicate, MissingChild, WrongChildKind, TooDeep, PathTooLong, CutShort, BadCommit, NoMemory}
-use Rattle.eden_objects.specs.declared.word.Word.{Word}
-use Rattle.eden_objects.specs.declared.word.Word.TheVariants.{Blob, Tree, Commit}
+use Rattle.eden_git.specs.declared.word.Word.{Word}
+use Rattle.eden_git.specs.declared.word.Word.TheVariants.{Blob, Tree, Commit}
 use Rattle.std.specs.List.{list_any}
-use Rattle.eden_objects.specs.Objects.{Held, find, same_word}
+use Rattle.eden_objects.specs.Objects.{Held, find}
+use Rattle.eden_git.specs.Words.{same_word}
 use Rattle.eden_ids.specs.Sameness.{same_bytes}
-use Rattle.eden_objects.specs.Trees.{Entry}
-use Rattle.eden_objects.specs.Commits.{tree_named}
+use Rattle.eden_git.specs.Trees.{Entry}
+use Rattle.eden_git.specs.Commits.{tree_named}
 use Rattle.eden_objects.specs.Puts.{PutGives, first_fault, if_so, child_fault, named_fault, commit_fault, commit_outcome, entry_fault, is_above, word_wanted}
 use Rattle.eden_objects.specs.Closed.{IsHeld, IsSound}
 

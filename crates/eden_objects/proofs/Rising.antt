@@ -12,10 +12,10 @@ use Rattle.std.specs.List.Sorted.{IsStrictlySortedBy}
 use Rattle.eden_ids.specs.declared.id.Id.{Id}
 use Rattle.eden_ids.specs.declared.content.Kind.{Kind}
 use Rattle.eden_objects.specs.Objects.{Held}
-use Rattle.eden_objects.specs.Trees.{Entry, key, key_of, is_name}
+use Rattle.eden_git.specs.Trees.{Entry, key, key_of, is_name}
 use Rattle.eden_objects.specs.Commits.{Row, under, rows_of_kind, entry_rows, entries_rows, tree_rows}
 use Rattle.eden_objects.specs.Closed.{HasTree, IsClosed}
-use Rattle.eden_objects.proofs.Slashes.{has_slash, name_has_none}
+use Rattle.eden_git.proofs.Slashes.{has_slash, name_has_none}
 use Rattle.eden_objects.proofs.ByTrees.{IsStep, by_trees}
 
 abbrev pub order : List ℕ → List ℕ → Ordering

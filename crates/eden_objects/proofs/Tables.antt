@@ -5,13 +5,15 @@ use Rattle.std.specs.Map.{lookup}
 use Rattle.std.specs.Cmp.Lexicographic.{same_text}
 use Rattle.eden_ids.specs.declared.id.Id.{Id}
 use Rattle.eden_objects.specs.declared.store.Object.{Object}
-use Rattle.eden_objects.specs.declared.word.Word.{Word}
-use Rattle.eden_objects.specs.declared.word.Word.TheVariants.{Tree}
-use Rattle.eden_objects.specs.Objects.{Held, find, word_text}
+use Rattle.eden_git.specs.declared.word.Word.{Word}
+use Rattle.eden_git.specs.declared.word.Word.TheVariants.{Tree}
+use Rattle.eden_objects.specs.Objects.{Held, find}
+use Rattle.eden_git.specs.Words.{word_text}
 use Rattle.eden_ids.specs.Sameness.{same_id}
 use Rattle.eden_objects.specs.Commits.{entries_rows}
 use Rattle.eden_objects.specs.Counts.{capped}
-use Rattle.eden_objects.specs.Trees.{Entry, tree_fold, entries_of, entries_depth, entries_reach}
+use Rattle.eden_git.specs.Trees.{Entry, entries_of}
+use Rattle.eden_objects.specs.Trees.{tree_fold, entries_depth, entries_reach}
 use Rattle.eden_objects.specs.Closed.{IsClosed, IsSound, IsTree, AllNamed}
 use Rattle.eden_objects.specs.Contents.{held_of, option_held, helds, Measures, AreMeasured, TellsOutline}
 

@@ -2,10 +2,12 @@
 use Rattle.std.proofs.Common.{◌≡◌, inl, inr, Bool, true, false, cond, List, [], Option, Some, None, refl, sym, ap, subst, ◌∙◌}
 use Rattle.std.proofs.lemmas.Bool.{cases_Bool}
 use Rattle.eden_ids.specs.declared.id.Id.{Id}
-use Rattle.eden_objects.specs.declared.word.Word.TheVariants.{Commit}
-use Rattle.eden_objects.specs.Objects.{Held, find, same_word, zero_id}
+use Rattle.eden_git.specs.declared.word.Word.TheVariants.{Commit}
+use Rattle.eden_objects.specs.Objects.{Held, find, zero_id}
+use Rattle.eden_git.specs.Words.{same_word}
 use Rattle.eden_ids.specs.Sameness.{same_id}
-use Rattle.eden_objects.specs.Commits.{tree_named, rows_named, rows_held, commit_rows}
+use Rattle.eden_git.specs.Commits.{tree_named}
+use Rattle.eden_objects.specs.Commits.{rows_named, rows_held, commit_rows}
 use Rattle.eden_objects.specs.Closed.{HasTree, IsClosed}
 use Rattle.eden_objects.specs.Walks.{tree_seen}
 use Rattle.eden_objects.proofs.Closed.{commit_in}

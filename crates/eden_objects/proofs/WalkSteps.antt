@@ -5,14 +5,15 @@ use Rattle.eden_ids.specs.declared.id.Id.{Id}
 use Rattle.eden_ids.specs.declared.content.Kind.{Kind}
 use Rattle.eden_objects.specs.Objects.{Held, find, payload_of}
 use Rattle.eden_ids.specs.Sameness.{same_bytes}
-use Rattle.eden_objects.specs.Trees.{Entry, cut, entries_of}
+use Rattle.eden_git.specs.Trees.{Entry, cut, entries_of}
 use Rattle.eden_objects.specs.Commits.{find_row, tree_rows, entries_rows}
 use Rattle.eden_objects.specs.Puts.{word_wanted}
-use Rattle.eden_objects.specs.Starts.{AreInOrder}
+use Rattle.eden_git.specs.Starts.{AreInOrder}
 use Rattle.eden_objects.specs.Closed.{IsHeld, HasTree, IsTree, IsClosed}
-use Rattle.eden_objects.specs.Walks.{or_later, file_named, dir_if, dir_named, then_find}
+use Rattle.eden_git.specs.Directories.{or_later, file_named, dir_if, dir_named}
+use Rattle.eden_objects.specs.Walks.{then_find}
 use Rattle.eden_objects.proofs.Closed.{tree_in, rows_of_tree}
-use Rattle.eden_objects.proofs.Slashes.{cut_some}
+use Rattle.eden_git.proofs.Slashes.{cut_some}
 use Rattle.eden_objects.proofs.Lookup.{look_file, look_dir}
 
 -- the entries of a tree that is held

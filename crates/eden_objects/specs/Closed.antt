@@ -5,12 +5,14 @@ use Rattle.std.specs.Cmp.Lexicographic.{slice_cmp}
 use Rattle.std.specs.List.{AllByRecursion}
 use Rattle.std.specs.List.Sorted.{IsStrictlySortedBy}
 use Rattle.eden_ids.specs.declared.id.Id.{Id}
-use Rattle.eden_objects.specs.declared.word.Word.{Word}
-use Rattle.eden_objects.specs.declared.word.Word.TheVariants.{Blob, Tree, Commit}
-use Rattle.eden_objects.specs.Objects.{Held, find, word_text}
+use Rattle.eden_git.specs.declared.word.Word.{Word}
+use Rattle.eden_git.specs.declared.word.Word.TheVariants.{Blob, Tree, Commit}
+use Rattle.eden_objects.specs.Objects.{Held, find}
+use Rattle.eden_git.specs.Words.{word_text}
 use Rattle.eden_ids.specs.Sameness.{same_bytes}
-use Rattle.eden_objects.specs.Trees.{Entry, entries_of, entries_depth, entries_reach, is_name, key, tree_depth, tree_reach}
-use Rattle.eden_objects.specs.Commits.{tree_named}
+use Rattle.eden_git.specs.Trees.{Entry, entries_of, is_name, key}
+use Rattle.eden_objects.specs.Trees.{entries_depth, entries_reach, tree_depth, tree_reach}
+use Rattle.eden_git.specs.Commits.{tree_named}
 use Rattle.eden_objects.specs.Puts.{word_wanted}
 
 -- the id is that of an object of this kind

@@ -1,19 +1,19 @@
 -- What a commit holds, from Git's format of trees and commits (`git cat-file` writes both out): a file entry gives its name, its mode's kind and its blob's payload; a directory entry
 -- gives its name, a slash and each path of its child.
-use Rattle.std.specs.Prelude.{ℕ, Bool, ◌&&◌, if◌then◌else◌, List, [], ◌∷◌, ◌++◌, map, take, drop, codes, nat_eq, Option, Some, None, Result, Ok, Err}
-use Rattle.std.specs.Prelude.{filter}
-use Rattle.std.specs.List.{flat_map, starts_with}
+use Rattle.std.specs.Prelude.{ℕ, Bool, if◌then◌else◌, List, [], ◌∷◌, ◌++◌, map, filter, Option, Some, None}
+use Rattle.std.specs.List.{flat_map}
 use Rattle.std.specs.FinMap as fin
 use Rattle.eden_ids.specs.declared.id.Id.{Id}
 use Rattle.eden_ids.specs.declared.content.Kind.{Kind}
 use Rattle.eden_ids.specs.declared.content.Content.{Content}
-use Rattle.eden_ids.specs.declared.hex_text.HexFault.{HexFault}
-use Rattle.eden_ids.specs.Hex.{id_of_hex}
 use Rattle.eden_ids.specs.FileMaps.{FileMap}
-use Rattle.eden_objects.specs.declared.word.Word.TheVariants.{Commit}
-use Rattle.eden_objects.specs.Objects.{Held, find, payload_of, same_word, zero_id}
+use Rattle.eden_git.specs.declared.word.Word.TheVariants.{Commit}
+use Rattle.eden_objects.specs.Objects.{Held, find, payload_of, zero_id}
+use Rattle.eden_git.specs.Words.{same_word}
 use Rattle.eden_ids.specs.Sameness.{same_bytes, same_id}
-use Rattle.eden_objects.specs.Trees.{Entry, tree_fold}
+use Rattle.eden_git.specs.Trees.{Entry}
+use Rattle.eden_git.specs.Commits.{tree_named}
+use Rattle.eden_objects.specs.Trees.{tree_fold}
 
 -- a file of a commit: its path, its kind and its blob
 abbrev pub Row : Type 0
@@ -36,16 +36,7 @@ entries_rows rows es = flat_map (entry_rows rows) es
 abbrev pub tree_rows : List Held → Id → List Row
 tree_rows held id = tree_fold [] entries_rows held id
 
--- the tree that a commit names: its payload begins with `tree `, the tree's id in hexadecimal and a line feed
-abbrev pub id_read : Result Id HexFault → Option Id
-id_read (Ok id) = Some id
-id_read (Err fault) = None
-
-abbrev pub tree_named : List ℕ → Option Id
-tree_named payload =
-    if starts_with nat_eq payload (codes "tree ") && starts_with nat_eq (drop 45 payload) (codes "\n")
-    then id_read (id_of_hex (take 40 (drop 5 payload))) else None
-
+-- the files of the tree that a commit names
 abbrev pub rows_named : List Held → Option Id → Option (List Row)
 rows_named held None = None
 rows_named held (Some tree) = Some (tree_rows held tree)

@@ -1,18 +1,20 @@
 -- How the table of a store is read as the list of its objects. A table is given newest first.
 use Rattle.std.specs.Prelude.{◌≡◌, ℕ, ◌≤◌, Bool, ◌&&◌, List, [], ◌∷◌, map, Option, Some, None, Result, Ok, Err, if◌then◌else◌}
 use Rattle.eden_ids.specs.declared.id.Id.{Id}
-use Rattle.eden_objects.specs.declared.word.Word.{Word}
-use Rattle.eden_objects.specs.declared.word.Word.TheVariants.{Tree}
+use Rattle.eden_git.specs.declared.word.Word.{Word}
+use Rattle.eden_git.specs.declared.word.Word.TheVariants.{Tree}
 use Rattle.eden_objects.specs.declared.size.Size.{Size}
 use Rattle.eden_objects.specs.declared.outline.Outline.{Outline}
 use Rattle.eden_objects.specs.declared.store.Object.{Object}
 use Rattle.eden_objects.specs.declared.fault.PutFault.{PutFault}
 use Rattle.eden_objects.specs.declared.fault.PutFault.TheVariants.{IdTaken}
-use Rattle.eden_objects.specs.Objects.{Held, same_word}
+use Rattle.eden_objects.specs.Objects.{Held}
+use Rattle.eden_git.specs.Words.{same_word}
 use Rattle.eden_ids.specs.Sameness.{same_bytes}
 use Rattle.eden_objects.specs.Counts.{files_of_entries, files_of_tree}
-use Rattle.eden_objects.specs.Starts.{AreStarts}
-use Rattle.eden_objects.specs.Trees.{entries_of, entries_depth, entries_reach, tree_depth, tree_reach}
+use Rattle.eden_git.specs.Starts.{AreStarts}
+use Rattle.eden_git.specs.Trees.{entries_of}
+use Rattle.eden_objects.specs.Trees.{entries_depth, entries_reach, tree_depth, tree_reach}
 
 abbrev pub held_of : Id → Object → Held
 held_of id object = record { id = id; word = object.word; payload = object.payload.items }

@@ -2,7 +2,7 @@
 use Rattle.std.specs.Prelude.{List, map, Option, Some, None}
 use Rattle.std.specs.Global.{Vec}
 use Rattle.eden_objects.specs.declared.entries.Entry as own
-use Rattle.eden_objects.specs.Trees.{Entry}
+use Rattle.eden_git.specs.Trees.{Entry}
 
 abbrev pub copied : own.Entry → Entry
 copied e = record { name = e.name.items; kind = e.kind; id = e.id }

@@ -2,7 +2,7 @@
 use Rattle.std.specs.Prelude.{ℕ, ◌-◌, ◌^◌, List, length, min}
 use Rattle.eden_ids.specs.declared.id.Id.{Id}
 use Rattle.eden_objects.specs.Objects.{Held}
-use Rattle.eden_objects.specs.Trees.{Entry}
+use Rattle.eden_git.specs.Trees.{Entry}
 use Rattle.eden_objects.specs.Commits.{entries_rows, tree_rows}
 
 abbrev pub capped : ℕ → ℕ

@@ -8,11 +8,12 @@ use Rattle.eden_ids.specs.declared.id.Id.{Id}
 use Rattle.eden_ids.specs.declared.content.Kind.{Kind}
 use Rattle.eden_ids.specs.FileMaps.{FileMap, file_at, paths, IsFileMap}
 use Rattle.eden_ids.specs.Paths.{path_fault}
-use Rattle.eden_objects.specs.declared.word.Word.TheVariants.{Blob, Tree}
+use Rattle.eden_git.specs.declared.word.Word.TheVariants.{Blob, Tree}
 use Rattle.eden_objects.specs.Objects.{Held, find}
-use Rattle.eden_objects.specs.Trees.{Entry, cut, entries_of, is_name}
+use Rattle.eden_git.specs.Trees.{Entry, cut, entries_of, is_name}
 use Rattle.eden_objects.specs.Commits.{Row, tree_rows, entries_rows, find_row, commit_rows, commit_map}
-use Rattle.eden_objects.specs.Walks.{file_named, dir_named, then_find, content_found}
+use Rattle.eden_git.specs.Directories.{file_named, dir_named}
+use Rattle.eden_objects.specs.Walks.{then_find, content_found}
 use Rattle.eden_objects.specs.Closed.{AllNamed, IsHeld, HasTree, IsClosed, NamesDiffer}
 
 -- the files of a tree are those of its entries

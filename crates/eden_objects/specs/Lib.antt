@@ -6,10 +6,9 @@ pub mod Closed
 pub mod Laws
 pub mod Walks
 pub mod Contents
-pub mod Entries
+pub mod Earlier
 pub mod Listings
 pub mod Readings
 pub mod Copies
 pub mod Files
-pub mod Starts
 pub mod Counts

@@ -1,21 +1,10 @@
 -- The objects of a store, newest first, so that what an object names stands behind it.
-use Rattle.std.specs.Prelude.{ℕ, Bool, true, false, List, [], ◌∷◌, codes, replicate, Option, Some, None, if◌then◌else◌}
+use Rattle.std.specs.Prelude.{ℕ, List, [], ◌∷◌, replicate, Option, Some, None, if◌then◌else◌}
 use Rattle.eden_ids.specs.declared.id.Id.{Id}
 use Rattle.eden_ids.specs.Sameness.{same_id}
-use Rattle.eden_objects.specs.declared.word.Word.{Word}
-use Rattle.eden_objects.specs.declared.word.Word.TheVariants.{Blob, Tree, Commit}
-
--- the word by which Git calls a kind of object (`git help hash-object`)
-abbrev pub word_text : Word → List ℕ
-word_text Blob = codes "blob"
-word_text Tree = codes "tree"
-word_text Commit = codes "commit"
-
-abbrev pub same_word : Word → Word → Bool
-same_word Blob Blob = true
-same_word Tree Tree = true
-same_word Commit Commit = true
-same_word _ _ = false
+use Rattle.eden_git.specs.declared.word.Word.{Word}
+use Rattle.eden_git.specs.declared.word.Word.TheVariants.{Blob}
+use Rattle.eden_git.specs.Words.{same_word}
 
 -- the id of the empty commit, which no object has
 abbrev pub zero_id : Id

@@ -6,14 +6,18 @@ use Rattle.std.specs.Cmp.Lexicographic.{slice_cmp}
 use Rattle.std.specs.List.{list_any}
 use Rattle.eden_ids.specs.declared.id.Id.{Id}
 use Rattle.eden_ids.specs.declared.content.Kind.{Kind}
-use Rattle.eden_objects.specs.declared.word.Word.{Word}
-use Rattle.eden_objects.specs.declared.word.Word.TheVariants.{Blob, Tree, Commit}
+use Rattle.eden_git.specs.declared.word.Word.{Word}
+use Rattle.eden_git.specs.declared.word.Word.TheVariants.{Blob, Tree, Commit}
+use Rattle.eden_git.specs.declared.fault.EntryFault.{EntryFault}
+use Rattle.eden_git.specs.declared.fault.EntryFault.TheVariants as entry
 use Rattle.eden_objects.specs.declared.fault.PutFault.{PutFault}
-use Rattle.eden_objects.specs.declared.fault.PutFault.TheVariants.{TooLarge, IdTaken, ZeroId, OutOfOrder, Duplicate, MissingChild, WrongChildKind, TooDeep, PathTooLong, CutShort, BadCommit, NoMemory}
-use Rattle.eden_objects.specs.Objects.{Held, find, same_word, word_text, zero_id}
+use Rattle.eden_objects.specs.declared.fault.PutFault.TheVariants.{TooLarge, IdTaken, ZeroId, BadMode, BadName, OutOfOrder, Duplicate, MissingChild, WrongChildKind, TooDeep, PathTooLong, CutShort, BadCommit, NoMemory}
+use Rattle.eden_objects.specs.Objects.{Held, find, zero_id}
+use Rattle.eden_git.specs.Words.{same_word, word_text}
 use Rattle.eden_ids.specs.Sameness.{same_bytes, same_id}
-use Rattle.eden_objects.specs.Trees.{Entry, key, read_entry, entries_of, entries_depth, entries_reach, tree_depth, tree_reach}
-use Rattle.eden_objects.specs.Commits.{tree_named}
+use Rattle.eden_git.specs.Trees.{Entry, key, read_entry, entries_of}
+use Rattle.eden_objects.specs.Trees.{entries_depth, entries_reach, tree_depth, tree_reach}
+use Rattle.eden_git.specs.Commits.{tree_named}
 
 abbrev pub Outcome : Type 0
 Outcome = Result (Id × List Held) PutFault
@@ -70,9 +74,15 @@ entry_fault held earlier e =
     first_fault (if_so (list_any (λ f. same_bytes f.name e.name) earlier) Duplicate)
     (first_fault (if_so (not (is_above e earlier)) OutOfOrder) (child_fault (word_wanted e.kind) (find e.id held)))
 
+-- an entry that can't be read is refused for the same cause
+abbrev pub unread : EntryFault → PutFault
+unread entry.CutShort = CutShort
+unread entry.BadMode = BadMode
+unread entry.BadName = BadName
+
 -- the fault of the first entry that has one, of the entries in some bytes that follow these earlier ones, newest first
-abbrev pub fault_after : List Held → List Entry → (List Entry → List ℕ → Option PutFault) → Result (Entry × List ℕ) PutFault → Option PutFault
-fault_after held earlier more (Err fault) = Some fault
+abbrev pub fault_after : List Held → List Entry → (List Entry → List ℕ → Option PutFault) → Result (Entry × List ℕ) EntryFault → Option PutFault
+fault_after held earlier more (Err fault) = Some (unread fault)
 fault_after held earlier more (Ok read) = first_fault (entry_fault held earlier read.0) (more (read.0 ∷ earlier) read.1)
 
 abbrev pub entries_fault : ℕ → List Held → List Entry → List ℕ → Option PutFault

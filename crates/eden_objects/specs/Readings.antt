@@ -1,9 +1,10 @@
 -- What is read of one tree: its payload, and its entries one by one.
 use Rattle.std.specs.Prelude.{ℕ, List, Option, Some, None, if◌then◌else◌}
 use Rattle.eden_ids.specs.declared.id.Id.{Id}
-use Rattle.eden_objects.specs.declared.word.Word.TheVariants.{Tree}
-use Rattle.eden_objects.specs.Objects.{Held, find, same_word}
-use Rattle.eden_objects.specs.Trees.{Entry, entries_of}
+use Rattle.eden_git.specs.declared.word.Word.TheVariants.{Tree}
+use Rattle.eden_objects.specs.Objects.{Held, find}
+use Rattle.eden_git.specs.Words.{same_word}
+use Rattle.eden_git.specs.Trees.{Entry, entries_of}
 
 -- the payload of the tree with an id
 abbrev pub tree_in : Option Held → Option (List ℕ)

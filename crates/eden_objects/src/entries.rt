@@ -1,15 +1,14 @@
 ghost use Rattle.std.specs.Prelude.{◌≡◌, ◌∷◌, ◌++◌, [], map, option_copied, Some, None, if◌then◌else◌, IfOk, OnOk};
-ghost use Rattle.eden_objects.specs.Objects.{find, same_word};
-ghost use Rattle.eden_objects.specs.Trees.{entries_of};
-ghost use Rattle.eden_objects.specs.Entries.{plain};
+ghost use Rattle.eden_objects.specs.Objects.{find};
+ghost use Rattle.eden_git.specs.Words.{same_word};
+ghost use Rattle.eden_git.specs.Trees.{entries_of};
+ghost use Rattle.eden_git.specs.Entries.{plain};
 ghost use Rattle.eden_objects.specs.Walks.{tree_seen};
 ghost use Rattle.eden_objects.specs.Readings.{tree_entries, tree_payload};
 ghost use Rattle.eden_objects.specs.Copies.{copied, copied_all};
 
-use crate::directory::next_entry;
-use crate::entry::RawEntry;
 use crate::store::{Object, Store};
-use crate::word::{Word, same_word};
+use eden_git::{RawEntry, Word, next_entry, same_word};
 use eden_ids::{Id, Kind, Naming, NoMemory};
 use std::alloc::Global;
 

@@ -1,7 +1,6 @@
-use crate::{Entry, RawEntry, Store, key_order, next_entry};
+use crate::{Entry, Store, next_entry};
 use eden_ids::{GitNaming, Id, Kind};
 use std::alloc::Global;
-use std::cmp::Ordering;
 use std::test::Fail;
 
 /// The bytes of an entry of a tree.
@@ -60,29 +59,6 @@ fn entries_one_by_one(rt: HostRuntime) -> Result<(), Fail> {
     assert_eq!(rt; second.map(|read| read.0.id), Some(empty));
     assert!(rt; end.is_empty() && next_entry(end).is_none());
     assert_eq!(rt; store.tree(blob), None);
-    Ok(())
-}
-
-#[test]
-fn a_directory_is_compared_with_its_slash(rt: HostRuntime) -> Result<(), Fail> {
-    let id = Id([1; 20]);
-    for (name, order) in [
-        ("a.b", Ordering::Greater),
-        ("a0", Ordering::Less),
-        ("a", Ordering::Greater),
-    ] {
-        let directory = RawEntry {
-            name: b"a".as_slice(),
-            kind: None,
-            id,
-        };
-        let file = RawEntry {
-            name: name.as_bytes(),
-            kind: Some(Kind::Plain),
-            id,
-        };
-        assert_eq!(rt; key_order(&directory, &file), order);
-    }
     Ok(())
 }
 

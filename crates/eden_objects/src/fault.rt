@@ -1,6 +1,8 @@
 ghost use Rattle.std.specs.Prelude.{◌≡◌};
 ghost use Rattle.eden_objects.specs.declared.fault.CommitFault.TheVariants as fault;
+ghost use Rattle.eden_objects.specs.Puts.{unread};
 
+use eden_git::EntryFault;
 use eden_ids::NoMemory;
 use std::alloc::{AllocError, AllocFailed};
 use thiserror::Error;
@@ -50,6 +52,18 @@ pub enum PutFault {
     /// A growth was refused.
     #[error("NoMemory")]
     NoMemory,
+}
+
+impl From<EntryFault> for PutFault {
+    ghost from_gives = { λ fault e. e ≡ unread fault };
+
+    fn from(fault: EntryFault) -> PutFault {
+        match fault {
+            EntryFault::CutShort => PutFault::CutShort,
+            EntryFault::BadMode => PutFault::BadMode,
+            EntryFault::BadName => PutFault::BadName,
+        }
+    }
 }
 
 /// The id is neither that of the empty commit nor that of a commit in the store.

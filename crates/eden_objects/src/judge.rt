@@ -2,22 +2,22 @@
 ghost use Rattle.std.specs.List.{AllByRecursion};
 ghost use Rattle.std.specs.Prelude.{◌≡◌, ◌≢◌, ◌≤◌, List, [], ◌∷◌, length, Some, None, IfOk, IfErr};
 ghost use Rattle.eden_objects.specs.Objects.{find};
-ghost use Rattle.eden_objects.specs.Trees.{Entry, depth_of, entries_depth, entries_of, entries_reach, reach_of, tree_depth, tree_reach};
+ghost use Rattle.eden_git.specs.Trees.{Entry, entries_of};
+ghost use Rattle.eden_objects.specs.Trees.{depth_of, entries_depth, entries_reach, reach_of, tree_depth, tree_reach};
 ghost use Rattle.eden_objects.specs.Closed.{IsHeld, IsSound};
-ghost use Rattle.eden_objects.specs.Entries.{HasSeen, plain};
+ghost use Rattle.eden_objects.specs.Earlier.{HasSeen};
+ghost use Rattle.eden_git.specs.Entries.{plain};
 ghost use Rattle.eden_objects.specs.Contents.{OutlineFits, SizeFits};
 ghost use Rattle.eden_objects.specs.Counts.{files_of_entries};
-ghost use Rattle.eden_objects.specs.Commits.{tree_named};
+ghost use Rattle.eden_git.specs.Commits.{tree_named};
 ghost use Rattle.eden_objects.specs.Puts.{child_fault, commit_fault, entries_fault, entry_fault, named_fault, tree_fault, word_wanted};
 
-use crate::directory::next_entry;
-use crate::entry::{RawEntry, read_entry, tree_named};
 use crate::fault::PutFault;
-use crate::outline::{Outline, starts_of};
+use crate::outline::Outline;
 use crate::seen::Seen;
 use crate::size::Size;
 use crate::store::{PAYLOAD_LIMIT, Store};
-use crate::word::{Word, same_word};
+use eden_git::{RawEntry, Word, next_entry, read_entry, same_word, starts_of, tree_named};
 use eden_ids::{Id, Kind, Naming, NoMemory};
 
 /// What a directory, or else a file, has to be.
@@ -114,10 +114,7 @@ impl<N: Naming + Drop> Store<N> {
         let mut size = Size::NONE;
         let mut rest = payload;
         while rest.len() > 0 {
-            let (entry, behind) = match read_entry(rest) {
-                Ok(read) => read,
-                Err(fault) => return Err(fault),
-            };
+            let (entry, behind) = read_entry(rest)?;
             if let Some(fault) = self.entry_fault(&seen, &entry) {
                 return Err(fault);
             }

@@ -2,22 +2,17 @@
 #![tactic(auto)]
 
 pub use crate::commit::Commit;
-pub use crate::directory::next_entry;
 pub use crate::entries::Entry;
-pub use crate::entry::RawEntry;
 pub use crate::fault::{CommitFault, NoCommit, PutFault};
 pub use crate::laws::{commit_map_law, grown_law, same_object_law, tree_law};
-pub use crate::seen::key_order;
 pub use crate::store::Store;
-pub use crate::word::Word;
+pub use eden_git::{RawEntry, Word, key_order, next_entry};
 
 mod beneath;
 mod commit;
-mod directory;
 mod entries;
 #[cfg(test)]
 mod entries_tests;
-mod entry;
 mod fault;
 mod judge;
 mod laws;
@@ -33,4 +28,3 @@ mod tests;
 mod walk;
 #[cfg(test)]
 mod walk_tests;
-mod word;

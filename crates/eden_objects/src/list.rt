@@ -5,10 +5,9 @@ ghost use Rattle.eden_objects.specs.Commits.{commit_rows, rows_where, tree_rows}
 ghost use Rattle.eden_objects.specs.Closed.{HasTree};
 ghost use Rattle.eden_objects.specs.Listings.{ArePaths, IsBelow, Lists, behind, rows_behind, rows_below};
 
-use crate::directory::next_entry;
-use crate::entry::cut;
 use crate::fault::{CommitFault, NoCommit};
 use crate::store::Store;
+use eden_git::{cut, next_entry};
 use eden_globs::Filter;
 use eden_ids::{Id, Kind, Naming, NoMemory, Path, PathFault};
 use std::alloc::Global;

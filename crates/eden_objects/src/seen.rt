@@ -1,11 +1,10 @@
 //! What a tree's entries so far ask of the next one.
 ghost use Rattle.std.specs.Prelude.{◌≡◌, ◌∷◌, [], List, OnOk};
-ghost use Rattle.std.specs.Ordering.{nat_cmp};
-ghost use Rattle.std.specs.Cmp.Lexicographic.{slice_cmp};
-ghost use Rattle.eden_objects.specs.Trees.{Entry, key};
-ghost use Rattle.eden_objects.specs.Entries.{plain, option_plain, HasSeen, ending_of, is_above_last, has_name};
+ghost use Rattle.eden_git.specs.Trees.{Entry};
+ghost use Rattle.eden_git.specs.Entries.{option_plain, plain};
+ghost use Rattle.eden_objects.specs.Earlier.{HasSeen, has_name, is_above_last};
 
-use crate::entry::RawEntry;
+use eden_git::{RawEntry, key_order};
 use eden_ids::NoMemory;
 use std::alloc::Global;
 use std::cmp::Ordering;
@@ -16,24 +15,6 @@ use std::collections::BTreeSet;
 pub(crate) struct Seen<'a> {
     names: BTreeSet<&'a [u8]>,
     last: Option<RawEntry<'a>>,
-}
-
-/// What follows a name where entries are compared.
-fn ending(entry: &RawEntry<'_>) -> &'static [u8]
-    ensures { result.now ≡ ending_of entry.now.kind }
-{
-    match entry.kind {
-        None => b"/".as_slice(),
-        Some(_) => b"".as_slice(),
-    }
-}
-
-/// How two entries stand in Git's order: by the bytes of their names, a directory's with a slash behind it. This takes no memory.
-pub fn key_order(first: &RawEntry<'_>, second: &RawEntry<'_>) -> Ordering
-    ensures { result ≡ slice_cmp nat_cmp (key (plain first.now)) (key (plain second.now)) }
-{
-    let bytes = first.name.iter().chain(ending(first).iter());
-    bytes.cmp(second.name.iter().chain(ending(second).iter()))
 }
 
 impl<'a> Seen<'a> {

@@ -1,13 +1,14 @@
 ghost use Rattle.std.specs.Prelude.{◌≡◌, ◌∷◌, [], None, Some, OnOk, OnErr, option_copied};
-ghost use Rattle.eden_objects.specs.Objects.{find, same_word, word_text};
+ghost use Rattle.eden_objects.specs.Objects.{find};
+ghost use Rattle.eden_git.specs.Words.{same_word, word_text};
 ghost use Rattle.eden_ids.specs.Sameness.{same_bytes};
 ghost use Rattle.eden_objects.specs.Puts.{PutGives, TreeGives, put_outcome, blob_outcome, commit_outcome, named, tree_outcome};
 ghost use Rattle.eden_objects.specs.Closed.{IsClosed, IsSound, AllNamed};
 ghost use Rattle.eden_objects.specs.Contents.{held_of, option_held, Measures, OutlineFits, TellsOutline, is_object, standing_answer};
 
 use crate::fault::PutFault;
-use crate::outline::{Outline, starts_of};
-use crate::word::{Word, same_word};
+use crate::outline::Outline;
+use eden_git::{Word, same_word};
 use eden_ids::{Id, Naming, NoMemory};
 use indexmap::IndexMap;
 use std::alloc::Global;

@@ -1,17 +1,18 @@
 ghost use Rattle.std.specs.Prelude.{◌≡◌, Some, None, if◌then◌else◌, option_copied, is_some};
 ghost use Rattle.std.specs.Result.{result_ok};
-ghost use Rattle.eden_objects.specs.Objects.{blob_of, find, payload_of, same_word};
-ghost use Rattle.eden_objects.specs.Commits.{commit_rows, find_row, row_in, tree_named, tree_rows};
+ghost use Rattle.eden_objects.specs.Objects.{blob_of, find, payload_of};
+ghost use Rattle.eden_git.specs.Words.{same_word};
+ghost use Rattle.eden_objects.specs.Commits.{commit_rows, find_row, row_in, tree_rows};
+ghost use Rattle.eden_git.specs.Commits.{tree_named};
 ghost use Rattle.eden_objects.specs.Closed.{HasTree};
-ghost use Rattle.eden_objects.specs.Starts.{AreInOrder, AreStarts};
-ghost use Rattle.eden_objects.specs.Trees.{entries_of};
-ghost use Rattle.eden_objects.specs.Walks.{IsTreeOf, dir_named, file_named, rows_of_tree, tree_seen};
+ghost use Rattle.eden_git.specs.Starts.{AreInOrder, AreStarts};
+ghost use Rattle.eden_git.specs.Trees.{entries_of};
+ghost use Rattle.eden_objects.specs.Walks.{IsTreeOf, rows_of_tree, tree_seen};
+ghost use Rattle.eden_git.specs.Directories.{dir_named, file_named};
 
-use crate::directory::{dir_in, file_in};
-use crate::entry::{cut, tree_named};
 use crate::fault::NoCommit;
 use crate::store::{Object, Store};
-use crate::word::{Word, same_word};
+use eden_git::{Word, cut, dir_in, file_in, same_word, tree_named};
 use eden_ids::{Id, Kind, Naming, Path};
 
 impl Object {

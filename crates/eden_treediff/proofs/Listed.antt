@@ -15,8 +15,9 @@ use Rattle.eden_ids.specs.declared.id.Id.{Id}
 use Rattle.eden_ids.specs.declared.content.Kind.{Kind}
 use Rattle.eden_ids.specs.FileMaps.{differ, file_at, listing, path_set, same_file, same_kind}
 use Rattle.eden_ids.proofs.FileMapLemmas.{has-differ, has-path_set, same_path_set}
-use Rattle.eden_objects.specs.declared.word.Word.TheVariants.{Blob}
-use Rattle.eden_objects.specs.Objects.{Held, find, payload_of, word_text}
+use Rattle.eden_git.specs.declared.word.Word.TheVariants.{Blob}
+use Rattle.eden_objects.specs.Objects.{Held, find, payload_of}
+use Rattle.eden_git.specs.Words.{word_text}
 use Rattle.eden_ids.specs.Sameness.{same_bytes, same_id}
 use Rattle.eden_objects.specs.Commits.{Row, commit_map, find_row, map_of_rows}
 use Rattle.eden_objects.specs.Closed.{IsHeld, AllNamed}

@@ -14,13 +14,14 @@ use Rattle.eden_ids.specs.declared.content.Kind.TheVariants.{Plain, Exec, Link}
 use Rattle.eden_ids.specs.FileMaps.{same_kind}
 use Rattle.eden_objects.specs.Objects.{Held}
 use Rattle.eden_ids.specs.Sameness.{same_id}
-use Rattle.eden_objects.specs.Trees.{Entry, is_name, key, key_of, entries_depth, tree_depth}
+use Rattle.eden_git.specs.Trees.{Entry, is_name, key, key_of}
+use Rattle.eden_objects.specs.Trees.{entries_depth, tree_depth}
 use Rattle.eden_objects.specs.Commits.{Row, under, rows_of_kind, entry_rows, entries_rows, tree_rows}
 use Rattle.eden_objects.specs.Puts.{word_wanted}
 use Rattle.eden_objects.specs.Closed.{IsHeld, HasTree}
 use Rattle.eden_objects.proofs.Closed.{child_below, later_below, same_id-is}
 use Rattle.eden_objects.proofs.Rising.{file_entries, all_dir}
-use Rattle.eden_objects.proofs.Slashes.{has_slash, name_has_none}
+use Rattle.eden_git.proofs.Slashes.{has_slash, name_has_none}
 use Rattle.eden_treediff.specs.Merges.{merge_rows}
 use Rattle.eden_treediff.specs.Pairs.{Directory, Next, next_of_both, next_pair, is_changed, same_mode, name_of, directory, directory_of}
 use Rattle.eden_treediff.specs.Walks.{IsSide, side_rows, side_depth}

@@ -11,9 +11,9 @@ use Rattle.eden_ids.specs.declared.content.Kind.{Kind}
 use Rattle.eden_ids.specs.declared.content.Kind.TheVariants.{Plain, Exec, Link}
 use Rattle.eden_ids.specs.Sameness.{same_id}
 use Rattle.eden_lanes.specs.Rows.{differ_from}
-use Rattle.eden_objects.specs.Trees.{Entry, entries_of, key}
-use Rattle.eden_objects.specs.declared.entry.RawEntry.{RawEntry}
-use Rattle.eden_objects.specs.Entries.{option_plain, plain}
+use Rattle.eden_git.specs.Trees.{Entry, entries_of, key}
+use Rattle.eden_git.specs.declared.entry.RawEntry.{RawEntry}
+use Rattle.eden_git.specs.Entries.{option_plain, plain}
 use Rattle.eden_treediff.specs.declared.changes.Changes.{Changes}
 use Rattle.eden_treediff.specs.Columns.{AreChanges, Both, Tells, both_of, common, first_ids, first_kinds, is_first, kind_byte, rows_after, second_ids, second_kinds}
 use Rattle.eden_treediff.specs.Pairs.{Next, is_changed, next_of_both, next_pair, same_mode}

@@ -11,7 +11,7 @@ use Rattle.std.specs.BTreeSet.{Updates}
 use Rattle.std.specs.Cmp.{Equal-is}
 use Rattle.eden_ids.specs.declared.id.Id.{Id}
 use Rattle.eden_objects.specs.Objects.{Held}
-use Rattle.eden_objects.specs.Trees.{Entry}
+use Rattle.eden_git.specs.Trees.{Entry}
 use Rattle.eden_treediff.specs.declared.settled.Settled.{Settled}
 use Rattle.eden_treediff.specs.Merges.{merge_rows}
 use Rattle.eden_treediff.specs.Pairs.{next_pair}

@@ -5,7 +5,8 @@ use Rattle.std.proofs.Math.Seq.{take-append_seam}
 use Rattle.std.specs.List.Sorted.{IsStrictlySortedBy}
 use Rattle.eden_ids.specs.declared.id.Id.{Id}
 use Rattle.eden_objects.specs.Objects.{Held}
-use Rattle.eden_objects.specs.Trees.{Entry, entries_depth, tree_depth}
+use Rattle.eden_git.specs.Trees.{Entry}
+use Rattle.eden_objects.specs.Trees.{entries_depth, tree_depth}
 use Rattle.eden_objects.specs.Commits.{entries_rows, tree_rows}
 use Rattle.eden_objects.specs.Closed.{IsClosed}
 use Rattle.eden_objects.proofs.WalkSteps.{rows_here, tree_here}

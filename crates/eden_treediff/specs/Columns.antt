@@ -8,7 +8,7 @@ use Rattle.eden_ids.specs.declared.content.Kind.{Kind}
 use Rattle.eden_ids.specs.declared.content.Kind.TheVariants.{Plain, Exec, Link}
 use Rattle.eden_ids.specs.Sameness.{same_id}
 use Rattle.eden_lanes.specs.Rows.{differ_from}
-use Rattle.eden_objects.specs.Trees.{Entry, key}
+use Rattle.eden_git.specs.Trees.{Entry, key}
 use Rattle.eden_treediff.specs.declared.changes.Changes.{Changes}
 
 -- two entries of one key

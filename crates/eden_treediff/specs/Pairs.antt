@@ -7,8 +7,8 @@ use Rattle.eden_ids.specs.declared.id.Id.{Id}
 use Rattle.eden_ids.specs.declared.content.Kind.{Kind}
 use Rattle.eden_ids.specs.FileMaps.{same_kind}
 use Rattle.eden_ids.specs.Sameness.{same_id}
-use Rattle.eden_objects.specs.Trees.{Entry, entries_of, key}
-use Rattle.eden_objects.specs.Entries.{option_plain}
+use Rattle.eden_git.specs.Trees.{Entry, entries_of, key}
+use Rattle.eden_git.specs.Entries.{option_plain}
 use Rattle.eden_treediff.specs.declared.pair.Pair.{Pair}
 
 -- the next entry on each side, both where they have one key, and what is left on each side

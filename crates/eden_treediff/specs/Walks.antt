@@ -4,7 +4,8 @@ use Rattle.std.specs.Borrow.{Bor}
 use Rattle.eden_ids.specs.declared.id.Id.{Id}
 use Rattle.eden_objects.specs.Objects.{Held, find, payload_of}
 use Rattle.eden_ids.specs.Sameness.{same_id}
-use Rattle.eden_objects.specs.Trees.{entries_of, tree_depth, Entry}
+use Rattle.eden_git.specs.Trees.{entries_of, Entry}
+use Rattle.eden_objects.specs.Trees.{tree_depth}
 use Rattle.eden_objects.specs.Commits.{Row, commit_rows, tree_rows}
 use Rattle.eden_objects.specs.Closed.{HasTree}
 use Rattle.eden_objects.specs.declared.fault.NoCommit.{NoCommit}

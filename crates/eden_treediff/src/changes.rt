@@ -1,5 +1,5 @@
 ghost use Rattle.std.specs.Prelude.{◌≡◌, ◌≤◌, ◌<◌, ◌+◌, ◌++◌, ◌∷◌, List, not, ◌&&◌};
-ghost use Rattle.eden_objects.specs.Entries.{option_plain};
+ghost use Rattle.eden_git.specs.Entries.{option_plain};
 ghost use Rattle.eden_ids.specs.Sameness.{same_id};
 ghost use Rattle.eden_treediff.specs.Columns.{AreChanges, Both, Tells, both_of, is_first, rows_after};
 ghost use Rattle.eden_treediff.specs.Pairs.{is_changed, same_mode};

@@ -1,6 +1,6 @@
 ghost use Rattle.std.specs.Prelude.{◌≡◌, ◌++◌, ◌∷◌, [], length, IfOk, OnOk};
-ghost use Rattle.eden_objects.specs.Entries.{option_plain, plain};
-ghost use Rattle.eden_objects.specs.Trees.{entries_of};
+ghost use Rattle.eden_git.specs.Entries.{option_plain, plain};
+ghost use Rattle.eden_git.specs.Trees.{entries_of};
 ghost use Rattle.eden_treediff.specs.Columns.{AreChanges, both_of, common, first_ids, first_kinds, kind_byte, second_ids, second_kinds};
 
 use crate::pair::{Pair, next_pair};

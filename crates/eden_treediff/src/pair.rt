@@ -1,6 +1,6 @@
 ghost use Rattle.std.specs.Prelude.{◌≡◌, ◌+◌, ◌<◌, length, Some, None, IfSome};
-ghost use Rattle.eden_objects.specs.Trees.{entries_of};
-ghost use Rattle.eden_objects.specs.Entries.{option_plain};
+ghost use Rattle.eden_git.specs.Trees.{entries_of};
+ghost use Rattle.eden_git.specs.Entries.{option_plain};
 ghost use Rattle.eden_treediff.specs.Pairs.{directory, directory_of, name_of, next_of, next_pair, option_next};
 ghost use Rattle.eden_treediff.specs.Walks.{directory_read};
 

@@ -1,5 +1,5 @@
 use Rattle.std.proofs.Common.{◌≡◌, ◌++◌, map, length}
-use Rattle.eden_objects.specs.Trees.{entries_of}
+use Rattle.eden_git.specs.Trees.{entries_of}
 use Rattle.eden_objects.specs.Copies.{copied}
 use Rattle.eden_objects.proofs.entries.copies_of.Given as goal
 

@@ -1,5 +1,5 @@
 use Rattle.std.proofs.Common.{◌≡◌, ◌+◌, ◌++◌, length}
-use Rattle.eden_objects.specs.Trees.{entries_of}
+use Rattle.eden_git.specs.Trees.{entries_of}
 use Rattle.eden_treediff.specs.Columns.{common, first_ids, first_kinds, second_ids, second_kinds}
 use Rattle.eden_treediff.proofs.columns.columns_of.Given as goal
 

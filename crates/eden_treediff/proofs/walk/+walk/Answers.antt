@@ -1,6 +1,6 @@
 use Rattle.std.proofs.Common.{rules, ◌≡◌, ◌++◌, ◌∷◌, [], ℕ, ◌+◌, ◌<◌, length, take, List, sym, ap, subst, ◌∙◌, arith}
 use Rattle.eden_objects.specs.Objects.{Held}
-use Rattle.eden_objects.specs.Trees.{Entry, entries_of}
+use Rattle.eden_git.specs.Trees.{Entry, entries_of}
 use Rattle.eden_treediff.specs.Columns.{common}
 use Rattle.eden_treediff.specs.Merges.{merge_rows}
 use Rattle.eden_treediff.specs.Pairs.{Directory, Next, name_of, next_of}

@@ -1,5 +1,5 @@
 use Rattle.std.proofs.Common.{◌≡◌, ◌+◌, ◌<◌, ◌++◌, length}
-use Rattle.eden_objects.specs.Trees.{entries_of}
+use Rattle.eden_git.specs.Trees.{entries_of}
 use Rattle.eden_treediff.specs.Columns.{Tells, common}
 use Rattle.eden_treediff.specs.Merges.{merge_rows}
 use Rattle.eden_treediff.specs.Settled.{AreSettled, KeepsSettled}

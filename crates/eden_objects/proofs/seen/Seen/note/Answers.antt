@@ -2,7 +2,7 @@ use Rattle.std.proofs.Common.{rules, refl, true}
 use Rattle.std.specs.Ordering.{nat_cmp}
 use Rattle.std.specs.Cmp.Lexicographic.{slice_cmp}
 use Rattle.std.specs.BTreeSet.{Updates}
-use Rattle.eden_objects.proofs.Order.{noted}
+use Rattle.eden_objects.proofs.Noted.{noted}
 use Rattle.eden_objects.proofs.seen.Seen.note.Goals as goal
 
 pub returns : goal.returns

@@ -2,8 +2,9 @@ use Rattle.std.proofs.Common.{rules, ◌≡◌, ℕ, ◌<◌, ◌++◌, ◌∷�
 use Rattle.std.specs.List.{AllByRecursion}
 use Rattle.eden_globs.specs.Filters.{admits}
 use Rattle.eden_objects.specs.Objects.{Held}
-use Rattle.eden_objects.specs.Entries.{plain}
-use Rattle.eden_objects.specs.Trees.{Entry, entries_of, entries_depth, tree_depth}
+use Rattle.eden_git.specs.Entries.{plain}
+use Rattle.eden_git.specs.Trees.{Entry, entries_of}
+use Rattle.eden_objects.specs.Trees.{entries_depth, tree_depth}
 use Rattle.eden_objects.specs.Commits.{entries_rows, tree_rows}
 use Rattle.eden_objects.specs.Puts.{word_wanted}
 use Rattle.eden_objects.specs.Closed.{IsHeld}

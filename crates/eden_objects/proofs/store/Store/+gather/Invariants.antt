@@ -1,7 +1,8 @@
 use Rattle.std.proofs.Common.{◌≡◌, ◌≤◌, ◌++◌, length}
 use Rattle.std.specs.List.{AllByRecursion}
 use Rattle.eden_globs.specs.Filters.{admits}
-use Rattle.eden_objects.specs.Trees.{entries_of, entries_depth, tree_depth}
+use Rattle.eden_git.specs.Trees.{entries_of}
+use Rattle.eden_objects.specs.Trees.{entries_depth, tree_depth}
 use Rattle.eden_objects.specs.Commits.{entries_rows, tree_rows}
 use Rattle.eden_objects.specs.Puts.{word_wanted}
 use Rattle.eden_objects.specs.Closed.{IsHeld}

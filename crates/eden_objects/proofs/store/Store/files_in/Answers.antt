@@ -1,7 +1,7 @@
 use Rattle.std.proofs.Common.{rules, ◌≡◌, []}
 use Rattle.eden_objects.specs.Commits.{tree_rows}
 use Rattle.eden_objects.specs.Counts.{files_of_entries}
-use Rattle.eden_objects.specs.Trees.{entries_of}
+use Rattle.eden_git.specs.Trees.{entries_of}
 use Rattle.eden_objects.proofs.FilesOf.{all_counted}
 use Rattle.eden_objects.proofs.store.Store.files_in.Goals as goal
 

@@ -2,7 +2,7 @@ use Rattle.std.proofs.Common.{◌≡◌, ◌+◌, ◌<◌, ◌^◌, length}
 use Rattle.std.specs.List.{AllByRecursion}
 use Rattle.eden_objects.specs.Commits.{entries_rows, tree_rows}
 use Rattle.eden_objects.specs.Counts.{capped, files_of_entries}
-use Rattle.eden_objects.specs.Trees.{entries_of}
+use Rattle.eden_git.specs.Trees.{entries_of}
 use Rattle.eden_objects.specs.Puts.{word_wanted}
 use Rattle.eden_objects.specs.Closed.{IsHeld}
 use Rattle.eden_objects.proofs.store.Store.files_in.Given as goal

@@ -1,6 +1,7 @@
 use Rattle.std.proofs.Common.{◌≡◌, Some, None, ap, sym, ◌∙◌}
 use Rattle.eden_objects.specs.Commits.{tree_rows}
-use Rattle.eden_objects.specs.Walks.{dir_named, then_find}
+use Rattle.eden_git.specs.Directories.{dir_named}
+use Rattle.eden_objects.specs.Walks.{then_find}
 use Rattle.eden_objects.proofs.WalkSteps.{entries_in, file_here, dir_here, child_here}
 use Rattle.eden_objects.proofs.store.Store.find_below.Goals as goal
 

@@ -1,5 +1,6 @@
 use Rattle.std.proofs.Common.{rules, ◌≡◌, ◌≤◌, [], length, None}
-use Rattle.eden_objects.specs.Trees.{entries_depth, entries_of, entries_reach, tree_depth, tree_reach}
+use Rattle.eden_objects.specs.Trees.{entries_depth, entries_reach, tree_depth, tree_reach}
+use Rattle.eden_git.specs.Trees.{entries_of}
 use Rattle.eden_objects.specs.Puts.{entries_fault}
 use Rattle.eden_objects.proofs.Judged.{tree_sound}
 use Rattle.eden_objects.proofs.store.Store.tree_size.Goals as goal

@@ -1,0 +1,7 @@
+mod Cuts
+pub mod Reading
+pub mod Fuel
+pub mod Slashes
+mod Keys
+mod Noting
+mod Searching

@@ -1,0 +1,20 @@
+//! Git's format: the words of objects, the entries of trees and their order, and the tree that a commit names.
+#![tactic(auto)]
+
+pub use crate::commit::tree_named;
+pub use crate::directory::{dir_in, file_in, next_entry};
+pub use crate::entry::{RawEntry, cut, read_entry};
+pub use crate::fault::EntryFault;
+pub use crate::order::key_order;
+pub use crate::starts::starts_of;
+pub use crate::word::{Word, same_word};
+
+mod commit;
+mod directory;
+mod entry;
+mod fault;
+mod order;
+mod starts;
+#[cfg(test)]
+mod tests;
+mod word;

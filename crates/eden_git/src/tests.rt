@@ -1,0 +1,112 @@
+use crate::{
+    EntryFault, RawEntry, Word, cut, key_order, next_entry, read_entry, same_word, starts_of,
+    tree_named,
+};
+use eden_ids::{Id, Kind};
+use std::alloc::Global;
+use std::cmp::Ordering;
+use std::test::Fail;
+
+/// The bytes of two entries: an executable file `a.b` and a directory `a`.
+fn two_entries(alloc: Global) -> Result<Vec<u8>, Fail> {
+    let mut payload = b"100755 a.b\0".to_vec(alloc)?;
+    payload.extend_from_slice([1; 20].as_slice())?;
+    payload.extend_from_slice(b"40000 a\0".as_slice())?;
+    payload.extend_from_slice([2; 20].as_slice())?;
+    Ok(payload)
+}
+
+#[test]
+fn entries_one_by_one(rt: HostRuntime) -> Result<(), Fail> {
+    let payload = two_entries(rt.alloc())?;
+    let first = next_entry(payload.as_slice());
+    let after = first.map_or(b"".as_slice(), |read| read.1);
+    let second = next_entry(after);
+    let end = second.map_or(b"x".as_slice(), |read| read.1);
+    assert_eq!(rt; first.map(|read| read.0.name), Some(b"a.b".as_slice()));
+    assert_eq!(rt; first.map(|read| read.0.kind), Some(Some(Kind::Exec)));
+    assert_eq!(rt; first.map(|read| read.0.id), Some(Id([1; 20])));
+    assert_eq!(rt; second.map(|read| read.0.name), Some(b"a".as_slice()));
+    assert_eq!(rt; second.map(|read| read.0.kind), Some(None));
+    assert_eq!(rt; second.map(|read| read.0.id), Some(Id([2; 20])));
+    assert!(rt; end.is_empty() && next_entry(end).is_none());
+    let starts = starts_of(rt.alloc(), payload.as_slice())?;
+    assert_eq!(rt; starts.as_slice(), [0, 31].as_slice());
+    Ok(())
+}
+
+/// Why no entry is read.
+fn fault_of(bytes: &[u8]) -> Option<EntryFault> {
+    read_entry(bytes).err()
+}
+
+#[test]
+fn entries_that_cannot_be_read(rt: HostRuntime) -> Result<(), Fail> {
+    let payload = two_entries(rt.alloc())?;
+    for length in [0, 5, 10, 11, 30] {
+        let fault = fault_of(&payload[..length.min(payload.len())]);
+        assert_eq!(rt; fault, Some(EntryFault::CutShort), "at {length}");
+    }
+    let rows = [
+        ("100755", EntryFault::CutShort),
+        ("100755 a", EntryFault::CutShort),
+        ("160000 a", EntryFault::BadMode),
+        ("040000 a\0", EntryFault::BadMode),
+        ("100644 \0", EntryFault::BadName),
+        ("100644 ..\0", EntryFault::BadName),
+        ("100644 a/b\0", EntryFault::BadName),
+        ("100644 a\0", EntryFault::CutShort),
+    ];
+    for (text, fault) in rows {
+        assert_eq!(rt; fault_of(text.as_bytes()), Some(fault), "at {text}");
+    }
+    Ok(())
+}
+
+#[test]
+fn a_directory_is_compared_with_its_slash(rt: HostRuntime) -> Result<(), Fail> {
+    let id = Id([1; 20]);
+    for (name, order) in [
+        ("a.b", Ordering::Greater),
+        ("a0", Ordering::Less),
+        ("a", Ordering::Greater),
+    ] {
+        let directory = RawEntry {
+            name: b"a".as_slice(),
+            kind: None,
+            id,
+        };
+        let file = RawEntry {
+            name: name.as_bytes(),
+            kind: Some(Kind::Plain),
+            id,
+        };
+        assert_eq!(rt; key_order(&directory, &file), order);
+    }
+    Ok(())
+}
+
+#[test]
+fn what_a_commit_names(rt: HostRuntime) -> Result<(), Fail> {
+    let text = b"tree ce013625030ba8dba906f756967f9e9ca394464a\nauthor a\n".as_slice();
+    let id = Id::from_hex(b"ce013625030ba8dba906f756967f9e9ca394464a".as_slice())?;
+    assert_eq!(rt; tree_named(text), Some(id));
+    assert_eq!(rt; tree_named(&text[..45.min(text.len())]), None);
+    assert_eq!(rt; tree_named(&text[1..]), None);
+    Ok(())
+}
+
+#[test]
+fn words_and_cuts(rt: HostRuntime) -> Result<(), Fail> {
+    let words = [Word::Blob, Word::Tree, Word::Commit];
+    for (word, text) in words.into_iter().zip(["blob", "tree", "commit"]) {
+        assert_eq!(rt; word.text(), text.as_bytes());
+        for other in words {
+            assert_eq!(rt; same_word(word, other), word == other);
+        }
+    }
+    let parts = cut(b"d/e/f".as_slice(), b'/');
+    assert_eq!(rt; parts, Some((b"d".as_slice(), b"e/f".as_slice())));
+    assert_eq!(rt; cut(b"f".as_slice(), b'/'), None);
+    Ok(())
+}

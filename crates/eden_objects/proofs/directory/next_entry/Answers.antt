@@ -1,7 +1,0 @@
-use Rattle.std.proofs.Common.{ap, sym, ◌∙◌}
-use Rattle.eden_objects.specs.Walks.{entries_read}
-use Rattle.eden_objects.proofs.Fuel.{all_read}
-use Rattle.eden_objects.proofs.directory.next_entry.Goals as goal
-
-pub returns-clause-entries : goal.returns-clause-entries
-returns-clause-entries c = all_read c.args.bytes.now c.read_entry.result c.read_entry.ensures.read ∙ ap entries_read (sym c.ok.ensures.value)
