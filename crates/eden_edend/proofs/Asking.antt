@@ -17,7 +17,7 @@ use Rattle.eden_accumulate.specs.declared.snapshot.Snapshot.{Snapshot}
 use Rattle.eden_accumulate.specs.Mounts.{State, StandsFor}
 use Rattle.eden_accumulate.specs.Snapshots.{shown_to}
 use Rattle.eden_script.specs.ScriptText.{change_fault_text, content_at, content_text, dirty_told, file_text, paths_text, refused_text}
-use Rattle.eden_edend.specs.Told.{MountTells}
+use Rattle.eden_edend.specs.internal.Told.{MountTells}
 
 pub file_told : (files : FileMap) (path : List ℕ) (content : Content) (absent : Option ChangeFault) → absent ≡ None → file_at files path ≡ Some content
     → content_at files path absent ≡ content_text content

@@ -17,7 +17,7 @@ use Rattle.eden_history.specs.declared.position.Position.{Position}
 use Rattle.eden_history.specs.Worlds.{Row, Commits, WorldState, commits_of, now, position_of}
 use Rattle.eden_history.specs.Outcome.{Outcome, answer_at, answer_of, answered, extended, outcome, world_after}
 use Rattle.eden_history.specs.Outcome.Outcome.{Refuses as Refused, NoEvent, Next}
-use Rattle.eden_edend.specs.Told.{MountTells, answer_checked, answer_made}
+use Rattle.eden_edend.specs.internal.Told.{MountTells, answer_checked, answer_made}
 
 -- a change that is made isn't answered as one that is refused
 not_refused : (commits : Commits) (row : Row) (change : Change) (position : Position) (fault : ChangeFault) → answer_at commits row change position ≢ answer.Refused fault

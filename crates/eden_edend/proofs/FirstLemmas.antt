@@ -11,7 +11,7 @@ use Rattle.eden_ids.specs.Sameness.{same_id}
 use Rattle.eden_objects.proofs.Lookup.{turn}
 use Rattle.eden_script.specs.declared.label.Binding.{Binding}
 use Rattle.eden_script.specs.Labels.{is_id, newest, still_binds}
-use Rattle.eden_edend.specs.Firsts.{AreFirsts, IsFirst, IsNoted, binds_any, place_or}
+use Rattle.eden_edend.specs.internal.Firsts.{AreFirsts, IsFirst, IsNoted, binds_any, place_or}
 
 -- an id that had no place gets one, and each other one keeps its own
 

@@ -7,7 +7,7 @@ use Rattle.std.specs.FinMap as fin
 use Rattle.eden_script.specs.declared.label.Binding.{Binding}
 use Rattle.eden_ids.specs.Sameness.{same_bytes}
 use Rattle.eden_script.specs.Labels.{newest}
-use Rattle.eden_edend.specs.BoundMaps.{BoundMap, bound_map}
+use Rattle.eden_edend.specs.internal.BoundMaps.{BoundMap, bound_map}
 
 -- one more binding
 pub bound_map_more : (made : List Binding) (map : BoundMap) (binding : Binding) → map ≡ bound_map (reverse made)

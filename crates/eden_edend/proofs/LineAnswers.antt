@@ -9,9 +9,9 @@ use Rattle.eden_script.specs.ScriptLines.{command_of}
 use Rattle.eden_stream.specs.Lines.{IsSpoken}
 use Rattle.eden_script.specs.ScriptText.{Told, told, before_text, continued, script_text}
 use Rattle.eden_accumulate.specs.Mounts.{State}
-use Rattle.eden_edend.specs.SessionScript.{spoken-text}
+use Rattle.eden_edend.specs.internal.SessionScript.{spoken-text}
 use Rattle.eden_edend.specs.declared.objects.Objects.{Objects}
-use Rattle.eden_edend.specs.Told.{SessionStands, Tells, session_of}
+use Rattle.eden_edend.specs.internal.Told.{SessionStands, Tells, session_of}
 
 before-front : (text : List ℕ) (more : Option (List ℕ)) → before_text text more ≡ in_front text more
 before-front text None = refl

@@ -14,7 +14,7 @@ use Rattle.eden_history.specs.Outcome.{commit_fault}
 use Rattle.eden_history.proofs.Committed.{commit_gone, commit_mapped}
 use Rattle.eden_accumulate.specs.Mounts.{State, StandsFor}
 use Rattle.eden_edend.specs.declared.objects.Objects.{Objects}
-use Rattle.eden_edend.specs.Told.{MountStands, ObjectTells, Tells, session_at}
+use Rattle.eden_edend.specs.internal.Told.{MountStands, ObjectTells, Tells, session_at}
 
 none_by : (found : Option FileMap) → Some NoCommit ≡ commit_fault found → found ≡ None
 none_by None e = refl

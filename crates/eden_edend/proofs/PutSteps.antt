@@ -8,7 +8,7 @@ use Rattle.eden_objects.specs.Puts.{Outcome, PutGives, TreeGives}
 use Rattle.eden_script.specs.declared.label.Binding.{Binding}
 use Rattle.eden_history.specs.Worlds.{WorldState}
 use Rattle.eden_script.specs.ScriptText.{Session, put_told, refused_text, put_fault_text, ok_text}
-use Rattle.eden_edend.specs.Told.{ObjectTells, Gave}
+use Rattle.eden_edend.specs.internal.Told.{ObjectTells, Gave}
 
 abbrev at : Option WorldState → List Held → List Binding → Session
 at mounted held bindings = record { mounted = mounted; held = held; bindings = bindings }

@@ -10,7 +10,7 @@ use Rattle.eden_script.specs.ScriptText.{Told, refused_text, told}
 use Rattle.eden_history.specs.Worlds.{WorldState}
 use Rattle.eden_accumulate.specs.Mounts.{State, StandsFor}
 use Rattle.eden_edend.specs.declared.objects.Objects.{Objects}
-use Rattle.eden_edend.specs.Told.{MountStands, MountedTells, Tells, session_at, session_of}
+use Rattle.eden_edend.specs.internal.Told.{MountStands, MountedTells, Tells, session_at, session_of}
 
 -- whether a line puts an object or mounts
 abbrev pub is_put : Command → Bool

@@ -1,4 +1,1 @@
-pub mod BoundMaps
-pub mod Told
-pub mod SessionScript
-pub mod Firsts
+pub mod internal

@@ -7,7 +7,7 @@ ghost use Rattle.eden_history.specs.Worlds.{WorldState};
 ghost use Rattle.eden_accumulate.specs.Mounts.{StandsFor};
 ghost use Rattle.eden_script.specs.Labels.{bound};
 ghost use Rattle.eden_script.specs.ScriptText as script;
-ghost use Rattle.eden_edend.specs.Told.{MountTells};
+ghost use Rattle.eden_edend.specs.internal.Told.{MountTells};
 
 use crate::labels::Labels;
 use crate::texts::{path_fault_name, push_checked, push_made, push_refused};

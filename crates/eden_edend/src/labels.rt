@@ -5,7 +5,7 @@ ghost use Rattle.std.specs.Option.{option_copied};
 ghost use Rattle.std.specs.FinMap as fin;
 ghost use Rattle.std.specs.Map.{lookup};
 ghost use Rattle.eden_ids.specs.Sameness.{same_id};
-ghost use Rattle.eden_edend.specs.Firsts.{IsNoted};
+ghost use Rattle.eden_edend.specs.internal.Firsts.{IsNoted};
 ghost use Rattle.eden_script.specs.Labels.{newest, bound, still_binds, label_of, is_id};
 
 use eden_ids::Id;
@@ -25,7 +25,7 @@ impl Model for Bound {
     ghost use Rattle.std.specs.Coded.{coded_list, coded_ℕ};
     ghost use Rattle.std.specs.FinMap as fin;
     ghost use Rattle.eden_ids.specs.contracts.id.Id as id;
-    ghost use Rattle.eden_edend.specs.BoundMaps.{BoundMap};
+    ghost use Rattle.eden_edend.specs.internal.BoundMaps.{BoundMap};
 
     ghost Value = { BoundMap };
 
@@ -112,8 +112,8 @@ pub(crate) struct Labels {
 impl Model for Labels {
     ghost use Rattle.std.specs.Prelude.{◌≡◌, List, reverse};
     ghost use Rattle.eden_script.specs.declared.label.Binding.{Binding};
-    ghost use Rattle.eden_edend.specs.BoundMaps.{bound_map};
-    ghost use Rattle.eden_edend.specs.Firsts.{AreFirsts};
+    ghost use Rattle.eden_edend.specs.internal.BoundMaps.{bound_map};
+    ghost use Rattle.eden_edend.specs.internal.Firsts.{AreFirsts};
 
     ghost Value = { List Binding };
 

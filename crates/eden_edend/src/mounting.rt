@@ -6,7 +6,7 @@ ghost use Rattle.eden_objects.specs.Files.{commit_files};
 ghost use Rattle.eden_history.specs.Worlds.{WorldState, opened};
 ghost use Rattle.eden_accumulate.specs.Mounts.{StandsFor};
 ghost use Rattle.eden_script.specs.ScriptText as script;
-ghost use Rattle.eden_edend.specs.Told.{Tells, session_at};
+ghost use Rattle.eden_edend.specs.internal.Told.{Tells, session_at};
 
 use crate::objects::Objects;
 use crate::texts::{push_at, push_refused};

@@ -8,7 +8,7 @@ ghost use Rattle.eden_script.specs.Labels.{bound};
 ghost use Rattle.eden_history.specs.Worlds.{WorldState};
 ghost use Rattle.eden_ids.specs.Naming.{git_name};
 ghost use Rattle.eden_script.specs.ScriptText.{put_told, tried, entry_bytes, tree_payload, commit_payload, id_told};
-ghost use Rattle.eden_edend.specs.Told.{session_at, ObjectTells, Gave};
+ghost use Rattle.eden_edend.specs.internal.Told.{session_at, ObjectTells, Gave};
 
 use crate::labels::Labels;
 use crate::texts::{push_id, push_id_line, push_ok, push_refused, put_fault_name};

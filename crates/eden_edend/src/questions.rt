@@ -8,7 +8,7 @@ ghost use Rattle.eden_history.specs.Worlds.{WorldState, now};
 ghost use Rattle.eden_history.specs.Renames.{absent_fault};
 ghost use Rattle.eden_accumulate.specs.Mounts.{StandsFor};
 ghost use Rattle.eden_script.specs.ScriptText as script;
-ghost use Rattle.eden_edend.specs.Told.{MountTells};
+ghost use Rattle.eden_edend.specs.internal.Told.{MountTells};
 
 use crate::labels::Labels;
 use crate::texts::{

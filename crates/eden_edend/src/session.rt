@@ -7,7 +7,7 @@ ghost use Rattle.eden_history.specs.Worlds.{WorldState};
 ghost use Rattle.eden_accumulate.specs.Mounts.{StandsFor};
 ghost use Rattle.eden_script.specs.ScriptLines.{command_of};
 ghost use Rattle.eden_script.specs.ScriptText as script;
-ghost use Rattle.eden_edend.specs.Told.{Holds, MountStands, MountedTells, SessionStands, Tells, session_at, session_of};
+ghost use Rattle.eden_edend.specs.internal.Told.{Holds, MountStands, MountedTells, SessionStands, Tells, session_at, session_of};
 
 use crate::changes::{
     tell_checkout, tell_flush, tell_remount, tell_remove, tell_rename, tell_reset, tell_write,
@@ -136,8 +136,8 @@ fn read_line(alloc: Global, line: &[u8]) -> Result<Option<Command>, AllocError>
 }
 
 impl LineMachine for Session {
-    ghost use Rattle.eden_edend.specs.Told.{SessionStands};
-    ghost use Rattle.eden_edend.specs.SessionScript.{session_script};
+    ghost use Rattle.eden_edend.specs.internal.Told.{SessionStands};
+    ghost use Rattle.eden_edend.specs.internal.SessionScript.{session_script};
 
     ghost stands_for = { λ session script. SessionStands session.mount session.objects script };
 

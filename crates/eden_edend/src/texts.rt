@@ -5,7 +5,7 @@ ghost use Rattle.std.specs.Fmt.{decimal};
 ghost use Rattle.std.specs.List.{flat_map};
 ghost use Rattle.hex.specs.Hex.{encode_lower};
 ghost use Rattle.eden_script.specs.ScriptText.{root_text, position_text, at_text, ok_text, id_text, refused_text, put_fault_text, path_fault_text, change_fault_text, since_fault_text, filter_fault_text, mark_text, marked_text, changes_text, path_text, paths_text, conflicts_text, answer_text, kind_text, content_text};
-ghost use Rattle.eden_edend.specs.Told.{answer_made, answer_checked};
+ghost use Rattle.eden_edend.specs.internal.Told.{answer_made, answer_checked};
 
 use crate::labels::Labels;
 use eden_accumulate::Checked;

@@ -1,4 +1,4 @@
--- A body spells at most one message, and no frame begins another: two spellings with one front are taken apart field by field.
+-- A body spells at most one message: two spellings with one front are taken apart field by field.
 use Rattle.std.proofs.Common.{◌≡◌, ℕ, suc, ◌^◌, ◌<◌, ◌≤◌, List, [], ◌∷◌, ◌++◌, length, take, drop, Bool, true, false, cond, eqb, ltb, Option, Some, None, refl, sym, ap, ◌∙◌, append_assoc, arith}
 use Rattle.std.specs.Int.{w16, w32, w64, to_be_bytes, from_be_bytes}
 use Rattle.std.specs.List.{flat_map, AllByRecursion}
@@ -25,7 +25,6 @@ use Rattle.eden_history.specs.declared.message.Cause.TheVariants as causes
 use Rattle.eden_history.specs.declared.message.Reply.{Reply}
 use Rattle.eden_history.specs.declared.message.Reply.TheVariants.{BasisIs, ChangesAre, ContentIs, Refused}
 use Rattle.eden_history.specs.Spells.{query_bytes, IsQuery, position_bytes, IsPosition, text_bytes, IsPathText, filter_bytes, mark_byte, IsListing, paths_bytes, marked_bytes, list_bytes, paths_of, kind_byte, content_bytes, IsContentText, IsValue, cause_bytes, IsCause, request_bytes, IsRequest, reply_bytes, IsReply}
-use Rattle.eden_stream.specs.Frames.{frame, body_limit}
 
 -- ---- fronts of one length
 
@@ -418,12 +417,3 @@ request_is_no_reply x y e =
     let b = reply_tag y in
     let same = tags_same a.0 b.0 a.1 b.1 (sym a.2 ∙ e ∙ b.2) in
     omega (arith, same, a.3, b.3)
-
--- ---- frames
-
-pub same_frame : (a b x y : List ℕ) → length a ≤ body_limit → length b ≤ body_limit → frame a ++ x ≡ frame b ++ y → (a ≡ b) × (x ≡ y)
-unfolding frame
-same_frame a b x y few also e =
-    let s = same32 (length a) (length b) (a ++ x) (b ++ y) (omega (arith, few)) (omega (arith, also))
-    (sym (append_assoc (to_be_bytes w32 (length a)) a x) ∙ e ∙ append_assoc (to_be_bytes w32 (length b)) b y) in
-    same_front a b x y s.0 s.1

@@ -15,7 +15,7 @@ pub use crate::outcome::Outcome;
 pub use crate::position::Position;
 pub use crate::replies::admitted;
 pub use crate::sides::Sides;
-pub use crate::spelling_law::{frames_law, one_message_law, one_spelling_law};
+pub use crate::spelling_law::{one_message_law, one_spelling_law};
 pub use crate::touches::{Touch, Touches};
 pub use crate::tree_faults::{absent_fault, place_fault, rename_fault, write_fault};
 

@@ -1,7 +1,6 @@
-ghost use Rattle.std.specs.Prelude.{◌≡◌, ◌≤◌, ◌++◌, ℕ, List, [], length};
+ghost use Rattle.std.specs.Prelude.{◌≡◌, ℕ, List};
 ghost use Rattle.eden_history.specs.declared.message.Request.{Request};
 ghost use Rattle.eden_history.specs.declared.message.Reply.{Reply};
-ghost use Rattle.eden_stream.specs.Frames.{frame, body_limit};
 ghost use Rattle.eden_history.specs.Spells.{SpellsRequest, SpellsReply};
 
 /// A message has at most one spelling.
@@ -15,9 +14,4 @@ pub fn one_message_law()
     ensures requests { (body : List ℕ) (x y : Request) → SpellsRequest body x → SpellsRequest body y → x ≡ y }
     ensures replies { (body : List ℕ) (x y : Reply) → SpellsReply body x → SpellsReply body y → x ≡ y }
     ensures either { (body : List ℕ) (x : Request) (y : Reply) → SpellsRequest body x → SpellsReply body y → ⊥ }
-{}
-
-/// No frame begins another: where two frames begin one stream, they are equal, and so is what follows them.
-pub fn frames_law()
-    ensures { (a b x y : List ℕ) → length a ≤ body_limit → length b ≤ body_limit → frame a ++ x ≡ frame b ++ y → (a ≡ b) × (x ≡ y) }
 {}

@@ -1,8 +1,8 @@
 use Rattle.std.proofs.Common.{rules, ◌≡◌, ◌∙◌, ◌∷◌, ◌++◌, [], List, length, reverse, sym, subst}
 use Rattle.std.specs.FinMap as fin
 use Rattle.eden_script.specs.declared.label.Binding.{Binding}
-use Rattle.eden_edend.specs.BoundMaps.{bound_map}
-use Rattle.eden_edend.specs.Firsts.{AreFirsts, IsNoted}
+use Rattle.eden_edend.specs.internal.BoundMaps.{bound_map}
+use Rattle.eden_edend.specs.internal.Firsts.{AreFirsts, IsNoted}
 use Rattle.eden_edend.proofs.FirstLemmas.{firsts_more}
 use Rattle.eden_edend.proofs.LabelLemmas.{bound_map_more}
 use Rattle.eden_edend.proofs.labels.Labels.bind.Goals as goal

@@ -5,7 +5,7 @@ use Rattle.std.proofs.lemmas.Iterator.{YieldsList-from_slice}
 use Rattle.std.proofs.lemmas.Iterator.Search.{find_from_yields_List}
 use Rattle.eden_ids.specs.Sameness.{same_id}
 use Rattle.eden_script.specs.Labels.{still_binds}
-use Rattle.eden_edend.specs.Firsts.{IsFirst}
+use Rattle.eden_edend.specs.internal.Firsts.{IsFirst}
 use Rattle.eden_edend.proofs.LabelLemmas.{turned_twice}
 use Rattle.eden_edend.proofs.FirstLemmas.{found_from, none_found, slice_left}
 use Rattle.eden_edend.proofs.labels.Labels.first_binding.Goals as goal

@@ -1,6 +1,6 @@
 use Rattle.std.proofs.Common.{None, [], ap, sym}
 use Rattle.eden_script.specs.ScriptText.{script_text}
-use Rattle.eden_edend.specs.Told.{session_of}
+use Rattle.eden_edend.specs.internal.Told.{session_of}
 use Rattle.eden_edend.proofs.session.Session.new.Goals as goal
 
 pub returns : goal.returns

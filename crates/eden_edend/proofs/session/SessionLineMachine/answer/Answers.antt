@@ -1,6 +1,6 @@
 use Rattle.std.proofs.Common.{◌++◌, [], refl, sym, ap, subst, ◌∙◌, append-nil}
 use Rattle.eden_script.specs.ScriptText.{told}
-use Rattle.eden_edend.specs.Told.{Tells, session_of}
+use Rattle.eden_edend.specs.internal.Told.{Tells, session_of}
 use Rattle.eden_edend.proofs.LineAnswers.{refuses_unread, takes_command}
 use Rattle.eden_edend.proofs.session.SessionLineMachine.answer.Goals as goal
 

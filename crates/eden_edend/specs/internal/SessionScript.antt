@@ -9,7 +9,7 @@ use Rattle.eden_script.specs.ScriptLines.{command_of}
 use Rattle.eden_script.specs.ScriptText.{Session, told, is_skipped, line_told, before_text, continued, script_text}
 use Rattle.eden_accumulate.specs.Mounts.{State}
 use Rattle.eden_edend.specs.declared.objects.Objects.{Objects}
-use Rattle.eden_edend.specs.Told.{SessionStands, session_of}
+use Rattle.eden_edend.specs.internal.Told.{SessionStands, session_of}
 
 pub script_text-cons : (session : Session) (line : List ℕ) (more : List (List ℕ)) → script_text session (line ∷ more) ≡ continued (line_told session line) (λ next. script_text next more)
 unfolding script_text

@@ -1,0 +1,5 @@
+-- What the implementation uses alone.
+pub mod BoundMaps
+pub mod Firsts
+pub mod SessionScript
+pub mod Told
