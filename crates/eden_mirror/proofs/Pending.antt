@@ -1,0 +1,270 @@
+-- What the table of awaited paths says as it is filled, marked and swept.
+use Rattle.std.proofs.Common.{◌≡◌, ℕ, suc, Bool, true, false, cond, not, ◌||◌, List, [], ◌∷◌, ◌++◌, map, filter, length, Option, Some, None, refl, sym, ap, subst, ◌∙◌, ◌+◌, arith}
+use Rattle.std.proofs.lemmas.Bool.{or_parts}
+use Rattle.std.proofs.lemmas.List.{append-nil}
+use Rattle.std.specs.List.{AllByRecursion, IsDistinct}
+use Rattle.std.specs.Map.{keys_of, lookup, set_value}
+use Rattle.indexmap.specs.IndexMap.{insert_entry}
+use Rattle.eden_ids.specs.Sameness.{same_bytes}
+use Rattle.eden_ids.specs.FileMaps.{same_path}
+use Rattle.eden_ids.proofs.FileMapLemmas.{same_path-is, same_path-bytes, same_path-turned}
+use Rattle.eden_history.specs.declared.mark.Marked.{Marked}
+use Rattle.eden_history.specs.Mirrors.{distinct, is_among, without}
+use Rattle.eden_history.specs.Spells.{paths_of}
+use Rattle.eden_mirror.specs.internal.Pending.{AreDistinct, pending}
+
+abbrev pub Entries : Type 0
+Entries = List (List ℕ × Bool)
+
+-- the map's test and that of the definitions are one
+tests : same_bytes ≡ same_path
+tests = λ i p q. sym (same_path-bytes p q) i
+
+-- no path of the list is this one
+abbrev pub IsAbsent : List ℕ → List (List ℕ) → Type 0
+IsAbsent k ps = AllByRecursion (λ p. same_path k p ≡ false) ps
+
+false_or : (a b : Bool) → a ≡ false → b ≡ false → (a || b) ≡ false
+false_or a b e f = ap (λ c. c || b) e ∙ f
+
+-- ---- lists without a path
+
+not_among : (k : List ℕ) (ps : List (List ℕ)) → IsAbsent k ps → is_among k ps ≡ false
+not_among k [] h = refl
+not_among k (p ∷ ps) h = false_or (same_path k p) _ h.0 (not_among k ps h.1)
+
+absent : (k : List ℕ) (ps : List (List ℕ)) → is_among k ps ≡ false → IsAbsent k ps
+absent k [] h = tt
+absent k (p ∷ ps) h = let parts : (same_path k p ≡ false) × (is_among k ps ≡ false) = or_parts _ _ h in (parts.0, absent k ps parts.1)
+
+kept : (k : List ℕ) (p : List ℕ) (ps : List (List ℕ)) → same_path k p ≡ false → without k (p ∷ ps) ≡ p ∷ without k ps
+kept k p ps e = ap (λ b. cond (not b) (p ∷ without k ps) (without k ps)) (same_path-turned p k ∙ e)
+
+dropped : (k : List ℕ) (p : List ℕ) (ps : List (List ℕ)) → same_path k p ≡ true → without k (p ∷ ps) ≡ without k ps
+dropped k p ps e = ap (λ b. cond (not b) (p ∷ without k ps) (without k ps)) (same_path-turned p k ∙ e)
+
+without-absent : (k : List ℕ) (ps : List (List ℕ)) → IsAbsent k ps → without k ps ≡ ps
+without-absent k [] h = refl
+without-absent k (p ∷ ps) h = kept k p ps h.0 ∙ ap (λ qs. p ∷ qs) (without-absent k ps h.1)
+
+-- a path that is not there leaves all as it is when it is taken out
+pub without-not_among : (k : List ℕ) (ps : List (List ℕ)) → is_among k ps ≡ false → ps ≡ without k ps
+without-not_among k ps e = sym (without-absent k ps (absent k ps e))
+
+absent_without : (j k : List ℕ) (ps : List (List ℕ)) → IsAbsent j ps → IsAbsent j (without k ps)
+absent_without j k [] h = tt
+absent_without j k (p ∷ ps) h = by (same_path k p) refl (absent_without j k ps h.1)
+  where
+    by : (b : Bool) → same_path k p ≡ b → IsAbsent j (without k ps) → IsAbsent j (without k (p ∷ ps))
+    by true e rest = subst (IsAbsent j) (sym (dropped k p ps e)) rest
+    by false e rest = subst (IsAbsent j) (sym (kept k p ps e)) (h.0, rest)
+
+-- the paths but one are distinct as all are
+pub distinct_without : (k : List ℕ) (ps : List (List ℕ)) → AreDistinct ps → AreDistinct (without k ps)
+unfolding IsDistinct
+distinct_without k [] h = tt
+distinct_without k (p ∷ ps) h = by (same_path k p) refl (distinct_without k ps h.1)
+  where
+    by : (b : Bool) → same_path k p ≡ b → AreDistinct (without k ps) → AreDistinct (without k (p ∷ ps))
+    by true e rest = subst AreDistinct (sym (dropped k p ps e)) rest
+    by false e rest = subst AreDistinct (sym (kept k p ps e)) (absent_without p k ps h.0, rest)
+
+-- a path is gone once it is taken out
+gone : (k : List ℕ) (ps : List (List ℕ)) → IsAbsent k (without k ps)
+gone k [] = tt
+gone k (p ∷ ps) = by (same_path k p) refl (gone k ps)
+  where
+    by : (b : Bool) → same_path k p ≡ b → IsAbsent k (without k ps) → IsAbsent k (without k (p ∷ ps))
+    by true e rest = subst (IsAbsent k) (sym (dropped k p ps e)) rest
+    by false e rest = subst (IsAbsent k) (sym (kept k p ps e)) (e, rest)
+
+pub distinct_distinct : (ps : List (List ℕ)) → AreDistinct (distinct ps)
+unfolding IsDistinct
+distinct_distinct [] = tt
+distinct_distinct (p ∷ ps) = (gone p (distinct ps), distinct_without p (distinct ps) (distinct_distinct ps))
+
+-- one path fewer, where it stood there
+pub length-without : (k : List ℕ) (ps : List (List ℕ)) → AreDistinct ps → is_among k ps ≡ true → length ps ≡ length (without k ps) + 1
+unfolding IsDistinct
+length-without k [] h e = cc
+length-without k (p ∷ ps) h e = by (same_path k p) refl (λ f. length-without k ps h.1 (sym (ap (λ b. b || is_among k ps) f) ∙ e))
+  where
+    here : same_path k p ≡ true → IsAbsent k ps
+    here f = subst (λ q. IsAbsent q ps) (sym (same_path-is k p f)) h.0
+
+    by : (b : Bool) → same_path k p ≡ b → (same_path k p ≡ false → length ps ≡ length (without k ps) + 1) → length (p ∷ ps) ≡ length (without k (p ∷ ps)) + 1
+    by true f rest =
+        let same : length (without k (p ∷ ps)) ≡ length ps = ap length (dropped k p ps f ∙ without-absent k ps (here f)) in omega (arith, same)
+    by false f rest =
+        let same : length (without k (p ∷ ps)) ≡ suc (length (without k ps)) = ap length (kept k p ps f) in omega (arith, same, rest f)
+
+-- ---- the table
+
+-- what a look-up says of a path: it is awaited where it is there and not answered
+abbrev pub waits : Option Bool → Bool
+waits None = false
+waits (Some answered) = not answered
+
+absent_key : (k : List ℕ) (es : Entries) → IsAbsent k (keys_of es) → IsAbsent k (pending es)
+absent_key k [] h = tt
+absent_key k (e ∷ es) h = by e.1 (absent_key k es h.1)
+  where
+    by : (b : Bool) → IsAbsent k (pending es) → IsAbsent k (cond b (pending es) (e.0 ∷ pending es))
+    by true rest = rest
+    by false rest = (h.0, rest)
+
+-- the paths that are awaited are distinct, as all of the table are
+pub distinct_pending : (es : Entries) → AreDistinct (keys_of es) → AreDistinct (pending es)
+unfolding IsDistinct
+distinct_pending [] h = tt
+distinct_pending (e ∷ es) h = by e.1 (distinct_pending es h.1)
+  where
+    by : (b : Bool) → AreDistinct (pending es) → AreDistinct (cond b (pending es) (e.0 ∷ pending es))
+    by true rest = rest
+    by false rest = (absent_key e.0 es h.0, rest)
+
+found : (k : List ℕ) (es : Entries) → AreDistinct (keys_of es) → is_among k (pending es) ≡ waits (lookup (same_path k) es)
+unfolding IsDistinct
+found k [] h = refl
+found k (e ∷ es) h = by e.1 (same_path k e.0) refl (found k es h.1)
+  where
+    none : same_path k e.0 ≡ true → is_among k (pending es) ≡ false
+    none f = not_among k (pending es) (absent_key k es (subst (λ q. IsAbsent q (keys_of es)) (sym (same_path-is k e.0 f)) h.0))
+
+    by : (a b : Bool) → same_path k e.0 ≡ b → is_among k (pending es) ≡ waits (lookup (same_path k) es)
+        → is_among k (cond a (pending es) (e.0 ∷ pending es)) ≡ waits (cond b (Some a) (lookup (same_path k) es))
+    by true true f rest = none f
+    by true false f rest = rest
+    by false true f rest = ap (λ c. c || is_among k (pending es)) f
+    by false false f rest = ap (λ c. c || is_among k (pending es)) f ∙ rest
+
+-- an answered path is awaited no longer
+marked : (k : List ℕ) (es : Entries) → AreDistinct (keys_of es) → pending (set_value (same_path k) es true) ≡ without k (pending es)
+unfolding IsDistinct
+marked k [] h = refl
+marked k (e ∷ es) h = by e.1 (same_path k e.0) refl (marked k es h.1)
+  where
+    all : same_path k e.0 ≡ true → without k (pending es) ≡ pending es
+    all f = without-absent k (pending es) (absent_key k es (subst (λ q. IsAbsent q (keys_of es)) (sym (same_path-is k e.0 f)) h.0))
+
+    by : (a b : Bool) → same_path k e.0 ≡ b → pending (set_value (same_path k) es true) ≡ without k (pending es)
+        → pending (cond b ((e.0, true) ∷ es) ((e.0, a) ∷ set_value (same_path k) es true)) ≡ without k (cond a (pending es) (e.0 ∷ pending es))
+    by true true f rest = sym (all f)
+    by true false f rest = rest
+    by false true f rest = sym (dropped k e.0 (pending es) f ∙ all f)
+    by false false f rest = ap (λ ps. e.0 ∷ ps) rest ∙ sym (kept k e.0 (pending es) f)
+
+-- the same, by the map's own test
+pub is_among-pending : (k : List ℕ) (es : Entries) → IsDistinct same_bytes (keys_of es) → is_among k (pending es) ≡ waits (lookup (same_bytes k) es)
+is_among-pending k es h = found k es (subst (λ t. IsDistinct t (keys_of es)) tests h) ∙ ap (λ t. waits (lookup (t k) es)) (sym tests)
+
+pub pending-set_value : (k : List ℕ) (es : Entries) → IsDistinct same_bytes (keys_of es) → pending (set_value (same_bytes k) es true) ≡ without k (pending es)
+pending-set_value k es h = ap (λ t. pending (set_value (t k) es true)) tests ∙ marked k es (subst (λ t. IsDistinct t (keys_of es)) tests h)
+
+pub pending_distinct : (es : Entries) → IsDistinct same_bytes (keys_of es) → AreDistinct (pending es)
+pending_distinct es h = distinct_pending es (subst (λ t. IsDistinct t (keys_of es)) tests h)
+
+-- marked paths that are taken out of the table weren't awaited
+pub pending-swept : (es : Entries) → pending (filter (λ e. not e.1) es) ≡ pending es
+pending-swept [] = refl
+pending-swept (e ∷ es) = by e.1 (pending-swept es)
+  where
+    by : (b : Bool) → pending (filter (λ f. not f.1) es) ≡ pending es
+        → pending (cond (not b) ((e.0, b) ∷ filter (λ f. not f.1) es) (filter (λ f. not f.1) es)) ≡ cond b (pending es) (e.0 ∷ pending es)
+    by true rest = rest
+    by false rest = ap (λ ps. e.0 ∷ ps) rest
+
+-- ---- filling it
+
+-- a table of these paths, none of them answered
+abbrev pub fresh : List (List ℕ) → Entries
+fresh ps = map (λ p. (p, false)) ps
+
+pub pending-fresh : (ps : List (List ℕ)) → pending (fresh ps) ≡ ps
+pending-fresh [] = refl
+pending-fresh (p ∷ ps) = ap (λ qs. p ∷ qs) (pending-fresh ps)
+
+length-fresh : (ps : List (List ℕ)) → length (fresh ps) ≡ length ps
+length-fresh [] = refl
+length-fresh (p ∷ ps) = ap suc (length-fresh ps)
+
+-- each path is counted as none is answered
+pub length-pending-fresh : (ps : List (List ℕ)) → length (fresh ps) ≡ length (pending (fresh ps))
+length-pending-fresh ps = length-fresh ps ∙ ap length (sym (pending-fresh ps))
+
+-- the list with a path behind it, unless it stands there
+abbrev pub grown : List (List ℕ) → List ℕ → List (List ℕ)
+grown ps k = cond (is_among k ps) ps (ps ++ k ∷ [])
+
+grown_more : (p : List ℕ) (ps : List (List ℕ)) (k : List ℕ) → same_path k p ≡ false → p ∷ grown ps k ≡ grown (p ∷ ps) k
+grown_more p ps k f = by (is_among k ps) (same_path k p) f
+  where
+    by : (a b : Bool) → b ≡ false → p ∷ cond a ps (ps ++ k ∷ []) ≡ cond (b || a) (p ∷ ps) (p ∷ ps ++ k ∷ [])
+    by true true g = refl
+    by false true g = cc
+    by true false g = refl
+    by false false g = refl
+
+pub insert-fresh : (ps : List (List ℕ)) (k : List ℕ) → insert_entry same_path (fresh ps) k false ≡ fresh (grown ps k)
+insert-fresh [] k = refl
+insert-fresh (p ∷ ps) k = by (same_path k p) refl (insert-fresh ps k)
+  where
+    by : (b : Bool) → same_path k p ≡ b → insert_entry same_path (fresh ps) k false ≡ fresh (grown ps k)
+        → cond b ((p, false) ∷ fresh ps) ((p, false) ∷ insert_entry same_path (fresh ps) k false) ≡ fresh (grown (p ∷ ps) k)
+    by true f rest = sym (ap (λ c. fresh (cond (c || is_among k ps) (p ∷ ps) (p ∷ ps ++ k ∷ []))) f)
+    by false f rest = ap (λ es. (p, false) ∷ es) rest ∙ ap fresh (grown_more p ps k f)
+
+without-append : (k : List ℕ) (ps qs : List (List ℕ)) → without k (ps ++ qs) ≡ without k ps ++ without k qs
+without-append k [] qs = refl
+without-append k (p ∷ ps) qs = by (not (same_path p k)) (without-append k ps qs)
+  where
+    by : (b : Bool) → without k (ps ++ qs) ≡ without k ps ++ without k qs
+        → cond b (p ∷ without k (ps ++ qs)) (without k (ps ++ qs)) ≡ cond b (p ∷ without k ps) (without k ps) ++ without k qs
+    by true rest = ap (λ rs. p ∷ rs) rest
+    by false rest = rest
+
+is_among-without : (k j : List ℕ) (ps : List (List ℕ)) → same_path j k ≡ false → is_among j (without k ps) ≡ is_among j ps
+is_among-without k j [] apart = refl
+is_among-without k j (p ∷ ps) apart = by (same_path k p) refl (is_among-without k j ps apart)
+  where
+    other : same_path k p ≡ true → same_path j p ≡ false
+    other f = subst (λ q. same_path j q ≡ false) (same_path-is k p f) apart
+
+    by : (b : Bool) → same_path k p ≡ b → is_among j (without k ps) ≡ is_among j ps → is_among j (without k (p ∷ ps)) ≡ (same_path j p || is_among j ps)
+    by true f rest = ap (is_among j) (dropped k p ps f) ∙ rest ∙ sym (ap (λ b. b || is_among j ps) (other f))
+    by false f rest = ap (is_among j) (kept k p ps f) ∙ ap (λ b. same_path j p || b) rest
+
+-- one more path in the list is one more distinct path, unless it stood there
+distinct-more : (ps : List (List ℕ)) (k : List ℕ) → distinct (ps ++ k ∷ []) ≡ grown (distinct ps) k
+distinct-more [] k = refl
+distinct-more (p ∷ ps) k = by (same_path k p) refl (is_among k (distinct ps)) refl (distinct-more ps k)
+  where
+    -- what stands behind the first, where it is known whether the path is there
+    behind : (a : Bool) → is_among k (distinct ps) ≡ a → distinct (ps ++ k ∷ []) ≡ grown (distinct ps) k
+        → p ∷ without p (distinct (ps ++ k ∷ [])) ≡ p ∷ without p (cond a (distinct ps) (distinct ps ++ k ∷ []))
+    behind a g rest = ap (λ qs. p ∷ without p qs) rest ∙ ap (λ c. p ∷ without p (cond c (distinct ps) (distinct ps ++ k ∷ []))) g
+
+    whole : (c : Bool) → (same_path k p || is_among k (without p (distinct ps))) ≡ c
+        → cond c (p ∷ without p (distinct ps)) (p ∷ without p (distinct ps) ++ k ∷ []) ≡ grown (p ∷ without p (distinct ps)) k
+    whole c e = sym (ap (λ x. cond x (p ∷ without p (distinct ps)) (p ∷ without p (distinct ps) ++ k ∷ [])) e)
+
+    by : (b : Bool) → same_path k p ≡ b → (a : Bool) → is_among k (distinct ps) ≡ a → distinct (ps ++ k ∷ []) ≡ grown (distinct ps) k
+        → p ∷ without p (distinct (ps ++ k ∷ [])) ≡ grown (p ∷ without p (distinct ps)) k
+    by true f true g rest = behind true g rest ∙ whole true (ap (λ c. c || is_among k (without p (distinct ps))) f)
+    by true f false g rest =
+        behind false g rest
+        ∙ ap (λ qs. p ∷ qs) (without-append p (distinct ps) (k ∷ []) ∙ ap (λ qs. without p (distinct ps) ++ qs) (dropped p k [] (same_path-turned p k ∙ f)) ∙ append-nil (without p (distinct ps)))
+        ∙ whole true (ap (λ c. c || is_among k (without p (distinct ps))) f)
+    by false f true g rest = behind true g rest ∙ whole true (ap (λ c. c || is_among k (without p (distinct ps))) f ∙ is_among-without p k (distinct ps) f ∙ g)
+    by false f false g rest =
+        behind false g rest
+        ∙ ap (λ qs. p ∷ qs) (without-append p (distinct ps) (k ∷ []) ∙ ap (λ qs. without p (distinct ps) ++ qs) (kept p k [] (same_path-turned p k ∙ f)))
+        ∙ whole false (ap (λ c. c || is_among k (without p (distinct ps))) f ∙ is_among-without p k (distinct ps) f ∙ g)
+
+-- a table of distinct paths, once the next of the list is put in
+pub fresh-more : (ps : List (List ℕ)) (k : List ℕ) → insert_entry same_bytes (fresh (distinct ps)) k false ≡ fresh (distinct (ps ++ k ∷ []))
+fresh-more ps k = ap (λ t. insert_entry t (fresh (distinct ps)) k false) tests ∙ insert-fresh (distinct ps) k ∙ ap fresh (sym (distinct-more ps k))
+
+pub paths_of-more : (ms : List Marked) (m : Marked) → paths_of (ms ++ m ∷ []) ≡ paths_of ms ++ m.path ∷ []
+paths_of-more [] m = refl
+paths_of-more (n ∷ ms) m = ap (λ ps. n.path ∷ ps) (paths_of-more ms m)

@@ -1,0 +1,3 @@
+-- What only the code of a mirror speaks of.
+pub mod Pending
+pub mod Rounds

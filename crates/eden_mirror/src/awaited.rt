@@ -1,0 +1,136 @@
+//! The paths whose contents are awaited.
+
+ghost use Rattle.std.specs.Prelude.{◌≡◌, false, length, map, nat_eq, IfOk, OnOk};
+ghost use Rattle.indexmap.specs.IndexMap.{insert_entry};
+ghost use Rattle.eden_ids.specs.Sameness.{same_bytes};
+ghost use Rattle.eden_mirror.specs.internal.Pending.{AreDistinct};
+ghost use Rattle.eden_history.specs.declared.message.Request.TheVariants.{Fetch};
+ghost use Rattle.eden_history.specs.Mirrors.{distinct, is_among, without};
+ghost use Rattle.eden_history.specs.Spells.{paths_of};
+
+use eden_history::{Marked, Query, Request};
+use eden_ids::{NoMemory, Path};
+use indexmap::IndexMap;
+use std::alloc::Global;
+use std::marker::Model;
+
+/// Distinct paths, in the order in which they became awaited, of which any may be answered next.
+///
+/// An answered path is only marked, so that none behind it moves. Once more than half of the paths are marked these are taken out together,
+/// which costs each of them once; so to go over what is awaited costs no more than twice what is found, and n answers in any order
+/// cost a search and a constant each.
+#[derive(Drop)]
+pub(crate) struct Awaited {
+    /// Each path, and whether it is answered.
+    paths: IndexMap<Path, bool>,
+    /// How many are not.
+    left: usize,
+}
+
+impl Model for Awaited {
+    ghost use Rattle.std.specs.Prelude.{List, ℕ};
+    ghost use Rattle.eden_mirror.specs.internal.Pending.{IsCounted, pending};
+
+    ghost Value = { List (List ℕ) };
+
+    ghost view = { λ a. pending a.paths.entries };
+
+    ghost invariant = { λ a. IsCounted a.left a.paths.entries };
+}
+
+/// Adds a path that may be there.
+fn add(paths: &mut IndexMap<Path, bool>, path: &Path) -> Result<(), NoMemory>
+    ensures { OnOk result (paths.new.entries ≡ insert_entry same_bytes paths.old.entries path.now false) }
+{
+    let path = path.copy()?;
+    paths.insert(path, false)?;
+    Ok(())
+}
+
+impl Awaited {
+    /// All paths of a list, each where it stands first.
+    pub(crate) fn of_paths(alloc: Global, listed: &[Path]) -> Result<Awaited, NoMemory>
+        ensures { IfOk result (λ awaited. awaited ≡ distinct listed.now) }
+    {
+        let mut paths = IndexMap::new(alloc);
+        for path in listed {
+            add(&mut paths, path)?;
+        }
+        let left = paths.len();
+        Ok(Awaited { paths, left })
+    }
+
+    /// All paths of a list of marked ones, each where it stands first.
+    pub(crate) fn of_marked(alloc: Global, listed: &[Marked]) -> Result<Awaited, NoMemory>
+        ensures { IfOk result (λ awaited. awaited ≡ distinct (paths_of listed.now)) }
+    {
+        let mut paths = IndexMap::new(alloc);
+        for marked in listed {
+            add(&mut paths, &marked.path)?;
+        }
+        let left = paths.len();
+        Ok(Awaited { paths, left })
+    }
+
+    /// Whether no path is awaited any more.
+    pub(crate) fn is_empty(&self) -> bool
+        ensures { result ≡ nat_eq (length self.now) 0 }
+    {
+        self.left == 0
+    }
+
+    /// Whether a path is awaited.
+    pub(crate) fn has(&self, path: &Path) -> bool
+        ensures { result ≡ is_among path.now self.now }
+    {
+        match self.paths.get(path) {
+            Some(answered) => !*answered,
+            None => false,
+        }
+    }
+
+    /// Takes a path out, if it is awaited. It takes no memory.
+    pub(crate) fn answer(&mut self, path: &Path)
+        ensures { self.new ≡ without path.now self.old }
+    {
+        if !self.has(path) {
+            return;
+        }
+        let Some(answered) = self.paths.get_mut(path) else {
+            unreachable!()
+        };
+        *answered = true;
+        self.left -= 1;
+        self.sweep();
+    }
+
+    /// Takes the marked paths out of the table where they are more than half of it.
+    fn sweep(&mut self)
+        ensures { self.new ≡ self.old }
+    {
+        if self.left < self.paths.len() / 2 {
+            self.paths.retain(|_, answered| !*answered);
+        }
+    }
+
+    /// No path is awaited twice.
+    pub(crate) fn distinct_law(&self)
+        ensures { AreDistinct self.now }
+    {
+        let _ = &self.paths;
+    }
+
+    /// The question for the content of each path.
+    pub(crate) fn fetches(&self, query: Query) -> Result<Vec<Request>, NoMemory>
+        ensures { IfOk result (λ requests. requests.items ≡ map (λ path. Fetch query path) self.now) }
+    {
+        let mut requests = Vec::new(*self.paths.allocator());
+        for (path, answered) in self.paths.iter() {
+            if !*answered {
+                let path = path.copy()?;
+                requests.push(Request::Fetch { query, path })?;
+            }
+        }
+        Ok(requests)
+    }
+}

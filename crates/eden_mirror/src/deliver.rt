@@ -1,0 +1,164 @@
+//! What a mirror makes of a reply.
+
+ghost use Rattle.std.specs.Prelude.{◌≡◌, IfOk, OnErr};
+ghost use Rattle.eden_history.specs.declared.message.Reply.TheVariants.{BasisIs, ChangesAre, ContentIs, Refused};
+ghost use Rattle.eden_history.specs.Mirrors.{delivered, gathers, query_numbered};
+
+use crate::awaited::Awaited;
+use crate::mirror::{Mirror, Round};
+use eden_history::{Cause, Files, Marked, Outcome, Position, Query, Reply};
+use eden_ids::{Content, NoMemory, Path};
+
+/// A file that is equal to this one, or none where there is none.
+fn copy_of(content: &Option<Content>) -> Result<Option<Content>, NoMemory>
+    ensures { IfOk result (λ copy. copy ≡ content.now) }
+{
+    match content {
+        Some(content) => Ok(Some(content.copy()?)),
+        None => Ok(None),
+    }
+}
+
+impl Mirror {
+    /// Awaits the contents of these paths, or is placed where there is none.
+    fn gather(&mut self, target: Position, awaited: Awaited) -> Outcome
+        ensures { (self.new, result) ≡ gathers self.old (query_numbered self.old self.old.last) target awaited }
+    {
+        if awaited.is_empty() {
+            self.place = Some(target);
+            self.round = Round::Idle;
+            return Outcome::Placed;
+        }
+        self.round = Round::Gathering { target, awaited };
+        Outcome::Taken
+    }
+
+    /// Takes the list of all paths.
+    #[tactic(auto, unfolding(eden_history::specs::Mirrors::delivered))]
+    fn take_basis(
+        &mut self,
+        query: Query,
+        target: Position,
+        paths: &[Path],
+    ) -> Result<Outcome, NoMemory>
+        ensures ok { IfOk result (λ outcome. (self.new, outcome) ≡ delivered self.old (BasisIs query target paths.now)) }
+        ensures err { OnErr result (self.new ≡ self.old) }
+    {
+        let Round::Asked = &self.round else {
+            return Ok(Outcome::Ignored);
+        };
+        if self.place.is_some() || query != self.query() {
+            return Ok(Outcome::Ignored);
+        }
+        let awaited = Awaited::of_paths(self.alloc(), paths)?;
+        self.files = Files::new(self.alloc());
+        self.place = None;
+        Ok(self.gather(target, awaited))
+    }
+
+    /// Takes the list of the paths that changed.
+    #[tactic(auto, unfolding(eden_history::specs::Mirrors::delivered))]
+    fn take_changes(
+        &mut self,
+        query: Query,
+        target: Position,
+        marked: &[Marked],
+    ) -> Result<Outcome, NoMemory>
+        ensures ok { IfOk result (λ outcome. (self.new, outcome) ≡ delivered self.old (ChangesAre query target marked.now)) }
+        ensures err { OnErr result (self.new ≡ self.old) }
+    {
+        let Round::Asked = &self.round else {
+            return Ok(Outcome::Ignored);
+        };
+        if self.place.is_none() || query != self.query() {
+            return Ok(Outcome::Ignored);
+        }
+        let awaited = Awaited::of_marked(self.alloc(), marked)?;
+        Ok(self.gather(target, awaited))
+    }
+
+    /// Takes the content of a path.
+    #[tactic(auto, unfolding(eden_history::specs::Mirrors::delivered))]
+    fn take_content(
+        &mut self,
+        query: Query,
+        position: Position,
+        path: &Path,
+        content: &Option<Content>,
+    ) -> Result<Outcome, NoMemory>
+        ensures ok { IfOk result (λ outcome. (self.new, outcome) ≡ delivered self.old (ContentIs query position path.now content.now)) }
+        ensures err { OnErr result (self.new ≡ self.old) }
+    {
+        let asked = self.query();
+        let Round::Gathering { target, awaited } = &mut self.round else {
+            return Ok(Outcome::Ignored);
+        };
+        let target = *target;
+        if query != asked || position.generation != target.generation {
+            return Ok(Outcome::Ignored);
+        }
+        if position.sequence < target.sequence || !awaited.has(path) {
+            return Ok(Outcome::Ignored);
+        }
+        self.files.put(path, copy_of(content)?)?;
+        awaited.answer(path);
+        if awaited.is_empty() {
+            self.place = Some(target);
+            self.round = Round::Idle;
+            return Ok(Outcome::Placed);
+        }
+        Ok(Outcome::Taken)
+    }
+
+    /// Takes a refusal of the list. It takes no memory.
+    #[tactic(auto, unfolding(eden_history::specs::Mirrors::delivered))]
+    fn take_refusal(&mut self, query: Query, cause: Cause) -> Outcome
+        ensures { (self.new, result) ≡ delivered self.old (Refused query cause) }
+    {
+        let Round::Asked = &self.round else {
+            return Outcome::Ignored;
+        };
+        if query != self.query() {
+            return Outcome::Ignored;
+        }
+        self.round = Round::Idle;
+        match cause {
+            Cause::TooLarge => Outcome::Ended,
+            _ => {
+                self.place = None;
+                Outcome::Unplaced
+            }
+        }
+    }
+
+    /// Takes a reply, whoever it was for and however late it comes.
+    ///
+    /// A list counts where it answers the round that awaits it, a content where it answers the question of the round that is under way, is
+    /// of the generation of the round's target and no older than that, and stands at a path that is awaited; the last one places the mirror
+    /// at the target. A refusal ends the round that awaits a list. Any other reply is `Ignored` and changes nothing. `NoMemory` comes where
+    /// a growth was refused, and changes nothing: the reply can be delivered again.
+    pub fn deliver(&mut self, reply: &Reply) -> Result<Outcome, NoMemory>
+        ensures ok { IfOk result (λ outcome. (self.new, outcome) ≡ delivered self.old reply.now) }
+        ensures err { OnErr result (self.new ≡ self.old) }
+    {
+        match reply {
+            Reply::BasisIs {
+                query,
+                position,
+                paths,
+            } => self.take_basis(*query, *position, paths.as_slice()),
+            Reply::ChangesAre {
+                query,
+                target,
+                marked,
+            } => self.take_changes(*query, *target, marked.as_slice()),
+            Reply::ContentIs {
+                query,
+                position,
+                path,
+                content,
+            } => self.take_content(*query, *position, path, content),
+            Reply::Refused { query, cause } => Ok(self.take_refusal(*query, *cause)),
+        }
+    }
+}
