@@ -1,6 +1,6 @@
 ghost use Rattle.std.specs.Prelude.{◌≡◌, ◌≢◌, ◌≤◌, ◌==◌, ◌&&◌, ◌||◌, ℕ, List, [], false, true, nat_lt, length, not, None, Some, map, IfOk, IfErr};
 ghost use Rattle.std.specs.List.{list_all, list_any};
-ghost use Rattle.eden_ids.specs.Paths.{components, lies_below};
+ghost use Rattle.eden_ids.specs.Paths.{IsPath, components, lies_below};
 ghost use Rattle.eden_globs.specs.Filters.{admits, enters, filter_fault, is_part, is_spelled, lists, pattern_admits, pattern_enters, pattern_fault};
 
 use crate::matching::{is_admitted, is_entered};
@@ -139,7 +139,8 @@ fn copies(alloc: Global, patterns: &[&[u8]]) -> Result<Vec<Vec<u8>>, AllocError>
 }
 
 /// Whether one of the patterns admits the path.
-fn is_any_admitted(patterns: &[Vec<u8>], path: &Path) -> bool
+fn is_any_admitted(patterns: &[Vec<u8>], path: &[u8]) -> bool
+    requires { IsPath path.now }
     ensures { result ≡ list_any (λ pattern. pattern_admits pattern path.now) (lists patterns.now) }
 {
     for pattern in patterns {
@@ -201,8 +202,16 @@ impl Filter {
     /// Whether the path is wanted. This takes no memory.
     ///
     /// The time is at most a constant times the length of the patterns times that of the path.
-    #[tactic(auto, using(crate::proofs::FilterLemmas::admits_some, crate::proofs::FilterLemmas::admits_none))]
     pub fn admits(&self, path: &Path) -> bool
+        ensures { result ≡ admits self.now path.now }
+    {
+        self.admits_bytes(path.as_bytes())
+    }
+
+    /// Whether the path of these bytes is wanted, for who would not make a `Path` of them in vain. It is `admits`, at its cost.
+    #[tactic(auto, using(crate::proofs::FilterLemmas::admits_some, crate::proofs::FilterLemmas::admits_none))]
+    pub fn admits_bytes(&self, path: &[u8]) -> bool
+        requires { IsPath path.now }
         ensures { result ≡ admits self.now path.now }
     {
         if self.patterns.is_empty() {

@@ -6,11 +6,9 @@
 
 ghost use Rattle.std.specs.Prelude.{◌≡◌, ◌≢◌, ◌<◌, ◌≤◌, ◌+◌, ◌||◌, ◌&&◌, ◌∷◌, ℕ, List, Bool, Some, None, true, false, [], length, IfSome, nat_le};
 ghost use Rattle.std.specs.List.{slice_index_or};
-ghost use Rattle.eden_ids.specs.Paths.{components};
+ghost use Rattle.eden_ids.specs.Paths.{IsPath, components};
 ghost use Rattle.eden_globs.specs.Filters.{is_any_names, name_matches, parts_enter, path_matches, pattern_admits, pattern_enters};
 ghost use Rattle.eden_globs.specs.internal.Rows.{IsRow, is_wanted, left_of};
-
-use eden_ids::Path;
 
 /// The most bytes that a path or a pattern has.
 const LONGEST: usize = 1024;
@@ -214,10 +212,10 @@ fn count_of_names(path: &[u8]) -> usize
 ///
 /// It takes at most a constant times the pattern's length times the path's, whatever the pattern, and no memory.
 #[tactic(auto, using(crate::proofs::Splitting::path_short, crate::proofs::Splitting::path_flat, crate::proofs::Rows::first_cell))]
-pub(crate) fn is_admitted(pattern: &[u8], path: &Path) -> bool
+pub(crate) fn is_admitted(pattern: &[u8], path: &[u8]) -> bool
+    requires { IsPath path.now }
     ensures { result ≡ pattern_admits pattern.now path.now }
 {
-    let path = path.as_bytes();
     let count = count_of_names(path);
     let mut row = [false; 65];
     let mut cells = [false; CELLS];

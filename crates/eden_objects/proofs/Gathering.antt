@@ -1,6 +1,7 @@
 -- A listing that is gathered entry by entry.
-use Rattle.std.proofs.Common.{◌≡◌, ℕ, ◌<◌, ◌≤◌, ◌++◌, Bool, List, [], ◌∷◌, map, take, length, Some, None, refl, sym, ap, subst, ◌∙◌, arith, append_assoc}
-use Rattle.std.proofs.lemmas.List.{map-append}
+use Rattle.std.proofs.Common.{◌≡◌, ℕ, ◌<◌, ◌≤◌, ◌++◌, ◌&&◌, Bool, true, false, cond, List, [], ◌∷◌, map, take, length, Some, None, refl, sym, ap, subst, ◌∙◌, arith, append_assoc}
+use Rattle.std.proofs.lemmas.Bool.{eq-eqb}
+use Rattle.std.proofs.lemmas.List.{append-nil, map-append}
 use Rattle.std.proofs.lemmas.List.Elements.{filter-append}
 use Rattle.std.proofs.Math.Seq.{take-append_seam}
 use Rattle.std.specs.Prelude.{filter}
@@ -8,6 +9,7 @@ use Rattle.std.specs.List.{AllByRecursion}
 use Rattle.eden_globs.specs.Filters.{admits}
 use Rattle.eden_ids.specs.declared.id.Id.{Id}
 use Rattle.eden_ids.specs.declared.content.Kind.{Kind}
+use Rattle.eden_ids.specs.Paths.{lies_below}
 use Rattle.eden_objects.specs.Objects.{Held, payload_of}
 use Rattle.eden_git.specs.Trees.{Entry, entries_of}
 use Rattle.eden_objects.specs.Trees.{entries_depth, tree_depth}
@@ -56,6 +58,30 @@ one_dir test front inner rows target done new e es all is dir entered so_far now
     (now ∙ ap (λ p. done ++ rows_behind test p (rows e.id)) entered
     ∙ ap (λ found. done ++ filter (λ row. test row.0) found) (sym (under_behind front e.name (rows e.id)))
     ∙ ap (λ k. done ++ rows_behind test front (rows_of_kind e.name k e.id (rows e.id))) (sym dir))
+
+-- what stands behind a directory's name and a slash lies below it
+
+inside : (top rest : List ℕ) → lies_below (top ++ 47 ∷ rest) top ≡ true
+inside [] [] = refl
+inside [] (r ∷ rest) = refl
+inside (t ∷ top) rest = ap (λ b. b && lies_below (top ++ 47 ∷ rest) top) (eq-eqb t t refl) ∙ inside top rest
+
+none_wanted : (test : List ℕ → Bool) (dir : List ℕ) (rows : List Row) → ((path : List ℕ) → lies_below path dir ≡ true → test path ≡ false)
+    → rows_behind test (dir ++ 47 ∷ []) rows ≡ []
+none_wanted test dir [] outside = refl
+none_wanted test dir (row ∷ rows) outside =
+    let path : (dir ++ 47 ∷ []) ++ row.0 ≡ dir ++ 47 ∷ row.0 = append_assoc dir (47 ∷ []) row.0 in
+    let passed : test ((dir ++ 47 ∷ []) ++ row.0) ≡ false = ap test path ∙ outside (dir ++ 47 ∷ row.0) (inside dir row.0) in
+    ap (λ b. cond b (behind (dir ++ 47 ∷ []) row ∷ rows_behind test (dir ++ 47 ∷ []) rows) (rows_behind test (dir ++ 47 ∷ []) rows)) passed
+    ∙ none_wanted test dir rows outside
+
+-- a directory below which nothing is wanted
+pub no_dir : (test : List ℕ → Bool) (front : List ℕ) (rows : Id → List Row) (target done : List Row) (e : Entry) (es all : List Entry) → all ≡ e ∷ es → e.kind ≡ None
+    → ((path : List ℕ) → lies_below path (front ++ e.name) ≡ true → test path ≡ false)
+    → target ≡ done ++ rows_behind test front (entries_rows rows all) → target ≡ done ++ rows_behind test front (entries_rows rows es)
+no_dir test front rows target done e es all is dir outside so_far =
+    one_dir test front (front ++ e.name ++ 47 ∷ []) rows target done done e es all is dir refl so_far
+    (sym (ap (λ more. done ++ more) (none_wanted test (front ++ e.name) (rows e.id) outside) ∙ append-nil done))
 
 -- the bytes before the name are there again
 pub left : (front inner name : List ℕ) → inner ≡ front ++ name ++ 47 ∷ [] → take (length front) inner ≡ front

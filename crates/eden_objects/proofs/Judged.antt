@@ -1,17 +1,16 @@
 -- A tree without a fault is one that a store may hold.
-use Rattle.std.proofs.Common.{◌≡◌, ◌∙◌, sym, refl, ap, ℕ, zero, suc, ◌≤◌, Bool, true, false, cond, not, List, [], ◌∷◌, map, take, drop, length, Option, Some, None, Result, Ok, Err, nat_lt, Ordering, Less, Equal, Greater, arith}
+use Rattle.std.proofs.Common.{◌≡◌, sym, refl, ℕ, zero, suc, ◌≤◌, Bool, true, false, not, List, [], ◌∷◌, map, length, Option, Some, None, Result, Ok, Err, Ordering, Less, Equal, Greater, arith}
 use Rattle.std.proofs.lemmas.Bool.{or_parts}
 use Rattle.std.specs.Ordering.{nat_cmp, is_lt}
 use Rattle.std.specs.Cmp.Lexicographic.{slice_cmp, nat_list_cmp_total}
 use Rattle.std.specs.List.{AllByRecursion, list_any}
 use Rattle.std.specs.List.Sorted.{IsStrictlySortedBy}
-use Rattle.eden_ids.specs.declared.content.Kind.{Kind}
 use Rattle.eden_objects.specs.declared.fault.PutFault.{PutFault}
 use Rattle.eden_git.specs.declared.fault.EntryFault.{EntryFault}
 use Rattle.eden_objects.specs.declared.fault.PutFault.TheVariants.{Duplicate, OutOfOrder}
 use Rattle.eden_objects.specs.Objects.{Held}
 use Rattle.eden_ids.specs.Sameness.{same_bytes}
-use Rattle.eden_git.specs.Trees.{Entry, cut, read_entry, read_mode, read_kind, read_named, read_id, kind_of_mode, is_name, key, entries, entries_after, entries_of}
+use Rattle.eden_git.specs.Trees.{Entry, read_entry, is_name, key, entries, entries_after, entries_of}
 use Rattle.eden_objects.specs.Trees.{entries_depth, entries_reach, tree_depth, tree_reach}
 use Rattle.eden_objects.specs.Puts.{entries_fault, entry_fault, fault_after, first_fault, if_so, is_above, word_wanted}
 use Rattle.eden_objects.specs.Closed.{IsHeld, IsTree, NamesDiffer}

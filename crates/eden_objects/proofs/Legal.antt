@@ -1,7 +1,6 @@
 -- What a listing makes of the names on its way are paths, since those of a commit are.
-use Rattle.std.proofs.Common.{◌≡◌, ℕ, ◌++◌, Bool, true, false, cond, List, [], ◌∷◌, map, Option, Some, None, sym, ap, subst, ◌∙◌, append_assoc}
+use Rattle.std.proofs.Common.{◌≡◌, ℕ, ◌++◌, Bool, true, false, cond, List, [], ◌∷◌, map, Some, None, sym, subst, ◌∙◌, append_assoc}
 use Rattle.std.specs.Prelude.{filter}
-use Rattle.std.specs.List.{AllByRecursion}
 use Rattle.eden_ids.specs.declared.id.Id.{Id}
 use Rattle.eden_ids.specs.declared.content.Kind.{Kind}
 use Rattle.eden_ids.specs.Paths.{IsPath, lies_below}
@@ -9,7 +8,7 @@ use Rattle.eden_objects.specs.Objects.{Held}
 use Rattle.eden_git.specs.Trees.{Entry}
 use Rattle.eden_objects.specs.Commits.{Row, under, rows_of_kind, entry_rows, entries_rows, tree_rows}
 use Rattle.eden_objects.specs.Closed.{HasTree, IsClosed}
-use Rattle.eden_objects.specs.Listings.{ArePaths, IsBelow, behind, rows_below}
+use Rattle.eden_objects.specs.Listings.{ArePaths, IsBelow, behind}
 use Rattle.eden_objects.proofs.Fitting.{fitting_law}
 use Rattle.eden_objects.proofs.WalkSteps.{entries_in, rows_here}
 

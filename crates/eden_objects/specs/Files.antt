@@ -1,5 +1,5 @@
 -- The files of a commit by its rows, where an id that is no commit's has none.
-use Rattle.std.specs.Prelude.{ℕ, List, [], map, Option, Some, None}
+use Rattle.std.specs.Prelude.{List, [], map, Option, Some, None}
 use Rattle.std.specs.FinMap as fin
 use Rattle.eden_ids.specs.declared.id.Id.{Id}
 use Rattle.eden_ids.specs.FileMaps.{FileMap, no_files}

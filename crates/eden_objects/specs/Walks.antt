@@ -5,7 +5,7 @@ use Rattle.eden_ids.specs.declared.content.Kind.{Kind}
 use Rattle.eden_ids.specs.declared.content.Content.{Content}
 use Rattle.eden_objects.specs.Objects.{Held, find, payload_of}
 use Rattle.eden_git.specs.Words.{same_word}
-use Rattle.eden_objects.specs.Commits.{Row, find_row, tree_rows}
+use Rattle.eden_objects.specs.Commits.{Row, find_row}
 use Rattle.eden_git.specs.Commits.{tree_named}
 use Rattle.eden_git.specs.declared.word.Word.TheVariants.{Commit}
 use Rattle.eden_objects.specs.declared.fault.NoCommit.{NoCommit}

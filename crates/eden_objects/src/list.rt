@@ -1,4 +1,4 @@
-ghost use Rattle.std.specs.Prelude.{◌≡◌, ◌++◌, ◌∷◌, [], Some, map, IfOk, OnOk};
+ghost use Rattle.std.specs.Prelude.{◌≡◌, ◌++◌, ◌∷◌, ℕ, List, [], Some, false, true, map, IfOk, OnOk};
 ghost use Rattle.eden_globs.specs.Filters.{admits};
 ghost use Rattle.eden_ids.specs.Paths.{IsPath, lies_below};
 ghost use Rattle.eden_objects.specs.Commits.{commit_rows, rows_where, tree_rows};
@@ -6,10 +6,11 @@ ghost use Rattle.eden_objects.specs.Closed.{HasTree};
 ghost use Rattle.eden_objects.specs.Listings.{ArePaths, IsBelow, Lists, behind, rows_behind, rows_below};
 
 use crate::fault::{CommitFault, NoCommit};
+use crate::front::path_behind;
 use crate::store::Store;
 use eden_git::{cut, next_entry};
 use eden_globs::Filter;
-use eden_ids::{Id, Kind, Naming, NoMemory, Path, PathFault};
+use eden_ids::{Id, Kind, Naming, NoMemory, Path};
 use std::alloc::Global;
 
 /// The files that were found so far, and the bytes that stand before each name of the directory that is read.
@@ -17,26 +18,6 @@ use std::alloc::Global;
 struct Listing {
     front: Vec<u8>,
     rows: Vec<(Path, Kind, Id)>,
-}
-
-/// The path that begins with these bytes and ends with a name.
-fn path_behind(alloc: Global, front: &mut Vec<u8>, name: &[u8]) -> Result<Path, NoMemory>
-    requires { IsPath (front.old.items ++ name.now) }
-    ensures path { IfOk result (λ path. path ≡ front.old.items ++ name.now) }
-    ensures front { OnOk result (front.new.items ≡ front.old.items) }
-{
-    let length = front.len();
-    let Ok(_) = front.extend_from_slice(name) else {
-        return Err(NoMemory);
-    };
-    let parsed = Path::parse(alloc, front.as_slice());
-    front.truncate(length);
-    match parsed {
-        Ok(path) => Ok(path),
-        Err(PathFault::NoMemory) => Err(NoMemory),
-        // The bytes are known to be a path.
-        Err(_) => unreachable!(),
-    }
 }
 
 /// The bytes before each name of the directory at a path.
@@ -52,14 +33,30 @@ fn front_of(alloc: Global, path: &[u8]) -> Result<Vec<u8>, NoMemory>
     }
 }
 
-/// The filter with no pattern, which admits every path.
-fn everything(alloc: Global) -> Result<Filter, NoMemory>
-    ensures { IfOk result (λ filter. filter ≡ []) }
+/// Whether a filter admits the path that begins with these bytes and ends with a name.
+fn is_wanted(front: &mut Vec<u8>, filter: &Filter, name: &[u8]) -> Result<bool, NoMemory>
+    requires { IsPath (front.old.items ++ name.now) }
+    ensures wanted { IfOk result (λ wanted. wanted ≡ admits filter.now (front.old.items ++ name.now)) }
+    ensures front { OnOk result (front.new.items ≡ front.old.items) }
 {
-    match Filter::parse(alloc, &[]) {
-        Ok(filter) => Ok(filter),
-        Err(_) => Err(NoMemory),
-    }
+    let length = front.len();
+    front.extend_from_slice(name)?;
+    let wanted = filter.admits_bytes(front.as_slice());
+    front.truncate(length);
+    Ok(wanted)
+}
+
+/// Whether a filter may admit something below the directory whose path begins with these bytes and ends with a name.
+fn is_entered(front: &mut Vec<u8>, filter: &Filter, name: &[u8]) -> Result<bool, NoMemory>
+    ensures outside { IfOk result (λ entered. entered ≡ false → (path : List ℕ) → lies_below path (front.old.items ++ name.now) ≡ true
+        → admits filter.now path ≡ false) }
+    ensures front { OnOk result (front.new.items ≡ front.old.items) }
+{
+    let length = front.len();
+    front.extend_from_slice(name)?;
+    let entered = filter.admits_below(front.as_slice());
+    front.truncate(length);
+    Ok(entered)
 }
 
 impl Listing {
@@ -77,10 +74,10 @@ impl Listing {
             ≡ self.old.rows.items ++ rows_behind (admits filter.now) self.old.front.items ((name.now, kind, id) ∷ [])) }
         ensures front { OnOk result (self.new.front.items ≡ self.old.front.items) }
     {
-        let path = path_behind(alloc, &mut self.front, name)?;
-        if !filter.admits(&path) {
+        if !is_wanted(&mut self.front, filter, name)? {
             return Ok(());
         }
+        let path = path_behind(alloc, &mut self.front, name)?;
         match self.rows.push((path, kind, id)) {
             Ok(()) => Ok(()),
             Err(_) => Err(NoMemory),
@@ -106,7 +103,8 @@ impl<N: Naming + Drop> Store<N> {
     /// The files of a commit that a filter admits, each with its path, its kind and its blob, in byte order of the paths.
     ///
     /// `NoCommit` comes where the id is no commit's; `NoMemory` may stand in place of any answer where a growth was refused. Each
-    /// directory is read once.
+    /// directory below which the filter may admit something (`Filter::admits_below`) is read once, and no other; no path is made that
+    /// the filter does not admit.
     pub fn list(&self, commit: Id, filter: &Filter) -> Result<Vec<(Path, Kind, Id)>, CommitFault>
         ensures { Lists result (rows_where (admits filter.now) (commit_rows self.now commit)) }
     {
@@ -178,7 +176,7 @@ impl<N: Naming + Drop> Store<N> {
         ensures { IfOk result (λ rows. rows.items ≡ map (behind (path.now ++ 47 ∷ [])) (tree_rows self.now dir)) }
     {
         let front = front_of(self.allocator(), path)?;
-        let filter = everything(self.allocator())?;
+        let filter = Filter::all(self.allocator());
         self.gather_behind(dir, &filter, front)
     }
 
@@ -214,7 +212,8 @@ impl<N: Naming + Drop> Store<N> {
         Ok(listing.rows)
     }
 
-    /// Adds the files of a tree to a listing, directory by directory. A directory without files is not read.
+    /// Adds the files of a tree to a listing, directory by directory. A directory without files is not read, nor is one below which
+    /// nothing is wanted.
     fn gather(&self, tree: Id, filter: &Filter, listing: &mut Listing) -> Result<(), NoMemory>
         requires tree { HasTree self.now tree }
         requires paths { ArePaths listing.old.front.items (tree_rows self.now tree) }
@@ -228,16 +227,19 @@ impl<N: Naming + Drop> Store<N> {
         }
         let mut rest = self.payload(tree);
         'entries: while let Some((entry, after)) = next_entry(rest) {
+            rest = after;
             let Some(kind) = entry.kind else {
+                let entered = is_entered(&mut listing.front, filter, entry.name)?;
+                if !entered {
+                    continue;
+                }
                 let length = listing.front.len();
                 listing.enter(entry.name)?;
                 self.gather(entry.id, filter, listing)?;
                 listing.front.truncate(length);
-                rest = after;
                 continue;
             };
             listing.add(self.allocator(), filter, entry.name, kind, entry.id)?;
-            rest = after;
         }
         Ok(())
     }

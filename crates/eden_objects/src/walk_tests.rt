@@ -300,3 +300,28 @@ fn empty_directories_hold_nothing(rt: HostRuntime) -> Result<(), Fail> {
     assert_eq!(rt; store.list(commit, &everything)?.len(), 0);
     Ok(())
 }
+
+// 2 to the 40 files stand below `d`, of which none is wanted: a directory that no pattern enters is not read.
+#[test]
+fn only_what_may_be_wanted_is_read(rt: HostRuntime) -> Result<(), Fail> {
+    let alloc = rt.alloc();
+    let mut store = Store::new(alloc, GitNaming);
+    let x = store.put_blob(b"x".as_slice())?;
+    let lowest = put_one(alloc, &mut store, "100644", "f", x)?;
+    let deep = put_levels(alloc, &mut store, lowest, 40)?;
+    let mut top = Vec::new(alloc);
+    push_entry(&mut top, "40000", b"d".as_slice(), deep)?;
+    push_entry(&mut top, "100644", b"x".as_slice(), x)?;
+    let tree = store.put_tree(top.as_slice())?;
+    let commit = put_commit(alloc, &mut store, tree)?;
+    for (pattern, wanted) in [("x", true), ("?", true), ("d/x", false), ("*/*/b/f", false)] {
+        let filter = Filter::parse(alloc, &[pattern.as_bytes()])?;
+        let listed = store.list(commit, &filter)?;
+        assert_eq!(rt; listed.len(), wanted as usize, "{pattern}");
+        assert_eq!(rt;
+            listed.first().map(|row| row.2),
+            if wanted { Some(x) } else { None }
+        );
+    }
+    Ok(())
+}

@@ -4,6 +4,7 @@ mod Ascending
 mod Listed
 mod Pairs
 mod Steps
+mod Legal
 mod Settling
 mod Sides
 mod Rows

@@ -243,14 +243,14 @@ abbrev pub IsDirectory : List Held → ℕ → ℕ → List Row → List Row →
 IsDirectory held m n xs ys d = (merge_rows xs ys ≡ map (below d.0) (merge_rows (side_rows held d.1) (side_rows held d.2)))
     × IsSide held d.1 × IsSide held d.2 × (side_depth held d.1 + side_depth held d.2 < m + n)
 
-dir_inside : (n : List ℕ) (k : Option Kind) (a b : Option Id) (d : Directory) → directory_of n k a b ≡ Some d → (k ≡ None) × ((n, a, b) ≡ d)
+pub dir_inside : (n : List ℕ) (k : Option Kind) (a b : Option Id) (d : Directory) → directory_of n k a b ≡ Some d → (k ≡ None) × ((n, a, b) ≡ d)
 dir_inside n None a b d h = (refl, inside (n, a, b) d h)
   where
     inside : (x y : Directory) → Some x ≡ Some y → x ≡ y
     inside x y e = cc
 dir_inside n (Some k) a b d h = absurd (cc)
 
-also_dir : (n m : List ℕ) (l : Option Kind) → is_name m ≡ true → key_of n None ≡ key_of m l → l ≡ None
+pub also_dir : (n m : List ℕ) (l : Option Kind) → is_name m ≡ true → key_of n None ≡ key_of m l → l ≡ None
 also_dir n m None name is = refl
 also_dir n m (Some l) name is = absurd (not_slashed m n name (sym is))
 

@@ -27,7 +27,7 @@ merge_entries held es fs = merge_rows (entries_rows (tree_rows held) es) (entrie
 abbrev pub IsWay : List Held → ℕ → ℕ → List Entry → List Entry → Type 0
 IsWay held m n es fs = IsRest held es × IsRest held fs × (entries_depth (tree_depth held) es ≤ m) × (entries_depth (tree_depth held) fs ≤ n)
 
-side_whole : (held : List Held) (side : Option Id) → IsClosed held → IsSide held side
+pub side_whole : (held : List Held) (side : Option Id) → IsClosed held → IsSide held side
     → (side_rows held side ≡ entries_rows (tree_rows held) (side_entries held side)) × IsRest held (side_entries held side) × (entries_depth (tree_depth held) (side_entries held side) ≤ side_depth held side)
 unfolding IsStrictlySortedBy
 side_whole held None closed is = (refl, (tt, tt, tt), omega arith)

@@ -36,6 +36,7 @@ fn paths_between<N: Naming + Drop>(
     requires second { IsSide store.now second }
     ensures { IfOk result (λ paths. paths.items ≡ merge_rows (side_rows store.now first) (side_rows store.now second)) }
 {
+    store.closed_law();
     let mut found = Found {
         front: Vec::new(alloc),
         paths: Vec::new(alloc),

@@ -1,4 +1,6 @@
 ghost use Rattle.std.specs.Prelude.{◌≡◌, ◌++◌, ◌∷◌, [], IfOk, OnOk, true};
+ghost use Rattle.eden_ids.specs.Paths.{IsPath};
+ghost use Rattle.eden_objects.specs.Listings.{ArePaths};
 ghost use Rattle.eden_treediff.specs.Merges.{merge_rows};
 ghost use Rattle.eden_treediff.specs.Settled.{AreSettled, HoldSame, KeepsSettled, is_known};
 ghost use Rattle.eden_treediff.specs.Walks.{IsSide, behind, same_side, side_bytes, side_rows};
@@ -8,7 +10,7 @@ use crate::columns::changed_rows;
 use crate::pair::next_pair;
 use crate::settled::Settled;
 use eden_ids::{Id, Naming, NoMemory, Path};
-use eden_objects::Store;
+use eden_objects::{Store, path_behind};
 use std::alloc::Global;
 
 /// The paths that were found so far, and the bytes that stand before each name of the directory that is read.
@@ -18,26 +20,10 @@ pub(crate) struct Found {
     pub(crate) paths: Vec<Path>,
 }
 
-/// The path that begins with these bytes and ends with a name.
-fn path_behind(alloc: Global, front: &mut Vec<u8>, name: &[u8]) -> Result<Path, NoMemory>
-    ensures path { IfOk result (λ path. path ≡ front.old.items ++ name.now) }
-    ensures front { OnOk result (front.new.items ≡ front.old.items) }
-{
-    let length = front.len();
-    let Ok(_) = front.extend_from_slice(name) else {
-        return Err(NoMemory);
-    };
-    let parsed = Path::parse(alloc, front.as_slice());
-    front.truncate(length);
-    match parsed {
-        Ok(path) => Ok(path),
-        Err(_) => Err(NoMemory),
-    }
-}
-
 impl Found {
     /// Adds a file of the directory that is read.
     fn add(&mut self, alloc: Global, name: &[u8]) -> Result<(), NoMemory>
+        requires { IsPath (self.old.front.items ++ name.now) }
         ensures paths { OnOk result (self.new.paths.items ≡ self.old.paths.items ++ (self.old.front.items ++ name.now) ∷ []) }
         ensures front { OnOk result (self.new.front.items ≡ self.old.front.items) }
     {
@@ -82,7 +68,8 @@ fn entries_of<N: Naming + Drop>(store: &Store<N>, side: Option<Id>) -> &[u8]
     match side {
         Some(id) => match store.tree(id) {
             Some(payload) => payload,
-            None => b"".as_slice(),
+            // The side is known to be a tree.
+            None => unreachable!(),
         },
         None => b"".as_slice(),
     }
@@ -103,6 +90,8 @@ pub(crate) fn walk<N: Naming + Drop>(
     requires first { IsSide store.now first }
     requires second { IsSide store.now second }
     requires settled { AreSettled store.now settled.old }
+    requires first_paths { ArePaths found.old.front.items (side_rows store.now first) }
+    requires second_paths { ArePaths found.old.front.items (side_rows store.now second) }
     ensures paths { OnOk result (found.new.paths.items
         ≡ found.old.paths.items ++ behind found.old.front.items (merge_rows (side_rows store.now first) (side_rows store.now second))) }
     ensures front { OnOk result (found.new.front.items ≡ found.old.front.items) }

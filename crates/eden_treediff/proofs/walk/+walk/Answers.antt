@@ -6,7 +6,9 @@ use Rattle.eden_treediff.specs.Merges.{merge_rows}
 use Rattle.eden_treediff.specs.Pairs.{Directory, Next, name_of, next_of}
 use Rattle.eden_treediff.specs.Walks.{behind, directory_read, side_depth, side_entries, side_rows}
 use Rattle.eden_treediff.proofs.Rows.{tells_next}
-use Rattle.eden_treediff.proofs.Steps.{IsWay, merge_entries, same_sides, way_begins, way_goes_on, all_merged, skipped, file_found, directory_is, directory_walked, left}
+use Rattle.eden_ids.specs.Paths.{IsPath}
+use Rattle.eden_treediff.proofs.Legal.{AreLegal, entered_legal, found_legal, legal_after, legal_begins}
+use Rattle.eden_treediff.proofs.Steps.{IsWay, is_next, merge_entries, same_sides, way_begins, way_goes_on, all_merged, skipped, file_found, directory_is, directory_walked, left}
 use Rattle.eden_treediff.proofs.Settling.{settled_on_ok, settled_sides, walked_nothing}
 use Rattle.eden_treediff.proofs.walk.+walk.Goals.{then-same_side-via-then-same_side, then-same_side-via-else-same_side+then-has}
 use Rattle.eden_treediff.proofs.walk.+walk.Goals as goal
@@ -37,6 +39,8 @@ pairs-init g t c =
       front = λ i. c.args.found.now.front.items;
       settled = c.requires.settled;
       kept = λ a b is. is;
+      first_legal = subst (AreLegal held c.args.found.now.front.items) one (legal_begins held c.args.found.now.front.items c.args.first c.closed_law.ensures.closed c.requires.first c.requires.first_paths);
+      second_legal = subst (AreLegal held c.args.found.now.front.items) two (legal_begins held c.args.found.now.front.items c.args.second c.closed_law.ensures.closed c.requires.second c.requires.second_paths);
       way =
           subst (λ fs. IsWay held (side_depth held c.args.first) (side_depth held c.args.second) (entries_of c.entries_of-left.result.now) fs) two
           (subst (λ es. IsWay held (side_depth held c.args.first) (side_depth held c.args.second) es (side_entries held c.args.second)) one
@@ -52,6 +56,7 @@ pairs-preserved-then-not-is_changed g t c =
     let fs : List Entry = entries_of c.pairs.right.now in
     let next : Next = next_of c.in-Some.pair in
     let told = c.is_changed.ensures.tells (common next.2 next.3) (tells_next c.pairs.changes es fs next c.in-Some.ensures.next c.pairs.invariant.tells) in
+    let met = is_next held m n es fs next c.pairs.invariant.way c.in-Some.ensures.next in
     record {
       listed =
           skipped held m n es fs next c.args.found.now.front.items
@@ -62,6 +67,8 @@ pairs-preserved-then-not-is_changed g t c =
       front = c.pairs.invariant.front;
       settled = c.pairs.invariant.settled;
       kept = c.pairs.invariant.kept;
+      first_legal = legal_after held c.args.found.now.front.items es next.0 next.2 met.0 c.pairs.invariant.first_legal;
+      second_legal = legal_after held c.args.found.now.front.items fs next.1 next.3 met.1 c.pairs.invariant.second_legal;
       way = way_goes_on held m n es fs next c.pairs.invariant.way c.in-Some.ensures.next;
     }
 
@@ -74,6 +81,7 @@ pairs-preserved-in_default-directory g t c =
     let fs : List Entry = entries_of c.pairs.right.now in
     let next : Next = next_of c.in-Some.pair in
     let told = c.is_changed.ensures.tells (common next.2 next.3) (tells_next c.pairs.changes es fs next c.in-Some.ensures.next c.pairs.invariant.tells) in
+    let met = is_next held m n es fs next c.pairs.invariant.way c.in-Some.ensures.next in
     let front : List ℕ = c.args.found.now.front.items in
     let added : c.add.new.self.paths.items ≡ c.pairs.found.paths.items ++ (front ++ name_of next.0 next.1) ∷ [] =
     c.in_ok-add.ensures.paths
@@ -90,6 +98,8 @@ pairs-preserved-in_default-directory g t c =
       front = c.in_ok-add.ensures.front ∙ c.pairs.invariant.front;
       settled = c.pairs.invariant.settled;
       kept = c.pairs.invariant.kept;
+      first_legal = legal_after held c.args.found.now.front.items es next.0 next.2 met.0 c.pairs.invariant.first_legal;
+      second_legal = legal_after held c.args.found.now.front.items fs next.1 next.3 met.1 c.pairs.invariant.second_legal;
       way = way_goes_on held m n es fs next c.pairs.invariant.way c.in-Some.ensures.next;
     }
 
@@ -101,7 +111,24 @@ walk-requires g t c κs within =
     let known = directory_is held (side_depth held c.args.first) (side_depth held c.args.second) (entries_of c.pairs.left.now) (entries_of c.pairs.right.now) next d
     c.pairs.invariant.way c.in-Some.ensures.next (sym c.directory.ensures ∙ ap directory_read c.in-Some-directory.is) in
     let less : side_depth held c.in-Some-directory.tree + side_depth held c.in-Some-directory.other < side_depth held c.args.first + side_depth held c.args.second = known.3 in
-    (search rules, (search rules, (known.1, (known.2, c.pairs.invariant.settled))))
+    let front : List ℕ = c.args.found.now.front.items in
+    let met = is_next held (side_depth held c.args.first) (side_depth held c.args.second) (entries_of c.pairs.left.now) (entries_of c.pairs.right.now) next c.pairs.invariant.way c.in-Some.ensures.next in
+    let entered : c.enter.new.self.front.items ≡ front ++ c.in-Some-directory.name.now ++ 47 ∷ [] =
+    c.in_ok-enter.ensures.front ∙ ap (λ bytes. bytes ++ c.in-Some-directory.name.now ++ 47 ∷ []) c.pairs.invariant.front in
+    let paths = entered_legal held front c.enter.new.self.front.items (entries_of c.pairs.left.now) (entries_of c.pairs.right.now) next d c.pairs.invariant.way.0 c.pairs.invariant.way.1 met
+    c.pairs.invariant.first_legal c.pairs.invariant.second_legal (sym c.directory.ensures ∙ ap directory_read c.in-Some-directory.is) entered in
+    (search rules, (search rules, (known.1, (known.2, (c.pairs.invariant.settled, paths)))))
+
+pub add-requires : goal.add-requires
+add-requires g t c =
+    let held : List Held = c.args.store.now in
+    let es : List Entry = entries_of c.pairs.left.now in
+    let fs : List Entry = entries_of c.pairs.right.now in
+    let next : Next = next_of c.in-Some.pair in
+    let met = is_next held (side_depth held c.args.first) (side_depth held c.args.second) es fs next c.pairs.invariant.way c.in-Some.ensures.next in
+    let legal = found_legal held c.args.found.now.front.items es fs next met c.pairs.invariant.first_legal c.pairs.invariant.second_legal
+    (sym c.directory.ensures ∙ ap directory_read c.in_default-directory.is) in
+    subst (λ bytes. IsPath (bytes ++ c.name.result.now)) (sym c.pairs.invariant.front) (subst (λ bytes. IsPath (c.args.found.now.front.items ++ bytes)) (sym c.name.ensures) legal)
 
 pub pairs-preserved : goal.pairs-preserved
 pairs-preserved g t c =
@@ -112,6 +139,7 @@ pairs-preserved g t c =
     let fs : List Entry = entries_of c.pairs.right.now in
     let next : Next = next_of c.in-Some.pair in
     let told = c.is_changed.ensures.tells (common next.2 next.3) (tells_next c.pairs.changes es fs next c.in-Some.ensures.next c.pairs.invariant.tells) in
+    let met = is_next held m n es fs next c.pairs.invariant.way c.in-Some.ensures.next in
     let front : List ℕ = c.args.found.now.front.items in
     let d : Directory = (c.in-Some-directory.name.now, c.in-Some-directory.tree, c.in-Some-directory.other) in
     let inside : List (List ℕ) = merge_rows (side_rows held c.in-Some-directory.tree) (side_rows held c.in-Some-directory.other) in
@@ -134,6 +162,8 @@ pairs-preserved g t c =
           ∙ left front c.walk.new.found.front.items c.in-Some-directory.name.now (c.in_ok-walk.ensures.front ∙ entered);
       settled = c.in_ok-walk.ensures.settled;
       kept = λ a b is. c.in_ok-walk.ensures.kept a b (c.pairs.invariant.kept a b is);
+      first_legal = legal_after held c.args.found.now.front.items es next.0 next.2 met.0 c.pairs.invariant.first_legal;
+      second_legal = legal_after held c.args.found.now.front.items fs next.1 next.3 met.1 c.pairs.invariant.second_legal;
       way = way_goes_on held m n es fs next c.pairs.invariant.way c.in-Some.ensures.next;
     }
 

@@ -4,6 +4,7 @@ use Rattle.eden_treediff.specs.Columns.{Tells, common}
 use Rattle.eden_treediff.specs.Merges.{merge_rows}
 use Rattle.eden_treediff.specs.Settled.{AreSettled, KeepsSettled}
 use Rattle.eden_treediff.specs.Walks.{behind, side_depth, side_rows}
+use Rattle.eden_treediff.proofs.Legal.{AreLegal}
 use Rattle.eden_treediff.proofs.Steps.{IsWay, merge_entries}
 use Rattle.eden_treediff.proofs.walk.+walk.Given as goal
 
@@ -19,6 +20,8 @@ invariant-pairs g l = record {
   room : l.changes.row + (length l.left + length l.right) < 18446744073709551616;
   settled : AreSettled l.store l.settled;
   kept : KeepsSettled l.fn.settled l.settled;
+  first_legal : AreLegal l.store l.fn.found.front.items (entries_of l.left);
+  second_legal : AreLegal l.store l.fn.found.front.items (entries_of l.right);
   way : IsWay l.store (side_depth l.store l.fn.first) (side_depth l.store l.fn.second) (entries_of l.left) (entries_of l.right);
 }
 

@@ -1,4 +1,4 @@
-use Rattle.std.proofs.Common.{rules, ◌≡◌, ◌<◌, length, List, None, Ok, Err, ◌∷◌, refl, sym, ◌∙◌}
+use Rattle.std.proofs.Common.{rules, ◌≡◌, ◌<◌, length, List, None, Ok, ◌∷◌, refl, sym, ◌∙◌}
 use Rattle.eden_git.specs.Trees.{Entry, read_entry}
 use Rattle.eden_objects.specs.Trees.{greater, depth_of, reach_of, tree_depth, tree_reach}
 use Rattle.eden_objects.specs.Puts.{entry_fault}
