@@ -1,8 +1,9 @@
 //! What a mirror makes of a reply.
 
-ghost use Rattle.std.specs.Prelude.{◌≡◌, IfOk, OnErr};
+ghost use Rattle.std.specs.Prelude.{◌≡◌, Some, IfOk, OnErr};
 ghost use Rattle.eden_history.specs.declared.message.Reply.TheVariants.{BasisIs, ChangesAre, ContentIs, Refused};
 ghost use Rattle.eden_history.specs.Mirrors.{delivered, gathers, query_numbered};
+ghost use Rattle.eden_history.specs.Mirrors.Round.{Idle};
 
 use crate::awaited::Awaited;
 use crate::mirror::{Mirror, Round};
@@ -20,14 +21,22 @@ fn copy_of(content: &Option<Content>) -> Result<Option<Content>, NoMemory>
 }
 
 impl Mirror {
+    /// Ends the round at its target.
+    fn place_at(&mut self, target: Position) -> Outcome
+        ensures placed { self.new ≡ record self.old { place = Some target; round = Idle } }
+        ensures told { result ≡ Outcome.Placed }
+    {
+        self.place = Some(target);
+        self.round = Round::Idle;
+        Outcome::Placed
+    }
+
     /// Awaits the contents of these paths, or is placed where there is none.
     fn gather(&mut self, target: Position, awaited: Awaited) -> Outcome
         ensures { (self.new, result) ≡ gathers self.old (query_numbered self.old self.old.last) target awaited }
     {
         if awaited.is_empty() {
-            self.place = Some(target);
-            self.round = Round::Idle;
-            return Outcome::Placed;
+            return self.place_at(target);
         }
         self.round = Round::Gathering { target, awaited };
         Outcome::Taken
@@ -52,7 +61,6 @@ impl Mirror {
         }
         let awaited = Awaited::of_paths(self.alloc(), paths)?;
         self.files = Files::new(self.alloc());
-        self.place = None;
         Ok(self.gather(target, awaited))
     }
 
@@ -103,9 +111,7 @@ impl Mirror {
         self.files.put(path, copy_of(content)?)?;
         awaited.answer(path);
         if awaited.is_empty() {
-            self.place = Some(target);
-            self.round = Round::Idle;
-            return Ok(Outcome::Placed);
+            return Ok(self.place_at(target));
         }
         Ok(Outcome::Taken)
     }

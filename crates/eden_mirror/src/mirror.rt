@@ -224,13 +224,12 @@ impl Mirror {
     pub fn next_requests(&self) -> Result<Vec<Request>, NoMemory>
         ensures { IfOk result (λ requests. requests.items ≡ next_requests self.now) }
     {
-        match &self.round {
-            Round::Idle => match self.last.checked_add(1) {
-                Some(next) => self.list_alone(self.numbered(next)),
-                None => Ok(Vec::new(self.alloc)),
-            },
-            Round::Asked => self.list_alone(self.query()),
-            Round::Gathering { awaited, .. } => awaited.fetches(self.query()),
+        if !self.is_idle() {
+            return self.outstanding();
+        }
+        match self.last.checked_add(1) {
+            Some(next) => self.list_alone(self.numbered(next)),
+            None => Ok(Vec::new(self.alloc)),
         }
     }
 
