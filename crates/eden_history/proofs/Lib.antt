@@ -10,3 +10,4 @@ pub mod Floors
 pub mod Spelling
 pub mod BodyLengths
 pub mod Filters
+pub mod Following

@@ -13,3 +13,6 @@ pub mod Recorded
 pub mod Touches
 pub mod Replies
 pub mod Mirrors
+pub mod Rows
+pub mod Schedules
+pub mod Headline
