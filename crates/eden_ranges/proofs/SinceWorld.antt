@@ -35,7 +35,8 @@ use Rattle.eden_history.proofs.Steps.{is_made}
 use Rattle.eden_history.proofs.Touched.{get-touched_in, summary}
 use Rattle.eden_ranges.specs.Gathered.{left_by, roots_by, unclean_by}
 use Rattle.eden_ranges.specs.WorldRanges.{change_from, change_since, changes_since, events_in, events_since, roots_since, row_at, unclean_since}
-use Rattle.eden_ranges.proofs.Numbered.{IsNotAfter, none_counted}
+use Rattle.eden_history.proofs.Following.{IsNotAfter}
+use Rattle.eden_ranges.proofs.Numbered.{none_counted}
 use Rattle.eden_ranges.proofs.Along.{along, newer, none_newer, one_newer}
 use Rattle.eden_ranges.proofs.Named.{plain_root}
 

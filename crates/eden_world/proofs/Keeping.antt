@@ -1,11 +1,11 @@
 -- A path that no event names keeps what stands there, from any row of a generation to its last; and what a world has had it goes on to
 -- have had.
-use Rattle.std.proofs.Common.{◌≡◌, ℕ, ◌+◌, ◌<◌, ◌≤◌, ◌⊎◌, inl, inr, Bool, true, false, cond, not, ◌||◌, List, [], ◌∷◌, Option, Some, None, refl, sym, ap, subst, ◌∙◌, arith}
+use Rattle.std.proofs.Common.{◌≡◌, ℕ, ◌<◌, ◌≤◌, ◌⊎◌, inl, inr, Bool, true, false, cond, not, List, [], ◌∷◌, Option, Some, None, refl, sym, ap, subst, ◌∙◌, arith}
 use Rattle.std.specs.Prelude.{if◌then◌else◌}
 use Rattle.std.proofs.lemmas.Bool.{or_parts}
 use Rattle.std.specs.FinMap as fin
 use Rattle.eden_ids.specs.declared.content.Content.{Content}
-use Rattle.eden_ids.specs.FileMaps.{FileMap, PathSet, differ, file_at, has, listing, path_set, same_file, same_path, union}
+use Rattle.eden_ids.specs.FileMaps.{FileMap, differ, file_at, has, listing, path_set, same_file, same_path, union}
 use Rattle.eden_ids.specs.Sameness.{same_bytes}
 use Rattle.eden_ids.proofs.FileMapLemmas.{file_at-insert, file_at-remove, has-differ, has-path_set, has-union, path_set-listing, same_file-is}
 use Rattle.eden_history.specs.declared.change.Change.{Change}

@@ -1,13 +1,13 @@
 -- What a mirror keeps whatever comes to it: each value that it wants stood in a row at its place or after it, and what it asks and awaits
 -- will leave it so.
-use Rattle.std.proofs.Common.{◌≡◌, ℕ, ◌+◌, ◌<◌, ◌≤◌, inl, inr, Bool, true, false, cond, not, ◌&&◌, ◌||◌, nat_eq, nat_le, List, [], ◌∷◌, ◌++◌, map, filter, Option, Some, None, refl, sym, ap, subst, ◌∙◌, arith}
-use Rattle.std.specs.Prelude.{Contains, ◌==◌, if◌then◌else◌}
-use Rattle.std.specs.List.{AllByRecursion, list_any}
+use Rattle.std.proofs.Common.{◌≡◌, ℕ, ◌+◌, ◌≤◌, Bool, true, false, cond, not, ◌&&◌, ◌||◌, List, [], ◌∷◌, map, Option, Some, None, refl, sym, ap, subst, ◌∙◌, arith}
+use Rattle.std.specs.Prelude.{Contains, if◌then◌else◌}
+use Rattle.std.specs.List.{AllByRecursion}
 use Rattle.std.proofs.lemmas.Bool.{and_parts, eqb-true, leb-true}
 use Rattle.std.proofs.lemmas.Map.Views.{any-filter_same}
 use Rattle.std.proofs.lemmas.List.Elements.{All-contains, All-from_recursion}
 use Rattle.eden_ids.specs.declared.content.Content.{Content}
-use Rattle.eden_ids.specs.FileMaps.{FileMap, file_at, no_files, put_option, same_path}
+use Rattle.eden_ids.specs.FileMaps.{file_at, put_option, same_path}
 use Rattle.eden_ids.proofs.FileMapLemmas.{file_at-none, put_option-at, same_path-is}
 use Rattle.eden_globs.specs.Filters.{admits}
 use Rattle.eden_history.specs.declared.message.Cause.{Cause}
@@ -20,7 +20,7 @@ use Rattle.eden_history.specs.declared.message.Request.TheVariants.{Basis, Poll,
 use Rattle.eden_history.specs.declared.outcome.Outcome.{Outcome}
 use Rattle.eden_history.specs.declared.position.Position.{Position}
 use Rattle.eden_history.specs.Worlds.{WorldState}
-use Rattle.eden_history.specs.Mirrors.{MirrorState, Round, new_mirror, begun, changed, counts, delivered, delivered_in, distinct, emptied, fetched, gathers, has_number, is_among, list_request, listed, next_round, outstanding_of, query_numbered, query_of, refiltered, refused, requests_in, same_query, taken_if, without}
+use Rattle.eden_history.specs.Mirrors.{MirrorState, Round, new_mirror, begun, counts, delivered, delivered_in, distinct, emptied, fetched, gathers, has_number, is_among, list_request, next_round, query_numbered, query_of, refiltered, refused, requests_in, same_query, taken_if, without}
 use Rattle.eden_history.specs.Mirrors.Round.{Idle, Asked, Gathering}
 use Rattle.eden_history.specs.Rows.{IsPlace, Stands}
 use Rattle.eden_history.specs.Spells.{paths_of}

@@ -1,5 +1,5 @@
 -- Every schedule from a fresh beginning keeps what is kept of the world, of all replies and of each mirror, and what that means at its end.
-use Rattle.std.proofs.Common.{◌≡◌, ◌≢◌, ℕ, ◌<◌, ◌≤◌, ◌⊎◌, inl, inr, Bool, true, false, ◌&&◌, nat_lt, List, [], ◌∷◌, ◌++◌, length, Option, Some, None, refl, sym, ap, subst, ◌∙◌, arith}
+use Rattle.std.proofs.Common.{◌≡◌, ℕ, ◌<◌, ◌≤◌, ◌⊎◌, inl, inr, Bool, true, false, ◌&&◌, nat_lt, List, [], ◌∷◌, ◌++◌, length, Option, Some, None, refl, sym, ap, subst, ◌∙◌, arith}
 use Rattle.std.specs.Prelude.{Contains, ◌==◌, if◌then◌else◌}
 use Rattle.std.specs.Option.{option_map}
 use Rattle.std.proofs.lemmas.Bool.{eqb-true}
@@ -9,8 +9,6 @@ use Rattle.eden_ids.specs.declared.content.Content.{Content}
 use Rattle.eden_ids.specs.FileMaps.{file_at, has}
 use Rattle.eden_ids.proofs.FileMapLemmas.{has-none}
 use Rattle.eden_globs.specs.Filters.{admits}
-use Rattle.eden_history.specs.declared.answer.SinceFault.{SinceFault}
-use Rattle.eden_history.specs.declared.answer.SinceFault.TheVariants as since_fault
 use Rattle.eden_history.specs.declared.change.Change.{Change}
 use Rattle.eden_history.specs.declared.message.Cause.TheVariants.{TooLarge}
 use Rattle.eden_history.specs.declared.message.Query.{Query}
@@ -20,7 +18,7 @@ use Rattle.eden_history.specs.declared.message.Request.{Request}
 use Rattle.eden_history.specs.declared.position.Position.{Position}
 use Rattle.eden_history.specs.Worlds.{WorldState, commits_of, now, position_of}
 use Rattle.eden_history.specs.Changes.{changes}
-use Rattle.eden_history.specs.Headline.{AgreeTogether, AgreesAtHead, Differs, HasPlace, HasValues, IsAtHead, IsCovered, IsReached, IsRefused, IsTold, OfMirrors, OfPairs, Tells, changes_after}
+use Rattle.eden_history.specs.Headline.{AgreeTogether, AgreesAtHead, Differs, HasPlace, HasValues, IsCovered, IsRefused, IsTold, OfMirrors, OfPairs, Tells, changes_after}
 use Rattle.eden_history.specs.Legal.{IsLegal}
 use Rattle.eden_history.specs.Marks.{marked_since}
 use Rattle.eden_history.specs.Mirrors.{MirrorState, Round, begun, delivered, new_mirror, outstanding_of, query_of, refiltered, requests_in}
@@ -28,14 +26,15 @@ use Rattle.eden_history.specs.Mirrors.Round.{Idle, Asked, Gathering}
 use Rattle.eden_history.specs.Outcome.{world_after}
 use Rattle.eden_history.specs.Recorded.{floor_of}
 use Rattle.eden_history.specs.Replies.{admitted, bounded, polled, reply_of}
-use Rattle.eden_history.specs.Rows.{IsPlace, Stands}
-use Rattle.eden_history.specs.Schedules.{IsFresh, IsNewLife, IsSchedule, IsStrange, MayHappen, Mirrors, OnFreshRuns, Scene, Step, asked_by, happens, moved, run_schedule}
+use Rattle.eden_history.specs.Rows.{Stands}
+use Rattle.eden_history.specs.Schedules.{IsFresh, IsSchedule, IsStrange, MayHappen, Mirrors, OnFreshRuns, Scene, Step, asked_by, happens, moved, run_schedule}
 use Rattle.eden_history.specs.Schedules.Step.{Begins, Changes, Comes, Nothing, Refilters, Restarts, Sends, Serves, Strange}
-use Rattle.eden_history.specs.Spells.{body_limit, paths_of, reply_bytes}
+use Rattle.eden_history.specs.Spells.{reply_bytes}
+use Rattle.eden_stream.specs.Frames.{body_limit}
 use Rattle.eden_history.specs.Status.{status_of}
 use Rattle.eden_history.proofs.Following.{none_named}
 use Rattle.eden_world.proofs.Keeping.{legal_on, place_in_time, place_on, stands_on, still}
-use Rattle.eden_world.proofs.Mirroring.{IsGoodAsk, IsGoodGathering, IsGoodRound, IsKept, IsOwn, IsSound, own_query, own_request, sound_begun, sound_delivered, sound_new, sound_refiltered}
+use Rattle.eden_world.proofs.Mirroring.{IsGoodRound, IsOwn, IsSound, own_query, own_request, sound_begun, sound_delivered, sound_new, sound_refiltered}
 use Rattle.eden_world.proofs.Telling.{IsTrueOf, among_changes, by_status, reply_true, true_of_more, true_on}
 
 -- ---- what holds of all

@@ -1,13 +1,12 @@
 -- What every reply that a mount ever gave goes on to say truly of its world, whenever it comes.
-use Rattle.std.proofs.Common.{◌≡◌, ℕ, ◌<◌, ◌≤◌, ◌⊎◌, inl, inr, Bool, true, false, cond, not, ◌&&◌, nat_eq, nat_lt, List, [], ◌∷◌, ◌++◌, length, map, filter, Option, Some, None, is_some, refl, sym, ap, subst, ◌∙◌, arith}
+use Rattle.std.proofs.Common.{◌≡◌, ℕ, ◌<◌, ◌≤◌, ◌⊎◌, inl, inr, Bool, true, false, cond, not, ◌&&◌, nat_lt, List, [], ◌∷◌, ◌++◌, length, map, filter, Option, Some, None, is_some, refl, sym, ap, subst, ◌∙◌, arith}
 use Rattle.std.specs.Prelude.{Contains, ◌==◌, if◌then◌else◌}
-use Rattle.std.specs.List.{list_any}
 use Rattle.std.specs.FinMap as fin
 use Rattle.std.proofs.lemmas.Bool.{eqb-false, eqb-true, ltb-false, ltb-true}
 use Rattle.std.proofs.lemmas.Map.Views.{any-filter_same}
 use Rattle.std.proofs.lemmas.List.Elements.{Contains-append_left}
 use Rattle.eden_ids.specs.declared.content.Content.{Content}
-use Rattle.eden_ids.specs.FileMaps.{FileMap, file_at, has, listing, paths, same_path}
+use Rattle.eden_ids.specs.FileMaps.{file_at, has, listing, paths, same_path}
 use Rattle.eden_ids.proofs.FileMapLemmas.{has-listing, same_path-is}
 use Rattle.eden_globs.specs.Filters.{admits}
 use Rattle.eden_history.specs.declared.answer.SinceFault.{SinceFault}
@@ -21,9 +20,9 @@ use Rattle.eden_history.specs.declared.message.Reply.TheVariants.{BasisIs, Chang
 use Rattle.eden_history.specs.declared.message.Request.{Request}
 use Rattle.eden_history.specs.declared.message.Request.TheVariants.{Basis, Poll, Fetch}
 use Rattle.eden_history.specs.declared.position.Position.{Position}
-use Rattle.eden_history.specs.Worlds.{Row, Event, WorldState, commits_of, last_row, now, position_of}
+use Rattle.eden_history.specs.Worlds.{Event, WorldState, commits_of, now, position_of}
 use Rattle.eden_history.specs.Changes.{changes}
-use Rattle.eden_history.specs.Legal.{AreMade, IsLegal}
+use Rattle.eden_history.specs.Legal.{IsLegal}
 use Rattle.eden_history.specs.Marks.{mark_of, marked_since}
 use Rattle.eden_history.specs.Mirrors.{is_among}
 use Rattle.eden_history.specs.Outcome.{outcome, world_after}
@@ -31,7 +30,8 @@ use Rattle.eden_history.specs.Outcome.Outcome.{Next}
 use Rattle.eden_history.specs.Recorded.{floor_of}
 use Rattle.eden_history.specs.Replies.{admitted, admitted_paths, bounded, polled, reply_of}
 use Rattle.eden_history.specs.Rows.{IsPlace, IsRow, Stands}
-use Rattle.eden_history.specs.Spells.{body_limit, paths_of, reply_bytes}
+use Rattle.eden_history.specs.Spells.{paths_of, reply_bytes}
+use Rattle.eden_stream.specs.Frames.{body_limit}
 use Rattle.eden_history.specs.Status.{status, status_of}
 use Rattle.eden_history.proofs.Following.{Follows, event_follows}
 use Rattle.eden_world.proofs.Keeping.{goes_on, grown, now_is_place, now_is_row, place_grown, place_in_time, place_on, stands_grown, stands_now, stands_on, still}

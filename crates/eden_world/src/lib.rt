@@ -6,7 +6,7 @@
 #![tactic(auto)]
 
 pub use crate::row::{Event, Row};
-pub use crate::schedule_law::schedule_law;
+pub use crate::schedule_laws::schedule_law;
 pub use crate::world::World;
 pub use eden_history::{
     Answer, Cause, Change, ChangeFault, Files, Mark, Marked, Mode, MountFault, Position, Query,
@@ -23,7 +23,7 @@ mod reply;
 #[cfg(test)]
 mod request_tests;
 mod row;
-mod schedule_law;
+mod schedule_laws;
 mod sides;
 #[cfg(test)]
 mod tests;

@@ -10,7 +10,6 @@ ghost use Rattle.eden_history.specs.Schedules.{OnFreshRuns};
 /// A schedule's steps are those of the definitions to which the mount, the service and the mirror are proved equal. Nothing is assumed
 /// of it but that what is served was sent, that what comes was replied, that a mirror begins anew under a greater life, and that no
 /// other client asks under a mirror's name.
-#[tactic(auto, using(crate::proofs::Scheduling::runs_covered, crate::proofs::Scheduling::runs_told, crate::proofs::Scheduling::runs_at_head, crate::proofs::Scheduling::runs_together, crate::proofs::Scheduling::runs_places, crate::proofs::Scheduling::runs_values))]
 pub fn schedule_law()
     // Each path that the mirror's filter admits, and on which its files and the working copy differ, is among the changes since its
     // place, or the place is refused as stale or truncated.
