@@ -1,5 +1,5 @@
 -- The parts of a journal's range are what the world's events since a number did.
-use Rattle.std.proofs.Common.{◌≡◌, ◌≢◌, ℕ, ◌<◌, ◌≤◌, T, inr, Bool, true, false, cond, ◌&&◌, ◌||◌, List, [], ◌∷◌, ◌++◌, map, reverse, Option, Some, None, is_some, Ordering, is_lt, is_eq, Less, Equal, Greater, refl, sym, ap, subst, ◌∙◌, append_assoc, arith}
+use Rattle.std.proofs.Common.{◌≡◌, ℕ, ◌<◌, ◌≤◌, T, inr, Bool, true, false, cond, ◌&&◌, ◌||◌, List, [], ◌∷◌, ◌++◌, map, reverse, Option, Some, None, is_some, Ordering, is_lt, is_eq, Less, Equal, Greater, refl, sym, ap, subst, ◌∙◌, arith}
 use Rattle.std.specs.Prelude.{◌==◌, filter, if◌then◌else◌, nat_eq}
 use Rattle.std.specs.List.{flat_map, list_any}
 use Rattle.std.specs.Ordering.{nat_cmp}
@@ -12,7 +12,7 @@ use Rattle.std.proofs.lemmas.List.{reverse-append, append-nil}
 use Rattle.std.proofs.lemmas.List.Elements.{filter-append}
 use Rattle.std.proofs.lemmas.List.Folds.{list_any-append}
 use Rattle.eden_ids.specs.declared.id.Id.{Id}
-use Rattle.eden_ids.specs.FileMaps.{PathSet, has, listing, no_paths, path_set, same_path, union}
+use Rattle.eden_ids.specs.FileMaps.{PathSet, has, listing, path_set, same_path, union}
 use Rattle.eden_ids.proofs.FileMapLemmas.{has-none, has-path_set, has-union, same_path-refl, same_path-turned, same_path_set}
 use Rattle.eden_deltas.specs.declared.touch.FileTouch.{FileTouch}
 use Rattle.eden_deltas.specs.declared.delta.Delta.{Delta}
@@ -28,13 +28,13 @@ use Rattle.eden_history.specs.Named.{changed_paths, unclean_paths}
 use Rattle.eden_history.specs.Outcome.{next_row}
 use Rattle.eden_history.specs.Legal.{AreMade}
 use Rattle.eden_history.specs.Changes.{is_in_range}
-use Rattle.eden_history.specs.Marks.{Flags, changes_path, flags_at, oldest, touch_if, touches}
+use Rattle.eden_history.specs.Marks.{Flags, changes_path, flags_at, touch_if, touches}
 use Rattle.eden_history.specs.Recorded.{delta_of, moves_root, start, starts, touches_of}
 use Rattle.eden_history.specs.Touches.{TouchMap, listed, listed_touch, touched_in}
 use Rattle.eden_history.proofs.Steps.{is_made}
 use Rattle.eden_history.proofs.Touched.{get-touched_in, summary}
 use Rattle.eden_ranges.specs.Gathered.{left_by, roots_by, unclean_by}
-use Rattle.eden_ranges.specs.WorldRanges.{change_from, change_since, changes_since, events_in, events_since, roots_since, row_at, unclean_since}
+use Rattle.eden_ranges.specs.WorldRanges.{change_from, change_since, changes_since, events_in, events_since, row_at, unclean_since}
 use Rattle.eden_history.proofs.Following.{IsNotAfter}
 use Rattle.eden_ranges.proofs.Numbered.{none_counted}
 use Rattle.eden_ranges.proofs.Along.{along, newer, none_newer, one_newer}
