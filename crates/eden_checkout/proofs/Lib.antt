@@ -1,5 +1,2 @@
-mod Dirty
-mod ByteOrder
 mod Settling
-mod Unions
 mod Planning

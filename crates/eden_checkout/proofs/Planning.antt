@@ -1,9 +1,9 @@
 -- What a plan is made of.
-use Rattle.std.proofs.Common.{◌≡◌, ℕ, Bool, true, false, ◌&&◌, List, [], Option, Some, None, refl, sym, ap, subst, ◌∙◌}
+use Rattle.std.proofs.Common.{◌≡◌, ℕ, Bool, true, false, ◌&&◌, ◌||◌, List, [], Option, Some, None, refl, sym, ap, subst, ◌∙◌}
 use Rattle.std.specs.Prelude.{IsSome, filter, if◌then◌else◌}
 use Rattle.eden_ids.specs.declared.id.Id.{Id}
-use Rattle.eden_ids.specs.FileMaps.{FileMap, IsFileMap, differ, has, listing, path_set, union}
-use Rattle.eden_ids.proofs.FileMapLemmas.{path_set-listing}
+use Rattle.eden_ids.specs.FileMaps.{FileMap, IsFileMap, PathSet, differ, has, listing, no_paths, path_set, union}
+use Rattle.eden_ids.proofs.FileMapLemmas.{has-none, has-union, path_set-listing, same_path_set}
 use Rattle.eden_objects.specs.Objects.{Held}
 use Rattle.eden_objects.specs.Commits.{commit_map}
 use Rattle.eden_objects.specs.Files.{files_of}
@@ -22,6 +22,12 @@ differing None b ps e = absurd (let bad : ◌≡◌ {A = Option (List (List ℕ)
 differing (Some f) None ps e = absurd (let bad : ◌≡◌ {A = Option (List (List ℕ))} None (Some ps) = e in cc)
 differing (Some f) (Some g) ps e = let same : ◌≡◌ {A = Option (List (List ℕ))} (Some (listing (differ f g))) (Some ps) = e in cc
 
+-- two commits have a difference
+pub two_differ : (a b : Option FileMap) → IsSome a → IsSome b → differences a b ≡ None → ⊥
+two_differ None b some other e = absurd (cc)
+two_differ (Some f) None some other e = absurd (cc)
+two_differ (Some f) (Some g) some other e = absurd (let bad : ◌≡◌ {A = Option (List (List ℕ))} (Some (listing (differ f g))) None = e in cc)
+
 -- the conflicts are those of the paths on which root and target differ
 pub conflicts_listed : (work root target : FileMap) (ps : List (List ℕ)) → IsFileMap work → ps ≡ listing (differ root target)
     → filter (is_conflict work root target) ps ≡ listing (conflicts work root target)
@@ -34,28 +40,68 @@ conflicts_listed work root target ps ok is =
     within true b h = sym (h refl)
     within false b h = refl
 
-pub next_fits : (held : List Held) (mode : Mode) (next : WorkCopy) (work root target start : FileMap) → IsFileMap work → start ≡ target → IsSome (commit_map held next.root) × IsFileMap start
-    → means held next ≡ checked_out mode work root target → FitsIn held next
-next_fits held mode next work root target start ok is fits files =
-    (fits.0, subst IsFileMap (sym files) (checked_out_no_clash mode work root target ok (subst IsFileMap is fits.1)))
-
 pub not_dry : (mode : Mode) → (mode ≡ Dry → ⊥) → is_dry mode ≡ false
 not_dry Normal kept = refl
 not_dry Dry kept = absurd (kept refl)
 not_dry Force kept = refl
 
--- the unclean paths of a checkout that is not dry
-pub unclean_united : (mode : Mode) (work root target next below : FileMap) (before after ps : List (List ℕ)) → (mode ≡ Dry → ⊥)
-    → before ≡ listing (differ work root) → after ≡ listing (differ next below) → below ≡ target
-    → ps ≡ listing (union (path_set before) (path_set after)) → ps ≡ (if is_dry mode then [] else listing (unclean work root next target))
-unfolding unclean
-unclean_united mode work root target next below before after ps kept before_is after_is below_is is =
-    is ∙ ap listing (
-    ap (λ s. union s (path_set after)) (ap path_set before_is ∙ path_set-listing (differ work root))
-    ∙ ap (union (differ work root)) (ap path_set after_is ∙ path_set-listing (differ next below)))
-    ∙ ap (λ m. listing (union (differ work root) (differ next m))) below_is
-    ∙ sym (ap (λ b. if b then [] else listing (union (differ work root) (differ next target))) (not_dry mode kept))
-
 -- a checkout that is not dry comes to stand on its commit
 pub root_moved : (mode : Mode) (root commit : Id) → (mode ≡ Dry → ⊥) → (if is_dry mode then root else commit) ≡ commit
 root_moved mode root commit kept = ap (λ b. if b then root else commit) (not_dry mode kept)
+
+-- one that is only tried gives back what it began with, and any other what its rule makes
+pub files_planned : (held : List Held) (mode : Mode) (work start next : WorkCopy) (w r t root target : FileMap) → w ≡ means held work → r ≡ root → t ≡ target
+    → (mode ≡ Dry → start ≡ work) → (mode ≡ Dry → next ≡ start) → ((mode ≡ Dry → ⊥) → means held next ≡ checked_out mode w r t)
+    → means held next ≡ checked_out mode (means held work) root target
+files_planned held mode work start next w r t root target w_is r_is t_is begun kept made =
+    by mode begun kept (λ other. made other ∙ ap (λ m. checked_out mode m r t) w_is ∙ ap (λ m. checked_out mode (means held work) m t) r_is ∙ ap (checked_out mode (means held work) root) t_is)
+  where
+    by : (mode : Mode) → (mode ≡ Dry → start ≡ work) → (mode ≡ Dry → next ≡ start) → ((mode ≡ Dry → ⊥) → means held next ≡ checked_out mode (means held work) root target)
+        → means held next ≡ checked_out mode (means held work) root target
+    by Normal begun kept made = made (λ e. absurd (let bad : Normal ≡ Dry = e in cc))
+    by Dry begun kept made = ap (means held) (kept refl ∙ begun refl)
+    by Force begun kept made = made (λ e. absurd (let bad : Force ≡ Dry = e in cc))
+
+made_fits : (held : List Held) (mode : Mode) (next : WorkCopy) (work root target start : FileMap) → IsFileMap work → start ≡ target → IsSome (commit_map held next.root) → IsFileMap start
+    → means held next ≡ checked_out mode work root target → FitsIn held next
+made_fits held mode next work root target start ok is there begun files =
+    (there, subst IsFileMap (sym files) (checked_out_no_clash mode work root target ok (subst IsFileMap is begun)))
+
+pub next_fits : (held : List Held) (mode : Mode) (work start next : WorkCopy) (root target : FileMap) → FitsIn held work → FitsIn held start → (mode ≡ Dry → next ≡ start)
+    → ((mode ≡ Dry → ⊥) → means held start ≡ target) → next.root ≡ start.root → means held next ≡ checked_out mode (means held work) root target → FitsIn held next
+next_fits held Dry work start next root target old fits kept moved same files = subst (FitsIn held) (sym (kept refl)) fits
+next_fits held Normal work start next root target old fits kept moved same files =
+    made_fits held Normal next (means held work) root target (means held start) old.1 (moved (λ e. absurd (let bad : Normal ≡ Dry = e in cc)))
+    (subst (λ (id : Id). IsSome (commit_map held id)) (sym same) fits.0) fits.1 files
+next_fits held Force work start next root target old fits kept moved same files =
+    made_fits held Force next (means held work) root target (means held start) old.1 (moved (λ e. absurd (let bad : Force ≡ Dry = e in cc)))
+    (subst (λ (id : Id). IsSome (commit_map held id)) (sym same) fits.0) fits.1 files
+
+-- a set that nothing is added to
+union_nothing : (s : PathSet) → union s no_paths ≡ s
+union_nothing s = same_path_set (union s no_paths) s (λ q. has-union s no_paths q ∙ ap (λ b. has s q || b) (has-none q) ∙ or_false (has s q))
+  where
+    or_false : (b : Bool) → (b || false) ≡ b
+    or_false true = refl
+    or_false false = refl
+
+-- the paths of two lists, added to no path
+pub both_listed : (mode : Mode) (before after ps : List (List ℕ)) (late first second third : PathSet) → (mode ≡ Dry → ⊥) → after ≡ listing late
+    → first ≡ no_paths → second ≡ union (path_set after) first → third ≡ union (path_set before) second → ps ≡ listing third
+    → ps ≡ (if is_dry mode then [] else listing (union (path_set before) late))
+both_listed mode before after ps late first second third kept is none one both all =
+    all
+    ∙ ap listing (both ∙ ap (union (path_set before)) (one ∙ ap (union (path_set after)) none ∙ union_nothing (path_set after) ∙ ap path_set is ∙ path_set-listing late))
+    ∙ sym (ap (λ b. if b then [] else listing (union (path_set before) late)) (not_dry mode kept))
+
+-- the unclean paths of a checkout
+pub unclean_planned : (mode : Mode) (work root next below target : FileMap) (before ps : List (List ℕ)) → before ≡ listing (differ work root) → ((mode ≡ Dry → ⊥) → below ≡ target)
+    → ps ≡ (if is_dry mode then [] else listing (union (path_set before) (differ next below))) → ps ≡ (if is_dry mode then [] else listing (unclean work root next target))
+unfolding unclean
+unclean_planned Dry work root next below target before ps before_is below_is is = is
+unclean_planned Normal work root next below target before ps before_is below_is is =
+    is ∙ ap (λ m. listing (union (path_set before) (differ next m))) (below_is (λ e. absurd (let bad : Normal ≡ Dry = e in cc)))
+    ∙ ap (λ s. listing (union s (differ next target))) (ap path_set before_is ∙ path_set-listing (differ work root))
+unclean_planned Force work root next below target before ps before_is below_is is =
+    is ∙ ap (λ m. listing (union (path_set before) (differ next m))) (below_is (λ e. absurd (let bad : Force ≡ Dry = e in cc)))
+    ∙ ap (λ s. listing (union s (differ next target))) (ap path_set before_is ∙ path_set-listing (differ work root))

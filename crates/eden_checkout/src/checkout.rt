@@ -1,16 +1,15 @@
-ghost use Rattle.std.specs.Prelude.{◌≡◌, ◌≢◌, [], Some, None, IsSome, is_some, filter, if◌then◌else◌, IfOk, IfErr};
-ghost use Rattle.eden_ids.specs.FileMaps.{IsFileMap, differ, file_at, listing};
+ghost use Rattle.std.specs.Prelude.{◌≡◌, ◌≢◌, ◌++◌, ◌∷◌, [], Some, None, IsSome, is_some, filter, if◌then◌else◌, IfOk, IfErr, OnOk};
+ghost use Rattle.eden_ids.specs.FileMaps.{IsFileMap, differ, file_at, listing, path_set, paths, union};
 ghost use Rattle.eden_objects.specs.Commits.{commit_map};
 ghost use Rattle.eden_objects.specs.Files.{commit_files};
 ghost use Rattle.eden_workcopy.specs.Meanings.{FitsIn, means};
-ghost use Rattle.eden_history.specs.Checkouts.{checked_out, conflicts, is_dry, unclean};
+ghost use Rattle.eden_history.specs.DirtyFiles.{dirty_files};
+ghost use Rattle.eden_history.specs.Checkouts.{checked_out, conflicts, is_conflict, is_dry, unclean};
 ghost use Rattle.eden_checkout.specs.Plans.{root_files};
 
-use crate::conflict::add_if;
-use crate::sides::Sides;
-use crate::table::united;
-use eden_history::Mode;
-use eden_ids::{Id, Naming, NoMemory, Path, Sequence};
+use crate::apply::checked_out;
+use eden_history::{Dirty, Mode, Sides};
+use eden_ids::{FileTree, Id, Naming, NoMemory, Path, PathTable, Sequence, has_file};
 use eden_objects::{CommitFault, Store};
 use eden_treediff::diff;
 use eden_workcopy::WorkCopy;
@@ -27,174 +26,159 @@ pub struct Planned {
     pub conflicts: Sequence<Path>,
 }
 
-/// Those of some paths at which a working copy holds a file.
-fn present<N: Naming + Drop>(
-    store: &Store<N>,
-    work: &WorkCopy,
-    paths: &[Path],
-) -> Result<Vec<Path>, NoMemory>
-    ensures { IfOk result (λ present. present.items ≡ filter (λ p. is_some (file_at (means store.now work.now) p)) paths.now) }
+/// Adds a path, if it is wanted.
+fn add_if(paths: &mut Vec<Path>, path: &Path, wanted: bool) -> Result<(), NoMemory>
+    ensures { OnOk result (paths.new.items ≡ paths.old.items ++ (if wanted then path.now ∷ [] else [])) }
 {
-    let mut present = Vec::new(store.allocator());
+    if !wanted {
+        return Ok(());
+    }
+    let path = path.copy()?;
+    paths.push(path)?;
+    Ok(())
+}
+
+/// Those of some paths at which a file stands.
+fn present<T: FileTree>(alloc: Global, files: &T, paths: &[Path]) -> Result<Vec<Path>, NoMemory>
+    ensures { IfOk result (λ present. present.items ≡ filter (λ p. is_some (file_at (T.files files.now) p)) paths.now) }
+{
+    let mut present = Vec::new(alloc);
     for path in paths {
-        add_if(
-            &mut present,
-            path,
-            work.file(store, path.as_bytes()).is_some(),
-        )?;
+        add_if(&mut present, path, has_file(files, path.as_bytes()))?;
     }
     Ok(present)
 }
 
-impl<'a, N: Naming + Drop> Sides<'a, N> {
-    /// The paths on which the two commits differ, in byte order. Both are commits, so that only memory can be wanting.
-    #[tactic(auto, using(crate::proofs::Planning::differing))]
-    fn differing(&self) -> Result<Vec<Path>, NoMemory>
-        ensures { IfOk result (λ paths. paths.items ≡ listing (differ (root_files self.now.store.now self.now.work.now) (commit_files self.now.store.now self.now.commit))) }
-    {
-        match diff(
-            self.store.allocator(),
-            self.store,
-            self.work.root(),
-            self.commit,
-        ) {
-            Ok(paths) => Ok(paths),
-            Err(_) => Err(NoMemory),
-        }
+/// Those of some paths that are conflicts.
+fn conflicts_among<W: FileTree, R: FileTree, T: FileTree, D: FileTree>(
+    alloc: Global,
+    sides: &Sides<'_, W, R, T, D>,
+    paths: &[Path],
+) -> Result<Vec<Path>, NoMemory>
+    ensures { IfOk result (λ found. found.items ≡ filter (is_conflict (W.files sides.now.work.now) (R.files sides.now.root.now) (T.files sides.now.target.now)) paths.now) }
+{
+    let mut found = Vec::new(alloc);
+    for path in paths {
+        add_if(&mut found, path, sides.is_conflict(path))?;
     }
+    Ok(found)
+}
 
-    /// The conflicts, in byte order. On each of them the two commits differ.
-    #[tactic(auto, using(crate::proofs::Planning::conflicts_listed))]
-    fn all_conflicts(&self) -> Result<Vec<Path>, NoMemory>
-        requires { IsFileMap (means self.now.store.now self.now.work.now) }
-        ensures { IfOk result (λ paths. paths.items ≡ listing (conflicts (means self.now.store.now self.now.work.now)
-            (root_files self.now.store.now self.now.work.now) (commit_files self.now.store.now self.now.commit))) }
-    {
-        let differing = self.differing()?;
-        let conflicts = self.conflicts(differing.as_slice())?;
-        Ok(conflicts)
-    }
-
-    /// The working copy after a normal or a forced checkout, made of one that holds the target's files. Dirty paths and the conflicts
-    /// that were found are the only ones that become anything else than the target's.
-    fn checked_out(
-        &self,
-        start: WorkCopy,
-        mode: Mode,
-        dirty: &[Path],
-        found: &[Path],
-    ) -> Result<WorkCopy, NoMemory>
-        requires mode { mode ≢ Mode.Dry }
-        requires dirty { dirty.now ≡ listing (differ (means self.now.store.now self.now.work.now) (root_files self.now.store.now self.now.work.now)) }
-        requires found { found.now ≡ listing (conflicts (means self.now.store.now self.now.work.now)
-            (root_files self.now.store.now self.now.work.now) (commit_files self.now.store.now self.now.commit)) }
-        requires start { means self.now.store.now start ≡ commit_files self.now.store.now self.now.commit }
-        ensures root { IfOk result (λ next. next.root ≡ start.root) }
-        ensures files { IfOk result (λ next. means self.now.store.now next
-            ≡ checked_out mode (means self.now.store.now self.now.work.now) (root_files self.now.store.now self.now.work.now) (commit_files self.now.store.now self.now.commit)) }
-    {
-        let mut next = start;
-        self.settle(&mut next, mode, dirty)?;
-        self.settle(&mut next, mode, found)?;
-        Ok(next)
+/// The paths on which two commits differ, in byte order.
+fn paths_between<N: Naming + Drop>(
+    alloc: Global,
+    store: &Store<N>,
+    root: Id,
+    target: Id,
+) -> Result<Vec<Path>, NoMemory>
+    requires root { IsSome (commit_map store.now root) }
+    requires target { IsSome (commit_map store.now target) }
+    ensures { IfOk result (λ paths. paths.items ≡ listing (differ (commit_files store.now root) (commit_files store.now target))) }
+{
+    match diff(alloc, store, root, target) {
+        Ok(paths) => Ok(paths),
+        // Both are commits.
+        Err(CommitFault::NoCommit) => unreachable!(),
+        Err(CommitFault::NoMemory) => Err(NoMemory),
     }
 }
 
-impl<'a, N: Naming + Drop> Sides<'a, N> {
-    /// The working copy after the checkout, made of one that holds the target's files.
-    #[tactic(auto, using(crate::proofs::Planning::next_fits))]
-    fn next(
-        &self,
-        start: WorkCopy,
-        mode: Mode,
-        dirty: &[Path],
-        found: &[Path],
-    ) -> Result<WorkCopy, NoMemory>
-        requires dirty { dirty.now ≡ listing (differ (means self.now.store.now self.now.work.now) (root_files self.now.store.now self.now.work.now)) }
-        requires found { found.now ≡ listing (conflicts (means self.now.store.now self.now.work.now)
-            (root_files self.now.store.now self.now.work.now) (commit_files self.now.store.now self.now.commit)) }
-        requires work { FitsIn self.now.store.now self.now.work.now }
-        requires start { means self.now.store.now start ≡ commit_files self.now.store.now self.now.commit }
-        requires root { start.root ≡ self.now.commit }
-        requires fits { FitsIn self.now.store.now start }
-        ensures root { IfOk result (λ next. next.root ≡ (if is_dry mode then self.now.work.now.root else self.now.commit)) }
-        ensures files { IfOk result (λ next. means self.now.store.now next
-            ≡ checked_out mode (means self.now.store.now self.now.work.now) (root_files self.now.store.now self.now.work.now) (commit_files self.now.store.now self.now.commit)) }
-        ensures fits { IfOk result (λ next. FitsIn self.now.store.now next) }
-        ensures dry { IfOk result (λ next. mode ≡ Mode.Dry → next ≡ self.now.work.now) }
-    {
-        match mode {
-            Mode::Dry => {
-                let next = self.work.copy()?;
-                Ok(next)
-            }
-            _ => {
-                let next = self.checked_out(start, mode, dirty, found)?;
-                Ok(next)
-            }
-        }
-    }
-
-    /// The unclean paths, in byte order, where this is the working copy after the checkout.
-    fn unclean(&self, mode: Mode, dirty: &[Path], next: &WorkCopy) -> Result<Vec<Path>, NoMemory>
-        requires dirty { dirty.now ≡ listing (differ (means self.now.store.now self.now.work.now) (root_files self.now.store.now self.now.work.now)) }
-        requires root { next.now.root ≡ (if is_dry mode then self.now.work.now.root else self.now.commit) }
-        requires fits { FitsIn self.now.store.now next.now }
-        ensures { IfOk result (λ paths. paths.items ≡ (if is_dry mode then [] else
-            listing (unclean (means self.now.store.now self.now.work.now) (root_files self.now.store.now self.now.work.now)
-            (means self.now.store.now next.now) (commit_files self.now.store.now self.now.commit)))) }
-    {
-        match mode {
-            Mode::Dry => Ok(Vec::new(self.store.allocator())),
-            _ => {
-                let after = next.dirty(self.store)?;
-                let unclean = united(self.store.allocator(), dirty, after.as_slice())?;
-                Ok(unclean)
-            }
-        }
-    }
-}
-
-/// The plan, where a working copy with the target's files was made.
-#[tactic(auto, using(crate::proofs::Dirty::dirty_listed))]
-fn plan_from<N: Naming + Drop>(
+/// What the working copy after a checkout is made of: one that holds the commit's files, or, where the checkout is only tried, the one
+/// that it began with.
+#[tactic(auto, using(crate::proofs::Planning::root_moved))]
+fn start_of<N: Naming + Drop>(
+    alloc: Global,
     store: &Store<N>,
     work: &WorkCopy,
-    start: WorkCopy,
     commit: Id,
     mode: Mode,
-) -> Result<Planned, NoMemory>
-    requires work { FitsIn store.now work.now }
-    requires start { means store.now start ≡ commit_files store.now commit }
-    requires root { start.root ≡ commit }
-    requires fits { FitsIn store.now start }
-    ensures root { IfOk result (λ planned. planned.next.root ≡ (if is_dry mode then work.now.root else commit)) }
-    ensures files { IfOk result (λ planned. means store.now planned.next
-        ≡ checked_out mode (means store.now work.now) (root_files store.now work.now) (commit_files store.now commit)) }
-    ensures fits { IfOk result (λ planned. FitsIn store.now planned.next) }
-    ensures dry { IfOk result (λ planned. mode ≡ Mode.Dry → planned.next ≡ work.now) }
-    ensures unclean { IfOk result (λ planned. planned.unclean
-        ≡ (if is_dry mode then [] else
-        listing (unclean (means store.now work.now) (root_files store.now work.now) (means store.now planned.next) (commit_files store.now commit)))) }
-    ensures conflicts { IfOk result (λ planned. planned.conflicts
-        ≡ listing (conflicts (means store.now work.now) (root_files store.now work.now) (commit_files store.now commit))) }
+) -> Result<WorkCopy, CommitFault>
+    requires { FitsIn store.now work.now }
+    ensures accepts { IfOk result (λ _. IsSome (commit_map store.now commit)) }
+    ensures root { IfOk result (λ start. start.root ≡ (if is_dry mode then work.now.root else commit)) }
+    ensures moved { IfOk result (λ start. mode ≢ Mode.Dry → means store.now start ≡ commit_files store.now commit) }
+    ensures dry { IfOk result (λ start. mode ≡ Mode.Dry → start ≡ work.now) }
+    ensures fits { IfOk result (λ start. FitsIn store.now start) }
+    ensures refuses { IfErr result (λ fault. fault ≢ CommitFault.NoMemory → commit_map store.now commit ≡ None) }
 {
-    let dirty = work.dirty(store)?;
-    let present = present(store, work, dirty.as_slice())?;
+    let start = WorkCopy::new(alloc, store, commit)?;
+    match mode {
+        Mode::Dry => {
+            let same = work.copy()?;
+            Ok(same)
+        }
+        _ => Ok(start),
+    }
+}
+
+/// The working copy after a checkout, and the conflicts.
+#[derive(Drop)]
+struct Judged {
+    next: WorkCopy,
+    conflicts: Vec<Path>,
+}
+
+/// What becomes of each path, where a working copy is given to begin with.
+#[tactic(auto, using(crate::proofs::Planning::conflicts_listed))]
+fn judge<'x, N: Naming + Drop, W: FileTree, R: FileTree, T: FileTree, D: FileTree>(
+    alloc: Global,
+    store: &Store<N>,
+    start: WorkCopy,
+    mode: Mode,
+    work: &'x W,
+    root: &'x R,
+    target: &'x T,
+    dirty: &'x D,
+    changed: &[Path],
+    differing: &[Path],
+) -> Result<Judged, NoMemory>
+    requires files { IsFileMap (W.files work.now) }
+    requires dirty { paths (D.files dirty.now) ≡ paths (dirty_files (W.files work.now) (R.files root.now)) }
+    requires changed { changed.now ≡ listing (differ (W.files work.now) (R.files root.now)) }
+    requires differing { differing.now ≡ listing (differ (R.files root.now) (T.files target.now)) }
+    requires start { mode ≢ Mode.Dry → means store.now start ≡ T.files target.now }
+    ensures root { IfOk result (λ judged. judged.next.root ≡ start.root) }
+    ensures files { IfOk result (λ judged. mode ≢ Mode.Dry → means store.now judged.next
+        ≡ checked_out mode (W.files work.now) (R.files root.now) (T.files target.now)) }
+    ensures dry { IfOk result (λ judged. mode ≡ Mode.Dry → judged.next ≡ start) }
+    ensures conflicts { IfOk result (λ judged. judged.conflicts.items ≡ listing (conflicts (W.files work.now) (R.files root.now) (T.files target.now))) }
+{
     let sides = Sides {
-        store,
         work,
-        dirty: present.as_slice(),
-        commit,
+        root,
+        target,
+        dirty,
     };
-    let found = sides.all_conflicts()?;
-    let next = sides.next(start, mode, dirty.as_slice(), found.as_slice())?;
-    let unclean = sides.unclean(mode, dirty.as_slice(), &next)?;
-    Ok(Planned {
-        next,
-        unclean: Sequence::from_vec(unclean),
-        conflicts: Sequence::from_vec(found),
-    })
+    let conflicts = conflicts_among(alloc, &sides, differing)?;
+    let next = match mode {
+        Mode::Dry => start,
+        _ => checked_out(store, start, &sides, mode, changed, &conflicts)?,
+    };
+    Ok(Judged { next, conflicts })
+}
+
+/// The unclean paths, in byte order, where this is the working copy after the checkout.
+fn unclean_paths<N: Naming + Drop>(
+    alloc: Global,
+    store: &Store<N>,
+    changed: &[Path],
+    next: &WorkCopy,
+    mode: Mode,
+) -> Result<Vec<Path>, NoMemory>
+    requires fits { FitsIn store.now next.now }
+    ensures { IfOk result (λ paths. paths.items ≡ (if is_dry mode then [] else
+        listing (union (path_set changed.now) (differ (means store.now next.now) (root_files store.now next.now))))) }
+{
+    match mode {
+        Mode::Dry => Ok(Vec::new(alloc)),
+        _ => {
+            let mut table = PathTable::new(alloc);
+            table.add_all(&next.dirty(store)?)?;
+            table.add_all(changed)?;
+            let unclean = table.list(alloc)?;
+            Ok(unclean)
+        }
+    }
 }
 
 /// What a checkout of a commit would make of a working copy.
@@ -208,7 +192,9 @@ fn plan_from<N: Naming + Drop>(
 /// Condition: the store has the working copy's root, and there root and changes make a file map. `NoCommit` comes where the id is no
 /// commit's; `NoMemory` may stand in place of any answer where a growth was refused. The time grows with the paths that were changed and
 /// those on which the two commits differ, not with the commits.
+#[tactic(auto, using(eden_history::proofs::DirtyFiles::dirty_listed, crate::proofs::Planning::root_moved))]
 pub fn plan<N: Naming + Drop>(
+    alloc: Global,
     store: &Store<N>,
     work: &WorkCopy,
     commit: Id,
@@ -228,11 +214,25 @@ pub fn plan<N: Naming + Drop>(
         ≡ listing (conflicts (means store.now work.now) (root_files store.now work.now) (commit_files store.now commit))) }
     ensures refuses { IfErr result (λ fault. fault ≢ CommitFault.NoMemory → commit_map store.now commit ≡ None) }
 {
-    let Ok(start) = WorkCopy::new(store.allocator(), store, commit) else {
-        return Err(CommitFault::NoCommit);
+    let start = start_of(alloc, store, work, commit, mode)?;
+    let changed = work.dirty(store)?;
+    let differing = paths_between(alloc, store, work.root(), commit)?;
+    let files = work.over(store);
+    let root = store.commit_files(work.root());
+    let target = store.commit_files(commit);
+    let listed = present(alloc, &files, &changed)?;
+    let dirty = Dirty {
+        work: &files,
+        root: &root,
+        listed: &listed,
     };
-    match plan_from(store, work, start, commit, mode) {
-        Ok(planned) => Ok(planned),
-        Err(_) => Err(CommitFault::NoMemory),
-    }
+    let judged = judge(
+        alloc, store, start, mode, &files, &root, &target, &dirty, &changed, &differing,
+    )?;
+    let unclean = unclean_paths(alloc, store, &changed, &judged.next, mode)?;
+    Ok(Planned {
+        next: judged.next,
+        unclean: Sequence::from_vec(unclean),
+        conflicts: Sequence::from_vec(judged.conflicts),
+    })
 }

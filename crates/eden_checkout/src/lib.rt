@@ -3,13 +3,7 @@
 
 pub use crate::checkout::{Planned, plan};
 
-mod below;
+mod apply;
 mod checkout;
-mod clash;
-mod compare;
-mod conflict;
-mod next;
-mod sides;
-mod table;
 #[cfg(test)]
 mod tests;

@@ -149,7 +149,13 @@ impl Fixture {
 
     /// What is told of a checkout, which is made.
     fn checkout(&mut self, alloc: Global, commit: Id, mode: Mode) -> Result<Vec<u8>, Fail> {
-        let planned = plan(&self.store, &self.work, commit, mode)?;
+        let planned = plan(
+            self.store.allocator(),
+            &self.store,
+            &self.work,
+            commit,
+            mode,
+        )?;
         let text = told(alloc, &planned)?;
         self.work = planned.next;
         Ok(text)
@@ -256,7 +262,13 @@ fn no_commit(rt: HostRuntime) -> Result<(), Fail> {
     let commits = commits_of(alloc, b"ax".as_slice(), &[], 0)?;
     let made = over_commit(alloc, commits.store, commits.first)?;
     for mode in [Mode::Normal, Mode::Dry, Mode::Force] {
-        let answer = plan(&made.store, &made.work, Id([1; 20]), mode);
+        let answer = plan(
+            made.store.allocator(),
+            &made.store,
+            &made.work,
+            Id([1; 20]),
+            mode,
+        );
         assert_eq!(rt; answer.err(), Some(CommitFault::NoCommit));
     }
     Ok(())
