@@ -21,11 +21,11 @@ use Rattle.eden_history.specs.declared.change.ChangeFault.{ChangeFault}
 use Rattle.eden_history.specs.declared.change.ChangeFault.TheVariants.{GenerationNotNew, NoEntry, SequenceExhausted}
 use Rattle.eden_history.specs.Worlds.{Row, Commits, WorldState, commits_of, now}
 use Rattle.eden_history.specs.Recorded.{delta_of, starts}
-use Rattle.eden_history.specs.Renames.{absent_fault, moved, place_fault, renamed}
+use Rattle.eden_history.specs.Renames.{absent_fault, moved, place_fault, rename_fault, renamed, write_fault}
 use Rattle.eden_ids.specs.Sameness.{same_bytes}
 use Rattle.eden_history.specs.Outcome.{change_fault, event_at, is_event, next_files, next_root, next_row, refusal, takes_number, world_after}
 use Rattle.eden_history.proofs.RenameLaws.{first-none}
-use Rattle.eden_accumulate.specs.Mounts.{IsRefusal, Refuses, State, StandsFor, files_of, number_fault}
+use Rattle.eden_accumulate.specs.Mounts.{Follows, IsRefusal, Refuses, State, StandsFor, files_of, number_fault}
 use Rattle.eden_accumulate.proofs.Histories.{answer-refused, event_of, grown, history-flushed, history-remounted}
 use Rattle.eden_accumulate.proofs.Standing.{IsPresent, has_number, number-left, number-out, refusal-free, refusal-numbered, log_recorded, made_stands}
 
@@ -55,16 +55,6 @@ pub grown_by : (log other more : journal.Log) (delta : FilesChanged) → other �
     → ((h : History) → journal.StandsFor other h → journal.StandsFor more (recorded h h.root (File delta))) → GrowsBy log more delta
 grown_by log other more touches same grows h is = grows h (subst (λ l. journal.StandsFor l h) (sym same) is)
 
--- what a change of files makes of a working copy over a store
-pub record Worked (held : List Held) (old new : WorkCopy) (step : FileMap → FileMap) : Type 0 where
-  pub fits : FitsIn held new
-  pub root : new.root ≡ old.root
-  pub files : means held new ≡ step (means held old)
-
-pub worked : (seen held : List Held) (old new : WorkCopy) (step : FileMap → FileMap) → seen ≡ held → FitsIn seen new → new.root ≡ old.root
-    → means seen new ≡ step (means seen old) → Worked held old new step
-worked seen held old new step same fits root files = subst (λ s. Worked s old new step) same (record { fits = fits; root = root; files = files })
-
 -- a change of files, where the working copy and the journal were changed as it says
 pub file_stands : (held : List Held) (old new : WorkCopy) (log more : journal.Log) (mount : State) → state held old log ≡ mount
     → (world : WorldState) → StandsFor mount world → (change : Change) → starts change ≡ false → next_root (now world) change ≡ (now world).root
@@ -86,10 +76,18 @@ file_stands held old new log more mount view world h change e stays allowed happ
           (subst (λ r. journal.StandsFor more (recorded (history_of world) r (File delta))) (sym stays) (grows (history_of world) h-old.log));
     })
 
+allowed_files : (commits : Commits) (row : Row) (change : Change) → refusal commits row change ≡ None → change_fault commits row change ≡ None
+unfolding refusal
+allowed_files commits row change e = (first-none (change_fault commits row change) _ e).0
+
 -- the files of the mount are the row's
 pub files_are : (held : List Held) (old : WorkCopy) (log : journal.Log) (mount : State) → state held old log ≡ mount → (world : WorldState) → StandsFor mount world
     → means held old ≡ (now world).files
 files_are held old log mount view world h = ap files_of view ∙ h.files
+
+-- its working copy fits in its store
+fits_still : (held : List Held) (old : WorkCopy) (log : journal.Log) (mount : State) → state held old log ≡ mount → (world : WorldState) → StandsFor mount world → FitsIn held old
+fits_still held old log mount view world h = (subst (λ m. StandsFor m world) (sym view) h).fits
 
 -- ---- write
 
@@ -105,19 +103,23 @@ files-written : (commits : Commits) (row : Row) (path : List ℕ) (kind : Kind) 
 unfolding next_files
 files-written commits row path kind bytes = refl
 
-pub write_stands : (held : List Held) (old new : WorkCopy) (log more : journal.Log) (mount : State) → state held old log ≡ mount
-    → (world : WorldState) → StandsFor mount world → (path : List ℕ) (kind : Kind) (bytes : List ℕ)
-    → refusal (commits_of world) (now world) (Write path kind bytes) ≡ None
-    → Worked held old new (λ m. fin.insert m path (record { kind = kind; bytes = bytes }))
-    → (delta : FilesChanged) → delta ≡ touched_at path (is_some (file_at (files_of mount) path)) true → GrowsBy log more delta
-    → StandsFor (state held new more) (world_after world (Write path kind bytes))
-write_stands held old new log more mount view world h path kind bytes allowed work delta is grows =
-    file_stands held old new log more mount view world h (Write path kind bytes) refl refl allowed refl work.fits work.root
-    (work.files ∙ ap (λ m. fin.insert m path (record { kind = kind; bytes = bytes })) (files_are held old log mount view world h)
-    ∙ files-written (commits_of world) (now world) path kind bytes)
+-- a file that was written, where nothing stood against it
+pub write_follows : {held : List Held} {old new : WorkCopy} {log other more : journal.Log} {mount : State} (path : List ℕ) (kind : Kind) (bytes : List ℕ) → state held old log ≡ mount
+    → IsRefusal mount (Write path kind bytes) None → new.root ≡ old.root
+    → ((h : List Held) → means h new ≡ fin.insert (means h old) path (record { kind = kind; bytes = bytes }))
+    → ((h : List Held) → FitsIn h old → write_fault (means h old) path bytes ≡ None → FitsIn h new)
+    → (delta : FilesChanged) → delta ≡ touched_at path (is_some (file_at (files_of mount) path)) true → other ≡ log → GrowsBy other more delta
+    → Follows mount (Write path kind bytes) (state held new more)
+write_follows {held} {old} {new} {log} {other} {more} {mount} path kind bytes view judged root files fits delta is same grows world h =
+    let allowed = sym (judged world h) in
+    let here = files_are held old log mount view world h in
+    file_stands held old new log more mount view world h (Write path kind bytes) refl refl allowed refl
+    (fits held (fits_still held old log mount view world h) (ap (λ m. write_fault m path bytes) here ∙ allowed_files (commits_of world) (now world) (Write path kind bytes) allowed))
+    root
+    (files held ∙ ap (λ m. fin.insert m path (record { kind = kind; bytes = bytes })) here ∙ files-written (commits_of world) (now world) path kind bytes)
     delta
     (ap File (is ∙ ap (λ m. touched_at path (is_some (file_at m path)) true) h.files) ∙ delta-written (commits_of world) (now world) path kind bytes)
-    grows
+    (grown_by log other more delta same grows)
 
 -- ---- remove
 
@@ -130,10 +132,6 @@ present files path e = by (is_some (file_at files path)) refl (first-none (place
     by false here none =
         let bad : ◌≡◌ {A = Option ChangeFault} (Some NoEntry) None = sym (ap (λ b. if b then None else Some NoEntry) here) ∙ none in cc
 
-allowed_files : (commits : Commits) (row : Row) (change : Change) → refusal commits row change ≡ None → change_fault commits row change ≡ None
-unfolding refusal
-allowed_files commits row change e = (first-none (change_fault commits row change) _ e).0
-
 delta-removed : (commits : Commits) (row : Row) (path : List ℕ) → is_some (file_at row.files path) ≡ true
     → File (touched_at path true false) ≡ delta_of row (event_at commits row (Remove path) (next_row commits row (Remove path)))
 unfolding next_row next_files
@@ -144,18 +142,19 @@ files-removed : (commits : Commits) (row : Row) (path : List ℕ) → fin.remove
 unfolding next_files
 files-removed commits row path = refl
 
-pub remove_stands : (held : List Held) (old new : WorkCopy) (log more : journal.Log) (mount : State) → state held old log ≡ mount
-    → (world : WorldState) → StandsFor mount world → (path : List ℕ)
-    → refusal (commits_of world) (now world) (Remove path) ≡ None
-    → Worked held old new (λ m. fin.remove m path)
-    → (delta : FilesChanged) → delta ≡ touched_at path true false → GrowsBy log more delta
-    → StandsFor (state held new more) (world_after world (Remove path))
-remove_stands held old new log more mount view world h path allowed work delta is grows =
-    file_stands held old new log more mount view world h (Remove path) refl refl allowed refl work.fits work.root
-    (work.files ∙ ap (λ m. fin.remove m path) (files_are held old log mount view world h) ∙ files-removed (commits_of world) (now world) path)
+-- a file that was taken away, where one stood there
+pub remove_follows : {held : List Held} {old new : WorkCopy} {log other more : journal.Log} {mount : State} (path : List ℕ) → state held old log ≡ mount
+    → IsRefusal mount (Remove path) None → new.root ≡ old.root
+    → ((h : List Held) → means h new ≡ fin.remove (means h old) path) → ((h : List Held) → FitsIn h old → FitsIn h new)
+    → (delta : FilesChanged) → delta ≡ touched_at path true false → other ≡ log → GrowsBy other more delta
+    → Follows mount (Remove path) (state held new more)
+remove_follows {held} {old} {new} {log} {other} {more} {mount} path view judged root files fits delta is same grows world h =
+    let allowed = sym (judged world h) in
+    file_stands held old new log more mount view world h (Remove path) refl refl allowed refl (fits held (fits_still held old log mount view world h)) root
+    (files held ∙ ap (λ m. fin.remove m path) (files_are held old log mount view world h) ∙ files-removed (commits_of world) (now world) path)
     delta
     (ap File is ∙ delta-removed (commits_of world) (now world) path (present (now world).files path (allowed_files (commits_of world) (now world) (Remove path) allowed)))
-    grows
+    (grown_by log other more delta same grows)
 
 -- ---- rename
 
@@ -188,20 +187,28 @@ files-renamed : (commits : Commits) (row : Row) (old new : List ℕ) → renamed
 unfolding next_files
 files-renamed commits row old new = refl
 
-pub rename_stands : (held : List Held) (before after : WorkCopy) (log more : journal.Log) (mount : State) → state held before log ≡ mount
-    → (world : WorldState) → StandsFor mount world → (old new : List ℕ)
-    → refusal (commits_of world) (now world) (Rename old new) ≡ None → same_bytes old new ≡ false → old ≢ new
-    → Worked held before after (λ m. renamed m old new)
-    → (delta : FilesChanged) → delta ≡ moved_delta (files_of mount) old new → GrowsBy log more delta
-    → StandsFor (state held after more) (world_after world (Rename old new))
-rename_stands held before after log more mount view world h old new allowed other apart work delta is grows =
-    let here : is_some (file_at (now world).files old) ≡ true =
-    present (now world).files old (first-none (absent_fault (now world).files old) _ (allowed_files (commits_of world) (now world) (Rename old new) allowed)).0 in
-    file_stands held before after log more mount view world h (Rename old new) refl refl allowed (ap not other) work.fits work.root
-    (work.files ∙ ap (λ m. renamed m old new) (files_are held before log mount view world h) ∙ files-renamed (commits_of world) (now world) old new)
+-- a file that was moved to another path, where nothing stood against it
+pub rename_follows : {held seen : List Held} {before after : WorkCopy} {log other more : journal.Log} {mount : State} (old new : List ℕ) → state held before log ≡ mount → seen ≡ held
+    → IsRefusal mount (Rename old new) None → same_bytes old new ≡ false → old ≢ new → after.root ≡ before.root
+    → means seen after ≡ renamed (means seen before) old new
+    → (FitsIn seen before → rename_fault (means seen before) old new ≡ None → FitsIn seen after)
+    → (delta : FilesChanged) → delta ≡ moved_delta (files_of mount) old new → other ≡ log → GrowsBy other more delta
+    → Follows mount (Rename old new) (state held after more)
+rename_follows {held} {seen} {before} {after} {log} {other} {more} {mount} old new view there judged distinct apart root files fits delta is same grows world h =
+    let allowed = sym (judged world h) in
+    let here = files_are held before log mount view world h in
+    let free = allowed_files (commits_of world) (now world) (Rename old new) allowed in
+    let stood : is_some (file_at (now world).files old) ≡ true = present (now world).files old (first-none (absent_fault (now world).files old) _ free).0 in
+    let fits-held : FitsIn held before → rename_fault (means held before) old new ≡ None → FitsIn held after =
+    subst (λ s. FitsIn s before → rename_fault (means s before) old new ≡ None → FitsIn s after) there fits in
+    let files-held : means held after ≡ renamed (means held before) old new = subst (λ s. means s after ≡ renamed (means s before) old new) there files in
+    file_stands held before after log more mount view world h (Rename old new) refl refl allowed (ap not distinct)
+    (fits-held (fits_still held before log mount view world h) (ap (λ m. rename_fault m old new) here ∙ free))
+    root
+    (files-held ∙ ap (λ m. renamed m old new) here ∙ files-renamed (commits_of world) (now world) old new)
     delta
-    (ap File (is ∙ ap (λ m. moved_delta m old new) h.files) ∙ delta-renamed (commits_of world) (now world) old new other apart here)
-    grows
+    (ap File (is ∙ ap (λ m. moved_delta m old new) h.files) ∙ delta-renamed (commits_of world) (now world) old new distinct apart stood)
+    (grown_by log other more delta same grows)
 
 -- ---- flush and remount
 
@@ -224,30 +231,28 @@ still_stands held work log more mount view world h change stays same allowed hap
       log = is;
     })
 
-pub flush_stands : (held : List Held) (work : WorkCopy) (log more : journal.Log) (mount : State) → state held work log ≡ mount
-    → (world : WorldState) → StandsFor mount world → refusal (commits_of world) (now world) Flush ≡ None
-    → ((h : History) → journal.StandsFor log h → journal.StandsFor more (flushed h)) → StandsFor (state held work more) (world_after world Flush)
+pub flush_follows : {held : List Held} {work : WorkCopy} {log more : journal.Log} {mount : State} → state held work log ≡ mount → IsRefusal mount Flush None
+    → ((h : History) → journal.StandsFor log h → journal.StandsFor more (flushed h)) → Follows mount Flush (state held work more)
 unfolding next_files
-flush_stands held work log more mount view world h allowed grows =
+flush_follows {held} {work} {log} {more} {mount} view judged grows world h =
     let h-old : StandsFor (state held work log) world = subst (λ m. StandsFor m world) (sym view) h in
-    still_stands held work log more mount view world h Flush refl refl allowed refl
-    (subst (journal.StandsFor more) (sym (history-flushed world h.legal)) (grows (history_of world) h-old.log))
+    still_stands held work log more mount view world h Flush refl refl (sym (judged world h)) refl
+    (subst (journal.StandsFor more) (sym (history-flushed world h.is_world.1.legal)) (grows (history_of world) h-old.log))
 
-pub remount_stands : (held : List Held) (work : WorkCopy) (log more : journal.Log) (mount : State) → state held work log ≡ mount
-    → (world : WorldState) → StandsFor mount world → (generation : ℕ) → refusal (commits_of world) (now world) (Remount generation) ≡ None
-    → journal.StandsFor more (journal.opened generation log.root log.limit 1) → StandsFor (state held work more) (world_after world (Remount generation))
+pub remount_follows : {held : List Held} {work : WorkCopy} {log more : journal.Log} {mount : State} (generation : ℕ) → state held work log ≡ mount
+    → IsRefusal mount (Remount generation) None → journal.StandsFor more (journal.opened generation log.root log.limit 1)
+    → Follows mount (Remount generation) (state held work more)
 unfolding next_files
-remount_stands held work log more mount view world h generation allowed is =
+remount_follows {held} {work} {log} {more} {mount} generation view judged is world h =
     let h-old : StandsFor (state held work log) world = subst (λ m. StandsFor m world) (sym view) h in
-    still_stands held work log more mount view world h (Remount generation) refl refl allowed refl
+    still_stands held work log more mount view world h (Remount generation) refl refl (sym (judged world h)) refl
     (subst (journal.StandsFor more)
     ((λ i. journal.opened generation (h-old.log.root i) (h-old.log.limit i) 1) ∙ sym (history-remounted world generation)) is)
 
-pub flush-allowed : (held : List Held) (work : WorkCopy) (log : journal.Log) (mount : State) → state held work log ≡ mount → (world : WorldState) → StandsFor mount world
-    → log.head < 2 ^ 64 - 1 → refusal (commits_of world) (now world) Flush ≡ None
-flush-allowed held work log mount view world h low =
+pub flush-judged : {held : List Held} {work : WorkCopy} {log : journal.Log} {mount : State} → state held work log ≡ mount → log.head < 2 ^ 64 - 1 → IsRefusal mount Flush None
+flush-judged {held} {work} {log} {mount} view low world h =
     let low-now : mount.log.head < 2 ^ 64 - 1 = subst (λ (m : State). m.log.head < 2 ^ 64 - 1) view low in
-    sym (refusal-numbered mount Flush None world h refl refl) ∙ number-left mount.log.head low-now
+    sym (number-left mount.log.head low-now) ∙ refusal-numbered mount Flush None world h refl refl
 
 pub flush-refused : (held : List Held) (work : WorkCopy) (log : journal.Log) (mount : State) → state held work log ≡ mount
     → log.head ≡ 2 ^ 64 - 1 → Refuses mount Flush SequenceExhausted

@@ -1,5 +1,5 @@
 -- A mount after it went over to another commit.
-use Rattle.std.proofs.Common.{◌≡◌, ℕ, true, false, not, List, [], None, refl, sym, ap, subst, ◌∙◌}
+use Rattle.std.proofs.Common.{◌≡◌, ℕ, true, false, not, List, [], Option, Some, None, refl, sym, ap, subst, ◌∙◌}
 use Rattle.std.specs.Prelude.{if◌then◌else◌}
 use Rattle.eden_ids.specs.declared.id.Id.{Id}
 use Rattle.eden_ids.specs.FileMaps.{FileMap, listing}
@@ -17,15 +17,18 @@ use Rattle.eden_history.specs.declared.answer.Answer.TheVariants.{Checked}
 use Rattle.eden_history.specs.declared.change.Mode.{Mode}
 use Rattle.eden_history.specs.declared.change.Change.{Change}
 use Rattle.eden_history.specs.declared.change.Change.TheVariants.{Checkout, Reset}
+use Rattle.eden_history.specs.declared.change.ChangeFault.{ChangeFault}
+use Rattle.eden_history.specs.declared.change.ChangeFault.TheVariants.{NoCommit}
 use Rattle.eden_history.specs.declared.position.Position.{Position}
+use Rattle.eden_history.proofs.RenameLaws.{first-none}
 use Rattle.eden_history.specs.Checkouts.{checked_out, conflicts, is_dry, unclean}
 use Rattle.eden_history.specs.Named.{held_files}
 use Rattle.eden_history.specs.Worlds.{Row, Commits, WorldState, commits_of, now}
 use Rattle.eden_history.specs.Recorded.{delta_of, starts}
-use Rattle.eden_history.specs.Outcome.{answer_at, commit_fault, event_at, is_event, next_files, next_root, next_row, refusal, world_after}
-use Rattle.eden_accumulate.specs.Mounts.{State, StandsFor}
+use Rattle.eden_history.specs.Outcome.{answer_at, change_fault, commit_fault, event_at, is_event, next_files, next_root, next_row, refusal, world_after}
+use Rattle.eden_accumulate.specs.Mounts.{Follows, IsRefusal, State, StandsFor}
 use Rattle.eden_accumulate.proofs.Histories.{event_of}
-use Rattle.eden_accumulate.proofs.Standing.{log_recorded, made_stands}
+use Rattle.eden_accumulate.proofs.Standing.{IsPresent, log_recorded, made_stands}
 use Rattle.eden_accumulate.proofs.Changing.{files_are, state}
 
 -- whether there is such a commit
@@ -76,19 +79,18 @@ files-reset : (commits : Commits) (row : Row) (commit : Id) → row.files ≡ ne
 unfolding next_files
 files-reset commits row commit = refl
 
-pub reset_stands : (held seen : List Held) (old new : WorkCopy) (log more : journal.Log) (mount : State) → state held old log ≡ mount → seen ≡ held
-    → (world : WorldState) → StandsFor mount world → (commit : Id) → refusal (commits_of world) (now world) (Reset commit) ≡ None
-    → FitsIn seen new → new.root ≡ commit → means seen new ≡ means seen old
-    → (paths : List (List ℕ)) → paths ≡ [] → MovesBy log more commit paths → StandsFor (state held new more) (world_after world (Reset commit))
-reset_stands held seen old new log more mount view same world h commit allowed fits root files paths none moves =
-    let is-files : means held new ≡ means held old = subst (λ s. means s new ≡ means s old) same files in
-    root_stands held old new log more mount view world h (Reset commit) commit refl refl allowed refl
+pub reset_follows : {held seen : List Held} {old new : WorkCopy} {log other more : journal.Log} {mount : State} (commit : Id) → state held old log ≡ mount → seen ≡ held
+    → IsRefusal mount (Reset commit) None → FitsIn seen new → new.root ≡ commit → means seen new ≡ means seen old
+    → (paths : List (List ℕ)) → paths ≡ [] → other ≡ log → MovesBy other more commit paths → Follows mount (Reset commit) (state held new more)
+reset_follows {held} {seen} {old} {new} {log} {other} {more} {mount} commit view there judged fits root files paths none same moves world h =
+    let is-files : means held new ≡ means held old = subst (λ s. means s new ≡ means s old) there files in
+    root_stands held old new log more mount view world h (Reset commit) commit refl refl (sym (judged world h)) refl
     (record {
-      fits = subst (λ s. FitsIn s new) same fits;
+      fits = subst (λ s. FitsIn s new) there fits;
       root = root;
       files = is-files ∙ files_are held old log mount view world h ∙ files-reset (commits_of world) (now world) commit;
     })
-    paths (ap (Root (now world).root) none ∙ delta-reset (commits_of world) (now world) commit) moves
+    paths (ap (Root (now world).root) none ∙ delta-reset (commits_of world) (now world) commit) (moved_by log other more commit paths same moves)
 
 -- ---- checkout
 
@@ -113,26 +115,25 @@ three f held seen old log mount view same world h commit =
     ap (λ s. f (means s old) (root_files s old) (commit_files s commit)) same
     ∙ (λ i. f (h-old.files i) (commit_files (h-old.held i) (h-old.root i)) (commit_files (h-old.held i) commit))
 
-pub checkout_stands : (held seen : List Held) (old new : WorkCopy) (log more : journal.Log) (mount : State) → state held old log ≡ mount → seen ≡ held
-    → (world : WorldState) → StandsFor mount world → (commit : Id) (mode : Mode) → refusal (commits_of world) (now world) (Checkout commit mode) ≡ None → is_dry mode ≡ false
-    → FitsIn seen new → new.root ≡ (if is_dry mode then old.root else commit)
+pub checkout_follows : {held seen : List Held} {old new : WorkCopy} {log other more : journal.Log} {mount : State} (commit : Id) (mode : Mode) → state held old log ≡ mount → seen ≡ held
+    → IsRefusal mount (Checkout commit mode) None → is_dry mode ≡ false → FitsIn seen new → new.root ≡ (if is_dry mode then old.root else commit)
     → means seen new ≡ checked_out mode (means seen old) (root_files seen old) (commit_files seen commit)
     → (paths : List (List ℕ))
     → paths ≡ (if is_dry mode then [] else listing (unclean (means seen old) (root_files seen old) (means seen new) (commit_files seen commit)))
-    → MovesBy log more commit paths → StandsFor (state held new more) (world_after world (Checkout commit mode))
-checkout_stands held seen old new log more mount view same world h commit mode allowed real fits root files paths is moves =
+    → other ≡ log → MovesBy other more commit paths → Follows mount (Checkout commit mode) (state held new more)
+checkout_follows {held} {seen} {old} {new} {log} {other} {more} {mount} commit mode view there judged real fits root files paths is same moves world h =
     let is-files : means held new ≡ next_files (commits_of world) (now world) (Checkout commit mode) =
-    ap (λ s. means s new) (sym same) ∙ files ∙ three (checked_out mode) held seen old log mount view same world h commit
+    ap (λ s. means s new) (sym there) ∙ files ∙ three (checked_out mode) held seen old log mount view there world h commit
     ∙ files-checked (commits_of world) (now world) commit mode in
-    root_stands held old new log more mount view world h (Checkout commit mode) commit refl refl allowed (ap not real)
-    (record { fits = subst (λ s. FitsIn s new) same fits; root = root ∙ ap (λ b. if b then old.root else commit) real; files = is-files })
+    root_stands held old new log more mount view world h (Checkout commit mode) commit refl refl (sym (judged world h)) (ap not real)
+    (record { fits = subst (λ s. FitsIn s new) there fits; root = root ∙ ap (λ b. if b then old.root else commit) real; files = is-files })
     paths
     (ap (Root (now world).root)
     (is ∙ ap (λ b. if b then [] else listing (unclean (means seen old) (root_files seen old) (means seen new) (commit_files seen commit))) real
     ∙ ap (λ next. listing (unclean (means seen old) (root_files seen old) next (commit_files seen commit))) files
-    ∙ three (λ work root target. listing (unclean work root (checked_out mode work root target) target)) held seen old log mount view same world h commit)
+    ∙ three (λ work root target. listing (unclean work root (checked_out mode work root target) target)) held seen old log mount view there world h commit)
     ∙ delta-checked (commits_of world) (now world) commit mode)
-    moves
+    (moved_by log other more commit paths same moves)
 
 -- a checkout is answered with its conflicts
 pub checked-answer : (held seen : List Held) (old : WorkCopy) (log : journal.Log) (mount : State) → state held old log ≡ mount → seen ≡ held
@@ -141,3 +142,22 @@ pub checked-answer : (held seen : List Held) (old : WorkCopy) (log : journal.Log
     → answer_at (commits_of world) (now world) (Checkout commit mode) position ≡ Checked position found
 checked-answer held seen old log mount view same world h commit mode found position is =
     ap (Checked position) (sym (is ∙ three (λ work root target. listing (conflicts work root target)) held seen old log mount view same world h commit))
+
+-- ---- a commit that was judged is there
+
+there_by : (found : Option FileMap) → commit_fault found ≡ None → found ≡ None → ⊥
+there_by None free gone = let bad : ◌≡◌ {A = Option ChangeFault} (Some NoCommit) None = free in cc
+there_by (Some files) free gone = let bad : ◌≡◌ {A = Option FileMap} (Some files) None = gone in cc
+
+free_of : (commits : Commits) (row : Row) (change : Change) → refusal commits row change ≡ None → change_fault commits row change ≡ None
+unfolding refusal
+free_of commits row change e = (first-none (change_fault commits row change) _ e).0
+
+pub commit_judged : {held seen : List Held} {old : WorkCopy} {log : journal.Log} {mount : State} (change : Change) (commit : Id) → state held old log ≡ mount → seen ≡ held
+    → IsPresent (state held old log) → IsRefusal mount change None
+    → ((commits : Commits) (row : Row) → change_fault commits row change ≡ commit_fault (commits commit)) → commit_map seen commit ≡ None → ⊥
+commit_judged {held} {seen} {old} {log} {mount} change commit view there present judged asks gone =
+    let world = present.0 in
+    let h : StandsFor mount world = subst (λ m. StandsFor m world) view present.1 in
+    there_by (commits_of world commit) (sym (asks (commits_of world) (now world)) ∙ free_of (commits_of world) (now world) change (sym (judged world h)))
+    (ap (λ held. commit_map held commit) (sym (there ∙ present.1.held)) ∙ gone)

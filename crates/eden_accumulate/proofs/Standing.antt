@@ -7,6 +7,7 @@ use Rattle.eden_ids.specs.declared.id.Id.{Id}
 use Rattle.eden_ids.specs.FileMaps.{IsFileMap}
 use Rattle.eden_deltas.specs.declared.delta.Delta.{Delta}
 use Rattle.eden_objects.specs.Objects.{Held}
+use Rattle.eden_objects.specs.Closed.{AllNamed, IsClosed}
 use Rattle.eden_objects.specs.Commits.{commit_map}
 use Rattle.eden_objects.specs.Files as Files
 use Rattle.eden_objects.specs.Files.{commit_files}
@@ -24,8 +25,9 @@ use Rattle.eden_history.specs.Worlds.{WorldState, commits_of, now, opened, posit
 use Rattle.eden_history.specs.Recorded.{delta_of, deltas, starts}
 use Rattle.eden_history.specs.Outcome.{answer_at, answer_of, change_fault, is_event, next_files, next_root, refusal, takes_number, world_after}
 use Rattle.eden_history.proofs.Steps.{has-number}
-use Rattle.eden_accumulate.specs.Mounts.{begun_at, IsRefusal, Refuses, State, StandsFor, files_of, number_fault}
-use Rattle.eden_accumulate.proofs.Histories.{after-event, after-nothing, answer-allowed, answer-refused, event_of, files-made, generation-kept, grown, grown_legal, head_is, history-recorded, root-made}
+use Rattle.eden_history.proofs.LegalFiles.{world_opens}
+use Rattle.eden_accumulate.specs.Mounts.{begun_at, Follows, IsRefusal, Refuses, State, StandsFor, files_of, number_fault}
+use Rattle.eden_accumulate.proofs.Histories.{after-event, after-nothing, answer-allowed, answer-refused, event_of, files-made, generation-kept, grown, grown_world, head_is, history-recorded, root-made}
 
 -- ---- the present
 
@@ -33,18 +35,19 @@ abbrev pub log_position : journal.Log → Position
 log_position log = record { generation = log.generation; sequence = log.head; root = log.root }
 
 pub sequence_is : (mount : State) (world : WorldState) → StandsFor mount world → mount.log.head ≡ (now world).sequence
-sequence_is mount world h = h.log.head ∙ sym (head_is world h.legal)
+sequence_is mount world h = h.log.head ∙ sym (head_is world h.is_world.1.legal)
 
 pub position_is : (mount : State) (world : WorldState) → StandsFor mount world → log_position mount.log ≡ position_of (now world)
 position_is mount world h =
     λ i. record { generation = h.log.generation i; sequence = sequence_is mount world h i; root = h.log.root i }
 
 -- a mount of a commit, with no event
-pub opened_stands : (held : List Held) (work : WorkCopy) (log : journal.Log) (generation limit : ℕ) (root : Id) → FitsIn held work → work.root ≡ root
+pub opened_stands : (name : List ℕ → List ℕ → Id) (held : List Held) (work : WorkCopy) (log : journal.Log) (generation limit : ℕ) (root : Id) → IsClosed held → AllNamed name held
+    → FitsIn held work → work.root ≡ root
     → commit_map held root ≡ Some (means held work) → journal.StandsFor log (journal.opened generation root limit 1)
     → StandsFor (record { held = held; work = work; log = log }) (opened held generation limit root (commit_files held root))
 unfolding deltas
-opened_stands held work log generation limit root fits is-root is-files is-log =
+opened_stands name held work log generation limit root closed named fits is-root is-files is-log =
     let files : means held work ≡ commit_files held root = sym (ap Files.files_of is-files) in
     record {
       held = refl;
@@ -52,15 +55,14 @@ opened_stands held work log generation limit root fits is-root is-files is-log =
       root = is-root;
       files = files;
       log = is-log;
-      legal = (subst IsFileMap files fits.1, tt);
-      begins = ap is_some is-files;
+      is_world = (name, world_opens name held generation limit root (commit_files held root) closed named (ap is_some is-files) refl);
     }
 
 -- a mount that begins with parts that hold nothing of the past
-pub begun_stands : (mount : State) → FitsIn mount.held mount.work → mount.log.root ≡ mount.work.root → ((h : History) × journal.StandsFor mount.log h)
+pub begun_stands : (name : List ℕ → List ℕ → Id) (mount : State) → IsClosed mount.held → AllNamed name mount.held → mount.log.head < 2 ^ 64 → FitsIn mount.held mount.work → mount.log.root ≡ mount.work.root → ((h : History) × journal.StandsFor mount.log h)
     → mount.log.held ≡ [] → StandsFor mount (begun_at mount)
 unfolding deltas
-begun_stands mount fits root stands nothing =
+begun_stands name mount closed named number fits root stands nothing =
     record {
       held = refl;
       fits = fits;
@@ -68,8 +70,7 @@ begun_stands mount fits root stands nothing =
       files = refl;
       log = subst (λ id. journal.StandsFor mount.log (journal.opened mount.log.generation id mount.log.limit mount.log.head)) root
           (empty_logs_begin mount.log stands.0 stands.1 nothing);
-      legal = (fits.1, tt);
-      begins = fits.0;
+      is_world = (name, record { closed = closed; named = named; legal = (fits.1, tt); begins = fits.0; number = number });
     }
 
 -- ---- refusals
@@ -121,13 +122,17 @@ pub refused : (mount : State) (change : Change) (found : Option ChangeFault) (fa
 refused mount change found fault is some world h = answer-refused world change fault (sym (is world h) ∙ some)
 
 -- the position after a change that nothing refuses is the one that it is answered with
-pub answered : (mount next : State) (change : Change) (position : Position) (world : WorldState) → StandsFor mount world
-    → refusal (commits_of world) (now world) change ≡ None → StandsFor next (world_after world change)
-    → ((w : WorldState) → StandsFor next w → position ≡ position_of (now w))
-    → answer_of world change ≡ answer_at (commits_of world) (now world) change position
-answered mount next change position world h allowed follows is =
-    answer-allowed world change allowed
-    ∙ ap (answer_at (commits_of world) (now world) change) (sym (is (world_after world change) follows))
+pub answered : (mount next : State) (change : Change) (position : Position) → IsRefusal mount change None
+    → Follows mount change next → ((world : WorldState) → StandsFor next world → position ≡ position_of (now world))
+    → (world : WorldState) → StandsFor mount world → answer_of world change ≡ answer_at (commits_of world) (now world) change position
+answered mount next change position judged follows at world h =
+    answer-allowed world change (sym (judged world h))
+    ∙ ap (answer_at (commits_of world) (now world) change) (sym (at (world_after world change) (follows world h)))
+
+-- a mount that follows is still the present of some world
+pub still_present : (inside mount next : State) (change : Change) → inside ≡ mount → IsPresent inside → Follows mount change next → IsPresent next
+still_present inside mount next change view h follows =
+    (world_after h.0 change, follows h.0 (subst (λ m. StandsFor m h.0) view h.1))
 
 -- ---- steps
 
@@ -150,8 +155,7 @@ made_stands mount world change next h =
       root = h.root ∙ sym (root-made (commits_of world) (now world) change);
       files = h.files ∙ sym (files-made (commits_of world) (now world) change);
       log = h.log;
-      legal = grown_legal world change h.allowed h.happens h.stood.legal;
-      begins = h.stood.begins;
+      is_world = grown_world world change h.allowed h.happens h.stood.is_world;
     })
 
 -- a mount is not changed by what makes no event

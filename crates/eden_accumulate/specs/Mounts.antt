@@ -1,5 +1,5 @@
 -- What a mount holds, and of which history of changes it is the present.
-use Rattle.std.specs.Prelude.{◌≡◌, ℕ, ◌-◌, ◌^◌, nat_lt, if◌then◌else◌, List, [], Option, Some, None, IsSome}
+use Rattle.std.specs.Prelude.{◌≡◌, ℕ, ◌-◌, ◌^◌, nat_lt, if◌then◌else◌, List, [], Option, Some, None}
 use Rattle.eden_ids.specs.FileMaps.{FileMap}
 use Rattle.eden_objects.specs.Objects.{Held}
 use Rattle.eden_journal.specs.Histories as journal
@@ -13,7 +13,7 @@ use Rattle.eden_history.specs.declared.change.ChangeFault.{ChangeFault}
 use Rattle.eden_history.specs.declared.change.ChangeFault.TheVariants.{SequenceExhausted}
 use Rattle.eden_history.specs.Worlds.{WorldState, commits_of, now}
 use Rattle.eden_history.specs.Outcome.{answer_of, refusal, world_after}
-use Rattle.eden_history.specs.Legal.{IsLegal}
+use Rattle.eden_history.specs.Legal.{IsSomeWorld}
 
 -- a store's objects, a working copy and what a journal holds
 pub record State : Type 0 where
@@ -26,15 +26,14 @@ abbrev pub files_of : State → FileMap
 files_of mount = means mount.held mount.work
 
 -- a mount is the present of a world: the objects, the root and the files are the world's, and the journal holds what the limit pays for
--- of what the world recorded. The world began at a commit
+-- of what the world recorded
 pub record StandsFor (mount : State) (world : WorldState) : Type 0 where
   pub held : mount.held ≡ world.held
   pub fits : FitsIn mount.held mount.work
   pub root : mount.work.root ≡ (now world).root
   pub files : files_of mount ≡ (now world).files
   pub log : journal.StandsFor mount.log (history_of world)
-  pub legal : IsLegal world
-  pub begins : IsSome (commits_of world world.opening.root)
+  pub is_world : IsSomeWorld world
 
 -- the answer to a change is that of each world for which the mount stands
 abbrev pub Answers : State → Change → Answer → Type 0

@@ -62,6 +62,7 @@ impl<N: Naming + Drop> Mount<N> {
         ensures back { IfErr result (λ fault. arc_value fault.store ≡ arc_value store) }
         ensures refuses { IfErr result (λ _. commit_map (arc_value store) root ≡ None) }
     {
+        store.closed_law();
         let Ok(work) = WorkCopy::new(alloc, &store, root) else {
             let cause = CommitFault::NoCommit;
             return Err(MountFault { store, cause });

@@ -24,6 +24,7 @@ impl<N: Naming + Drop> Mount<N> {
     {
         // A journal stands for some history, and one that holds nothing also for the one that begins at its head.
         let _ = journal.head();
+        store.closed_law();
         Mount {
             store,
             work,

@@ -10,6 +10,7 @@ use crate::mount::Mount;
 use eden_checkout::plan;
 use eden_history::{ChangeFault, Mode, Position};
 use eden_ids::{Id, Naming, Path, Sequence};
+use eden_objects::CommitFault;
 
 /// What a checkout came to.
 #[derive(Drop)]
@@ -61,13 +62,13 @@ impl<N: Naming + Drop> Mount<N> {
         if let Some(fault) = self.reset_refusal(commit) {
             return Err(fault);
         }
-        // The commit is there, so that only memory can be wanting.
-        let Ok(next) = self.work.reroot(&self.store, commit) else {
-            return Err(ChangeFault::NoMemory);
+        let next = match self.work.reroot(&self.store, commit) {
+            Ok(next) => next,
+            // The commit is there.
+            Err(CommitFault::NoCommit) => unreachable!(),
+            Err(CommitFault::NoMemory) => return Err(ChangeFault::NoMemory),
         };
-        let Ok(()) = self.journal.reserve() else {
-            return Err(ChangeFault::NoMemory);
-        };
+        self.journal.reserve()?;
         self.work = next;
         self.journal
             .append_root(commit, Sequence::new(self.store.allocator()));
@@ -100,9 +101,12 @@ impl<N: Naming + Drop> Mount<N> {
         if let Some(fault) = self.checkout_refusal(commit, mode) {
             return Err(fault);
         }
-        // The commit is there, so that only memory can be wanting.
-        let Ok(planned) = plan(&self.store, &self.work, commit, mode) else {
-            return Err(ChangeFault::NoMemory);
+        let alloc = self.store.allocator();
+        let planned = match plan(alloc, &self.store, &self.work, commit, mode) {
+            Ok(planned) => planned,
+            // The commit is there.
+            Err(CommitFault::NoCommit) => unreachable!(),
+            Err(CommitFault::NoMemory) => return Err(ChangeFault::NoMemory),
         };
         if is_dry(mode) {
             return Ok(Checked {
@@ -110,9 +114,7 @@ impl<N: Naming + Drop> Mount<N> {
                 conflicts: planned.conflicts,
             });
         }
-        let Ok(()) = self.journal.reserve() else {
-            return Err(ChangeFault::NoMemory);
-        };
+        self.journal.reserve()?;
         self.work = planned.next;
         self.journal.append_root(commit, planned.unclean);
         Ok(Checked {

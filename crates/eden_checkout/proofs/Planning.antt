@@ -62,20 +62,12 @@ files_planned held mode work start next w r t root target w_is r_is t_is begun k
     by Dry begun kept made = ap (means held) (kept refl ∙ begun refl)
     by Force begun kept made = made (λ e. absurd (let bad : Force ≡ Dry = e in cc))
 
-made_fits : (held : List Held) (mode : Mode) (next : WorkCopy) (work root target start : FileMap) → IsFileMap work → start ≡ target → IsSome (commit_map held next.root) → IsFileMap start
-    → means held next ≡ checked_out mode work root target → FitsIn held next
-made_fits held mode next work root target start ok is there begun files =
-    (there, subst IsFileMap (sym files) (checked_out_no_clash mode work root target ok (subst IsFileMap is begun)))
-
-pub next_fits : (held : List Held) (mode : Mode) (work start next : WorkCopy) (root target : FileMap) → FitsIn held work → FitsIn held start → (mode ≡ Dry → next ≡ start)
-    → ((mode ≡ Dry → ⊥) → means held start ≡ target) → next.root ≡ start.root → means held next ≡ checked_out mode (means held work) root target → FitsIn held next
-next_fits held Dry work start next root target old fits kept moved same files = subst (FitsIn held) (sym (kept refl)) fits
-next_fits held Normal work start next root target old fits kept moved same files =
-    made_fits held Normal next (means held work) root target (means held start) old.1 (moved (λ e. absurd (let bad : Normal ≡ Dry = e in cc)))
-    (subst (λ (id : Id). IsSome (commit_map held id)) (sym same) fits.0) fits.1 files
-next_fits held Force work start next root target old fits kept moved same files =
-    made_fits held Force next (means held work) root target (means held start) old.1 (moved (λ e. absurd (let bad : Force ≡ Dry = e in cc)))
-    (subst (λ (id : Id). IsSome (commit_map held id)) (sym same) fits.0) fits.1 files
+pub made_fits : (held : List Held) (mode : Mode) (start next : WorkCopy) (work root target : FileMap) → IsFileMap work → FitsIn held start → means held start ≡ target
+    → next.root ≡ start.root → means held next ≡ checked_out mode work root target → FitsIn held next
+made_fits held mode start next work root target ok fits begun same files = (
+  subst (λ (id : Id). IsSome (commit_map held id)) (sym same) fits.0,
+  subst IsFileMap (sym files) (checked_out_no_clash mode work root target ok (subst IsFileMap begun fits.1)),
+)
 
 -- a set that nothing is added to
 union_nothing : (s : PathSet) → union s no_paths ≡ s

@@ -1,4 +1,4 @@
-ghost use Rattle.std.specs.Prelude.{◌≡◌, ◌≢◌, ◌++◌, ◌∷◌, [], Some, None, IsSome, is_some, filter, if◌then◌else◌, IfOk, IfErr, OnOk};
+ghost use Rattle.std.specs.Prelude.{◌≡◌, ◌≢◌, [], Some, None, IsSome, is_some, filter, if◌then◌else◌, IfOk, IfErr};
 ghost use Rattle.eden_ids.specs.FileMaps.{IsFileMap, differ, file_at, listing, path_set, paths, union};
 ghost use Rattle.eden_objects.specs.Commits.{commit_map};
 ghost use Rattle.eden_objects.specs.Files.{commit_files};
@@ -26,25 +26,15 @@ pub struct Planned {
     pub conflicts: Sequence<Path>,
 }
 
-/// Adds a path, if it is wanted.
-fn add_if(paths: &mut Vec<Path>, path: &Path, wanted: bool) -> Result<(), NoMemory>
-    ensures { OnOk result (paths.new.items ≡ paths.old.items ++ (if wanted then path.now ∷ [] else [])) }
-{
-    if !wanted {
-        return Ok(());
-    }
-    let path = path.copy()?;
-    paths.push(path)?;
-    Ok(())
-}
-
 /// Those of some paths at which a file stands.
 fn present<T: FileTree>(alloc: Global, files: &T, paths: &[Path]) -> Result<Vec<Path>, NoMemory>
     ensures { IfOk result (λ present. present.items ≡ filter (λ p. is_some (file_at (T.files files.now) p)) paths.now) }
 {
     let mut present = Vec::new(alloc);
     for path in paths {
-        add_if(&mut present, path, has_file(files, path.as_bytes()))?;
+        if has_file(files, path.as_bytes()) {
+            present.push(path.copy()?)?;
+        }
     }
     Ok(present)
 }
@@ -59,7 +49,9 @@ fn conflicts_among<W: FileTree, R: FileTree, T: FileTree, D: FileTree>(
 {
     let mut found = Vec::new(alloc);
     for path in paths {
-        add_if(&mut found, path, sides.is_conflict(path))?;
+        if sides.is_conflict(path) {
+            found.push(path.copy()?)?;
+        }
     }
     Ok(found)
 }
@@ -137,10 +129,12 @@ fn judge<'x, N: Naming + Drop, W: FileTree, R: FileTree, T: FileTree, D: FileTre
     requires changed { changed.now ≡ listing (differ (W.files work.now) (R.files root.now)) }
     requires differing { differing.now ≡ listing (differ (R.files root.now) (T.files target.now)) }
     requires start { mode ≢ Mode.Dry → means store.now start ≡ T.files target.now }
+    requires fits { FitsIn store.now start }
     ensures root { IfOk result (λ judged. judged.next.root ≡ start.root) }
     ensures files { IfOk result (λ judged. mode ≢ Mode.Dry → means store.now judged.next
         ≡ checked_out mode (W.files work.now) (R.files root.now) (T.files target.now)) }
     ensures dry { IfOk result (λ judged. mode ≡ Mode.Dry → judged.next ≡ start) }
+    ensures fits { IfOk result (λ judged. FitsIn store.now judged.next) }
     ensures conflicts { IfOk result (λ judged. judged.conflicts.items ≡ listing (conflicts (W.files work.now) (R.files root.now) (T.files target.now))) }
 {
     let sides = Sides {
@@ -150,11 +144,16 @@ fn judge<'x, N: Naming + Drop, W: FileTree, R: FileTree, T: FileTree, D: FileTre
         dirty,
     };
     let conflicts = conflicts_among(alloc, &sides, differing)?;
-    let next = match mode {
-        Mode::Dry => start,
-        _ => checked_out(store, start, &sides, mode, changed, &conflicts)?,
-    };
-    Ok(Judged { next, conflicts })
+    match mode {
+        Mode::Dry => Ok(Judged {
+            next: start,
+            conflicts,
+        }),
+        _ => {
+            let next = checked_out(store, start, &sides, mode, changed, &conflicts)?;
+            Ok(Judged { next, conflicts })
+        }
+    }
 }
 
 /// The unclean paths, in byte order, where this is the working copy after the checkout.

@@ -2,7 +2,7 @@ use Rattle.std.proofs.Common.{ap, ◌∙◌}
 use Rattle.eden_objects.specs.Files.{commit_files}
 use Rattle.eden_workcopy.specs.Meanings.{means}
 use Rattle.eden_checkout.specs.Plans.{root_files}
-use Rattle.eden_checkout.proofs.Planning.{files_planned, next_fits, root_moved, unclean_planned}
+use Rattle.eden_checkout.proofs.Planning.{files_planned, root_moved, unclean_planned}
 use Rattle.eden_checkout.proofs.checkout.plan.Goals as goal
 
 pub returns-clause-files : goal.returns-clause-files
@@ -12,24 +12,6 @@ returns-clause-files g c =
     c.over-files.result c.commit_files-root.result c.commit_files-target.result (root_files held c.args.work.now) (commit_files held c.args.commit)
     c.over-files.ensures (c.commit_files-root.ensures ∙ ap (commit_files held) c.root-2.ensures) c.commit_files-target.ensures
     c.in_ok-start.ensures.dry c.in_ok-judged.ensures.dry c.in_ok-judged.ensures.files
-
-pub returns-clause-fits : goal.returns-clause-fits
-returns-clause-fits g c =
-    let held = c.args.store.now in
-    next_fits held c.args.mode c.args.work.now c.in_ok-start.start c.in_ok-judged.judged.next (root_files held c.args.work.now) (commit_files held c.args.commit)
-    c.requires c.in_ok-start.ensures.fits c.in_ok-judged.ensures.dry c.in_ok-start.ensures.moved c.in_ok-judged.ensures.root (returns-clause-files g c)
-
-pub unclean_paths-requires : goal.unclean_paths-requires
-unclean_paths-requires g c = record {
-  fits =
-      let held = c.args.store.now in
-      next_fits held c.args.mode c.args.work.now c.in_ok-start.start c.in_ok-judged.judged.next (root_files held c.args.work.now) (commit_files held c.args.commit)
-      c.requires c.in_ok-start.ensures.fits c.in_ok-judged.ensures.dry c.in_ok-start.ensures.moved c.in_ok-judged.ensures.root
-      (files_planned held c.args.mode c.args.work.now c.in_ok-start.start c.in_ok-judged.judged.next
-      c.over-files.result c.commit_files-root.result c.commit_files-target.result (root_files held c.args.work.now) (commit_files held c.args.commit)
-      c.over-files.ensures (c.commit_files-root.ensures ∙ ap (commit_files held) c.root-2.ensures) c.commit_files-target.ensures
-      c.in_ok-start.ensures.dry c.in_ok-judged.ensures.dry c.in_ok-judged.ensures.files);
-}
 
 pub returns-clause-unclean : goal.returns-clause-unclean
 returns-clause-unclean g c =

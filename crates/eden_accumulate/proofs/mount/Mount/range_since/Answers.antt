@@ -1,10 +1,10 @@
-use Rattle.std.proofs.Common.{None, Some, sym, ap, ◌∙◌}
-use Rattle.std.specs.Arc.{arc_value}
+use Rattle.std.proofs.Common.{None, Some, sym, ap, subst, ◌∙◌}
+use Rattle.eden_journal.specs.Histories.{StandsFor}
+use Rattle.eden_ranges.specs.Histories.{history_of}
 use Rattle.eden_ranges.specs.declared.ranges.Range.{Range}
 use Rattle.eden_ranges.specs.Since.{head_position, log_status}
 use Rattle.eden_accumulate.specs.Mounts.{State}
-use Rattle.eden_accumulate.proofs.Changing.{state}
-use Rattle.eden_accumulate.proofs.Ranging.{ends_now, is_status, ranged}
+use Rattle.eden_accumulate.proofs.Ranging.{ends_now, is_status}
 use Rattle.eden_accumulate.proofs.mount.Mount.range_since.Goals as goal
 
 pub returns-in-Ok-clause-accepts : goal.returns-in-Ok-clause-accepts
@@ -28,18 +28,12 @@ returns-in-Ok-clause-from g c = ap (λ (r : Range). r.from) c.in-Ok.ensures.rang
 
 pub returns-in-Ok-clause-changes : goal.returns-in-Ok-clause-changes
 returns-in-Ok-clause-changes g c = λ world h.
-    let m = c.self.inside in
-    ap (λ (r : Range). r.changes) (ranged (state (arc_value m.store) m.work m.journal.log) c.args.self.now c.self.view_is c.args.position.now c.in-Ok.range
-    c.in-Ok.ensures.range c.in-Ok.ensures.refused world h)
+    ap (λ (r : Range). r.changes) (c.in-Ok.ensures.since world h.is_world.1.legal (subst (λ (m : State). StandsFor m.log (history_of world)) (sym c.self.view_is) h.log))
 
 pub returns-in-Ok-clause-unclean : goal.returns-in-Ok-clause-unclean
 returns-in-Ok-clause-unclean g c = λ world h.
-    let m = c.self.inside in
-    ap (λ (r : Range). r.unclean) (ranged (state (arc_value m.store) m.work m.journal.log) c.args.self.now c.self.view_is c.args.position.now c.in-Ok.range
-    c.in-Ok.ensures.range c.in-Ok.ensures.refused world h)
+    ap (λ (r : Range). r.unclean) (c.in-Ok.ensures.since world h.is_world.1.legal (subst (λ (m : State). StandsFor m.log (history_of world)) (sym c.self.view_is) h.log))
 
 pub returns-in-Ok-clause-roots : goal.returns-in-Ok-clause-roots
 returns-in-Ok-clause-roots g c = λ world h.
-    let m = c.self.inside in
-    ap (λ (r : Range). r.roots) (ranged (state (arc_value m.store) m.work m.journal.log) c.args.self.now c.self.view_is c.args.position.now c.in-Ok.range
-    c.in-Ok.ensures.range c.in-Ok.ensures.refused world h)
+    ap (λ (r : Range). r.roots) (c.in-Ok.ensures.since world h.is_world.1.legal (subst (λ (m : State). StandsFor m.log (history_of world)) (sym c.self.view_is) h.log))

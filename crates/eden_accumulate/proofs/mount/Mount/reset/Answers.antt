@@ -1,12 +1,16 @@
-use Rattle.std.proofs.Common.{refl, sym, subst}
+use Rattle.std.proofs.Common.{refl}
 use Rattle.std.specs.Arc.{arc_value}
 use Rattle.eden_history.specs.declared.change.Change.TheVariants.{Reset}
-use Rattle.eden_history.specs.Outcome.{world_after}
-use Rattle.eden_accumulate.specs.Mounts.{StandsFor}
-use Rattle.eden_accumulate.proofs.Standing.{answered}
+use Rattle.eden_workcopy.proofs.Rerooted.{no_memory_else}
+use Rattle.eden_accumulate.proofs.Standing.{answered, still_present}
 use Rattle.eden_accumulate.proofs.Changing.{kept, left, state}
-use Rattle.eden_accumulate.proofs.Rooting.{moved_by, reset_stands}
+use Rattle.eden_accumulate.proofs.Rooting.{commit_judged, reset_follows}
 use Rattle.eden_accumulate.proofs.mount.Mount.reset.Goals as goal
+
+pub unreachable-requires : goal.unreachable-requires
+unreachable-requires g c =
+    commit_judged (Reset c.args.commit) c.args.commit c.self.view_is c.deref.ensures c.self.invariant c.in_default.ensures (λ commits row. refl)
+    (c.in-Err-NoCommit.ensures.refuses (no_memory_else c.in-Err-NoCommit.field-0 c.in-Err-NoCommit.field-0-is))
 
 pub invariant_of-self : goal.invariant_of-self
 invariant_of-self g c =
@@ -21,27 +25,17 @@ append_root-requires-clause-below g c =
 
 pub returns-clause-stands : goal.returns-clause-stands
 returns-clause-stands g c =
-    λ world h.
-    let m = c.self.inside in
-    reset_stands (arc_value m.store) c.deref.result.now m.work c.in-Ok.next m.journal.log c.append_root.new.self.log c.args.self.now c.self.view_is c.deref.ensures
-    world h c.args.commit (sym (c.in_default.ensures world h)) c.in-Ok.ensures.fits c.in-Ok.ensures.root c.in-Ok.ensures.files
-    c.new.result c.new.ensures
-    (moved_by m.journal.log c.reserve.new.self.log c.append_root.new.self.log c.args.commit c.new.result c.reserve.ensures.log c.append_root.ensures.stands)
+    reset_follows c.args.commit c.self.view_is c.deref.ensures c.in_default.ensures c.in-Ok.ensures.fits c.in-Ok.ensures.root c.in-Ok.ensures.files
+    c.new.result c.new.ensures c.reserve.ensures.log c.append_root.ensures.stands
 
 pub invariant_of-self-2 : goal.invariant_of-self-2
 invariant_of-self-2 g c =
     let m = c.self.inside in
-    let h = subst (λ s. StandsFor s c.self.invariant.0) c.self.view_is c.self.invariant.1 in (
-      world_after c.self.invariant.0 (Reset c.args.commit),
-      reset_stands (arc_value m.store) c.deref.result.now m.work c.in-Ok.next m.journal.log c.append_root.new.self.log c.args.self.now c.self.view_is c.deref.ensures
-          c.self.invariant.0 h c.args.commit (sym (c.in_default.ensures c.self.invariant.0 h)) c.in-Ok.ensures.fits c.in-Ok.ensures.root c.in-Ok.ensures.files
-          c.new.result c.new.ensures
-          (moved_by m.journal.log c.reserve.new.self.log c.append_root.new.self.log c.args.commit c.new.result c.reserve.ensures.log c.append_root.ensures.stands),
-    )
+    still_present (state (arc_value m.store) m.work m.journal.log) c.args.self.now (state (arc_value m.store) c.in-Ok.next c.append_root.new.self.log) (Reset c.args.commit) c.self.view_is c.self.invariant
+    (reset_follows c.args.commit c.self.view_is c.deref.ensures c.in_default.ensures c.in-Ok.ensures.fits c.in-Ok.ensures.root c.in-Ok.ensures.files
+    c.new.result c.new.ensures c.reserve.ensures.log c.append_root.ensures.stands)
 
 pub returns-clause-answers : goal.returns-clause-answers
 returns-clause-answers g c =
-    λ world h.
     let m = c.self.inside in
-    answered c.args.self.now (state (arc_value m.store) c.in-Ok.next c.append_root.new.self.log) (Reset c.args.commit) c.position.result world h
-    (sym (c.in_default.ensures world h)) (returns-clause-stands g c world h) c.position.ensures.world
+    answered c.args.self.now (state (arc_value m.store) c.in-Ok.next c.append_root.new.self.log) (Reset c.args.commit) c.position.result c.in_default.ensures (returns-clause-stands g c) c.position.ensures.world
