@@ -30,7 +30,7 @@ fn entries_one_by_one(rt: HostRuntime) -> Result<(), Fail> {
     assert_eq!(rt; second.map(|read| read.0.kind), Some(None));
     assert_eq!(rt; second.map(|read| read.0.id), Some(Id([2; 20])));
     assert!(rt; end.is_empty() && next_entry(end).is_none());
-    let starts = starts_of(rt.alloc(), payload.as_slice())?;
+    let starts = starts_of(rt.alloc(), &payload[..payload.len().min(100)])?;
     assert_eq!(rt; starts.as_slice(), [0, 31].as_slice());
     Ok(())
 }
