@@ -8,9 +8,13 @@ mod changes_tests;
 #[cfg(test)]
 mod comparing;
 #[cfg(test)]
+mod filters_tests;
+#[cfg(test)]
 mod generated_tests;
 #[cfg(test)]
 mod lot;
+#[cfg(test)]
+mod messages_tests;
 #[cfg(test)]
 mod mount_tests;
 #[cfg(test)]

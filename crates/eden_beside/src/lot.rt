@@ -3,6 +3,7 @@
 ghost use Rattle.std.specs.Prelude.{◌<◌};
 
 use crate::stores::path;
+use eden_globs::Filter;
 use eden_history::{Change, Mode};
 use eden_ids::{Id, Kind, Path, Sequence};
 use rand_core::utils::NextWord;
@@ -12,6 +13,15 @@ use std::test::Fail;
 
 /// Paths in each other's places, and beside a slash in byte order.
 pub(crate) const PATHS: [&str; 8] = ["a", "a.b", "a/b", "a0", "a/b/c", "b", "d/e", "d"];
+
+/// Patterns that admit some of those paths.
+const PATTERNS: [&str; 8] = ["a", "a/**", "**/b", "a/*", "?", "*.b", "a*/**/c", "d/e"];
+
+/// What parts of patterns are made of.
+const PIECES: [&str; 8] = ["a", "b", "ab", "*", "?", "\\*", "**", "a"];
+
+/// What names are made of.
+const NAMES: [&str; 8] = ["a", "b", "ab", "*", "a", "b", "a", ".b"];
 
 /// What is drawn follows from the seed alone.
 #[derive(Drop)]
@@ -27,7 +37,7 @@ impl Lot {
     }
 
     /// A number below this one.
-    fn below(&mut self, bound: usize) -> usize
+    pub(crate) fn below(&mut self, bound: usize) -> usize
         requires { 0 < bound }
         ensures { result < bound }
     {
@@ -36,6 +46,51 @@ impl Lot {
 
     pub(crate) fn path(&mut self, alloc: Global) -> Result<Path, Fail> {
         path(alloc, PATHS[self.below(8)])
+    }
+
+    /// A filter of none, one or two patterns.
+    pub(crate) fn filter(&mut self, alloc: Global) -> Result<Filter, Fail> {
+        let patterns = [
+            PATTERNS[self.below(8)].as_bytes(),
+            PATTERNS[self.below(8)].as_bytes(),
+        ];
+        Ok(Filter::parse(alloc, &patterns[..self.below(3)])?)
+    }
+
+    /// One to three of these.
+    fn add_pieces(&mut self, text: &mut Vec<u8>, pieces: &[&str; 8]) -> Result<(), Fail> {
+        for _ in 0..=self.below(3) {
+            text.extend_from_slice(pieces[self.below(8)].as_bytes())?;
+        }
+        Ok(())
+    }
+
+    /// A pattern of one to four parts, of which each fourth one is `**`.
+    pub(crate) fn pattern(&mut self, alloc: Global) -> Result<Vec<u8>, Fail> {
+        let mut text = Vec::new(alloc);
+        for part in 0..=self.below(4) {
+            if part > 0 {
+                text.push(b'/')?;
+            }
+            if self.below(4) == 0 {
+                text.extend_from_slice(b"**".as_slice())?;
+            } else {
+                self.add_pieces(&mut text, &PIECES)?;
+            }
+        }
+        Ok(text)
+    }
+
+    /// A path of one to four names, which such patterns admit now and then.
+    pub(crate) fn long_path(&mut self, alloc: Global) -> Result<Path, Fail> {
+        let mut text = Vec::new(alloc);
+        for name in 0..=self.below(4) {
+            if name > 0 {
+                text.push(b'/')?;
+            }
+            self.add_pieces(&mut text, &NAMES)?;
+        }
+        Ok(Path::parse(alloc, text.as_slice())?)
     }
 
     fn text(&mut self, alloc: Global) -> Result<Sequence<u8>, Fail> {

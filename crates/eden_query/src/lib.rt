@@ -17,9 +17,13 @@ mod decoding;
 mod encoding;
 mod fault;
 mod fields;
+#[cfg(test)]
+mod largest_tests;
 mod laws;
 mod mounting;
 mod raw;
+#[cfg(test)]
+mod reading_tests;
 mod served;
 mod serving;
 #[cfg(test)]

@@ -30,7 +30,7 @@ const P: [u8; 36] = [
     0, 0, 0, 0,
 ];
 
-fn joined(alloc: Global, parts: &[&[u8]]) -> Result<Vec<u8>, Fail> {
+pub(crate) fn joined(alloc: Global, parts: &[&[u8]]) -> Result<Vec<u8>, Fail> {
     let mut bytes = Vec::new(alloc);
     for part in parts {
         bytes.extend_from_slice(part)?;
@@ -43,14 +43,14 @@ fn placed(alloc: Global, head: &[u8], tail: &[u8]) -> Result<Vec<u8>, Fail> {
     joined(alloc, &[head, &Q, &P, tail])
 }
 
-fn request_fault(alloc: Global, body: &[u8]) -> Option<DecodeFault> {
+pub(crate) fn request_fault(alloc: Global, body: &[u8]) -> Option<DecodeFault> {
     match decode_request(alloc, body) {
         Ok(_) => None,
         Err(fault) => Some(fault),
     }
 }
 
-fn reply_fault(alloc: Global, body: &[u8]) -> Option<DecodeFault> {
+pub(crate) fn reply_fault(alloc: Global, body: &[u8]) -> Option<DecodeFault> {
     match decode_reply(alloc, body) {
         Ok(_) => None,
         Err(fault) => Some(fault),
@@ -107,7 +107,7 @@ fn a_poll_has_its_frame(rt: HostRuntime) -> Result<(), Fail> {
 }
 
 /// A basis, a poll and a fetch of `a`, each with its body.
-fn requests(alloc: Global) -> Result<Vec<(Request, Vec<u8>)>, Fail> {
+pub(crate) fn requests(alloc: Global) -> Result<Vec<(Request, Vec<u8>)>, Fail> {
     let mut all = Vec::new(alloc);
     let basis = Request::Basis {
         query: QUERY,
@@ -124,7 +124,7 @@ fn requests(alloc: Global) -> Result<Vec<(Request, Vec<u8>)>, Fail> {
 }
 
 /// Replies of each kind, each with its body.
-fn replies(alloc: Global) -> Result<Vec<(Reply, Vec<u8>)>, Fail> {
+pub(crate) fn replies(alloc: Global) -> Result<Vec<(Reply, Vec<u8>)>, Fail> {
     let mut all = Vec::new(alloc);
     let mut paths = Vec::new(alloc);
     paths.push(Path::parse(alloc, b"a".as_slice())?)?;

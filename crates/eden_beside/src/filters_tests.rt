@@ -1,0 +1,153 @@
+//! Filters beside a plain matcher, which tries each way in which a path may match a pattern.
+
+use crate::lot::Lot;
+use eden_globs::Filter;
+use eden_ids::Path;
+use std::alloc::Global;
+use std::test::Fail;
+
+/// Whether a name matches a part of a pattern.
+fn is_named(part: &[u8], name: &[u8]) -> bool {
+    let Some((first, rest)) = part.split_first() else {
+        return name.is_empty();
+    };
+    if *first == b'*' {
+        for skipped in 0..=name.len() {
+            if is_named(rest, &name[skipped..]) {
+                return true;
+            }
+        }
+        return false;
+    }
+    let Some((byte, left)) = name.split_first() else {
+        return false;
+    };
+    match (*first, rest.split_first()) {
+        (b'\\', Some((wanted, rest))) => wanted == byte && is_named(rest, left),
+        (b'?', _) => is_named(rest, left),
+        (wanted, _) => wanted == *byte && is_named(rest, left),
+    }
+}
+
+/// Whether the names of a path match the parts of a pattern.
+fn is_matched(parts: &[&[u8]], names: &[&[u8]]) -> bool {
+    let Some((part, rest)) = parts.split_first() else {
+        return names.is_empty();
+    };
+    if *part == b"**".as_slice() {
+        for skipped in 0..=names.len() {
+            if is_matched(rest, &names[skipped..]) {
+                return true;
+            }
+        }
+        return false;
+    }
+    let Some((name, left)) = names.split_first() else {
+        return false;
+    };
+    is_named(part, name) && is_matched(rest, left)
+}
+
+/// Whether some names could stand behind these, so that all of them match the parts: some parts are left, and each name before a part
+/// `**` matches its part.
+fn is_entered(parts: &[&[u8]], names: &[&[u8]]) -> bool {
+    for (place, part) in parts.iter().enumerate() {
+        let Some(name) = names.get(place) else {
+            return true;
+        };
+        if *part == b"**".as_slice() {
+            return true;
+        }
+        if !is_named(part, name) {
+            return false;
+        }
+    }
+    false
+}
+
+fn split<'a>(alloc: Global, bytes: &'a [u8]) -> Result<Vec<&'a [u8]>, Fail> {
+    let mut parts = Vec::new(alloc);
+    for part in bytes.split(|b| *b == b'/') {
+        parts.push(part)?;
+    }
+    Ok(parts)
+}
+
+/// That the filter of this pattern says of the path, and of each directory above it, what the plain matcher says.
+fn same_answers(alloc: Global, pattern: &[u8], path: &Path) -> Result<bool, Fail> {
+    let filter = Filter::parse(alloc, &[pattern])?;
+    let parts = split(alloc, pattern)?;
+    let names = split(alloc, path.as_bytes())?;
+    let admitted = is_matched(parts.as_slice(), names.as_slice());
+    if filter.admits(path) != admitted {
+        return Ok(false);
+    }
+    let mut above: usize = 0;
+    for (place, byte) in path.as_bytes().iter().enumerate() {
+        if *byte == b'/' {
+            above = above.min(63) + 1;
+            let Some(front) = names.get(..above) else {
+                return Ok(false);
+            };
+            let entered = is_entered(parts.as_slice(), front);
+            let told = filter.admits_below(&path.as_bytes()[..place]);
+            if told != entered || admitted && !told {
+                return Ok(false);
+            }
+        }
+    }
+    Ok(true)
+}
+
+#[test]
+fn known_pairs(rt: HostRuntime) -> Result<(), Fail> {
+    let alloc = rt.alloc();
+    for pattern in [
+        "**/x",
+        "a/**",
+        "*",
+        "a/*",
+        "**",
+        "a/**/x",
+        "a**b",
+        "?",
+        "a?b",
+        "\\*",
+        "\\[a]",
+        "}]",
+        "a*b*c",
+        "x",
+        "*/*/x",
+        "**/a/**/x",
+        "a\\**",
+    ] {
+        for path in [
+            "x", "a", "a/x", "a/b/x", "a/b/c/x", ".h", "ab", "a/b", "*", "[a]", "}]", "aXbXbc",
+            "aXbXbd", "x/y", "a*", "a*b", "a/a/x/x",
+        ] {
+            let path = Path::parse(alloc, path.as_bytes())?;
+            let same = same_answers(alloc, pattern.as_bytes(), &path)?;
+            assert!(rt; same, "{pattern} at {path:?}");
+        }
+    }
+    Ok(())
+}
+
+#[test]
+fn generated_pairs(rt: HostRuntime) -> Result<(), Fail> {
+    let alloc = rt.alloc();
+    let mut lot = Lot::new(1);
+    let mut admitted = 0;
+    for pair in 0..2000_u32 {
+        let pattern = lot.pattern(alloc)?;
+        let path = lot.long_path(alloc)?;
+        let same = same_answers(alloc, pattern.as_slice(), &path)?;
+        assert!(rt; same, "pair {pair}: {pattern:?} at {path:?}");
+        let filter = Filter::parse(alloc, &[pattern.as_slice()])?;
+        if filter.admits(&path) {
+            admitted = pair.min(admitted) + 1;
+        }
+    }
+    assert!(rt; admitted > 100, "{admitted} pairs are admitted");
+    Ok(())
+}

@@ -1,0 +1,270 @@
+//! Each change of one byte of a body of each message, judged by a plain reader.
+
+use crate::tests::{joined, replies, reply_fault, request_fault, requests};
+use crate::{DecodeFault, decode_reply, decode_request, encode_reply, encode_request};
+use std::alloc::Global;
+use std::test::Fail;
+
+/// What is left of a body that is being read.
+#[derive(Drop)]
+struct Left<'a> {
+    bytes: &'a [u8],
+}
+
+impl<'a> Left<'a> {
+    /// The next bytes, so many.
+    fn take(&mut self, count: usize) -> Result<&'a [u8], DecodeFault> {
+        let (Some(first), Some(rest)) = (self.bytes.get(..count), self.bytes.get(count..)) else {
+            return Err(DecodeFault::CutShort);
+        };
+        self.bytes = rest;
+        Ok(first)
+    }
+
+    /// A number of so many bytes, 8 at the most.
+    fn number(&mut self, bytes: usize) -> Result<u64, DecodeFault> {
+        let mut number: u64 = 0;
+        for byte in self.take(bytes)? {
+            number = number.wrapping_mul(256).wrapping_add(u64::from(*byte));
+        }
+        Ok(number)
+    }
+
+    /// So many bytes, with the count of them before them.
+    fn text(&mut self, width: usize, least: u64, most: u64) -> Result<&'a [u8], DecodeFault> {
+        let count = self.number(width)?;
+        if count < least || count > most {
+            return Err(DecodeFault::BadField);
+        }
+        self.take(count as usize)
+    }
+
+    fn path(&mut self) -> Result<&'a [u8], DecodeFault> {
+        let path = self.text(2, 1, 1024)?;
+        if is_path(path) {
+            Ok(path)
+        } else {
+            Err(DecodeFault::BadField)
+        }
+    }
+
+    /// Paths that ascend, with a mark before each or without.
+    fn paths(&mut self, marks: bool) -> Result<(), DecodeFault> {
+        let mut last = b"".as_slice();
+        for _ in 0..self.number(4)? {
+            if marks && !(1..=4).contains(&self.number(1)?) {
+                return Err(DecodeFault::BadField);
+            }
+            let path = self.path()?;
+            if path <= last {
+                return Err(DecodeFault::BadField);
+            }
+            last = path;
+        }
+        Ok(())
+    }
+
+    /// A filter: its patterns are judged once all of them are there.
+    fn filter(&mut self) -> Result<(), DecodeFault> {
+        let count = self.number(1)?;
+        if count > 32 {
+            return Err(DecodeFault::BadField);
+        }
+        let mut good = true;
+        for _ in 0..count {
+            let pattern = self.text(2, 1, 256)?;
+            good = good && is_pattern(pattern);
+        }
+        if good {
+            Ok(())
+        } else {
+            Err(DecodeFault::BadField)
+        }
+    }
+
+    fn content(&mut self) -> Result<(), DecodeFault> {
+        match self.number(1)? {
+            0 => Ok(()),
+            1..=3 => {
+                let _ = self.text(4, 0, 8_388_608)?;
+                Ok(())
+            }
+            _ => Err(DecodeFault::BadField),
+        }
+    }
+
+    fn cause(&mut self) -> Result<(), DecodeFault> {
+        let cause = self.number(1)?;
+        if cause == 0 || cause > 4 {
+            return Err(DecodeFault::BadField);
+        }
+        if self.number(8)? != 0 && cause == 4 {
+            return Err(DecodeFault::BadField);
+        }
+        Ok(())
+    }
+
+    /// A generation, a sequence number and a root.
+    fn position(&mut self) -> Result<(), DecodeFault> {
+        let _ = self.number(8)?;
+        let _ = self.number(8)?;
+        let _ = self.take(20)?;
+        Ok(())
+    }
+
+    /// The fields behind the query of a message with this tag.
+    fn fields(&mut self, tag: u64) -> Result<(), DecodeFault> {
+        if matches!(tag, 2 | 0x81 | 0x82 | 0x83) {
+            self.position()?;
+        }
+        match tag {
+            1 | 2 => self.filter(),
+            0x81 => self.paths(false),
+            0x82 => self.paths(true),
+            0x84 => self.cause(),
+            _ => {
+                let _ = self.path()?;
+                if tag == 0x83 { self.content() } else { Ok(()) }
+            }
+        }
+    }
+
+    /// A body with one of these tags.
+    fn body(&mut self, tags: &[u64]) -> Result<(), DecodeFault> {
+        if self.number(1)? != 1 {
+            return Err(DecodeFault::Version);
+        }
+        let tag = self.number(1)?;
+        if !tags.contains(&tag) {
+            return Err(DecodeFault::BadTag);
+        }
+        for _ in 0..3 {
+            let _ = self.number(8)?;
+        }
+        self.fields(tag)?;
+        if self.bytes.is_empty() {
+            Ok(())
+        } else {
+            Err(DecodeFault::Trailing)
+        }
+    }
+}
+
+fn is_name(name: &[u8]) -> bool {
+    !name.is_empty()
+        && name.len() <= 255
+        && name != b".".as_slice()
+        && name != b"..".as_slice()
+        && !name.contains(&0)
+}
+
+/// Whether bytes, 1 to 1,024 of them, are a path.
+fn is_path(bytes: &[u8]) -> bool {
+    let mut names = 0;
+    for name in bytes.split(|b| *b == b'/') {
+        if !is_name(name) {
+            return false;
+        }
+        names = names.min(64) + 1;
+    }
+    names <= 64
+}
+
+/// Whether bytes, 1 to 256 of them, are a pattern.
+fn is_pattern(bytes: &[u8]) -> bool {
+    let mut escaped = false;
+    let mut empty = true;
+    for byte in bytes {
+        let bare = !escaped && matches!(*byte, b'[' | b'{');
+        if bare || *byte == b'/' && (escaped || empty) {
+            return false;
+        }
+        empty = *byte == b'/';
+        escaped = !escaped && *byte == b'\\';
+    }
+    !escaped && !empty
+}
+
+/// The first fault of a body with one of these tags, if it has one.
+fn plain_fault(bytes: &[u8], tags: &[u64]) -> Option<DecodeFault> {
+    let mut left = Left { bytes };
+    left.body(tags).err()
+}
+
+/// The frame of a short body.
+fn framed(alloc: Global, body: &[u8]) -> Result<Vec<u8>, Fail> {
+    joined(alloc, &[&[0, 0, 0, (body.len() % 256) as u8], body])
+}
+
+/// Whether a body is read as the plain reader reads it, as one of these messages, and is spelled again as it was.
+fn is_read_plainly(alloc: Global, body: &[u8], is_request: bool) -> Result<bool, Fail> {
+    let (fault, plain) = if is_request {
+        (request_fault(alloc, body), plain_fault(body, &[1, 2, 3]))
+    } else {
+        let tags = [0x81, 0x82, 0x83, 0x84];
+        (reply_fault(alloc, body), plain_fault(body, &tags))
+    };
+    if fault.is_some() || plain.is_some() {
+        return Ok(fault == plain);
+    }
+    let again = if is_request {
+        encode_request(alloc, &decode_request(alloc, body)?)?
+    } else {
+        encode_reply(alloc, &decode_reply(alloc, body)?)?
+    };
+    Ok(again.as_slice() == framed(alloc, body)?.as_slice())
+}
+
+/// That a body is read as the plain reader reads it, whole, each front of it, and with each other value of each of its bytes.
+fn read_plainly(alloc: Global, body: &[u8], is_request: bool) -> Result<(), Fail> {
+    if !is_read_plainly(alloc, body, is_request)? {
+        return Err(Fail::new("the body is read otherwise"));
+    }
+    for place in 0..body.len() {
+        if !is_read_plainly(alloc, &body[..place], is_request)? {
+            return Err(Fail::new(format_args!("{place} bytes are read otherwise")));
+        }
+        for value in 0..=255 {
+            let mut changed = body.to_vec(alloc)?;
+            if let Some(byte) = changed.get_mut(place) {
+                *byte = value;
+            }
+            if !is_read_plainly(alloc, changed.as_slice(), is_request)? {
+                return Err(Fail::new(format_args!("{value} at {place} is read otherwise")));
+            }
+        }
+    }
+    Ok(())
+}
+
+/// A basis and a poll with two patterns, since those of `requests` have none.
+fn with_patterns(alloc: Global) -> Result<[Vec<u8>; 2], Fail> {
+    let patterns = [2, 0, 4, b'a', b'/', b'*', b'*', 0, 3, b'b', b'\\', b'['];
+    let query = [0; 24];
+    let place = [7; 36];
+    Ok([
+        joined(alloc, &[&[1, 1], &query, &patterns])?,
+        joined(alloc, &[&[1, 2], &query, &place, &patterns])?,
+    ])
+}
+
+#[test]
+fn every_byte_of_each_request(rt: HostRuntime) -> Result<(), Fail> {
+    let alloc = rt.alloc();
+    for (_, body) in &requests(alloc)? {
+        read_plainly(alloc, body.as_slice(), true)?;
+    }
+    for body in &with_patterns(alloc)? {
+        read_plainly(alloc, body.as_slice(), true)?;
+    }
+    Ok(())
+}
+
+#[test]
+fn every_byte_of_each_reply(rt: HostRuntime) -> Result<(), Fail> {
+    let alloc = rt.alloc();
+    for (_, body) in &replies(alloc)? {
+        read_plainly(alloc, body.as_slice(), false)?;
+    }
+    Ok(())
+}
