@@ -1,4 +1,5 @@
 //! A mount beside the plain, slow program that keeps whole histories: tests make the same changes on both, and compare what they say.
+//! Filters stand beside a plain matcher.
 //!
 //! A crate of its own, so that no crate that ships stands on the plain program.
 #![tactic(auto)]
