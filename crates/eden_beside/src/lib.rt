@@ -1,5 +1,6 @@
 //! A mount beside the plain, slow program that keeps whole histories: tests make the same changes on both, and compare what they say.
-//! Filters stand beside a plain matcher.
+//! Filters stand beside a plain matcher. And a mount is followed by mirrors over a network that loses, repeats and reorders: tests
+//! compare what they hold.
 //!
 //! A crate of its own, so that no crate that ships stands on the plain program.
 #![tactic(auto)]
@@ -18,5 +19,11 @@ mod lot;
 mod messages_tests;
 #[cfg(test)]
 mod mount_tests;
+#[cfg(test)]
+mod scene;
+#[cfg(test)]
+mod schedule_lot;
+#[cfg(test)]
+mod schedule_tests;
 #[cfg(test)]
 mod stores;

@@ -1,0 +1,350 @@
+//! A mount, mirrors of it, and every frame that was ever sent between them.
+
+use crate::lot::PATHS;
+use crate::stores::path;
+use eden_accumulate::Mount;
+use eden_globs::Filter;
+use eden_history::{Cause, Change, Position, Query, Reply, Request, SinceFault};
+use eden_ids::{Content, GitNaming, Kind, Path};
+use eden_mirror::Mirror;
+use eden_query::{decode_reply, encode_request, serve};
+use eden_stream::Counted;
+use std::alloc::Global;
+use std::test::Fail;
+
+/// One thing that happens. Mirrors, requests and replies are told by their place among those that there are.
+#[derive(Debug, Drop)]
+pub(crate) enum Step {
+    /// The mount is changed, or refuses it.
+    Change(Change),
+    /// The mirror begins a round.
+    Begin(usize),
+    /// The mirror sends all that is outstanding in its round.
+    Send(usize),
+    /// The mount answers a request that was sent, over bytes.
+    Serve(usize),
+    /// A reply that was given comes to a mirror.
+    Come {
+        /// Which one.
+        reply: usize,
+        /// To which mirror.
+        mirror: usize,
+    },
+    /// The mirror wants other paths.
+    Refilter(usize, Filter),
+    /// The mirror begins anew, under the next life.
+    Restart(usize, Filter),
+    /// A client that is no mirror sends a request.
+    Strange(Request),
+}
+
+/// A frame, and the place of the mirror that sent it or asked for it; a client's that is none is above all of them.
+#[derive(Drop)]
+pub(crate) struct Sent {
+    pub(crate) owner: usize,
+    frame: Vec<u8>,
+}
+
+/// A mirror and what it wants.
+#[derive(Drop)]
+pub(crate) struct Follower {
+    pub(crate) mirror: Mirror,
+    filter: Filter,
+}
+
+/// In how many states, after a step, a mirror had a place, had one at the head, held something else than the working copy, and then was
+/// refused what changed since.
+#[derive(Clone, Copy, Debug, PartialEq)]
+pub(crate) struct Tally {
+    placed: u64,
+    at_head: u64,
+    refused: u64,
+    behind: u64,
+}
+
+/// The kind and the bytes of a file.
+type Seen<'a> = Option<(Kind, &'a [u8])>;
+
+fn seen(file: Option<&Content>) -> Seen<'_> {
+    let content = file?;
+    Some((content.kind, content.bytes.as_slice()))
+}
+
+/// What the mount writes to the bytes of one frame.
+fn served(alloc: Global, mount: &mut Mount<GitNaming>, frame: &[u8]) -> Result<Vec<u8>, Fail> {
+    let mut left = frame;
+    let mut written = Vec::new(alloc);
+    let mut reader = Counted::new(&mut left);
+    let mut writer = Counted::new(&mut written);
+    let ended = serve(alloc, &mut reader, &mut writer, mount);
+    if ended != Ok(1) {
+        return Err(Fail::new(format_args!("serving a frame ended {ended:?}")));
+    }
+    Ok(written)
+}
+
+/// The reply that a frame spells.
+fn reply_in(alloc: Global, frame: &[u8]) -> Result<Reply, Fail> {
+    match frame.get(4..) {
+        Some(body) => Ok(decode_reply(alloc, body)?),
+        None => Err(Fail::new("a reply without a length")),
+    }
+}
+
+/// Whether a reply to a poll lists a path, or refuses what was asked in a way by which the client learns that it is behind.
+fn tells(reply: &Reply, path: &Path) -> bool {
+    match reply {
+        Reply::ChangesAre { marked, .. } => marked.as_slice().iter().any(|m| m.path == *path),
+        Reply::Refused { cause, .. } => match cause {
+            Cause::Stale(_) | Cause::Truncated(_) | Cause::TooLarge => true,
+            Cause::Ahead(_) => false,
+        },
+        _ => false,
+    }
+}
+
+/// Whether each of these paths is among the changes since a place, or the place is refused as stale or truncated.
+fn is_covered(mount: &Mount<GitNaming>, place: &Position, behind: &[Path]) -> Result<bool, Fail> {
+    match mount.changes_since(place) {
+        Ok(changes) => Ok(
+            behind
+                .iter()
+                .all(|path| changes.marked.iter().any(|m| m.path == *path)),
+        ),
+        Err(SinceFault::Stale(_) | SinceFault::Truncated(_)) => Ok(true),
+        Err(SinceFault::Ahead(_)) => Ok(false),
+        Err(SinceFault::NoMemory) => Err(Fail::new("no memory")),
+    }
+}
+
+/// What the mount replies, over bytes, to a poll since a place.
+fn polled(
+    alloc: Global,
+    mount: &mut Mount<GitNaming>,
+    since: Position,
+    filter: &Filter,
+) -> Result<Reply, Fail> {
+    let query = Query {
+        mirror: 77,
+        life: 1,
+        number: 1,
+    };
+    let filter = filter.copy()?;
+    let request = Request::Poll {
+        query,
+        since,
+        filter,
+    };
+    let frame = encode_request(alloc, &request)?;
+    let reply = served(alloc, mount, frame.as_slice())?;
+    reply_in(alloc, reply.as_slice())
+}
+
+impl Tally {
+    /// None yet.
+    pub(crate) fn new() -> Tally {
+        Tally {
+            placed: 0,
+            at_head: 0,
+            refused: 0,
+            behind: 0,
+        }
+    }
+
+    /// Whether there was some of each.
+    pub(crate) fn has_all(&self) -> bool {
+        self.placed > 0 && self.at_head > 0 && self.behind > 0 && self.refused > 0
+    }
+
+    /// One more state of a mirror with a place.
+    fn count(&mut self, at_head: bool, behind: bool, refused: bool) {
+        self.placed = self.placed.saturating_add(1);
+        self.at_head = self.at_head.saturating_add(u64::from(at_head));
+        self.refused = self.refused.saturating_add(u64::from(refused));
+        self.behind = self.behind.saturating_add(u64::from(behind));
+    }
+}
+
+impl Follower {
+    fn new(alloc: Global, id: u64, life: u64, filter: Filter) -> Result<Follower, Fail> {
+        let kept = filter.copy()?;
+        Ok(Follower {
+            mirror: Mirror::new(alloc, id, life, filter),
+            filter: kept,
+        })
+    }
+
+    /// Those of the paths that it wants and at which it holds something else than the mount.
+    fn behind(
+        &self,
+        alloc: Global,
+        mount: &Mount<GitNaming>,
+        paths: &[Path],
+    ) -> Result<Vec<Path>, Fail> {
+        let mut list = Vec::new(alloc);
+        for path in paths {
+            let held = seen(self.mirror.get(path));
+            if self.filter.admits(path) && held != mount.read(path).ok() {
+                list.push(path.copy()?)?;
+            }
+        }
+        Ok(list)
+    }
+
+    /// That it holds as many files as the mount does at those of the paths that it wants.
+    fn as_many(&self, mount: &Mount<GitNaming>, paths: &[Path]) -> Result<bool, Fail> {
+        let mut wanted = 0usize;
+        for path in paths {
+            if self.filter.admits(path) && mount.read(path).is_ok() {
+                wanted = wanted.saturating_add(1);
+            }
+        }
+        Ok(self.mirror.files()?.len() == wanted)
+    }
+}
+
+/// All of it, and the paths at which there may be a file.
+#[derive(Drop)]
+pub(crate) struct Scene {
+    paths: Vec<Path>,
+    pub(crate) mount: Mount<GitNaming>,
+    pub(crate) followers: Vec<Follower>,
+    pub(crate) sent: Vec<Sent>,
+    pub(crate) replies: Vec<Sent>,
+}
+
+impl Scene {
+    /// A mount, and a mirror for each filter, with nothing sent.
+    pub(crate) fn fresh(
+        alloc: Global,
+        mount: Mount<GitNaming>,
+        filters: Vec<Filter>,
+    ) -> Result<Scene, Fail> {
+        let mut followers = Vec::new(alloc);
+        let mut id = 0u64;
+        for filter in filters {
+            followers.push(Follower::new(alloc, id, 1, filter)?)?;
+            id = id.saturating_add(1);
+        }
+        let mut paths = Vec::new(alloc);
+        for text in PATHS {
+            paths.push(path(alloc, text)?)?;
+        }
+        Ok(Scene {
+            paths,
+            mount,
+            followers,
+            sent: Vec::new(alloc),
+            replies: Vec::new(alloc),
+        })
+    }
+
+    /// Sends a request.
+    fn send(&mut self, alloc: Global, owner: usize, request: &Request) -> Result<(), Fail> {
+        let frame = encode_request(alloc, request)?;
+        self.sent.push(Sent { owner, frame })?;
+        Ok(())
+    }
+
+    /// The mount answers a request, if it is there.
+    fn serve(&mut self, alloc: Global, place: usize) -> Result<(), Fail> {
+        if let Some(sent) = self.sent.get(place) {
+            let frame = served(alloc, &mut self.mount, sent.frame.as_slice())?;
+            let owner = sent.owner;
+            self.replies.push(Sent { owner, frame })?;
+        }
+        Ok(())
+    }
+
+    /// A reply comes to a mirror, if both are there.
+    fn come(&mut self, alloc: Global, reply: usize, mirror: usize) -> Result<(), Fail> {
+        if let Some(given) = self.replies.get(reply) {
+            let reply = reply_in(alloc, given.frame.as_slice())?;
+            if let Some(follower) = self.followers.get_mut(mirror) {
+                follower.mirror.deliver(&reply)?;
+            }
+        }
+        Ok(())
+    }
+
+    /// The mirror sends what is outstanding.
+    fn ask(&mut self, alloc: Global, owner: usize) -> Result<(), Fail> {
+        if let Some(follower) = self.followers.get(owner) {
+            let requests = follower.mirror.outstanding()?;
+            for request in &requests {
+                self.send(alloc, owner, request)?;
+            }
+        }
+        Ok(())
+    }
+
+    /// What the step says happens.
+    pub(crate) fn happen(&mut self, alloc: Global, step: &Step) -> Result<(), Fail> {
+        match step {
+            Step::Change(change) => {
+                self.mount.apply(change)?;
+            }
+            Step::Begin(mirror) => {
+                if let Some(follower) = self.followers.get_mut(*mirror) {
+                    follower.mirror.begin()?;
+                }
+            }
+            Step::Send(mirror) => self.ask(alloc, *mirror)?,
+            Step::Serve(place) => self.serve(alloc, *place)?,
+            Step::Come { reply, mirror } => self.come(alloc, *reply, *mirror)?,
+            Step::Refilter(mirror, filter) => {
+                if let Some(follower) = self.followers.get_mut(*mirror) {
+                    follower.mirror.refilter(filter.copy()?);
+                    follower.filter = filter.copy()?;
+                }
+            }
+            Step::Restart(mirror, filter) => {
+                if let Some(follower) = self.followers.get_mut(*mirror) {
+                    let id = follower.mirror.id();
+                    let life = follower.mirror.life().saturating_add(1);
+                    *follower = Follower::new(alloc, id, life, filter.copy()?)?;
+                }
+            }
+            Step::Strange(request) => {
+                let nobody = self.followers.len();
+                self.send(alloc, nobody, request)?;
+            }
+        }
+        Ok(())
+    }
+
+    /// What does not hold of a mirror with a place, though it is promised: the paths at which it is behind are among the changes since its
+    /// place, or the place is refused, and a poll since then tells so; and at the head it is behind nowhere and holds nothing else.
+    pub(crate) fn broken(
+        &mut self,
+        alloc: Global,
+        tally: &mut Tally,
+    ) -> Result<Option<&'static str>, Fail> {
+        for follower in &self.followers {
+            let Some(place) = follower.mirror.position() else {
+                continue;
+            };
+            let behind = follower.behind(alloc, &self.mount, self.paths.as_slice())?;
+            // Where it is behind nowhere, nothing is promised of what is told.
+            let mut refused = false;
+            if !behind.is_empty() {
+                if !is_covered(&self.mount, &place, behind.as_slice())? {
+                    return Ok(Some("a path is not covered"));
+                }
+                let reply = polled(alloc, &mut self.mount, place, &follower.filter)?;
+                if !behind.iter().all(|path| tells(&reply, path)) {
+                    return Ok(Some("a path is not told"));
+                }
+                refused = matches!(&reply, Reply::Refused { .. });
+            }
+            let now = self.mount.position();
+            let at_head = (place.generation, place.sequence) == (now.generation, now.sequence);
+            let as_many = follower.as_many(&self.mount, self.paths.as_slice())?;
+            if at_head && !(behind.is_empty() && as_many) {
+                return Ok(Some("a mirror at the head holds other files"));
+            }
+            tally.count(at_head, !behind.is_empty(), refused);
+        }
+        Ok(None)
+    }
+}

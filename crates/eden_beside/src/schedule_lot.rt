@@ -1,0 +1,127 @@
+//! Schedules drawn by lot.
+
+use crate::lot::Lot;
+use crate::scene::{Scene, Step};
+use eden_globs::Filter;
+use eden_history::{Query, Request};
+use eden_ids::Id;
+use std::alloc::Global;
+use std::test::Fail;
+
+/// Which steps come next follows from the seed and from what has happened so far. Mostly something goes on: the next reply comes, the next
+/// request is served, or a mirror begins a round or sends what it asks. In between anything else happens.
+#[derive(Drop)]
+pub(crate) struct ScheduleLot {
+    lot: Lot,
+    served: usize,
+    come: usize,
+}
+
+impl ScheduleLot {
+    pub(crate) fn new(seed: u64) -> ScheduleLot {
+        ScheduleLot {
+            lot: Lot::new(seed),
+            served: 0,
+            come: 0,
+        }
+    }
+
+    /// A place among so many, if there is one.
+    fn any(&mut self, count: usize) -> usize {
+        if count == 0 {
+            return 0;
+        }
+        self.lot.below(count)
+    }
+
+    pub(crate) fn filter(&mut self, alloc: Global) -> Result<Filter, Fail> {
+        let patterns: &[&[u8]] = match self.lot.below(5) {
+            0 => &[],
+            1 => &[b"a*"],
+            2 => &[b"a/**"],
+            3 => &[b"b", b"d/?"],
+            _ => &[b"a?b", b"d", b"a"],
+        };
+        Ok(Filter::parse(alloc, patterns)?)
+    }
+
+    /// A request under a life that no mirror ever has, or an id that none has.
+    fn strange(&mut self, alloc: Global, scene: &Scene) -> Result<Request, Fail> {
+        let query = Query {
+            mirror: self.lot.below(4) as u64,
+            life: 0,
+            number: 1,
+        };
+        Ok(match self.lot.below(3) {
+            0 => Request::Basis {
+                query,
+                filter: self.filter(alloc)?,
+            },
+            1 => Request::Poll {
+                query,
+                since: scene.mount.position(),
+                filter: self.filter(alloc)?,
+            },
+            _ => Request::Fetch {
+                query,
+                path: self.lot.path(alloc)?,
+            },
+        })
+    }
+
+    /// The next one after a place; sometimes one is lost.
+    fn after(&mut self, place: usize) -> usize {
+        let lost = usize::from(self.lot.below(12) == 0);
+        place.saturating_add(1).saturating_add(lost)
+    }
+
+    /// Something goes on.
+    fn onwards(&mut self, scene: &Scene, mirror: usize) -> Step {
+        if let Some(given) = scene.replies.get(self.come) {
+            let reply = self.come;
+            self.come = self.after(reply);
+            let owner = given.owner;
+            let mirror = if owner < scene.followers.len() {
+                owner
+            } else {
+                mirror
+            };
+            return Step::Come { reply, mirror };
+        }
+        if self.served < scene.sent.len() {
+            let place = self.served;
+            self.served = self.after(place);
+            return Step::Serve(place);
+        }
+        match scene.followers.get(mirror) {
+            Some(follower) if !follower.mirror.is_idle() => Step::Send(mirror),
+            _ => Step::Begin(mirror),
+        }
+    }
+
+    pub(crate) fn step(
+        &mut self,
+        alloc: Global,
+        commits: &[Id; 4],
+        scene: &Scene,
+    ) -> Result<Step, Fail> {
+        let mirror = self.any(scene.followers.len());
+        Ok(match self.lot.below(24) {
+            0..=4 => {
+                let generation = scene.mount.position().generation;
+                Step::Change(self.lot.change(alloc, commits, generation)?)
+            }
+            5 => Step::Refilter(mirror, self.filter(alloc)?),
+            6 => Step::Restart(mirror, self.filter(alloc)?),
+            7 => Step::Strange(self.strange(alloc, scene)?),
+            8 => Step::Serve(self.any(scene.sent.len())),
+            9 => Step::Come {
+                reply: self.any(scene.replies.len()),
+                mirror,
+            },
+            10 => Step::Send(mirror),
+            11 => Step::Begin(mirror),
+            _ => self.onwards(scene, mirror),
+        })
+    }
+}
