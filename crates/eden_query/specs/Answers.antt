@@ -8,7 +8,8 @@ use Rattle.eden_stream.specs.declared.server.FrameFault.TheVariants as frame
 use Rattle.eden_history.specs.declared.message.Request.{Request}
 use Rattle.eden_history.specs.Worlds.{WorldState}
 use Rattle.eden_history.specs.Replies.{reply_of}
-use Rattle.eden_history.specs.Spells as spells
+use Rattle.eden_history.specs.Spells.{reply_bytes}
+use Rattle.eden_stream.specs.Frames as frames
 
 -- a body's fault is its frame's; no body is read as a want of memory
 abbrev pub frame_fault : DecodeFault → FrameFault
@@ -21,7 +22,7 @@ frame_fault decode.Version = frame.Version
 frame_fault decode.NoMemory = frame.CutShort
 
 abbrev pub answered : WorldState → Result Request DecodeFault → Result (List ℕ) FrameFault
-answered world (Ok request) = Ok (spells.frame (spells.reply_bytes (reply_of world request)))
+answered world (Ok request) = Ok (frames.frame (reply_bytes (reply_of world request)))
 answered world (Err fault) = Err (frame_fault fault)
 
 -- the frame of the right reply to the request that the body spells, or the first fault of a body that spells none

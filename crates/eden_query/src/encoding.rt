@@ -140,6 +140,7 @@ fn begun(alloc: Global, len: u32, tag: u8, query: &Query) -> Result<Vec<u8>, All
     Ok(out)
 }
 
+#[tactic(auto, unfolding(eden_stream::specs::Frames::frame))]
 fn write_request(alloc: Global, request: &Request) -> Result<Vec<u8>, AllocError>
     ensures { IfOk result (λ out. out.items ≡ frame (request_bytes request.now)) }
 {
@@ -168,6 +169,7 @@ fn write_request(alloc: Global, request: &Request) -> Result<Vec<u8>, AllocError
     }
 }
 
+#[tactic(auto, unfolding(eden_stream::specs::Frames::frame))]
 fn write_reply(alloc: Global, len: u32, reply: &Reply) -> Result<Vec<u8>, AllocError>
     requires len { len ≡ length (reply_bytes reply.now) }
     requires small { len ≤ 16777216 }
