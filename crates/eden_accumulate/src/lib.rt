@@ -1,6 +1,21 @@
 //! A mount: a working copy of a commit, and the journal of what changed in it.
 //!
 //! Its tests stand in `eden_beside`, where it goes through the same changes as the plain, slow program.
+//!
+//! ```rust
+//! use eden_accumulate::Mount;
+//! use eden_ids::{GitNaming, Id, Kind, Path};
+//! use eden_objects::Store;
+//! use std::sync::Arc;
+//!
+//! let store = Arc::new(alloc, Store::new(alloc, GitNaming))?;
+//! let mut mount = Mount::mount(alloc, store, Id::ZERO, 7, 1000)?;
+//! let mounted = mount.position();
+//! let notes = Path::parse(alloc, b"notes".as_slice())?;
+//! mount.write(&notes, Kind::Plain, b"to do".as_slice())?;
+//! let changes = mount.changes_since(&mounted)?;
+//! assert_eq!(rt; (changes.to.sequence, changes.marked.len()), (2, 1));
+//! ```
 #![tactic(auto)]
 
 pub use crate::mount::Mount;

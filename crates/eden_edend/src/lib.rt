@@ -1,4 +1,13 @@
 //! The program `edend` as a library: a script of objects, changes and questions, run over a store and a mount.
+//!
+//! ```rust
+//! use eden_edend::run;
+//! use eden_stream::Counted;
+//!
+//! let mut text = Counted::new(Vec::new(alloc));
+//! let mut script = Counted::new(b"mount empty 7 1000\nposition\n".as_slice());
+//! assert_eq!(rt; run(alloc, &mut script, &mut text), Ok(2));
+//! ```
 #![tactic(auto)]
 
 pub use crate::script::run;

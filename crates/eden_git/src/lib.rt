@@ -1,4 +1,12 @@
 //! Git's format: the words of objects, the entries of trees and their order, and the tree that a commit names.
+//!
+//! ```rust
+//! use eden_git::tree_named;
+//!
+//! let commit = b"tree 4b825dc642cb6eb9a060e54bf8d69288fbee4904\n".as_slice();
+//! let tree = tree_named(commit);
+//! assert!(rt; tree.is_some());
+//! ```
 #![tactic(auto)]
 
 pub use crate::commit::tree_named;

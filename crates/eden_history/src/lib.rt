@@ -1,6 +1,15 @@
 //! What a mount means: its rows and events, what each change does, what has changed since a position, and how a client asks.
 //!
 //! The definitions stand in `specs/`, one to a file, and every other crate proves its code against them.
+//!
+//! ```rust
+//! use eden_history::{Change, Mode};
+//! use eden_ids::Id;
+//!
+//! // A change is a value: what it does to a mount is said by `specs/Outcome.antt`, and no code here makes it.
+//! let change = Change::Checkout { commit: Id::ZERO, mode: Mode::Normal };
+//! assert!(rt; matches!(change.copy()?, Change::Checkout { mode: Mode::Normal, .. }));
+//! ```
 #![tactic(auto)]
 
 pub use crate::answer::{Answer, SinceFault};

@@ -1,4 +1,16 @@
 //! The ids, paths and contents that every other crate speaks of.
+//!
+//! ```rust
+//! use eden_ids::{GitNaming, Naming, Path};
+//!
+//! let file = Path::parse(alloc, b"src/lib.rs".as_slice())?;
+//! let directory = Path::parse(alloc, b"src".as_slice())?;
+//! assert!(rt; file.is_below(&directory));
+//!
+//! // The id that Git gives a file of these bytes.
+//! let id = GitNaming.id_of(b"blob".as_slice(), b"hello\n".as_slice());
+//! assert!(rt; id.to_hex().as_slice() == b"ce013625030ba8dba906f756967f9e9ca394464a".as_slice());
+//! ```
 #![tactic(auto)]
 
 pub use crate::at_path::{AtPath, has_path_below, paths_below};

@@ -2,6 +2,20 @@
 //!
 //! Ids are compared four at a time, as five vectors of sixteen bytes, and kinds thirty-two at a time; what is left over is
 //! compared one by one. The answers are the same as one by one, at every length. A column is read once and never copied.
+//!
+//! ```rust
+//! use eden_ids::{Id, IdColumn};
+//! use eden_lanes::{differ_rows, find_row};
+//!
+//! let mut before = IdColumn::new(alloc);
+//! let mut after = IdColumn::new(alloc);
+//! for row in 0..9 {
+//!     before.push(Id([row; 20]))?;
+//!     after.push(Id([if row == 8 { 255 } else { row }; 20]))?;
+//! }
+//! assert!(rt; differ_rows(alloc, &before, &after)?.as_slice() == [8].as_slice());
+//! assert_eq!(rt; find_row(&after, Id([255; 20])), Some(8));
+//! ```
 #![tactic(auto)]
 
 mod find;

@@ -1,4 +1,23 @@
 //! A store of Git's objects, in which every object names earlier ones only.
+//!
+//! ```rust
+//! use eden_ids::{GitNaming, Path};
+//! use eden_objects::Store;
+//!
+//! let mut store = Store::new(alloc, GitNaming);
+//! let file = store.put_blob(b"hello\n".as_slice())?;
+//! let mut tree = Vec::new(alloc);
+//! tree.extend_from_slice(b"100644 README\0".as_slice())?;
+//! tree.extend_from_slice(file.0.as_slice())?;
+//! let tree = store.put_tree(tree.as_slice())?;
+//! let mut commit = Vec::new(alloc);
+//! commit.extend_from_slice(b"tree ".as_slice())?;
+//! commit.extend_from_slice(tree.to_hex().as_slice())?;
+//! commit.extend_from_slice(b"\n".as_slice())?;
+//! let commit = store.put_commit(commit.as_slice())?;
+//! let readme = Path::parse(alloc, b"README".as_slice())?;
+//! assert!(rt; matches!(store.lookup(commit, &readme), Ok(Some((_, id))) if id == file));
+//! ```
 #![tactic(auto)]
 
 pub use crate::commit::Commit;

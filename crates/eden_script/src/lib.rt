@@ -7,6 +7,16 @@
 //!
 //! The definitions stand in `specs/`: which words a line has to have, what labels are bound to, and the text that each line prints
 //! over the objects put so far and the mount.
+//!
+//! ```rust
+//! use eden_script::words;
+//!
+//! let Some(words) = words(alloc, b"write notes plain to\\sdo".as_slice())? else {
+//!     return Ok(());
+//! };
+//! assert_eq!(rt; words.len(), 4);
+//! assert!(rt; words[3].as_bytes() == b"to do".as_slice());
+//! ```
 #![tactic(auto)]
 
 pub use crate::command::{Command, TreeEntry};

@@ -1,4 +1,14 @@
 //! Devices that count, and a pump that runs a script of lines over them.
+//!
+//! ```rust
+//! use eden_stream::{Counted, Faults};
+//! use std::io::Read;
+//!
+//! let mut reader = Counted::new(b"some bytes".as_slice());
+//! let mut place = [0; 4];
+//! assert_eq!(rt; reader.read(&mut place)?, 4);
+//! assert_eq!(rt; (reader.calls(), reader.faults()), (1, 0));
+//! ```
 #![tactic(auto)]
 
 mod counts;

@@ -3,6 +3,19 @@
 //! It keeps whole file maps and looks at every path, so that it can be read beside the definitions in eden_history. The programs that keep
 //! less are measured by it, and none of them stands on it. The plain types of which the definitions speak are handed on from here, and
 //! so are the counting devices.
+//!
+//! ```rust
+//! use eden_history::{Answer, Change};
+//! use eden_ids::{GitNaming, Id};
+//! use eden_objects::Store;
+//! use eden_world::World;
+//! use std::sync::Arc;
+//!
+//! let store = Arc::new(alloc, Store::new(alloc, GitNaming))?;
+//! let mut world = World::mount(alloc, store, Id::ZERO, 7, 1000)?;
+//! assert!(rt; matches!(world.apply(&Change::Flush)?, Answer::At(_)));
+//! assert_eq!(rt; world.position().sequence, 2);
+//! ```
 #![tactic(auto)]
 
 pub use crate::row::{Event, Row};
