@@ -35,14 +35,17 @@ impl ScheduleLot {
     }
 
     pub(crate) fn filter(&mut self, alloc: Global) -> Result<Filter, Fail> {
-        let patterns: &[&[u8]] = match self.lot.below(5) {
-            0 => &[],
-            1 => &[b"a*"],
-            2 => &[b"a/**"],
-            3 => &[b"b", b"d/?"],
-            _ => &[b"a?b", b"d", b"a"],
+        let parsed = match self.lot.below(5) {
+            0 => Ok(Filter::all(alloc)),
+            1 => Filter::parse(alloc, &[b"a*".as_slice()]),
+            2 => Filter::parse(alloc, &[b"a/**".as_slice()]),
+            3 => Filter::parse(alloc, &[b"b".as_slice(), b"d/?".as_slice()]),
+            _ => Filter::parse(
+                alloc,
+                &[b"a?b".as_slice(), b"d".as_slice(), b"a".as_slice()],
+            ),
         };
-        Ok(Filter::parse(alloc, patterns)?)
+        Ok(parsed?)
     }
 
     /// A request under a life that no mirror ever has, or an id that none has.

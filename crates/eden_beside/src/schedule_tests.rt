@@ -22,7 +22,7 @@ fn follow(
         filters.push(lot.filter(alloc)?)?;
     }
     let mut scene = Scene::fresh(alloc, mount, filters)?;
-    for number in 1..=60 {
+    for number in 0..60_u64 {
         let step = lot.step(alloc, &commits.ids, &scene)?;
         scene.happen(alloc, &step)?;
         if let Some(broken) = scene.broken(alloc, tally)? {
@@ -38,7 +38,7 @@ fn follow(
 fn follow_forty(alloc: Global, limit: u64) -> Result<Tally, Fail> {
     let commits = family(alloc)?;
     let mut tally = Tally::new();
-    for seed in 0..40 {
+    for seed in 0..40_u64 {
         follow(alloc, &commits, seed, limit, &mut tally)?;
     }
     Ok(tally)

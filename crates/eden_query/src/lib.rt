@@ -36,8 +36,6 @@ mod decoding;
 mod encoding;
 mod fault;
 mod fields;
-#[cfg(test)]
-mod largest_tests;
 mod laws;
 mod mounting;
 mod raw;
