@@ -153,30 +153,3 @@ fn truncated_in_a_round(rt: HostRuntime) -> Result<(), Fail> {
     truncated_in_a_round_with(alloc, opened_world(alloc)?)?;
     truncated_in_a_round_with(alloc, opened_mount(alloc)?)
 }
-
-/// A mirror that wants the files below `d` alone.
-fn filtered_with<D: Daemon + Drop>(alloc: Global, daemon: D) -> Result<(), Fail> {
-    let mut pair = Pair::new(alloc, daemon);
-    pair.change(&write(alloc, "a", "1")?)?;
-    pair.change(&write(alloc, "d/x", "2")?)?;
-    pair.mirror
-        .refilter(Filter::parse(alloc, &[b"d/**".as_slice()])?);
-    pair.begins(Outcome::Taken)?;
-    pair.goes(&[Outcome::Placed])?;
-    pair.holds(Some((7, 3)), &[("d/x", "2")])?;
-    pair.change(&write(alloc, "a", "3")?)?;
-    pair.change(&Change::Remove {
-        path: crate::daemon::path(alloc, "d/x")?,
-    })?;
-    pair.begins(Outcome::Taken)?;
-    pair.goes(&[Outcome::Placed])?;
-    pair.holds(Some((7, 5)), &[])?;
-    pair.begins(Outcome::Placed)
-}
-
-#[test]
-fn filtered_mirror(rt: HostRuntime) -> Result<(), Fail> {
-    let alloc = rt.alloc();
-    filtered_with(alloc, opened_world(alloc)?)?;
-    filtered_with(alloc, opened_mount(alloc)?)
-}
