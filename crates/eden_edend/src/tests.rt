@@ -1,91 +1,10 @@
 //! Scripts and what they print, over devices that give and take little at a time.
 
 use super::{RunFault, run};
+use eden_devices::{Sink, Source};
 use eden_stream::Counted;
 use std::alloc::Global;
-use std::io;
-use std::io::{ErrorKind, Read, Write};
 use std::test::Fail;
-
-/// Gives at most `most` bytes a read, none beyond `cut` in the read that comes to it, and an error from `fails_at` on.
-#[derive(Drop)]
-struct Source<'a> {
-    bytes: &'a [u8],
-    at: usize,
-    most: usize,
-    cut: usize,
-    fails_at: usize,
-}
-
-impl<'a> Source<'a> {
-    fn new(bytes: &'a [u8]) -> Self {
-        Source {
-            bytes,
-            at: 0,
-            most: usize::MAX,
-            cut: usize::MAX,
-            fails_at: usize::MAX,
-        }
-    }
-}
-
-impl<'a> Read for Source<'a> {
-    fn read(&mut self, buf: &mut [u8]) -> io::Result<usize> {
-        if self.at >= self.fails_at {
-            return Err(io::Error::from(ErrorKind::BrokenPipe));
-        }
-        if self.at >= self.bytes.len() {
-            return Ok(0);
-        }
-        let mut end = self.bytes.len().min(self.at.saturating_add(self.most));
-        if self.at < self.cut {
-            end = end.min(self.cut);
-        }
-        let left = &self.bytes[self.at..end.max(self.at)];
-        let taken = left.len().min(buf.len());
-        buf[..taken].copy_from_slice(&left[..taken]);
-        self.at += taken;
-        Ok(taken)
-    }
-}
-
-/// Takes at most `most` bytes a call and `room` bytes in all, and then gives an error.
-#[derive(Drop)]
-struct Sink {
-    bytes: Vec<u8>,
-    most: usize,
-    room: usize,
-}
-
-impl Sink {
-    fn new(alloc: Global) -> Self {
-        Sink {
-            bytes: Vec::new(alloc),
-            most: usize::MAX,
-            room: usize::MAX,
-        }
-    }
-}
-
-impl Write for Sink {
-    fn write(&mut self, buf: &[u8]) -> io::Result<usize> {
-        let taken = buf.len().min(self.most).min(self.room);
-        if taken == 0 && !buf.is_empty() {
-            return Err(io::Error::from(ErrorKind::BrokenPipe));
-        }
-        match self.bytes.extend_from_slice(&buf[..taken]) {
-            Ok(()) => {
-                self.room -= taken;
-                Ok(taken)
-            }
-            Err(_) => Err(io::Error::from(ErrorKind::OutOfMemory)),
-        }
-    }
-
-    fn flush(&mut self) -> io::Result<()> {
-        Ok(())
-    }
-}
 
 fn ran(alloc: Global, source: Source<'_>, sink: &mut Sink) -> Result<u64, RunFault> {
     let mut source = source;
@@ -349,7 +268,7 @@ fn failing_devices(rt: HostRuntime) {
     assert!(rt; sink.bytes.as_slice() == b"at 7 1 empty\nchanges 0 to 7 1 empty\n".as_slice());
     for room in 0..FIRST_RUN_TEXT.len() {
         let mut sink = Sink::new(alloc);
-        sink.room = room;
+        sink.full_at = room;
         assert_eq!(rt;
             ran(alloc, Source::new(script), &mut sink),
             Err(RunFault::Write)

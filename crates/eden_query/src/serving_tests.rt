@@ -2,13 +2,12 @@
 
 use crate::{FrameFault, ServeFault, Served, serve};
 use eden_accumulate::Mount;
+use eden_devices::{Endless, Source};
 use eden_history::Change;
 use eden_ids::{GitNaming, Id, Kind, Path, Sequence};
 use eden_objects::Store;
 use eden_stream::Counted;
 use std::alloc::Global;
-use std::io;
-use std::io::Read;
 use std::sync::Arc;
 use std::test::Fail;
 
@@ -62,53 +61,6 @@ fn refusal(alloc: Global, cause: u8, number: u8) -> Result<Vec<u8>, Fail> {
     )
 }
 
-/// Gives at most `most` bytes a read, and none beyond `cut` in the read that comes to it.
-#[derive(Drop)]
-struct Pieces<'a> {
-    bytes: &'a [u8],
-    at: usize,
-    most: usize,
-    cut: usize,
-}
-
-impl<'a> Read for Pieces<'a> {
-    fn read(&mut self, buf: &mut [u8]) -> io::Result<usize> {
-        if self.at >= self.bytes.len() {
-            return Ok(0);
-        }
-        let mut end = self.bytes.len().min(self.at.saturating_add(self.most));
-        if self.at < self.cut {
-            end = end.min(self.cut);
-        }
-        let left = &self.bytes[self.at..end.max(self.at)];
-        let taken = left.len().min(buf.len());
-        buf[..taken].copy_from_slice(&left[..taken]);
-        self.at += taken;
-        Ok(taken)
-    }
-}
-
-/// Gives the same bytes for ever, one a read.
-#[derive(Drop)]
-struct Endless<'a> {
-    bytes: &'a [u8],
-    at: usize,
-}
-
-impl<'a> Read for Endless<'a> {
-    fn read(&mut self, buf: &mut [u8]) -> io::Result<usize> {
-        if self.at >= self.bytes.len() {
-            self.at = 0;
-        }
-        if self.at >= self.bytes.len() || buf.is_empty() {
-            return Ok(0);
-        }
-        buf[0] = self.bytes[self.at];
-        self.at += 1;
-        Ok(1)
-    }
-}
-
 /// A mount of the empty commit, in generation 7.
 fn opened(alloc: Global, limit: u64) -> Result<Mount<GitNaming>, Fail> {
     let store = Arc::new(alloc, Store::new(alloc, GitNaming))?;
@@ -123,13 +75,9 @@ fn served(
     most: usize,
     cut: usize,
 ) -> (Vec<u8>, Result<u64, ServeFault>) {
-    let at = 0;
-    let mut pieces = Pieces {
-        bytes,
-        at,
-        most,
-        cut,
-    };
+    let mut pieces = Source::new(bytes);
+    pieces.most = most;
+    pieces.cut = cut;
     let mut written = Vec::new(alloc);
     let mut reader = Counted::new(&mut pieces);
     let mut writer = Counted::new(&mut written);
@@ -272,10 +220,7 @@ fn frames_cut_short(rt: HostRuntime) -> Result<(), Fail> {
 fn reads_spent(rt: HostRuntime) -> Result<(), Fail> {
     let alloc = rt.alloc();
     for (one, replies) in [(&poll(alloc, 7, 1)?, 14_925), (&fetch(alloc)?, 30_303)] {
-        let mut endless = Endless {
-            bytes: one.as_slice(),
-            at: 0,
-        };
+        let mut endless = Endless::new(one.as_slice());
         let mut mount = opened(alloc, 1000)?;
         let mut written = Vec::new(alloc);
         let mut reader = Counted::new(&mut endless);

@@ -6,9 +6,8 @@ ghost use Rattle.eden_stream.specs.Scripts.{IsScript, in_front};
 mod frames;
 
 use super::{Answered, Counted, Faults, LineMachine, RunFault, run_lines};
+use eden_devices::{Endless, Sink, Source};
 use std::alloc::Global;
-use std::io;
-use std::io::{ErrorKind, Read, Write};
 use std::test::*;
 
 // Prints each line, and can't read one that begins with `!`.
@@ -37,99 +36,6 @@ impl LineMachine for Echo {
     }
 
     ghost lawful = { λ _ script echoes. echoes.0 };
-}
-
-// Gives at most `most` bytes a read, and none beyond `cut` in the read that
-// comes to it. Each read from `fails_at` on gives an error, and each second
-// one too where `interrupts`.
-#[derive(Drop)]
-struct Source<'a> {
-    bytes: &'a [u8],
-    at: usize,
-    most: usize,
-    cut: usize,
-    fails_at: usize,
-    interrupts: bool,
-    interrupted: bool,
-}
-
-impl<'a> Source<'a> {
-    fn new(bytes: &'a [u8]) -> Self {
-        Source {
-            bytes,
-            at: 0,
-            most: usize::MAX,
-            cut: usize::MAX,
-            fails_at: usize::MAX,
-            interrupts: false,
-            interrupted: false,
-        }
-    }
-}
-
-impl<'a> Read for Source<'a> {
-    fn read(&mut self, buf: &mut [u8]) -> io::Result<usize> {
-        if self.interrupts && !self.interrupted {
-            self.interrupted = true;
-            return Err(io::Error::from(ErrorKind::Interrupted));
-        }
-        self.interrupted = false;
-        if self.at >= self.fails_at {
-            return Err(io::Error::from(ErrorKind::BrokenPipe));
-        }
-        if self.at >= self.bytes.len() {
-            return Ok(0);
-        }
-        let mut end = self.bytes.len().min(self.at.saturating_add(self.most));
-        if self.at < self.cut {
-            end = end.min(self.cut);
-        }
-        let left = &self.bytes[self.at..end.max(self.at)];
-        let taken = left.len().min(buf.len());
-        buf[..taken].copy_from_slice(&left[..taken]);
-        self.at += taken;
-        Ok(taken)
-    }
-}
-
-// Takes at most `most` bytes a write, and none from `fails_at` on.
-#[derive(Drop)]
-struct Sink {
-    bytes: Vec<u8>,
-    most: usize,
-    fails_at: usize,
-    interrupts: bool,
-    interrupted: bool,
-}
-
-impl Sink {
-    fn new(alloc: Global) -> Self {
-        Sink {
-            bytes: Vec::new(alloc),
-            most: usize::MAX,
-            fails_at: usize::MAX,
-            interrupts: false,
-            interrupted: false,
-        }
-    }
-}
-
-impl Write for Sink {
-    fn write(&mut self, buf: &[u8]) -> io::Result<usize> {
-        if self.interrupts && !self.interrupted {
-            self.interrupted = true;
-            return Err(io::Error::from(ErrorKind::Interrupted));
-        }
-        self.interrupted = false;
-        let room = self.fails_at.saturating_sub(self.bytes.len());
-        let taken = buf.len().min(self.most).min(room);
-        self.bytes.extend_from_slice(&buf[..taken])?;
-        Ok(taken)
-    }
-
-    fn flush(&mut self) -> io::Result<()> {
-        Ok(())
-    }
 }
 
 // Runs what the source gives, and gives how it ended.
@@ -266,7 +172,7 @@ fn a_failed_writer_has_a_part_of_the_text(rt: HostRuntime) -> Result<(), Fail> {
     for fails_at in 0..text.len() {
         for most in [usize::MAX, 1, 3] {
             let mut sink = Sink::new(rt.alloc());
-            sink.fails_at = fails_at;
+            sink.full_at = fails_at;
             sink.most = most;
             let mut writer = Counted::new(&mut sink);
             let outcome = run_lines(
@@ -283,24 +189,11 @@ fn a_failed_writer_has_a_part_of_the_text(rt: HostRuntime) -> Result<(), Fail> {
     Ok(())
 }
 
-// Gives one byte a read, for ever.
-#[derive(Drop)]
-struct Endless(u8);
-
-impl Read for Endless {
-    fn read(&mut self, buf: &mut [u8]) -> io::Result<usize> {
-        if buf.is_empty() {
-            return Ok(0);
-        }
-        buf[0] = self.0;
-        Ok(1)
-    }
-}
-
 #[test]
 fn an_endless_reader_spends_the_reads(rt: HostRuntime) -> Result<(), Fail> {
     for byte in [b'#', b'\n'] {
-        let mut reader = Counted::new(Endless(byte));
+        let bytes = [byte];
+        let mut reader = Counted::new(Endless::new(&bytes));
         let mut sink = Sink::new(rt.alloc());
         let outcome = run_lines(
             rt.alloc(),

@@ -3,7 +3,7 @@ ghost use Rattle.std.specs.Prelude.{◌≡◌, ◌==◌, if◌then◌else◌, �
 ghost use Rattle.eden_stream.specs.declared.server.FrameFault.TheVariants.{BadTag};
 
 use super::super::{Counted, Faults, FrameFault, FrameServer, ServeFault, Served, serve_frames};
-use super::{Endless, Sink, Source};
+use eden_devices::{Endless, Sink, Source};
 use std::alloc::Global;
 use std::test::*;
 
@@ -162,7 +162,7 @@ fn a_failed_writer_has_a_part_of_the_replies(rt: HostRuntime) -> Result<(), Fail
     for fails_at in 0..text.len() {
         for most in [usize::MAX, 1, 3] {
             let mut sink = Sink::new(rt.alloc());
-            sink.fails_at = fails_at;
+            sink.full_at = fails_at;
             sink.most = most;
             let outcome = serve(rt.alloc(), &mut Source::new(stream), &mut sink);
             assert_eq!(rt; outcome, Err(ServeFault::Write));
@@ -174,7 +174,7 @@ fn a_failed_writer_has_a_part_of_the_replies(rt: HostRuntime) -> Result<(), Fail
 
 #[test]
 fn endless_frames_spend_the_reads(rt: HostRuntime) -> Result<(), Fail> {
-    let mut reader = Counted::new(Endless(0));
+    let mut reader = Counted::new(Endless::new(&[0]));
     let mut sink = Sink::new(rt.alloc());
     let outcome = serve_frames::<_, _, EchoServer, EchoServer>(
         rt.alloc(),
