@@ -6,7 +6,7 @@ use Rattle.std.specs.List.{AllByRecursion, list_any}
 use Rattle.std.specs.FinMap as fin
 use Rattle.eden_globs.specs.Filters.{admits}
 use Rattle.eden_ids.specs.declared.content.Content.{Content}
-use Rattle.eden_ids.specs.FileMaps.{FileMap, PathSet, file_at, has, listing, path_set, paths, put_option, same_path}
+use Rattle.eden_ids.specs.FileMaps.{FileMap, file_at, has, path_set, paths, put_option, same_path}
 use Rattle.eden_ids.proofs.FileMapLemmas.{file_at-insert, file_at-remove, has-listing, has-path_set, has-union, has-where, same_path-is}
 use Rattle.eden_ids.proofs.TreeMaps.{listing-same}
 use Rattle.eden_objects.specs.Objects.{Held}

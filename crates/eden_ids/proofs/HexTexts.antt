@@ -1,11 +1,11 @@
 -- Reading the hexadecimal text of an id, against what the crate `hex` decodes.
-use Rattle.std.proofs.Common.{◌≡◌, ◌∙◌, sym, refl, ap, ℕ, suc, zero, inl, inr, ◌==◌, ◌+◌, ◌*◌, ◌-◌, ◌&&◌, ◌||◌, if◌then◌else◌, not, nat_le, nat_lt, nat_eq, ◌/◌, ◌%◌, ◌<◌, Bool, true, false, List, [], ◌∷◌, length, Option, Some, None, Result, Ok, Err, arith, IsOk, slice_index}
+use Rattle.std.proofs.Common.{◌≡◌, ◌∙◌, sym, refl, ap, ℕ, suc, zero, inl, inr, ◌==◌, ◌+◌, ◌*◌, ◌-◌, ◌&&◌, ◌||◌, if◌then◌else◌, not, nat_le, nat_lt, nat_eq, ◌/◌, ◌%◌, ◌<◌, Bool, true, false, List, [], ◌∷◌, length, Some, None, Result, Ok, Err, arith, slice_index}
 use Rattle.std.proofs.lemmas.Bool.{and_parts, cases_lt, eqb-true}
-use Rattle.std.specs.List.{list_all, AllPass}
-use Rattle.std.proofs.lemmas.List.Sums.{AllPass-from_list_all, list_all-from_AllPass}
-use Rattle.hex.specs.Hex.{encode_lower, encode_with, lower_digits, decode_of, decode_pairs, decode_sized, is_hex_digit, hex_digit_value, IsBytes}
+use Rattle.std.specs.List.{list_all}
+use Rattle.std.proofs.lemmas.List.Sums.{AllPass-from_list_all}
+use Rattle.hex.specs.Hex.{encode_lower, encode_with, lower_digits, decode_of, decode_sized, is_hex_digit, IsBytes}
 use Rattle.hex.specs.declared.error.FromHexError.{FromHexError}
-use Rattle.hex.proofs.HexLemmas.{decode_of-encode_lower, decode_of-digits, decode_sized-twice, length-encode_with, decode_pairs-ok}
+use Rattle.hex.proofs.HexLemmas.{decode_of-encode_lower, decode_of-digits, decode_sized-twice, length-encode_with}
 use Rattle.eden_ids.specs.Hex.{is_lower_digit, hex_fault, read_unless, id_of_hex, ok_or_none, TextIsReadBack, TextIsTheOnlyOne}
 use Rattle.eden_ids.specs.declared.id.Id.{Id}
 use Rattle.eden_ids.specs.declared.hex_text.HexFault.{HexFault}

@@ -1,11 +1,11 @@
 -- How a serving ends, by how the pumping of its frames does, and what a server tells of a body.
-use Rattle.std.proofs.Common.{◌≡◌, Bool, true, false, ℕ, ◌+◌, ◌<◌, ◌⊎◌, inl, inr, List, [], ◌∷◌, ◌++◌, length, take, drop, Option, Result, Ok, Err, refl, sym, ap, ◌∙◌, subst, arith, append_assoc, append-nil}
+use Rattle.std.proofs.Common.{◌≡◌, Bool, true, false, ℕ, ◌+◌, ◌⊎◌, inl, inr, List, [], ◌∷◌, ◌++◌, length, take, drop, Option, Result, Ok, Err, refl, sym, ap, ◌∙◌, subst, arith, append_assoc, append-nil}
 use Rattle.std.specs.Io.KnownBytes.{Appends, IsAtEnd}
 use Rattle.std.specs.List.{All, flat_map}
 use Rattle.std.proofs.lemmas.List.{drop_at, flat_map_more, nil_from_length, take_at}
 use Rattle.std.proofs.lemmas.List.Elements.{All-nil, All-tail}
 use Rattle.eden_stream.specs.FrameAnswers.{replies, reply_of}
-use Rattle.eden_stream.specs.FrameEnds.{IsCutShort, IsFaulty, ReadsFrames, Serves, StopsAtFrame, StopsBetween}
+use Rattle.eden_stream.specs.FrameEnds.{IsCutShort, IsFaulty, ReadsFrames, Serves, StopsBetween}
 use Rattle.eden_stream.specs.FrameGrammar.{frame_grammar}
 use Rattle.eden_stream.specs.Frames.{IsBody, IsCut, frame}
 use Rattle.eden_stream.specs.Pumps as pumps

@@ -5,7 +5,7 @@ use Rattle.std.proofs.Math.Dec.{eqb}
 use Rattle.std.proofs.lemmas.Bool.{cases_lt, eqb-true}
 use Rattle.std.proofs.lemmas.List.{get_or-take}
 use Rattle.std.proofs.lemmas.List.Elements.{All-append, All-cons, All-tail, All-take}
-use Rattle.eden_stream.specs.Lines.{HasNoBreak, IsComment, IsSkipped, IsSpoken, IsTooLong}
+use Rattle.eden_stream.specs.Lines.{HasNoBreak, IsComment, IsSkipped}
 use Rattle.eden_stream.specs.internal.LineSteps.{BeginsWith, CutsLines, IsBehind, IsKept, Shortens}
 use Rattle.eden_stream.proofs.Cuts.{lines-append, lines-last, lines-line, whole-line}
 

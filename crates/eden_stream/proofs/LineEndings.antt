@@ -1,16 +1,15 @@
 -- How a run of lines ends, by how the pumping of them does.
-use Rattle.std.proofs.Common.{◌≡◌, Bool, true, false, ℕ, ◌+◌, inl, inr, List, [], ◌∷◌, ◌++◌, length, take, Option, None, Some, Result, Ok, Err, refl, sym, ap, ◌∙◌, subst, arith, append_assoc, append-nil}
+use Rattle.std.proofs.Common.{◌≡◌, Bool, true, false, ℕ, ◌+◌, inl, inr, List, [], ◌∷◌, ◌++◌, length, Option, None, Some, Result, Ok, Err, refl, sym, ap, ◌∙◌, subst, arith, append_assoc, append-nil}
 use Rattle.std.specs.Prelude.{⊤}
 use Rattle.std.specs.Io.KnownBytes.{Appends}
-use Rattle.std.specs.Str.Lines.{lines}
 use Rattle.std.proofs.lemmas.List.{take_at}
 use Rattle.eden_stream.specs.Ends.{Ends, EndsAtBadLine, EndsBetweenLines}
 use Rattle.eden_stream.specs.Pumps as pumps
-use Rattle.eden_stream.specs.Pumps.{Faults, Losses, Ran, Tellings}
+use Rattle.eden_stream.specs.Pumps.{Faults, Ran}
 use Rattle.eden_stream.specs.Lines.{HasNoBreak, IsTooLong}
 use Rattle.eden_stream.specs.Scripts.{IsScript, in_front}
 use Rattle.eden_stream.specs.internal.LineLaws.{story_laws}
-use Rattle.eden_stream.specs.internal.LineSteps.{CutsLines, GoesOn, line_grammar, line_story, run_as}
+use Rattle.eden_stream.specs.internal.LineSteps.{CutsLines, line_grammar, line_story, run_as}
 use Rattle.eden_stream.specs.declared.lines.RunFault.TheVariants as faults
 use Rattle.eden_stream.specs.declared.pump.Stop.{Stop}
 use Rattle.eden_stream.specs.declared.pump.Stop.TheVariants.{Item, Read, Write, TurnsSpent, NoMemory}

@@ -1,5 +1,5 @@
 -- The frames of a stream as items, of which the bodies are answered.
-use Rattle.std.specs.Prelude.{◌≡◌, Bool, true, ℕ, ◌<◌, ◌⊎◌, List, [], length}
+use Rattle.std.specs.Prelude.{◌≡◌, true, ◌<◌, ◌⊎◌, length}
 use Rattle.eden_stream.specs.Frames.{IsBody, IsCut, IsPartial, IsTooLong}
 use Rattle.eden_stream.specs.Grammars.{Grammar}
 use Rattle.eden_stream.specs.declared.server.FrameFault.{FrameFault}

@@ -1,5 +1,5 @@
 -- What a server tells of the items that it was given, one after another.
-use Rattle.std.specs.Prelude.{◌≡◌, ℕ, List, [], ◌∷◌, ◌++◌, length, take}
+use Rattle.std.specs.Prelude.{ℕ, List, [], ◌∷◌, ◌++◌, length, take}
 use Rattle.eden_stream.specs.Grammars.{Grammar}
 use Rattle.eden_stream.specs.declared.teller.Answer.{Answer}
 use Rattle.eden_stream.specs.declared.teller.Answer.TheVariants.{Told, Fault, NoMemory}

@@ -1,14 +1,14 @@
 -- What is seen where an overlay lies over a file map.
-use Rattle.std.proofs.Common.{◌≡◌, ℕ, suc, zero, ◌+◌, ◌<◌, Bool, true, false, cond, not, ◌&&◌, ◌||◌, nat_eq, nat_le, List, [], ◌∷◌, ◌++◌, take, length, Option, Some, None, is_some, refl, sym, ap, ◌∙◌, arith}
+use Rattle.std.proofs.Common.{◌≡◌, ℕ, suc, ◌+◌, Bool, true, false, cond, not, ◌&&◌, ◌||◌, nat_le, List, [], ◌∷◌, ◌++◌, length, Option, Some, None, is_some, refl, sym, ap, ◌∙◌, arith}
 use Rattle.std.specs.Prelude.{filter}
 use Rattle.std.specs.Ordering.{nat_cmp}
 use Rattle.std.specs.Cmp.Lexicographic.{slice_cmp, nat_list_cmp_total}
-use Rattle.std.specs.List.{list_any, starts_with, slice_index_or}
+use Rattle.std.specs.List.{list_any}
 use Rattle.std.specs.FinMap as fin
 use Rattle.eden_ids.specs.declared.content.Content.{Content}
 use Rattle.eden_ids.specs.Paths.{lies_below}
-use Rattle.eden_ids.specs.FileMaps.{FileMap, file_at, paths, has, path_set, same_path, has_file_above, has_file_below}
-use Rattle.eden_ids.proofs.FileMapLemmas.{same_path-refl, same_path-is, file_at-tabulate, file_at-insert, file_at-remove, same_file_map, has-path_set}
+use Rattle.eden_ids.specs.FileMaps.{FileMap, file_at, paths, has, path_set, same_path, has_file_below}
+use Rattle.eden_ids.proofs.FileMapLemmas.{file_at-tabulate, file_at-insert, file_at-remove, same_file_map, has-path_set}
 use Rattle.eden_ids.proofs.TreeQuestions.{any_none, any_some, any_witness}
 use Rattle.eden_ids.proofs.Sifted.{sifted, keys-sifted, has-sifted, listing_of}
 use Rattle.eden_workcopy.specs.Layers.{Layer, or_below, over_rule, over}

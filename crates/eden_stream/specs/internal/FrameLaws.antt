@@ -1,10 +1,10 @@
 -- That frames are cut as every grammar asks, and that what a server tells of their bodies is a story.
-use Rattle.std.proofs.Common.{◌≡◌, List, ◌++◌, ap, ◌∙◌, refl, append_assoc}
+use Rattle.std.proofs.Common.{List, ◌++◌, ap, ◌∙◌, refl, append_assoc}
 use Rattle.std.proofs.lemmas.List.Elements.{All-nil}
 use Rattle.std.specs.List.{flat_map}
 use Rattle.std.specs.Prelude.{ℕ, Result}
 use Rattle.eden_stream.specs.FrameGrammar.{frame_grammar}
-use Rattle.eden_stream.specs.Frames.{IsBody, IsCut, frame}
+use Rattle.eden_stream.specs.Frames.{IsBody, frame}
 use Rattle.eden_stream.specs.Grammars.{IsGrammar}
 use Rattle.eden_stream.specs.Stories.{IsStory}
 use Rattle.eden_stream.specs.declared.server.FrameFault.{FrameFault}

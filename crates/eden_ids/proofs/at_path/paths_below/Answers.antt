@@ -1,4 +1,4 @@
-use Rattle.std.proofs.Common.{ℕ, Bool, List, ◌++◌, ◌∷◌, [], rules, of_calls, arith}
+use Rattle.std.proofs.Common.{rules, of_calls}
 use Rattle.std.proofs.lemmas.Fn.{always_returns_same}
 use Rattle.std.specs.Ordering.{is_lt}
 use Rattle.eden_ids.proofs.ByteOrder.{from, upto, order, parted, in_order, part_below}

@@ -1,6 +1,5 @@
 -- The run ends as the pumping of its lines does.
-use Rattle.std.proofs.Common.{[], List, Option, sym, ◌∙◌, subst}
-use Rattle.std.specs.Prelude.{ℕ}
+use Rattle.std.proofs.Common.{sym, ◌∙◌, subst}
 use Rattle.eden_stream.specs.Ends.{Ends}
 use Rattle.eden_stream.proofs.LineEndings.{run_ends, run_read, run_spent, run_start, run_write}
 use Rattle.eden_stream.proofs.lines.run_lines.Goals as goal

@@ -1,5 +1,5 @@
 -- Each turn carries the account on, and each exit closes it.
-use Rattle.std.proofs.Common.{◌≡◌, true, false, ◌+◌, ◌++◌, [], length, drop, refl, sym, ap, ◌∙◌, subst, arith}
+use Rattle.std.proofs.Common.{◌≡◌, true, false, ◌+◌, ◌++◌, [], length, drop, refl, sym, ap, subst, arith}
 use Rattle.eden_stream.specs.Pumps.{Faults, Losses, Ran, Tellings}
 use Rattle.eden_stream.proofs.Account.{faulty_is_no_answer, no_memory_is_no_answer, ran_ended, ran_got, ran_no_more, ran_received, ran_sent, ran_sent_all, ran_start, ran_stays, ran_taken, ran_turned, tears_send, waiting_is_no_answer}
 use Rattle.eden_stream.proofs.pump.pump_with.Goals as goal
