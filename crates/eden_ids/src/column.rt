@@ -34,15 +34,6 @@ impl Model for IdColumn {
         c.first.items c.second.items c.third.items c.fourth.items c.fifth.items };
 }
 
-/// The word of an id whose four bytes begin there.
-fn word_at(id: &Id, place: usize) -> u32
-    requires { place < 5 }
-    ensures { result ≡ word place id.now }
-{
-    let at = 4 * place;
-    u32::from_be_bytes([id.0[at], id.0[at + 1], id.0[at + 2], id.0[at + 3]])
-}
-
 /// The id of five words.
 fn id_from(first: u32, second: u32, third: u32, fourth: u32, fifth: u32) -> Id
     ensures { result ≡ id_of_words first second third fourth fifth }
@@ -121,11 +112,11 @@ impl IdColumn {
             &mut self.fourth,
             &mut self.fifth,
         )?;
-        put(&mut self.first, word_at(&id, 0));
-        put(&mut self.second, word_at(&id, 1));
-        put(&mut self.third, word_at(&id, 2));
-        put(&mut self.fourth, word_at(&id, 3));
-        put(&mut self.fifth, word_at(&id, 4));
+        put(&mut self.first, id.word(0));
+        put(&mut self.second, id.word(1));
+        put(&mut self.third, id.word(2));
+        put(&mut self.fourth, id.word(3));
+        put(&mut self.fifth, id.word(4));
         Ok(())
     }
 

@@ -7,8 +7,11 @@ fn columns_give_back_their_ids(rt: HostRuntime) -> Result<(), Fail> {
     let mut column = IdColumn::new(alloc);
     assert_eq!(rt; column.len(), 0);
     assert_eq!(rt; column.get(0), None);
+    let id = Id(*b"abcdefghijklmnopqrst");
+    assert_eq!(rt; id.word(0), 0x6162_6364);
+    assert_eq!(rt; id.word(4), 0x7172_7374);
     column.push(Id([7; 20]))?;
-    column.push(Id(*b"abcdefghijklmnopqrst"))?;
+    column.push(id)?;
     assert_eq!(rt; column.len(), 2);
     assert_eq!(rt; column.get(0), Some(Id([7; 20])));
     assert_eq!(rt; column.get(1), Some(Id(*b"abcdefghijklmnopqrst")));
