@@ -1,12 +1,28 @@
--- Columns of ids, which are kept as one run of bytes: twenty to an id, one id after another.
-use Rattle.std.specs.Prelude.{ℕ, zero, suc, ◌*◌, List, [], ◌∷◌, ◌++◌, take, drop}
+-- Columns of ids, which are kept as five columns of words: each id is five words of four bytes.
+use Rattle.std.specs.Prelude.{◌≡◌, ℕ, zero, suc, ◌*◌, List, [], ◌∷◌, ◌++◌, drop, map, slice_index, take}
+use Rattle.std.specs.List.{All, flat_map}
+use Rattle.std.specs.Int.{from_be_bytes, to_be_bytes, w32}
 use Rattle.eden_ids.specs.declared.id.Id.{Id}
 
--- the id whose twenty bytes begin there
-abbrev pub id_at : List ℕ → ℕ → Id
-id_at bytes at = record { 0 = take 20 (drop at bytes) }
+-- the n-th word of an id: four of its bytes, the first the highest
+abbrev pub word : ℕ → Id → ℕ
+word n id = from_be_bytes w32 (take 4 (drop (4 * n) id.0))
 
--- the first ids of a run of bytes
-abbrev pub rows : ℕ → List ℕ → List Id
-rows zero bytes = []
-rows (suc n) bytes = rows n bytes ++ id_at bytes (20 * n) ∷ []
+-- the id of five words
+abbrev pub id_of_words : ℕ → ℕ → ℕ → ℕ → ℕ → Id
+id_of_words a b c d e = record { 0 = flat_map (to_be_bytes w32) (a ∷ b ∷ c ∷ d ∷ e ∷ []) }
+
+-- an id is that of its five words
+unfoldable pub IsOfItsWords : Id → Type 0
+IsOfItsWords id = id ≡ id_of_words (word 0 id) (word 1 id) (word 2 id) (word 3 id) (word 4 id)
+
+-- the first ids of five columns of words
+abbrev pub rows : ℕ → List ℕ → List ℕ → List ℕ → List ℕ → List ℕ → List Id
+rows zero a b c d e = []
+rows (suc n) a b c d e =
+    rows n a b c d e ++ id_of_words (slice_index a n) (slice_index b n) (slice_index c n) (slice_index d n) (slice_index e n) ∷ []
+
+-- five columns hold the words of these ids, the n-th column the n-th words
+abbrev pub AreColumns : List Id → List ℕ → List ℕ → List ℕ → List ℕ → List ℕ → Type 0
+AreColumns ids a b c d e = (a ≡ map (word 0) ids) × (b ≡ map (word 1) ids) × (c ≡ map (word 2) ids) × (d ≡ map (word 3) ids)
+    × (e ≡ map (word 4) ids) × All IsOfItsWords ids

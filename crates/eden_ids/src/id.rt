@@ -1,3 +1,6 @@
+ghost use Rattle.std.specs.Prelude.{◌≡◌, ◌<◌};
+ghost use Rattle.eden_ids.specs.Columns.{word};
+
 /// The name of an object: twenty bytes, in Git the SHA-1 of the object's kind and payload.
 ///
 /// Ids are compared byte by byte, and all of `Id` takes no memory.
@@ -7,4 +10,13 @@ pub struct Id(pub [u8; 20]);
 impl Id {
     /// The id of the empty commit, which holds no file. No object has this id.
     pub const ZERO: Id = Id([0; 20]);
+
+    /// One of the five words of an id, counted from 0: four of its bytes, the first byte the highest.
+    pub fn word(&self, place: usize) -> u32
+        requires { place < 5 }
+        ensures { result ≡ word place self.now }
+    {
+        let at = 4 * place;
+        u32::from_be_bytes([self.0[at], self.0[at + 1], self.0[at + 2], self.0[at + 3]])
+    }
 }
