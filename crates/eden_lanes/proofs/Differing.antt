@@ -1,107 +1,58 @@
 -- How the rows at which two lists differ grow with the lists.
-use Rattle.std.proofs.Common.{subst, ◌≡◌, ℕ, suc, List, [], ◌∷◌, ◌++◌, length, refl, ap, sym, ◌∙◌, ◌+◌, arith, Bool, true, false, cond, append_assoc}
-use Rattle.eden_ids.specs.Columns.{id_at, rows}
-use Rattle.eden_ids.specs.Sameness.{same_id}
-use Rattle.eden_ids.proofs.ColumnLemmas.{length-rows}
+use Rattle.std.proofs.Common.{◌≡◌, ℕ, suc, List, [], ◌∷◌, ◌++◌, length, get_or, take, refl, ap, sym, ◌∙◌, ◌+◌, ◌≤◌, ◌<◌, arith, Bool, true, false, cond, ◌&&◌, append_assoc}
 use Rattle.std.specs.Simd.Lanes.{chunk}
 use Rattle.std.specs.Cmp.Lexicographic.{pointwise}
-use Rattle.std.proofs.lemmas.List.{append-nil, length-append}
-use Rattle.std.proofs.Common.{subst, nat_eq, ◌*◌, ◌≤◌, ◌&&◌, zero}
-use Rattle.eden_lanes.proofs.Parts.{two_ids, four_ids}
-use Rattle.eden_lanes.specs.Rows.{differ_from, differing_ids}
+use Rattle.std.proofs.lemmas.List.{append-nil, take_more, length-take-le}
+use Rattle.std.proofs.Math.Seq.{take-add}
+use Rattle.eden_lanes.specs.Rows.{differ_from}
 
--- one more element of each list
-pub differ_from-push : {A : Type 0} (same : A → A → Bool) (k : ℕ) (xs ys : List A) (x y : A) → length xs ≡ length ys
-    → differ_from same k (xs ++ x ∷ []) (ys ++ y ∷ []) ≡ differ_from same k xs ys ++ cond (same x y) [] ((k + length xs) ∷ [])
-differ_from-push same k [] [] x y long = by (same x y)
-  where
-    by : (t : Bool) → cond t [] (k ∷ []) ++ [] ≡ cond t [] ((k + 0) ∷ [])
-    by true = refl
-    by false = let e : k ≡ k + 0 = omega arith in ap (λ n. n ∷ []) e
-differ_from-push same k [] (v ∷ vs) x y long = absurd (omega arith)
-differ_from-push same k (u ∷ us) [] x y long = absurd (omega arith)
-differ_from-push same k (u ∷ us) (v ∷ vs) x y long =
-    let place : k + 1 + length us ≡ k + suc (length us) = omega arith in
-    let rest = differ_from-push same (k + 1) us vs x y (omega arith) in
-    let head = cond (same u v) [] (k ∷ []) in
-    ap (λ (ns : List ℕ). head ++ ns) (rest ∙ ap (λ n. differ_from same (k + 1) us vs ++ cond (same x y) [] (n ∷ [])) place)
-    ∙ sym (append_assoc head (differ_from same (k + 1) us vs) (cond (same x y) [] ((k + suc (length us)) ∷ [])))
+-- more elements of each list
+differ_from-append : {A : Type 0} (same : A → A → Bool) (k : ℕ) (xs ys us vs : List A) → length xs ≡ length ys
+    → differ_from same k (xs ++ us) (ys ++ vs) ≡ differ_from same k xs ys ++ differ_from same (k + length xs) us vs
+differ_from-append same k [] [] us vs long = let e : k ≡ k + 0 = omega arith in ap (λ n. differ_from same n us vs) e
+differ_from-append same k [] (y ∷ ys) us vs long = absurd (omega arith)
+differ_from-append same k (x ∷ xs) [] us vs long = absurd (omega arith)
+differ_from-append same k (x ∷ xs) (y ∷ ys) us vs long =
+    let place : k + 1 + length xs ≡ k + suc (length xs) = omega arith in
+    let rest = differ_from-append same (k + 1) xs ys us vs (omega arith) in
+    let head = cond (same x y) [] (k ∷ []) in
+    ap (λ (ns : List ℕ). head ++ ns) (rest ∙ ap (λ n. differ_from same (k + 1) xs ys ++ differ_from same n us vs) place)
+    ∙ sym (append_assoc head (differ_from same (k + 1) xs ys) (differ_from same (k + suc (length xs)) us vs))
 
--- the rows at which the first ids of two runs of bytes differ
-abbrev pub among : ℕ → List ℕ → List ℕ → List ℕ
-among n a b = differing_ids (rows n a) (rows n b)
+-- the rows at which the first elements of two lists differ
+abbrev pub among : {A : Type 0} → (A → A → Bool) → ℕ → List A → List A → List ℕ
+among same n xs ys = differ_from same 0 (take n xs) (take n ys)
 
-among-next : (n : ℕ) (a b : List ℕ)
-    → among (n + 1) a b ≡ among n a b ++ cond (pointwise nat_eq (chunk (20 * n) 20 a) (chunk (20 * n) 20 b)) [] (n ∷ [])
-among-next n a b =
-    let e : n + 1 ≡ suc n = omega arith in
-    let long : length (rows n a) ≡ n = length-rows n a in
-    let also : length (rows n b) ≡ n = length-rows n b in
-    let place : 0 + length (rows n a) ≡ n = omega arith in
-    rw e (differ_from-push same_id 0 (rows n a) (rows n b) (id_at a (20 * n)) (id_at b (20 * n)) (omega arith)
-    ∙ ap (λ k. among n a b ++ cond (pointwise nat_eq (chunk (20 * n) 20 a) (chunk (20 * n) 20 b)) [] (k ∷ [])) place)
+pub among-more : {A : Type 0} (same : A → A → Bool) (n m : ℕ) (xs ys : List A) → n ≤ length xs → n ≤ length ys
+    → among same (n + m) xs ys ≡ among same n xs ys ++ differ_from same n (chunk n m xs) (chunk n m ys)
+among-more same n m xs ys first second =
+    let a = length-take-le n xs first in
+    let b = length-take-le n ys second in
+    let place : 0 + length (take n xs) ≡ n = omega arith in
+    rw (take-add n m xs, take-add n m ys)
+    (differ_from-append same 0 (take n xs) (take n ys) (chunk n m xs) (chunk n m ys) (omega arith)
+    ∙ ap (λ k. among same n xs ys ++ differ_from same k (chunk n m xs) (chunk n m ys)) place)
 
--- the next ids are the same
-pub among-same : (n : ℕ) (a b : List ℕ) → pointwise nat_eq (chunk (20 * n) 20 a) (chunk (20 * n) 20 b) ≡ true
-    → among (n + 1) a b ≡ among n a b
-among-same n a b same = among-next n a b ∙ rw same (append-nil (among n a b))
-
--- they differ
-pub among-apart : (n : ℕ) (a b : List ℕ) → pointwise nat_eq (chunk (20 * n) 20 a) (chunk (20 * n) 20 b) ≡ false
-    → among (n + 1) a b ≡ among n a b ++ n ∷ []
-among-apart n a b differ = among-next n a b ∙ rw differ refl
+-- one row more
+pub among-one : {A : Type 0} (same : A → A → Bool) (n : ℕ) (xs ys : List A) (c d : A) → n < length xs → n < length ys
+    → among same (n + 1) xs ys ≡ among same n xs ys ++ cond (same (get_or xs n c) (get_or ys n d)) [] (n ∷ [])
+among-one same n xs ys c d first second =
+    let a = length-take-le n xs (omega arith) in
+    let b = length-take-le n ys (omega arith) in
+    let place : 0 + length (take n xs) ≡ n = omega arith in
+    rw (take_more xs n c first, take_more ys n d second)
+    (differ_from-append same 0 (take n xs) (take n ys) (get_or xs n c ∷ []) (get_or ys n d ∷ []) (omega arith)
+    ∙ ap (λ k. among same n xs ys ++ (cond (same (get_or xs n c) (get_or ys n d)) [] (k ∷ []) ++ [])) place
+    ∙ ap (λ (ns : List ℕ). among same n xs ys ++ ns) (append-nil (cond (same (get_or xs n c) (get_or ys n d)) [] (n ∷ []))))
 
 pub and_true : (s t : Bool) → (s && t) ≡ true → (s ≡ true) × (t ≡ true)
 and_true true t both = (refl, both)
 and_true false t both = cc
 
--- the next four ids are the same
-pub among-four_same : (n : ℕ) (a b : List ℕ) → 20 * n + 80 ≤ length a → 20 * n + 80 ≤ length b
-    → pointwise nat_eq (chunk (20 * n) 80 a) (chunk (20 * n) 80 b) ≡ true → among (n + 4) a b ≡ among n a b
-among-four_same n a b first second same =
-    let pairs = and_true _ _ (sym (four_ids a b (20 * n) (20 * n) first second) ∙ same) in
-    let left : (pointwise nat_eq (chunk (20 * n) 20 a) (chunk (20 * n) 20 b) ≡ true) × (pointwise nat_eq (chunk (20 * n + 20) 20 a) (chunk (20 * n + 20) 20 b) ≡ true) = and_true _ _ (sym (two_ids a b (20 * n) (20 * n) (omega arith) (omega arith)) ∙ pairs.0) in
-    let right : (pointwise nat_eq (chunk (20 * n + 40) 20 a) (chunk (20 * n + 40) 20 b) ≡ true) × (pointwise nat_eq (chunk (20 * n + 40 + 20) 20 a) (chunk (20 * n + 40 + 20) 20 b) ≡ true) = and_true _ _ (sym (two_ids a b (20 * n + 40) (20 * n + 40) (omega arith) (omega arith)) ∙ pairs.1) in
-    let one : 20 * n + 20 ≡ 20 * (n + 1) = omega arith in
-    let two : 20 * n + 40 ≡ 20 * (n + 2) = omega arith in
-    let three : 20 * n + 40 + 20 ≡ 20 * (n + 3) = omega arith in
-    let p = among-same n a b left.0 in
-    let q = among-same (n + 1) a b (rw (← one) left.1) in
-    let r = among-same (n + 2) a b (rw (← two) right.0) in
-    let s = among-same (n + 3) a b (rw (← three) right.1) in
-    let e : n + 1 + 1 ≡ n + 2 = omega arith in
-    let f : n + 2 + 1 ≡ n + 3 = omega arith in
-    let g : n + 3 + 1 ≡ n + 4 = omega arith in
-    ap (λ k. among k a b) (sym g) ∙ s ∙ ap (λ k. among k a b) (sym f) ∙ r ∙ ap (λ k. among k a b) (sym e) ∙ q ∙ p
-
--- no more rows differ than there are
-pub length-among : (n : ℕ) (a b : List ℕ) → length (among n a b) ≤ n
-length-among zero a b = omega arith
-length-among (suc n) a b = by (pointwise nat_eq (chunk (20 * n) 20 a) (chunk (20 * n) 20 b)) (among-next n a b) (length-among n a b)
-  where
-    by : (t : Bool) → among (n + 1) a b ≡ among n a b ++ cond t [] (n ∷ []) → length (among n a b) ≤ n → length (among (suc n) a b) ≤ suc n
-    by true next before =
-        let e : n + 1 ≡ suc n = omega arith in
-        let l : length (among (n + 1) a b) ≡ length (among n a b) = ap length (next ∙ append-nil (among n a b)) in
-        subst (λ k. length (among k a b) ≤ suc n) e (omega arith)
-    by false next before =
-        let e : n + 1 ≡ suc n = omega arith in
-        let l : length (among (n + 1) a b) ≡ length (among n a b) + 1 = ap length next ∙ length-append (among n a b) (n ∷ []) in
-        subst (λ k. length (among k a b) ≤ suc n) e (omega arith)
-
--- the number of rows that differ, one id further
-pub count-same : (n : ℕ) (a b : List ℕ) → pointwise nat_eq (chunk (20 * n) 20 a) (chunk (20 * n) 20 b) ≡ true
-    → length (among (n + 1) a b) ≡ length (among n a b)
-count-same n a b same = ap length (among-same n a b same)
-
-pub count-apart : (n : ℕ) (a b : List ℕ) → pointwise nat_eq (chunk (20 * n) 20 a) (chunk (20 * n) 20 b) ≡ false
-    → length (among (n + 1) a b) ≡ length (among n a b) + 1
-count-apart n a b differ = ap length (among-apart n a b differ) ∙ length-append (among n a b) (n ∷ [])
-
-pub count-four_same : (n : ℕ) (a b : List ℕ) → 20 * n + 80 ≤ length a → 20 * n + 80 ≤ length b
-    → pointwise nat_eq (chunk (20 * n) 80 a) (chunk (20 * n) 80 b) ≡ true → length (among (n + 4) a b) ≡ length (among n a b)
-count-four_same n a b first second same = ap length (among-four_same n a b first second same)
-
-pub ruleset next = (among-same, among-apart, among-four_same)
-
-pub ruleset counts = (count-same, count-apart, count-four_same, length-among)
+-- no row differs where all are the same
+pub differ_from-same : {A : Type 0} (same : A → A → Bool) (k : ℕ) (us vs : List A) → pointwise same us vs ≡ true → differ_from same k us vs ≡ []
+differ_from-same same k [] vs equal = refl
+differ_from-same same k (u ∷ us) [] equal = refl
+differ_from-same same k (u ∷ us) (v ∷ vs) equal =
+    let both = and_true (same u v) (pointwise same us vs) equal in
+    rw both.0 (differ_from-same same (k + 1) us vs both.1)

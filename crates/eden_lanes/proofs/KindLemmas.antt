@@ -1,61 +1,61 @@
--- How the rows at which two columns of kinds differ grow with the columns.
-use Rattle.std.proofs.Common.{◌≢◌, ◌≡◌, ℕ, List, [], ◌∷◌, ◌++◌, length, get_or, take, refl, ap, ◌∙◌, ◌+◌, ◌≤◌, ◌<◌, arith, Bool, true, false, cond, nat_eq}
-use Rattle.std.specs.Simd.Lanes.{chunk}
+-- How the rows at which two columns of kinds differ grow with the columns, and what a comparison of thirty-two kinds tells.
+use Rattle.std.proofs.Common.{◌≢◌, ◌≡◌, ℕ, List, [], ◌∷◌, ◌++◌, length, get_or, map, take, refl, ap, ◌∙◌, ◌+◌, ◌*◌, ◌≤◌, ◌<◌, ◌%◌, ◌^◌, arith, Bool, true, false, cond, nat_eq, not, ◌&&◌, w8}
+use Rattle.std.specs.Simd.Lanes.{chunk, mask_l, top, zip2}
 use Rattle.std.specs.Cmp.Lexicographic.{pointwise}
-use Rattle.std.proofs.lemmas.List.{append-nil, take_more, length-take-le}
-use Rattle.std.proofs.Math.Seq.{take-add}
-use Rattle.eden_lanes.specs.Rows.{differ_from, differing_kinds}
-use Rattle.eden_lanes.proofs.Differing.{and_true, differ_from-push}
-
-differ_from-same : {A : Type 0} (same : A → A → Bool) (k : ℕ) (us vs : List A) → pointwise same us vs ≡ true → differ_from same k us vs ≡ []
-differ_from-same same k [] vs equal = refl
-differ_from-same same k (u ∷ us) [] equal = refl
-differ_from-same same k (u ∷ us) (v ∷ vs) equal =
-    let both = and_true (same u v) (pointwise same us vs) equal in
-    rw both.0 (differ_from-same same (k + 1) us vs both.1)
-
--- elements that are the same behind two lists
-differ_from-append_same : {A : Type 0} (same : A → A → Bool) (k : ℕ) (xs ys us vs : List A) → length xs ≡ length ys → pointwise same us vs ≡ true
-    → differ_from same k (xs ++ us) (ys ++ vs) ≡ differ_from same k xs ys
-differ_from-append_same same k [] [] us vs long equal = differ_from-same same k us vs equal
-differ_from-append_same same k [] (y ∷ ys) us vs long equal = absurd (omega arith)
-differ_from-append_same same k (x ∷ xs) [] us vs long equal = absurd (omega arith)
-differ_from-append_same same k (x ∷ xs) (y ∷ ys) us vs long equal =
-    ap (λ (ns : List ℕ). cond (same x y) [] (k ∷ []) ++ ns) (differ_from-append_same same (k + 1) xs ys us vs (omega arith) equal)
+use Rattle.std.proofs.lemmas.List.{append-nil}
+use Rattle.std.proofs.lemmas.Simd.{length-zip2, mask_l-mod, tops_compared}
+use Rattle.eden_lanes.specs.Rows.{differing_kinds}
+use Rattle.eden_lanes.proofs.Differing.{among, among-more, among-one, differ_from-same}
 
 -- the rows at which the first kinds of two columns differ
 abbrev pub kinds_among : ℕ → List ℕ → List ℕ → List ℕ
 kinds_among n a b = differing_kinds (take n a) (take n b)
 
-kinds-next : (n : ℕ) (a b : List ℕ) → n < length a → n < length b
-    → kinds_among (n + 1) a b ≡ kinds_among n a b ++ cond (nat_eq (get_or a n 0) (get_or b n 0)) [] (n ∷ [])
-kinds-next n a b first second =
-    let x = length-take-le n a (omega arith) in
-    let y = length-take-le n b (omega arith) in
-    let place : 0 + length (take n a) ≡ n = omega arith in
-    rw (take_more a n 0 first, take_more b n 0 second)
-    (differ_from-push nat_eq 0 (take n a) (take n b) (get_or a n 0) (get_or b n 0) (omega arith)
-    ∙ ap (λ k. kinds_among n a b ++ cond (nat_eq (get_or a n 0) (get_or b n 0)) [] (k ∷ [])) place)
-
 -- the next kinds are the same
 pub kinds-same : (n : ℕ) (a b : List ℕ) → n < length a → n < length b → get_or a n 0 ≡ get_or b n 0 → kinds_among (n + 1) a b ≡ kinds_among n a b
 kinds-same n a b first second same =
     let equal : nat_eq (get_or a n 0) (get_or b n 0) ≡ true = grind (arith) in
-    kinds-next n a b first second ∙ rw equal (append-nil (kinds_among n a b))
+    among-one nat_eq n a b 0 0 first second ∙ rw equal (append-nil (kinds_among n a b))
 
 -- they differ
 pub kinds-apart : (n : ℕ) (a b : List ℕ) → n < length a → n < length b → get_or a n 0 ≢ get_or b n 0 → kinds_among (n + 1) a b ≡ kinds_among n a b ++ n ∷ []
 kinds-apart n a b first second apart =
     let other : nat_eq (get_or a n 0) (get_or b n 0) ≡ false = grind (arith) in
-    kinds-next n a b first second ∙ rw other refl
+    among-one nat_eq n a b 0 0 first second ∙ rw other refl
 
 -- the next thirty-two kinds are the same
 pub kinds-many_same : (n : ℕ) (a b : List ℕ) → n + 32 ≤ length a → n + 32 ≤ length b → pointwise nat_eq (chunk n 32 a) (chunk n 32 b) ≡ true
     → kinds_among (n + 32) a b ≡ kinds_among n a b
 kinds-many_same n a b first second same =
-    let x = length-take-le n a (omega arith) in
-    let y = length-take-le n b (omega arith) in
-    rw (take-add n 32 a, take-add n 32 b)
-    (differ_from-append_same nat_eq 0 (take n a) (take n b) (chunk n 32 a) (chunk n 32 b) (omega arith) same)
+    among-more nat_eq n 32 a b (omega arith) (omega arith) ∙ rw (differ_from-same nat_eq n (chunk n 32 a) (chunk n 32 b) same) (append-nil (kinds_among n a b))
 
 pub ruleset next_kinds = (kinds-same, kinds-apart, kinds-many_same)
+
+abbrev apart : ℕ → ℕ → Bool
+apart x y = not (nat_eq x y)
+
+twice_none : (m : ℕ) → nat_eq (0 + 2 * m) 0 ≡ nat_eq m 0
+twice_none m = grind (arith)
+
+one_more_some : (m : ℕ) → nat_eq (1 + 2 * m) 0 ≡ false
+one_more_some m = grind (arith)
+
+-- no bit is set just where the lanes are the same
+mask_none : (xs ys : List ℕ) → length xs ≡ length ys → nat_eq (mask_l (zip2 apart xs ys)) 0 ≡ pointwise nat_eq xs ys
+mask_none [] [] long = refl
+mask_none [] (y ∷ ys) long = absurd (omega arith)
+mask_none (x ∷ xs) [] long = absurd (omega arith)
+mask_none (x ∷ xs) (y ∷ ys) long = by (nat_eq x y) (mask_none xs ys (omega arith))
+  where
+    by : (t : Bool) → nat_eq (mask_l (zip2 apart xs ys)) 0 ≡ pointwise nat_eq xs ys
+        → nat_eq (cond (not t) 1 0 + 2 * mask_l (zip2 apart xs ys)) 0 ≡ (t && pointwise nat_eq xs ys)
+    by true rest = twice_none (mask_l (zip2 apart xs ys)) ∙ rest
+    by false rest = one_more_some (mask_l (zip2 apart xs ys))
+
+-- what `==` of two vectors gives
+pub vectors_same : (xs ys : List ℕ) → length xs ≡ length ys → length xs ≤ 64
+    → nat_eq (mask_l (map (top 7) (zip2 (λ a b. cond (apart a b) 255 0) xs ys)) % 18446744073709551616) 0 ≡ pointwise nat_eq xs ys
+vectors_same xs ys long short =
+    ap (λ (ms : List Bool). nat_eq (mask_l ms % 2 ^ 64) 0) (tops_compared w8 apart xs ys)
+    ∙ ap (λ n. nat_eq n 0) (mask_l-mod (zip2 apart xs ys) 64 (let e = length-zip2 apart xs ys long in omega arith))
+    ∙ mask_none xs ys long

@@ -1,6 +1,7 @@
 pub mod Differing
 pub mod Finding
+pub mod Growing
 pub mod KindLemmas
 pub mod Masks
-pub mod Parts
 pub mod RowLaws
+pub mod Words

@@ -1,22 +1,16 @@
-ghost use Rattle.std.specs.Prelude.{◌≡◌, ◌+◌, ◌*◌, ◌≤◌, [], length, OnOk, IfOk, nat_eq};
-ghost use Rattle.std.specs.List.{position};
-ghost use Rattle.eden_ids.specs.Columns.{rows};
-ghost use Rattle.eden_ids.specs.Sameness.{same_id};
+ghost use Rattle.std.specs.Prelude.{◌≡◌, ◌+◌, ◌*◌, ◌/◌, ◌^◌, ◌<◌, ◌≤◌, ◌++◌, ◌∷◌, [], if◌then◌else◌, length, take, OnOk, IfOk};
+ghost use Rattle.std.specs.Simd.Lanes.{chunk};
 ghost use Rattle.eden_lanes.specs.Rows.{differing_ids};
 
-use crate::vectors::{same_four_ids, same_id};
-use eden_ids::{Id, IdColumn, NoMemory};
+use crate::vectors::{same_eight, same_row};
+use eden_ids::{IdColumn, NoMemory};
 use std::alloc::Global;
 
-/// Puts a row below the others, if the ids there differ.
-#[tactic(auto, using(crate::proofs::Differing::next))]
-fn push_if_apart(found: &mut Vec<usize>, a: &[u8], b: &[u8], row: usize) -> Result<(), NoMemory>
-    requires first { 20 * row + 20 ≤ length a.now }
-    requires second { 20 * row + 20 ≤ length b.now }
-    requires so_far { found.old.items ≡ differing_ids (rows row a.now) (rows row b.now) }
-    ensures { OnOk result (found.new.items ≡ differing_ids (rows (row + 1) a.now) (rows (row + 1) b.now)) }
+/// Puts a row below the others, unless it is the same.
+fn push_unless(found: &mut Vec<usize>, same: bool, row: usize) -> Result<(), NoMemory>
+    ensures { OnOk result (found.new.items ≡ found.old.items ++ (if same then [] else row ∷ [])) }
 {
-    if same_id(a, b, 20 * row, 20 * row) {
+    if same {
         return Ok(());
     }
     match found.push(row) {
@@ -26,136 +20,138 @@ fn push_if_apart(found: &mut Vec<usize>, a: &[u8], b: &[u8], row: usize) -> Resu
 }
 
 /// Puts the rows from `from` on and before `to` at which the ids differ below the others.
+#[tactic(auto, using(crate::proofs::Growing::grows))]
 fn push_between(
     found: &mut Vec<usize>,
-    a: &[u8],
-    b: &[u8],
+    a: &IdColumn,
+    b: &IdColumn,
     from: usize,
     to: usize,
 ) -> Result<(), NoMemory>
-    requires first { 20 * to ≤ length a.now }
-    requires second { 20 * to ≤ length b.now }
+    requires first { to ≤ length a.now }
+    requires second { to ≤ length b.now }
     requires within { from ≤ to }
-    requires so_far { found.old.items ≡ differing_ids (rows from a.now) (rows from b.now) }
-    ensures { OnOk result (found.new.items ≡ differing_ids (rows to a.now) (rows to b.now)) }
+    requires so_far { found.old.items ≡ differing_ids (take from a.now) (take from b.now) }
+    ensures { OnOk result (found.new.items ≡ differing_ids (take to a.now) (take to b.now)) }
 {
     for row in from..to {
-        push_if_apart(found, a, b, row)?;
+        push_unless(found, same_row(a, b, row), row)?;
     }
     Ok(())
 }
 
-/// Puts the rows of four ids at which they differ below the others.
-#[tactic(auto, using(crate::proofs::Differing::next))]
-fn push_four(found: &mut Vec<usize>, a: &[u8], b: &[u8], row: usize) -> Result<(), NoMemory>
-    requires first { 20 * row + 80 ≤ length a.now }
-    requires second { 20 * row + 80 ≤ length b.now }
-    requires so_far { found.old.items ≡ differing_ids (rows row a.now) (rows row b.now) }
-    ensures { OnOk result (found.new.items ≡ differing_ids (rows (row + 4) a.now) (rows (row + 4) b.now)) }
+/// Puts the rows of eight ids at which they differ below the others.
+#[tactic(auto, using(crate::proofs::Growing::grows))]
+fn push_eight(
+    found: &mut Vec<usize>,
+    a: &IdColumn,
+    b: &IdColumn,
+    row: usize,
+) -> Result<(), NoMemory>
+    requires first { row + 8 ≤ length a.now }
+    requires second { row + 8 ≤ length b.now }
+    requires fits { row + 8 < 2 ^ 64 }
+    requires so_far { found.old.items ≡ differing_ids (take row a.now) (take row b.now) }
+    ensures { OnOk result (found.new.items ≡ differing_ids (take (row + 8) a.now) (take (row + 8) b.now)) }
 {
-    if same_four_ids(a, b, 20 * row) {
-        Ok(())
-    } else {
-        push_between(found, a, b, row, row + 4)
+    let same = same_eight(a, b, row);
+    if same == 255 {
+        return Ok(());
     }
+    for place in 0..8_usize {
+        push_unless(found, (same >> place) % 2 == 1, row + place)?;
+    }
+    Ok(())
 }
 
-/// Puts the rows of the first fours at which the ids differ into `found`.
-fn push_fours(found: &mut Vec<usize>, a: &[u8], b: &[u8], fours: usize) -> Result<(), NoMemory>
-    requires first { 80 * fours ≤ length a.now }
-    requires second { 80 * fours ≤ length b.now }
+/// Puts the rows at which the ids differ into `found`, of all whole eights before `to`.
+fn push_eights(
+    found: &mut Vec<usize>,
+    a: &IdColumn,
+    b: &IdColumn,
+    to: usize,
+) -> Result<(), NoMemory>
+    requires first { to ≤ length a.now }
+    requires second { to ≤ length b.now }
     requires so_far { found.old.items ≡ [] }
-    ensures { OnOk result (found.new.items ≡ differing_ids (rows (4 * fours) a.now) (rows (4 * fours) b.now)) }
+    ensures { OnOk result (found.new.items ≡ differing_ids (take (8 * (to / 8)) a.now) (take (8 * (to / 8)) b.now)) }
 {
-    for four in 0..fours {
-        push_four(found, a, b, 4 * four)?;
+    for eight in 0..to / 8 {
+        push_eight(found, a, b, 8 * eight)?;
     }
     Ok(())
 }
 
 /// The rows at which two columns of one length differ, ascending.
 ///
-/// Ids are compared four at a time, as five vectors of sixteen bytes. `NoMemory` comes where a growth of the answer was
-/// refused; only the answer takes memory.
+/// Ids are compared eight at a time, word by word. `NoMemory` comes where a growth of the answer was refused; only the
+/// answer takes memory.
 pub fn differ_rows(alloc: Global, a: &IdColumn, b: &IdColumn) -> Result<Vec<usize>, NoMemory>
     requires { length a.now ≡ length b.now }
     ensures { IfOk result (λ found. found.items ≡ differing_ids a.now b.now) }
 {
     let mut found = Vec::new(alloc);
-    let (ids, others) = (a.bytes(), b.bytes());
-    let fours = a.len() / 4;
-    push_fours(&mut found, ids, others, fours)?;
-    push_between(&mut found, ids, others, 4 * fours, a.len())?;
+    let rows = a.len();
+    push_eights(&mut found, a, b, rows)?;
+    push_between(&mut found, a, b, 8 * (rows / 8), rows)?;
     Ok(found)
 }
 
-/// The number of rows before `row + 1` at which the ids differ, where `before` rows before `row` do.
-#[tactic(auto, using(crate::proofs::Differing::counts))]
-fn count_next(before: usize, a: &[u8], b: &[u8], row: usize) -> usize
-    requires first { 20 * row + 20 ≤ length a.now }
-    requires second { 20 * row + 20 ≤ length b.now }
-    requires so_far { before ≡ length (differing_ids (rows row a.now) (rows row b.now)) }
-    ensures { result ≡ length (differing_ids (rows (row + 1) a.now) (rows (row + 1) b.now)) }
+/// One, unless a row is the same.
+fn one_unless(same: bool) -> usize
+    ensures { result ≡ (if same then 0 else 1) }
 {
-    if same_id(a, b, 20 * row, 20 * row) {
-        before
-    } else {
-        before + 1
-    }
+    if same { 0 } else { 1 }
 }
 
 /// The number of rows before `to` at which the ids differ, where `before` rows before `from` do.
-fn count_between(before: usize, a: &[u8], b: &[u8], from: usize, to: usize) -> usize
-    requires first { 20 * to ≤ length a.now }
-    requires second { 20 * to ≤ length b.now }
+#[tactic(auto, using(crate::proofs::Growing::counts))]
+fn count_between(before: usize, a: &IdColumn, b: &IdColumn, from: usize, to: usize) -> usize
+    requires first { to ≤ length a.now }
+    requires second { to ≤ length b.now }
     requires within { from ≤ to }
-    requires so_far { before ≡ length (differing_ids (rows from a.now) (rows from b.now)) }
-    ensures { result ≡ length (differing_ids (rows to a.now) (rows to b.now)) }
+    requires so_far { before ≡ length (differing_ids (take from a.now) (take from b.now)) }
+    ensures { result ≡ length (differing_ids (take to a.now) (take to b.now)) }
 {
     let mut count = before;
     for row in from..to {
-        count = count_next(count, a, b, row);
+        count += one_unless(same_row(a, b, row));
     }
     count
 }
 
-/// The number of rows before `row + 4` at which the ids differ, where `before` rows before `row` do.
-#[tactic(auto, using(crate::proofs::Differing::counts))]
-fn count_four(before: usize, a: &[u8], b: &[u8], row: usize) -> usize
-    requires first { 20 * row + 80 ≤ length a.now }
-    requires second { 20 * row + 80 ≤ length b.now }
-    requires so_far { before ≡ length (differing_ids (rows row a.now) (rows row b.now)) }
-    ensures { result ≡ length (differing_ids (rows (row + 4) a.now) (rows (row + 4) b.now)) }
+/// The number of rows of eight at which the ids differ.
+#[tactic(auto, using(crate::proofs::Growing::counts))]
+fn count_eight(a: &IdColumn, b: &IdColumn, row: usize) -> usize
+    requires first { row + 8 ≤ length a.now }
+    requires second { row + 8 ≤ length b.now }
+    ensures { result ≡ length (differing_ids (chunk row 8 a.now) (chunk row 8 b.now)) }
 {
-    if same_four_ids(a, b, 20 * row) {
-        before
-    } else {
-        count_between(before, a, b, row, row + 4)
-    }
+    8 - same_eight(a, b, row).count_ones() as usize
 }
 
-/// The number of rows of the first fours at which the ids differ.
-fn count_fours(a: &[u8], b: &[u8], fours: usize) -> usize
-    requires first { 80 * fours ≤ length a.now }
-    requires second { 80 * fours ≤ length b.now }
-    ensures { result ≡ length (differing_ids (rows (4 * fours) a.now) (rows (4 * fours) b.now)) }
+/// The number of rows at which the ids differ, of all whole eights before `to`.
+#[tactic(auto, using(crate::proofs::Growing::counts))]
+fn count_eights(a: &IdColumn, b: &IdColumn, to: usize) -> usize
+    requires first { to ≤ length a.now }
+    requires second { to ≤ length b.now }
+    ensures { result ≡ length (differing_ids (take (8 * (to / 8)) a.now) (take (8 * (to / 8)) b.now)) }
 {
     let mut count = 0;
-    for four in 0..fours {
-        count = count_four(count, a, b, 4 * four);
+    for eight in 0..to / 8 {
+        count += count_eight(a, b, 8 * eight);
     }
     count
 }
 
 /// The number of rows at which two columns of one length differ.
 ///
-/// Ids are compared four at a time, as five vectors of sixteen bytes. This takes no memory.
+/// Ids are compared eight at a time, word by word. This takes no memory.
 pub fn count_differing(a: &IdColumn, b: &IdColumn) -> usize
     requires { length a.now ≡ length b.now }
     ensures { result ≡ length (differing_ids a.now b.now) }
 {
-    let (ids, others) = (a.bytes(), b.bytes());
-    let fours = a.len() / 4;
-    let counted = count_fours(ids, others, fours);
-    count_between(counted, ids, others, 4 * fours, a.len())
+    let rows = a.len();
+    let counted = count_eights(a, b, rows);
+    count_between(counted, a, b, 8 * (rows / 8), rows)
 }

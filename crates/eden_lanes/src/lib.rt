@@ -1,7 +1,7 @@
 //! Comparisons of whole columns: which rows of two columns differ, how many do, and which row holds an id.
 //!
-//! Ids are compared four at a time, as five vectors of sixteen bytes, and kinds thirty-two at a time; what is left over is
-//! compared one by one. The answers are the same as one by one, at every length. A column is read once and never copied.
+//! Ids are compared eight at a time, word by word, and kinds thirty-two at a time; what is left over is compared one by
+//! one. The answers are the same as one by one, at every length. A column is read once and never copied.
 //!
 //! ```rust
 //! use eden_ids::{Id, IdColumn};

@@ -1,50 +1,94 @@
-ghost use Rattle.std.specs.Prelude.{◌≡◌, ◌+◌, ◌≤◌, ◌||◌, length, nat_eq};
+ghost use Rattle.std.specs.Prelude.{◌≡◌, ◌+◌, ◌<◌, ◌≤◌, length, nat_eq, slice_index_or};
+ghost use Rattle.std.specs.List.{All, list_any};
 ghost use Rattle.std.specs.Simd.Lanes.{chunk, mask_l, zip2};
 ghost use Rattle.std.specs.Cmp.Lexicographic.{pointwise};
-ghost use Rattle.eden_lanes.specs.Masks.{apart, may_be_clear, some_clear};
+ghost use Rattle.eden_ids.specs.Columns.{IsOfItsWords};
+ghost use Rattle.eden_ids.specs.Sameness.{same_id};
+ghost use Rattle.eden_lanes.specs.Masks.{same_word};
 
+use eden_ids::{Id, IdColumn};
 use std::simd::prelude::*;
 
-/// Whether sixteen bytes of `a` from `at` on are those of `b` from `from` on.
-fn same_sixteen(a: &[u8], b: &[u8], at: usize, from: usize) -> bool
-    requires first { at + 16 ≤ length a.now }
-    requires second { from + 16 ≤ length b.now }
-    ensures { result ≡ pointwise nat_eq (chunk at 16 a.now) (chunk from 16 b.now) }
+/// A bit for each of eight rows, the first the lowest, which is set where the ids are the same.
+pub fn same_eight(a: &IdColumn, b: &IdColumn, row: usize) -> u64
+    requires first { row + 8 ≤ length a.now }
+    requires second { row + 8 ≤ length b.now }
+    ensures { result ≡ mask_l (zip2 same_id (chunk row 8 a.now) (chunk row 8 b.now)) }
 {
-    u8x16::from_slice(&a[at..]) == u8x16::from_slice(&b[from..])
+    let same = u32x8::from_slice(&a.words(0)[row..]).simd_eq(u32x8::from_slice(&b.words(0)[row..]))
+        & u32x8::from_slice(&a.words(1)[row..]).simd_eq(u32x8::from_slice(&b.words(1)[row..]))
+        & u32x8::from_slice(&a.words(2)[row..]).simd_eq(u32x8::from_slice(&b.words(2)[row..]))
+        & u32x8::from_slice(&a.words(3)[row..]).simd_eq(u32x8::from_slice(&b.words(3)[row..]))
+        & u32x8::from_slice(&a.words(4)[row..]).simd_eq(u32x8::from_slice(&b.words(4)[row..]));
+    same.to_bitmask()
 }
 
-/// Whether four bytes of `a` from `at` on are those of `b` from `from` on.
-fn same_four(a: &[u8], b: &[u8], at: usize, from: usize) -> bool
-    requires first { at + 4 ≤ length a.now }
-    requires second { from + 4 ≤ length b.now }
-    ensures { result ≡ pointwise nat_eq (chunk at 4 a.now) (chunk from 4 b.now) }
+/// Whether one of eight rows holds an id.
+///
+/// The other words are looked at only where the first one is there, which a row that holds another id seldom has.
+pub fn holds_some(id: Id, column: &IdColumn, row: usize) -> bool
+    requires { row + 8 ≤ length column.now }
+    ensures { result ≡ list_any (same_id id) (chunk row 8 column.now) }
 {
-    u8x4::from_slice(&a[at..]) == u8x4::from_slice(&b[from..])
+    let first = u32x8::splat(id.word(0)).simd_eq(u32x8::from_slice(&column.words(0)[row..]));
+    if first.to_bitmask() == 0 {
+        return false;
+    }
+    let same = first
+        & u32x8::splat(id.word(1)).simd_eq(u32x8::from_slice(&column.words(1)[row..]))
+        & u32x8::splat(id.word(2)).simd_eq(u32x8::from_slice(&column.words(2)[row..]))
+        & u32x8::splat(id.word(3)).simd_eq(u32x8::from_slice(&column.words(3)[row..]))
+        & u32x8::splat(id.word(4)).simd_eq(u32x8::from_slice(&column.words(4)[row..]));
+    same.to_bitmask() != 0
 }
 
-/// Whether the twenty bytes of an id in `a` from `at` on are those of `b` from `from` on.
-#[tactic(auto, using(crate::proofs::Parts::id_parts))]
-pub fn same_id(a: &[u8], b: &[u8], at: usize, from: usize) -> bool
-    requires first { at + 20 ≤ length a.now }
-    requires second { from + 20 ≤ length b.now }
-    ensures { result ≡ pointwise nat_eq (chunk at 20 a.now) (chunk from 20 b.now) }
+/// Whether a row has the same word at one of the five places.
+#[tactic(auto, using(crate::proofs::Words::read))]
+fn same_word_at(a: &IdColumn, b: &IdColumn, place: usize, row: usize) -> bool
+    requires place { place < 5 }
+    requires first { row < length a.now }
+    requires second { row < length b.now }
+    ensures same { (d : Id) → result ≡ same_word place (slice_index_or a.now row d) (slice_index_or b.now row d) }
+    ensures first { All IsOfItsWords a.now }
+    ensures second { All IsOfItsWords b.now }
 {
-    same_sixteen(a, b, at, from) && same_four(a, b, at + 16, from + 16)
+    a.words(place)[row] == b.words(place)[row]
 }
 
-/// Whether the eighty bytes of four ids, which are five vectors, are the same.
-pub fn same_four_ids(a: &[u8], b: &[u8], at: usize) -> bool
-    requires first { at + 80 ≤ length a.now }
-    requires second { at + 80 ≤ length b.now }
-    ensures { result ≡ pointwise nat_eq (chunk at 80 a.now) (chunk at 80 b.now) }
+/// Whether the ids of a row are the same.
+pub fn same_row(a: &IdColumn, b: &IdColumn, row: usize) -> bool
+    requires first { row < length a.now }
+    requires second { row < length b.now }
+    ensures { (d : Id) → result ≡ same_id (slice_index_or a.now row d) (slice_index_or b.now row d) }
 {
-    let apart = u8x16::from_slice(&a[at..]).simd_ne(u8x16::from_slice(&b[at..]))
-        | u8x16::from_slice(&a[at + 16..]).simd_ne(u8x16::from_slice(&b[at + 16..]))
-        | u8x16::from_slice(&a[at + 32..]).simd_ne(u8x16::from_slice(&b[at + 32..]))
-        | u8x16::from_slice(&a[at + 48..]).simd_ne(u8x16::from_slice(&b[at + 48..]))
-        | u8x16::from_slice(&a[at + 64..]).simd_ne(u8x16::from_slice(&b[at + 64..]));
-    apart.to_bitmask() == 0
+    same_word_at(a, b, 0, row)
+        & same_word_at(a, b, 1, row)
+        & same_word_at(a, b, 2, row)
+        & same_word_at(a, b, 3, row)
+        & same_word_at(a, b, 4, row)
+}
+
+/// Whether a row has the word of an id at one of the five places.
+#[tactic(auto, using(crate::proofs::Words::read))]
+fn has_word(id: Id, column: &IdColumn, place: usize, row: usize) -> bool
+    requires place { place < 5 }
+    requires within { row < length column.now }
+    ensures same { (d : Id) → result ≡ same_word place id (slice_index_or column.now row d) }
+    ensures ids { All IsOfItsWords column.now }
+{
+    id.word(place) == column.words(place)[row]
+}
+
+/// Whether a row holds an id.
+pub fn holds(id: Id, column: &IdColumn, row: usize) -> bool
+    requires { row < length column.now }
+    ensures { (d : Id) → result ≡ same_id id (slice_index_or column.now row d) }
+{
+    has_word(id, column, 0, row)
+        & has_word(id, column, 1, row)
+        & has_word(id, column, 2, row)
+        & has_word(id, column, 3, row)
+        & has_word(id, column, 4, row)
 }
 
 /// Whether thirty-two bytes are the same.
@@ -54,55 +98,4 @@ pub fn same_thirty_two(a: &[u8], b: &[u8], at: usize) -> bool
     ensures { result ≡ pointwise nat_eq (chunk at 32 a.now) (chunk at 32 b.now) }
 {
     u8x32::from_slice(&a[at..]) == u8x32::from_slice(&b[at..])
-}
-
-/// A bit for each of sixteen bytes, the first the lowest, which is set where they differ.
-fn differences(a: &[u8], b: &[u8], at: usize, from: usize) -> u64
-    requires first { at + 16 ≤ length a.now }
-    requires second { from + 16 ≤ length b.now }
-    ensures { result ≡ mask_l (zip2 apart (chunk at 16 a.now) (chunk from 16 b.now)) }
-{
-    u8x16::from_slice(&a[at..])
-        .simd_ne(u8x16::from_slice(&b[from..]))
-        .to_bitmask()
-}
-
-/// Whether one of four ids does not differ, by the five masks of their eighty bytes.
-///
-/// The first id is the first mask and four bits of the second, and so on.
-fn some_id_is_same(first: u64, second: u64, third: u64, fourth: u64, fifth: u64) -> bool
-    ensures { result ≡ some_clear first second third fourth fifth }
-{
-    first == 0 && second % 16 == 0
-        || second / 16 == 0 && third % 256 == 0
-        || third / 256 == 0 && fourth % 4096 == 0
-        || fourth / 4096 == 0 && fifth == 0
-}
-
-/// Whether one of four ids may be the same, by the second and the fourth mask alone: a part of each id is in them.
-fn some_id_may_be_same(second: u64, fourth: u64) -> bool
-    ensures { result ≡ may_be_clear second fourth }
-{
-    second % 16 == 0 || second / 16 == 0 || fourth % 4096 == 0 || fourth / 4096 == 0
-}
-
-/// Whether one of four ids in `bytes` from `at` on is in `pattern`, which has four ids, at the same place.
-#[tactic(auto, using(crate::proofs::Masks::searched))]
-pub fn holds_some(pattern: &[u8], bytes: &[u8], at: usize) -> bool
-    requires pattern { 80 ≤ length pattern.now }
-    requires bytes { at + 80 ≤ length bytes.now }
-    ensures { result ≡ (pointwise nat_eq (chunk 0 20 pattern.now) (chunk at 20 bytes.now)
-        || pointwise nat_eq (chunk 20 20 pattern.now) (chunk (at + 20) 20 bytes.now)
-        || pointwise nat_eq (chunk 40 20 pattern.now) (chunk (at + 40) 20 bytes.now)
-        || pointwise nat_eq (chunk 60 20 pattern.now) (chunk (at + 60) 20 bytes.now)) }
-{
-    let second = differences(pattern, bytes, 16, at + 16);
-    let fourth = differences(pattern, bytes, 48, at + 48);
-    if !some_id_may_be_same(second, fourth) {
-        return false;
-    }
-    let first = differences(pattern, bytes, 0, at);
-    let third = differences(pattern, bytes, 32, at + 32);
-    let fifth = differences(pattern, bytes, 64, at + 64);
-    some_id_is_same(first, second, third, fourth, fifth)
 }

@@ -1,6 +1,6 @@
 use Rattle.std.proofs.Common.{arith}
 use Rattle.std.proofs.lemmas.Simd.{length-chunk}
-use Rattle.eden_lanes.proofs.Masks.{vectors_same}
+use Rattle.eden_lanes.proofs.KindLemmas.{vectors_same}
 use Rattle.eden_lanes.proofs.vectors.same_thirty_two.Goals as goal
 
 pub returns : goal.returns
