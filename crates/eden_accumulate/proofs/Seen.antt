@@ -1,13 +1,14 @@
 -- A snapshot shows the paths of the files that a mount holds.
-use Rattle.std.proofs.Common.{◌≡◌, ℕ, Bool, true, false, not, cond, ◌&&◌, ◌||◌, List, [], ◌∷◌, map, Option, Some, None, is_some, refl, sym, ap, ◌∙◌}
+use Rattle.std.proofs.Common.{◌≡◌, ℕ, inl, inr, Bool, true, false, not, cond, ◌&&◌, ◌||◌, List, [], ◌∷◌, map, Option, Some, None, is_some, refl, sym, ap, ◌∙◌}
 use Rattle.std.specs.Prelude.{filter, if◌then◌else◌}
-use Rattle.std.proofs.lemmas.Bool.{or_parts}
+use Rattle.std.proofs.lemmas.Bool.{cases_Bool, or_parts}
 use Rattle.std.specs.List.{AllByRecursion, list_any}
 use Rattle.std.specs.FinMap as fin
 use Rattle.eden_globs.specs.Filters.{admits}
 use Rattle.eden_ids.specs.declared.content.Content.{Content}
-use Rattle.eden_ids.specs.FileMaps.{FileMap, file_at, has, path_set, paths, put_option, same_path}
+use Rattle.eden_ids.specs.FileMaps.{FileMap, PathSet, file_at, has, path_set, paths, put_option, same_path}
 use Rattle.eden_ids.proofs.FileMapLemmas.{file_at-insert, file_at-remove, has-listing, has-path_set, has-union, has-where, same_path-is}
+use Rattle.eden_ids.proofs.Sifted.{listing_of}
 use Rattle.eden_ids.proofs.TreeMaps.{listing-same}
 use Rattle.eden_objects.specs.Objects.{Held}
 use Rattle.eden_objects.specs.Files.{commit_files}
@@ -19,7 +20,7 @@ use Rattle.eden_workcopy.proofs.Touched.{touched_elsewhere, touched_listed, touc
 use Rattle.eden_accumulate.specs.declared.snapshot.Snapshot.{Snapshot}
 use Rattle.eden_accumulate.specs.Mounts.{State}
 use Rattle.eden_accumulate.specs.Snapshots.{shown, shown_to}
-use Rattle.eden_accumulate.specs.internal.Marked.{is, mark, marked_over}
+use Rattle.eden_accumulate.specs.internal.Marked.{is, is_marked, mark, marked_over}
 use Rattle.eden_accumulate.proofs.Standing.{IsPresent}
 
 -- the paths that say so
@@ -46,22 +47,45 @@ first-mark wanted true true file = refl
 first-mark wanted true false file = marks-are wanted
 first-mark wanted false more file = refl
 
-pub marked_at : (wanted : Bool) (files : FileMap) (ts : List (List ℕ × Bool)) (p : List ℕ)
-    → is_some (file_at (marked_over wanted files ts) p) ≡ cond (among p (said wanted ts)) wanted (is_some (file_at files p))
-marked_at wanted files [] p = refl
-marked_at wanted files (t ∷ ts) p =
-    by (is wanted t.1) (marked_at wanted files ts p) (marked_at wanted (put_option files t.0 (mark wanted)) ts p)
+-- those of them that are admitted
+abbrev pub said_to : List (List ℕ) → Bool → List (List ℕ × Bool) → List (List ℕ)
+said_to patterns wanted ts = map (λ t. t.0) (filter (is_marked patterns wanted) ts)
+
+pub marked_at : (patterns : List (List ℕ)) (wanted : Bool) (files : FileMap) (ts : List (List ℕ × Bool)) (p : List ℕ)
+    → is_some (file_at (marked_over patterns wanted files ts) p) ≡ cond (among p (said_to patterns wanted ts)) wanted (is_some (file_at files p))
+marked_at patterns wanted files [] p = refl
+marked_at patterns wanted files (t ∷ ts) p =
+    by (is_marked patterns wanted t) (marked_at patterns wanted files ts p) (marked_at patterns wanted (put_option files t.0 (mark wanted)) ts p)
   where
-    by : (b : Bool) → is_some (file_at (marked_over wanted files ts) p) ≡ cond (among p (said wanted ts)) wanted (is_some (file_at files p))
-        → is_some (file_at (marked_over wanted (put_option files t.0 (mark wanted)) ts) p)
-        ≡ cond (among p (said wanted ts)) wanted (is_some (file_at (put_option files t.0 (mark wanted)) p))
-        → is_some (file_at (marked_over wanted (if b then put_option files t.0 (mark wanted) else files) ts) p)
-        ≡ cond (among p (map {A = List ℕ × Bool} (λ t. t.0) (cond b (t ∷ filter (λ t. is wanted t.1) ts) (filter (λ t. is wanted t.1) ts)))) wanted (is_some (file_at files p))
+    by : (b : Bool) → is_some (file_at (marked_over patterns wanted files ts) p) ≡ cond (among p (said_to patterns wanted ts)) wanted (is_some (file_at files p))
+        → is_some (file_at (marked_over patterns wanted (put_option files t.0 (mark wanted)) ts) p)
+        ≡ cond (among p (said_to patterns wanted ts)) wanted (is_some (file_at (put_option files t.0 (mark wanted)) p))
+        → is_some (file_at (marked_over patterns wanted (if b then put_option files t.0 (mark wanted) else files) ts) p)
+        ≡ cond (among p (map {A = List ℕ × Bool} (λ t. t.0) (cond b (t ∷ filter (is_marked patterns wanted) ts) (filter (is_marked patterns wanted) ts)))) wanted (is_some (file_at files p))
     by false without with = without
     by true without with =
         with
-        ∙ ap (λ f. cond (among p (said wanted ts)) wanted (is_some f)) (put_at files t.0 (mark wanted) p)
-        ∙ first-mark wanted (same_path p t.0) (among p (said wanted ts)) (file_at files p)
+        ∙ ap (λ f. cond (among p (said_to patterns wanted ts)) wanted (is_some f)) (put_at files t.0 (mark wanted) p)
+        ∙ first-mark wanted (same_path p t.0) (among p (said_to patterns wanted ts)) (file_at files p)
+
+-- of an admitted path the admitted ones say what all do
+said_alike : (patterns : List (List ℕ)) (wanted : Bool) (ts : List (List ℕ × Bool)) (p : List ℕ) → admits patterns p ≡ true
+    → among p (said_to patterns wanted ts) ≡ among p (said wanted ts)
+said_alike patterns wanted [] p is-admitted = refl
+said_alike patterns wanted (t ∷ ts) p is-admitted = by (is wanted t.1) (admits patterns t.0) refl (said_alike patterns wanted ts p is-admitted)
+  where
+    other : admits patterns t.0 ≡ false → same_path p t.0 ≡ false
+    other e = elim (cases_Bool (same_path p t.0)) [
+      | inl same ↦ let bad : true ≡ false = sym is-admitted ∙ ap (admits patterns) (same_path-is p t.0 same) ∙ e in absurd (cc)
+      | inr apart ↦ apart
+    ]
+
+    by : (b c : Bool) → admits patterns t.0 ≡ c → among p (said_to patterns wanted ts) ≡ among p (said wanted ts)
+        → among p (map {A = List ℕ × Bool} (λ t. t.0) (cond (b && c) (t ∷ filter (is_marked patterns wanted) ts) (filter (is_marked patterns wanted) ts)))
+        ≡ among p (map {A = List ℕ × Bool} (λ t. t.0) (cond b (t ∷ filter (λ t. is wanted t.1) ts) (filter (λ t. is wanted t.1) ts)))
+    by false c e rest = rest
+    by true true e rest = ap (λ more. same_path p t.0 || more) rest
+    by true false e rest = rest ∙ ap (λ first. first || among p (said wanted ts)) (sym (other e))
 
 -- ---- what a snapshot shows
 
@@ -93,22 +117,34 @@ shown-twice false true false = refl
 shown-twice false false true = refl
 shown-twice false false false = refl
 
--- a commit's files with marks have the paths that are shown
+agree_where : (t a b : Bool) → (t ≡ true → a ≡ b) → (t && a) ≡ (t && b)
+agree_where true a b h = h refl
+agree_where false a b h = refl
+
+-- a commit's files with marks have those paths that are shown and admitted
 pub marks_show : (held : List Held) (snapshot : Snapshot) (patterns : List (List ℕ)) (start : FileMap) → start ≡ commit_files held snapshot.position.root
-    → admitted patterns (marked_over true (marked_over false start snapshot.touched) snapshot.touched) ≡ shown_to patterns held snapshot
+    → admitted patterns (marked_over patterns true (marked_over patterns false start snapshot.touched) snapshot.touched) ≡ shown_to patterns held snapshot
 marks_show held snapshot patterns start is-start =
-    ap (λ files. admitted patterns (marked_over true (marked_over false files snapshot.touched) snapshot.touched)) is-start
-    ∙ ap (filter (admits patterns)) (sym (listing-same (shown held snapshot) (marked_over true (marked_over false files snapshot.touched) snapshot.touched) members))
+    ap (λ files. admitted patterns (marked_over patterns true (marked_over patterns false files snapshot.touched) snapshot.touched)) is-start
+    ∙ sym (listing_of among-them marks (admits patterns) (λ p. has-where (shown held snapshot) (admits patterns) p ∙ agree_where (admits patterns p) _ _ (members p)))
+    ∙ listing_of among-them (shown held snapshot) (admits patterns) (has-where (shown held snapshot) (admits patterns))
   where
     files : FileMap
     files = commit_files held snapshot.position.root
 
-    members : (p : List ℕ) → has (shown held snapshot) p ≡ fin.contains_key (marked_over true (marked_over false files snapshot.touched) snapshot.touched) p
-    members p =
+    marks : FileMap
+    marks = marked_over patterns true (marked_over patterns false files snapshot.touched) snapshot.touched
+
+    among-them : PathSet
+    among-them = fin.retain_keys (shown held snapshot) (admits patterns)
+
+    members : (p : List ℕ) → admits patterns p ≡ true → has (shown held snapshot) p ≡ fin.contains_key marks p
+    members p is-admitted =
         has-shown held snapshot p
         ∙ shown-twice (is_some (file_at files p)) (among p (said false snapshot.touched)) (among p (said true snapshot.touched))
-        ∙ ap (cond (among p (said true snapshot.touched)) true) (sym (marked_at false files snapshot.touched p))
-        ∙ sym (marked_at true (marked_over false files snapshot.touched) snapshot.touched p)
+        ∙ (λ i. cond (sym (said_alike patterns true snapshot.touched p is-admitted) i) true (cond (sym (said_alike patterns false snapshot.touched p is-admitted) i) false (is_some (file_at files p))))
+        ∙ ap (cond (among p (said_to patterns true snapshot.touched)) true) (sym (marked_at patterns false files snapshot.touched p))
+        ∙ sym (marked_at patterns true (marked_over patterns false files snapshot.touched) snapshot.touched p)
 
 -- ---- what a mount's snapshot shows
 

@@ -44,19 +44,28 @@ fn is(wanted: bool, answer: bool) -> bool
     if wanted { answer } else { !answer }
 }
 
-/// The working copy with any file at those of the paths at which one stands, or with none at those at which none does.
+/// Whether a touched path is admitted, and its answer is the wanted one.
+fn is_marked(entry: &(Path, bool), present: bool, filter: &Filter) -> bool
+    ensures { result ≡ marks.is_marked filter.now present entry.now }
+{
+    is(present, entry.1) && filter.admits(&entry.0)
+}
+
+/// The working copy with any file at those of the admitted paths at which one stands, or with none at those at which none does. Of the
+/// other paths no copy is made.
 fn marked_over<N: Naming + Drop>(
     store: &Store<N>,
     start: WorkCopy,
     touched: &[(Path, bool)],
     present: bool,
+    filter: &Filter,
 ) -> Result<WorkCopy, NoMemory>
     ensures root { IfOk result (λ work. work.root ≡ start.root) }
-    ensures files { IfOk result (λ work. means store.now work ≡ marks.marked_over present (means store.now start) touched.now) }
+    ensures files { IfOk result (λ work. means store.now work ≡ marks.marked_over filter.now present (means store.now start) touched.now) }
 {
     let mut work = start;
     for entry in touched {
-        if is(present, entry.1) {
+        if is_marked(entry, present, filter) {
             let path = entry.0.copy()?;
             work.set(path, mark(store.allocator(), present))?;
         }
@@ -74,7 +83,8 @@ impl Snapshot {
 
     /// The paths of the files that a filter admits, in byte order, over a store that has the position's commit.
     ///
-    /// `NoCommit` comes where the store hasn't that commit, and `NoMemory` may stand in place of any answer where a growth was refused.
+    /// `NoCommit` comes where the store hasn't that commit, and `NoMemory` may stand in place of any answer where a growth was refused. No
+    /// path is made that the filter does not admit, and no directory is read below which it admits nothing (`Filter::admits_below`).
     pub fn files<N: Naming + Drop>(
         &self,
         store: &Store<N>,
@@ -105,8 +115,8 @@ impl Snapshot {
         ensures { IfOk result (λ paths. paths.items ≡ shown_to filter.now store.now self.now) }
     {
         let touched = self.touched.as_slice();
-        let less = marked_over(store, start, touched, false)?;
-        let all = marked_over(store, less, touched, true)?;
+        let less = marked_over(store, start, touched, false, filter)?;
+        let all = marked_over(store, less, touched, true, filter)?;
         all.list(store, filter)
     }
 }

@@ -61,7 +61,7 @@ one_dir test front inner rows target done new e es all is dir entered so_far now
 
 -- what stands behind a directory's name and a slash lies below it
 
-inside : (top rest : List ℕ) → lies_below (top ++ 47 ∷ rest) top ≡ true
+pub inside : (top rest : List ℕ) → lies_below (top ++ 47 ∷ rest) top ≡ true
 inside [] [] = refl
 inside [] (r ∷ rest) = refl
 inside (t ∷ top) rest = ap (λ b. b && lies_below (top ++ 47 ∷ rest) top) (eq-eqb t t refl) ∙ inside top rest

@@ -1,4 +1,4 @@
-ghost use Rattle.std.specs.Prelude.{◌≡◌, ◌++◌, ◌∷◌, ℕ, List, [], Some, false, true, map, IfOk, OnOk};
+ghost use Rattle.std.specs.Prelude.{◌≡◌, ◌++◌, ◌∷◌, [], Some, map, IfOk, OnOk};
 ghost use Rattle.eden_globs.specs.Filters.{admits};
 ghost use Rattle.eden_ids.specs.Paths.{IsPath, lies_below};
 ghost use Rattle.eden_objects.specs.Commits.{commit_rows, rows_where, tree_rows};
@@ -6,7 +6,7 @@ ghost use Rattle.eden_objects.specs.Closed.{HasTree};
 ghost use Rattle.eden_objects.specs.Listings.{ArePaths, IsBelow, Lists, behind, rows_behind, rows_below};
 
 use crate::fault::{CommitFault, NoCommit};
-use crate::front::path_behind;
+use crate::front::{enter, is_entered, is_wanted, path_behind};
 use crate::store::Store;
 use eden_git::{cut, next_entry};
 use eden_globs::Filter;
@@ -18,45 +18,6 @@ use std::alloc::Global;
 struct Listing {
     front: Vec<u8>,
     rows: Vec<(Path, Kind, Id)>,
-}
-
-/// The bytes before each name of the directory at a path.
-fn front_of(alloc: Global, path: &[u8]) -> Result<Vec<u8>, NoMemory>
-    ensures { IfOk result (λ front. front.items ≡ path.now ++ 47 ∷ []) }
-{
-    let Ok(mut front) = path.to_vec(alloc) else {
-        return Err(NoMemory);
-    };
-    match front.push(b'/') {
-        Ok(()) => Ok(front),
-        Err(_) => Err(NoMemory),
-    }
-}
-
-/// Whether a filter admits the path that begins with these bytes and ends with a name.
-fn is_wanted(front: &mut Vec<u8>, filter: &Filter, name: &[u8]) -> Result<bool, NoMemory>
-    requires { IsPath (front.old.items ++ name.now) }
-    ensures wanted { IfOk result (λ wanted. wanted ≡ admits filter.now (front.old.items ++ name.now)) }
-    ensures front { OnOk result (front.new.items ≡ front.old.items) }
-{
-    let length = front.len();
-    front.extend_from_slice(name)?;
-    let wanted = filter.admits_bytes(front.as_slice());
-    front.truncate(length);
-    Ok(wanted)
-}
-
-/// Whether a filter may admit something below the directory whose path begins with these bytes and ends with a name.
-fn is_entered(front: &mut Vec<u8>, filter: &Filter, name: &[u8]) -> Result<bool, NoMemory>
-    ensures outside { IfOk result (λ entered. entered ≡ false → (path : List ℕ) → lies_below path (front.old.items ++ name.now) ≡ true
-        → admits filter.now path ≡ false) }
-    ensures front { OnOk result (front.new.items ≡ front.old.items) }
-{
-    let length = front.len();
-    front.extend_from_slice(name)?;
-    let entered = filter.admits_below(front.as_slice());
-    front.truncate(length);
-    Ok(entered)
 }
 
 impl Listing {
@@ -79,20 +40,6 @@ impl Listing {
         }
         let path = path_behind(alloc, &mut self.front, name)?;
         match self.rows.push((path, kind, id)) {
-            Ok(()) => Ok(()),
-            Err(_) => Err(NoMemory),
-        }
-    }
-
-    /// Goes on to a directory of the one that is read.
-    fn enter(&mut self, name: &[u8]) -> Result<(), NoMemory>
-        ensures rows { OnOk result (self.new.rows.items ≡ self.old.rows.items) }
-        ensures front { OnOk result (self.new.front.items ≡ self.old.front.items ++ name.now ++ 47 ∷ []) }
-    {
-        let Ok(_) = self.front.extend_from_slice(name) else {
-            return Err(NoMemory);
-        };
-        match self.front.push(b'/') {
             Ok(()) => Ok(()),
             Err(_) => Err(NoMemory),
         }
@@ -175,7 +122,8 @@ impl<N: Naming + Drop> Store<N> {
         requires paths { ArePaths (path.now ++ 47 ∷ []) (tree_rows self.now dir) }
         ensures { IfOk result (λ rows. rows.items ≡ map (behind (path.now ++ 47 ∷ [])) (tree_rows self.now dir)) }
     {
-        let front = front_of(self.allocator(), path)?;
+        let mut front = Vec::new(self.allocator());
+        enter(&mut front, path)?;
         let filter = Filter::all(self.allocator());
         self.gather_behind(dir, &filter, front)
     }
@@ -234,7 +182,7 @@ impl<N: Naming + Drop> Store<N> {
                     continue;
                 }
                 let length = listing.front.len();
-                listing.enter(entry.name)?;
+                enter(&mut listing.front, entry.name)?;
                 self.gather(entry.id, filter, listing)?;
                 listing.front.truncate(length);
                 continue;

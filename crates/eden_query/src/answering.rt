@@ -2,35 +2,18 @@
 
 ghost use Rattle.std.specs.Prelude.{◌≡◌, ◌≢◌, ◌≤◌, length, true, false, is_some, IfOk, IfErr, OnOk};
 ghost use Rattle.eden_objects.specs.Commits.{commit_map};
-ghost use Rattle.eden_ranges.specs.Expanded.{are_comparable, expanded};
 ghost use Rattle.eden_accumulate.specs.Snapshots.{shown_to};
-ghost use Rattle.eden_history.specs.Replies.{admitted};
 ghost use Rattle.eden_history.specs.Spells.{reply_bytes};
 ghost use Rattle.eden_query.specs.Raws.{is_answerable, told};
 
 use crate::raw::Raw;
 use eden_accumulate::Snapshot;
 use eden_globs::Filter;
-use eden_history::{Marked, Reply, admitted};
+use eden_history::Reply;
 use eden_ids::{Content, Naming, NoMemory, Path, Sequence};
 use eden_objects::{CommitFault, Store};
-use eden_ranges::{Range, expand};
+use eden_ranges::expand_admitted;
 use std::alloc::Global;
-
-/// The paths that the range names and the filter admits.
-fn wanted<N: Naming + Drop>(
-    alloc: Global,
-    range: &Range,
-    store: &Store<N>,
-    filter: &Filter,
-) -> Result<Sequence<Marked>, CommitFault>
-    ensures marked { IfOk result (λ marked. marked ≡ admitted filter.now (expanded store.now range.now)) }
-    ensures compared { OnOk result (are_comparable (commit_map store.now) range.now.roots ≡ true) }
-    ensures fault { IfErr result (λ fault. fault ≢ CommitFault.NoMemory → are_comparable (commit_map store.now) range.now.roots ≡ false) }
-{
-    let marked = expand(alloc, store, range)?;
-    Ok(admitted(alloc, Sequence::from_vec(marked), filter)?)
-}
 
 /// The file that was held, or none.
 fn copy_of(content: &Option<Content>) -> Result<Option<Content>, NoMemory>
@@ -57,7 +40,8 @@ fn listed<N: Naming + Drop>(
 
 /// The reply to a request that a mount was asked, with the request's filter and the mount's objects. The mount isn't needed any more.
 ///
-/// A reply whose body would have more than 16,777,216 bytes is refused as `TooLarge`.
+/// A reply whose body would have more than 16,777,216 bytes is refused as `TooLarge`. No directory is read below which the filter admits
+/// nothing (`Filter::admits_below`), and no path is made that it does not admit.
 ///
 /// `NoCommit` comes just where two neighbouring roots of a range are not one and one of them is no commit of the store, or a snapshot's
 /// root is none; of what a mount gave, over that mount's store, it never comes. `NoMemory` may stand in place of any answer where a
@@ -79,7 +63,7 @@ pub fn answer<N: Naming + Drop>(
             let reply = Reply::ChangesAre {
                 query: *query,
                 target: range.to,
-                marked: wanted(alloc, range, store, filter)?,
+                marked: Sequence::from_vec(expand_admitted(alloc, store, range, filter)?),
             };
             Ok(reply.bounded(*query))
         }

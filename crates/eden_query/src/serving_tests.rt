@@ -361,6 +361,34 @@ fn basis_of_a_pattern_and_a_file(rt: HostRuntime) -> Result<(), Fail> {
 }
 
 #[test]
+fn poll_by_a_pattern(rt: HostRuntime) -> Result<(), Fail> {
+    let alloc = rt.alloc();
+    let mut mount = two_files(alloc)?;
+    let since = [0, 0, 0, 0, 0, 0, 0, 7, 0, 0, 0, 0, 0, 0, 0, 1];
+    let pattern = [1, 0, 4, b'd', b'/', b'*', b'*'];
+    let narrow = joined(
+        alloc,
+        &[&[0, 0, 0, 0x45, 1, 2], &Q, &since, &ROOT, &pattern],
+    )?;
+    let frames = joined(alloc, &[&poll(alloc, 7, 1)?, &narrow])?;
+    let place = [0, 0, 0, 0, 0, 0, 0, 7, 0, 0, 0, 0, 0, 0, 0, 3];
+    let one = [0, 0, 0, 1, 1, 0, 3, b'd', b'/', b'a'];
+    let both = [0, 0, 0, 2, 1, 0, 3, b'd', b'/', b'a', 1, 0, 1, b'e'];
+    let wide = joined(
+        alloc,
+        &[&[0, 0, 0, 0x4c, 1, 0x82], &Q, &place, &ROOT, &both],
+    )?;
+    let replies = joined(
+        alloc,
+        &[&wide, &[0, 0, 0, 0x48, 1, 0x82], &Q, &place, &ROOT, &one],
+    )?;
+    let (written, ended) = served(alloc, &mut mount, frames.as_slice(), usize::MAX, usize::MAX);
+    assert_eq!(rt; ended, Ok(2));
+    assert!(rt; written.as_slice() == replies.as_slice());
+    Ok(())
+}
+
+#[test]
 fn small_limit(rt: HostRuntime) -> Result<(), Fail> {
     let alloc = rt.alloc();
     let mut mount = opened(alloc, 200)?;

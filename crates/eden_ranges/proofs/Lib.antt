@@ -8,3 +8,4 @@ pub mod Along
 pub mod Named
 pub mod SinceWorld
 pub mod Bridge
+mod Only

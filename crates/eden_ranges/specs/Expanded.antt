@@ -1,5 +1,7 @@
 -- Which paths a range names, and what became of each.
-use Rattle.std.specs.Prelude.{Bool, true, ◌&&◌, ◌||◌, is_some, List, [], ◌∷◌, map}
+use Rattle.std.specs.Prelude.{ℕ, Bool, true, ◌&&◌, ◌||◌, is_some, List, [], ◌∷◌, map}
+use Rattle.std.specs.FinMap as fin
+use Rattle.eden_globs.specs.Filters.{admits}
 use Rattle.eden_ids.specs.declared.id.Id.{Id}
 use Rattle.eden_ids.specs.FileMaps.{PathSet, listing, no_paths, path_set, union}
 use Rattle.eden_objects.specs.Objects.{Held}
@@ -10,6 +12,10 @@ use Rattle.eden_history.specs.Worlds.{Commits}
 use Rattle.eden_history.specs.Named.{commits_differ}
 use Rattle.eden_history.specs.Touches.{marked_at, touched_by, untouched}
 use Rattle.eden_ranges.specs.declared.ranges.Range.{Range}
+
+-- those of some paths that a filter admits
+abbrev pub only : List (List ℕ) → PathSet → PathSet
+only patterns set = fin.retain_keys set (admits patterns)
 
 -- ---- roots
 

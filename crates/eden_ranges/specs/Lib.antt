@@ -4,3 +4,4 @@ pub mod Since
 pub mod Expanded
 pub mod WorldRanges
 pub mod Laws
+pub mod internal

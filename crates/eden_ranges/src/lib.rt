@@ -17,7 +17,7 @@
 //! ```
 #![tactic(auto)]
 
-pub use crate::expanding::expand;
+pub use crate::expanding::{expand, expand_admitted};
 pub use crate::laws::{changes_law, commits_law, range_law};
 pub use crate::ranges::{Range, accumulate};
 

@@ -1,5 +1,6 @@
 -- The trees of two commits, and what differs between them.
-use Rattle.std.proofs.Common.{◌≡◌, ℕ, true, false, cond, List, [], ◌∷◌, ◌++◌, Option, Some, None, refl, sym, ap, ◌∙◌}
+use Rattle.std.proofs.Common.{◌≡◌, ℕ, Bool, true, false, cond, List, [], ◌∷◌, ◌++◌, Option, Some, None, Result, Ok, Err, IfOk, refl, sym, ap, ◌∙◌}
+use Rattle.std.specs.Prelude.{filter}
 use Rattle.eden_ids.specs.declared.id.Id.{Id}
 use Rattle.eden_objects.specs.Objects.{Held, find, zero_id}
 use Rattle.eden_ids.specs.Sameness.{same_id}
@@ -7,8 +8,8 @@ use Rattle.eden_objects.specs.Commits.{Row, commit_map, commit_rows, map_of_rows
 use Rattle.eden_objects.specs.Closed.{HasTree, IsClosed, AllNamed}
 use Rattle.eden_objects.specs.Walks.{tree_seen}
 use Rattle.eden_objects.proofs.TreeOf.{seen_rows, seen_tree}
-use Rattle.eden_treediff.specs.Merges.{differences, merge_rows}
-use Rattle.eden_treediff.specs.Walks.{behind, side_rows}
+use Rattle.eden_treediff.specs.Merges.{admitted, admitted_differences, differences, merge_rows, option_admitted}
+use Rattle.eden_treediff.specs.Walks.{behind, side_rows, wanted_behind}
 use Rattle.eden_treediff.proofs.Listed.{listed_law}
 
 pub empty_side : (held : List Held) (commit : Id) → same_id commit zero_id ≡ true → commit_rows held commit ≡ Some []
@@ -33,15 +34,29 @@ right_none held (Some rows) = refl
 pub no_second : (held : List Held) (first second : Id) → commit_rows held second ≡ None → differences (commit_map held first) (commit_map held second) ≡ None
 no_second held first second none = ap (λ o. differences (commit_map held first) (map_of_rows held o)) none ∙ right_none held (commit_rows held first)
 
-pub both_sides : (name : List ℕ → List ℕ → Id) (held : List Held) (first second : Id) (rs ss : List Row) (found : List (List ℕ)) → IsClosed held → AllNamed name held
-    → commit_rows held first ≡ Some rs → commit_rows held second ≡ Some ss → found ≡ merge_rows rs ss
-    → differences (commit_map held first) (commit_map held second) ≡ Some found
-both_sides name held first second rs ss found closed named one two is = listed_law name held closed named first second rs ss one two ∙ ap Some (sym is)
+pub both_sides : (name : List ℕ → List ℕ → Id) (held : List Held) (patterns : List (List ℕ)) (first second : Id) (rs ss : List Row) (found : List (List ℕ)) → IsClosed held → AllNamed name held
+    → commit_rows held first ≡ Some rs → commit_rows held second ≡ Some ss → found ≡ admitted patterns (merge_rows rs ss)
+    → admitted_differences patterns (commit_map held first) (commit_map held second) ≡ Some found
+both_sides name held patterns first second rs ss found closed named one two is =
+    ap (option_admitted patterns) (listed_law name held closed named first second rs ss one two) ∙ ap Some (sym is)
 
 behind_nothing : (ps : List (List ℕ)) → behind [] ps ≡ ps
 behind_nothing [] = refl
 behind_nothing (p ∷ ps) = ap (λ (qs : List (List ℕ)). p ∷ qs) (behind_nothing ps)
 
-pub all_found : (front : List ℕ) (done ps found : List (List ℕ)) → front ≡ [] → done ≡ [] → found ≡ done ++ behind front ps → found ≡ ps
-all_found front done ps found none nothing is =
-    is ∙ ap (λ (qs : List (List ℕ)). qs ++ behind front ps) nothing ∙ ap (λ (bytes : List ℕ). behind bytes ps) none ∙ behind_nothing ps
+pub all_found : (test : List ℕ → Bool) (front : List ℕ) (done ps found : List (List ℕ)) → front ≡ [] → done ≡ [] → found ≡ done ++ wanted_behind test front ps → found ≡ filter test ps
+all_found test front done ps found none nothing is =
+    is ∙ ap (λ (qs : List (List ℕ)). qs ++ wanted_behind test front ps) nothing ∙ ap (λ (bytes : List ℕ). wanted_behind test bytes ps) none ∙ ap (filter test) (behind_nothing ps)
+
+each_admitted : (ps : List (List ℕ)) → admitted [] ps ≡ ps
+each_admitted [] = refl
+each_admitted (p ∷ ps) = ap (λ (qs : List (List ℕ)). p ∷ qs) (each_admitted ps)
+
+-- without patterns all of the differences are admitted
+pub none_left_out : (patterns : List (List ℕ)) (differences : Option (List (List ℕ))) (found : List (List ℕ)) → patterns ≡ [] → option_admitted patterns differences ≡ Some found → differences ≡ Some found
+none_left_out patterns None found all is = is
+none_left_out patterns (Some ps) found all is = ap Some (sym (each_admitted ps)) ∙ ap (λ qs. option_admitted qs (Some ps)) (sym all) ∙ is
+
+pub if_ok : {X E : Type 0} (r : Result X E) (P Q : X → Type 0) → ((x : X) → P x → Q x) → IfOk r P → IfOk r Q
+if_ok (Ok x) P Q h is = h x is
+if_ok (Err e) P Q h is = tt

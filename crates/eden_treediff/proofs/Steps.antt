@@ -1,22 +1,23 @@
 -- One step of the walk over two trees.
-use Rattle.std.proofs.Common.{◌≡◌, ℕ, ◌≤◌, ◌++◌, true, false, List, [], ◌∷◌, map, take, length, Option, Some, None, refl, sym, ap, ◌∙◌, arith, append_assoc}
+use Rattle.std.proofs.Common.{◌≡◌, ℕ, ◌≤◌, ◌++◌, Bool, true, false, cond, List, [], ◌∷◌, map, take, length, Option, Some, None, refl, sym, ap, ◌∙◌, arith, append_assoc}
 use Rattle.std.proofs.lemmas.List.{map-append, append-nil}
+use Rattle.std.proofs.lemmas.List.Elements.{filter-append}
 use Rattle.std.proofs.Math.Seq.{take-append_seam}
+use Rattle.std.specs.Prelude.{filter}
 use Rattle.std.specs.List.Sorted.{IsStrictlySortedBy}
 use Rattle.eden_ids.specs.declared.id.Id.{Id}
+use Rattle.eden_ids.specs.Paths.{lies_below}
 use Rattle.eden_objects.specs.Objects.{Held}
 use Rattle.eden_git.specs.Trees.{Entry}
 use Rattle.eden_objects.specs.Trees.{entries_depth, tree_depth}
 use Rattle.eden_objects.specs.Commits.{entries_rows, tree_rows}
 use Rattle.eden_objects.specs.Closed.{IsClosed}
 use Rattle.eden_objects.proofs.WalkSteps.{rows_here, tree_here}
-use Rattle.eden_objects.proofs.Closed.{same_id-is}
-use Rattle.eden_objects.proofs.Gathering.{depth_here}
+use Rattle.eden_objects.proofs.Gathering.{depth_here, inside as lies_inside}
 use Rattle.eden_treediff.specs.Merges.{merge_rows}
 use Rattle.eden_treediff.specs.Pairs.{Directory, Next, directory, is_changed, name_of, next_pair}
-use Rattle.eden_treediff.specs.Walks.{IsSide, behind, same_side, side_depth, side_entries, side_rows}
+use Rattle.eden_treediff.specs.Walks.{IsSide, behind, side_depth, side_entries, side_rows, wanted_behind}
 use Rattle.eden_treediff.proofs.Blocks.{below}
-use Rattle.eden_treediff.proofs.Exact.{same_law}
 use Rattle.eden_treediff.proofs.Pairs.{IsDirectory, IsNext, IsRest, next_is, rest_after, entry_held, entry_named, depth_after, entry_depth, merge_next, nothing_changed, file_changed, directory_met, rows_of_entry}
 
 -- the files of some entries against those of others
@@ -61,39 +62,54 @@ way_goes_on held m n es fs next way is =
       depth_after (tree_depth held) fs next.1 next.3 n met.1 way.3,
     )
 
--- the paths of one pair, and those of what is left
-pub one_pair : (held : List Held) (m n : ℕ) (es fs : List Entry) (next : Next) (front : List ℕ) (target done new : List (List ℕ)) → IsWay held m n es fs → Some next ≡ next_pair es fs
-    → target ≡ done ++ behind front (merge_entries held es fs)
-    → new ≡ done ++ behind front (merge_rows (rows_of_entry (tree_rows held) next.0) (rows_of_entry (tree_rows held) next.1))
-    → target ≡ new ++ behind front (merge_entries held next.2 next.3)
-one_pair held m n es fs next front target done new way is so_far now =
-    let met = is_next held m n es fs next way is in
-    let here : List (List ℕ) = merge_rows (rows_of_entry (tree_rows held) next.0) (rows_of_entry (tree_rows held) next.1) in
-    let left : List (List ℕ) = merge_entries held next.2 next.3 in
+-- the paths of one pair
+abbrev pub here : List Held → Next → List (List ℕ)
+here held next = merge_rows (rows_of_entry (tree_rows held) next.0) (rows_of_entry (tree_rows held) next.1)
+
+-- they stand before those of what is left
+pub one_more : (held : List Held) (m n : ℕ) (es fs : List Entry) (next : Next) → IsWay held m n es fs → Some next ≡ next_pair es fs
+    → merge_entries held es fs ≡ here held next ++ merge_entries held next.2 next.3
+one_more held m n es fs next way is = merge_next held (tree_rows held) es fs next way.0 way.1 (is_next held m n es fs next way is)
+
+wanted-append : (test : List ℕ → Bool) (front : List ℕ) (ps qs : List (List ℕ)) → wanted_behind test front (ps ++ qs) ≡ wanted_behind test front ps ++ wanted_behind test front qs
+wanted-append test front ps qs = ap (filter test) (map-append (λ p. front ++ p) ps qs) ∙ filter-append test (behind front ps) (behind front qs)
+
+one_pair : (test : List ℕ → Bool) (front : List ℕ) (all ps qs : List (List ℕ)) (target done new : List (List ℕ)) → all ≡ ps ++ qs
+    → target ≡ done ++ wanted_behind test front all → new ≡ done ++ wanted_behind test front ps → target ≡ new ++ wanted_behind test front qs
+one_pair test front all ps qs target done new parts so_far now =
     so_far
-    ∙ ap (λ ps. done ++ behind front ps) (merge_next held (tree_rows held) es fs next way.0 way.1 met)
-    ∙ ap (λ ps. done ++ ps) (map-append (λ p. front ++ p) here left)
-    ∙ sym (append_assoc done (behind front here) (behind front left))
-    ∙ ap (λ ps. ps ++ behind front left) (sym now)
+    ∙ ap (λ more. done ++ wanted_behind test front more) parts
+    ∙ ap (λ more. done ++ more) (wanted-append test front ps qs)
+    ∙ sym (append_assoc done (wanted_behind test front ps) (wanted_behind test front qs))
+    ∙ ap (λ found. found ++ wanted_behind test front qs) (sym now)
 
-pub skipped : (held : List Held) (m n : ℕ) (es fs : List Entry) (next : Next) (front : List ℕ) (target done : List (List ℕ)) → IsWay held m n es fs → Some next ≡ next_pair es fs
-    → is_changed next.0 next.1 ≡ false → target ≡ done ++ behind front (merge_entries held es fs) → target ≡ done ++ behind front (merge_entries held next.2 next.3)
-skipped held m n es fs next front target done way is same so_far =
+-- what is the same has no paths
+pub unchanged : (held : List Held) (m n : ℕ) (es fs : List Entry) (next : Next) → IsWay held m n es fs → Some next ≡ next_pair es fs
+    → is_changed next.0 next.1 ≡ false → here held next ≡ []
+unchanged held m n es fs next way is same =
     let met = is_next held m n es fs next way is in
-    one_pair held m n es fs next front target done done way is so_far
-    (sym (ap (λ ps. done ++ behind front ps)
-    (nothing_changed (tree_rows held) next.0 next.1 met.2 (entry_named held es next.0 next.2 met.0 way.0) (entry_named held fs next.1 next.3 met.1 way.1) same)
-    ∙ append-nil done))
+    nothing_changed (tree_rows held) next.0 next.1 met.2 (entry_named held es next.0 next.2 met.0 way.0) (entry_named held fs next.1 next.3 met.1 way.1) same
 
-pub file_found : (held : List Held) (m n : ℕ) (es fs : List Entry) (next : Next) (front : List ℕ) (target done new : List (List ℕ)) → IsWay held m n es fs → Some next ≡ next_pair es fs
-    → is_changed next.0 next.1 ≡ true → directory next.0 next.1 ≡ None → target ≡ done ++ behind front (merge_entries held es fs)
-    → new ≡ done ++ (front ++ name_of next.0 next.1) ∷ []
-    → target ≡ new ++ behind front (merge_entries held next.2 next.3)
-file_found held m n es fs next front target done new way is changed file so_far now =
+pub skipped : (held : List Held) (m n : ℕ) (es fs : List Entry) (next : Next) (test : List ℕ → Bool) (front : List ℕ) (target done : List (List ℕ)) → IsWay held m n es fs → Some next ≡ next_pair es fs
+    → is_changed next.0 next.1 ≡ false → target ≡ done ++ wanted_behind test front (merge_entries held es fs) → target ≡ done ++ wanted_behind test front (merge_entries held next.2 next.3)
+skipped held m n es fs next test front target done way is same so_far =
+    one_pair test front (merge_entries held es fs) (here held next) (merge_entries held next.2 next.3) target done done (one_more held m n es fs next way is) so_far
+    (sym (ap (λ ps. done ++ wanted_behind test front ps) (unchanged held m n es fs next way is same) ∙ append-nil done))
+
+-- a file that is changed is one path
+pub one_file : (held : List Held) (m n : ℕ) (es fs : List Entry) (next : Next) → IsWay held m n es fs → Some next ≡ next_pair es fs
+    → is_changed next.0 next.1 ≡ true → directory next.0 next.1 ≡ None → here held next ≡ name_of next.0 next.1 ∷ []
+one_file held m n es fs next way is changed file =
     let met = is_next held m n es fs next way is in
-    one_pair held m n es fs next front target done new way is so_far
-    (now ∙ sym (ap (λ ps. done ++ behind front ps)
-    (file_changed (tree_rows held) next.0 next.1 met.2 (entry_named held es next.0 next.2 met.0 way.0) (entry_named held fs next.1 next.3 met.1 way.1) changed file)))
+    file_changed (tree_rows held) next.0 next.1 met.2 (entry_named held es next.0 next.2 met.0 way.0) (entry_named held fs next.1 next.3 met.1 way.1) changed file
+
+pub file_found : (held : List Held) (m n : ℕ) (es fs : List Entry) (next : Next) (test : List ℕ → Bool) (front : List ℕ) (target done new : List (List ℕ)) → IsWay held m n es fs → Some next ≡ next_pair es fs
+    → is_changed next.0 next.1 ≡ true → directory next.0 next.1 ≡ None → target ≡ done ++ wanted_behind test front (merge_entries held es fs)
+    → new ≡ done ++ wanted_behind test front (name_of next.0 next.1 ∷ [])
+    → target ≡ new ++ wanted_behind test front (merge_entries held next.2 next.3)
+file_found held m n es fs next test front target done new way is changed file so_far now =
+    one_pair test front (merge_entries held es fs) (here held next) (merge_entries held next.2 next.3) target done new (one_more held m n es fs next way is) so_far
+    (now ∙ sym (ap (λ ps. done ++ wanted_behind test front ps) (one_file held m n es fs next way is changed file)))
 
 pub directory_is : (held : List Held) (m n : ℕ) (es fs : List Entry) (next : Next) (d : Directory) → IsWay held m n es fs → Some next ≡ next_pair es fs → directory next.0 next.1 ≡ Some d
     → IsDirectory held m n (rows_of_entry (tree_rows held) next.0) (rows_of_entry (tree_rows held) next.1) d
@@ -112,29 +128,36 @@ behind_below front name (p ∷ ps) =
     let rest = behind_below front name ps in
     λ i. path i ∷ rest i
 
-pub directory_walked : (held : List Held) (m n : ℕ) (es fs : List Entry) (next : Next) (d : Directory) (front inner : List ℕ) (target done new : List (List ℕ)) → IsWay held m n es fs → Some next ≡ next_pair es fs
+pub directory_walked : (held : List Held) (m n : ℕ) (es fs : List Entry) (next : Next) (d : Directory) (test : List ℕ → Bool) (front inner : List ℕ) (target done new : List (List ℕ)) → IsWay held m n es fs → Some next ≡ next_pair es fs
     → directory next.0 next.1 ≡ Some d → inner ≡ front ++ d.0 ++ 47 ∷ []
-    → target ≡ done ++ behind front (merge_entries held es fs)
-    → new ≡ done ++ behind inner (merge_rows (side_rows held d.1) (side_rows held d.2))
-    → target ≡ new ++ behind front (merge_entries held next.2 next.3)
-directory_walked held m n es fs next d front inner target done new way is dir entered so_far now =
+    → target ≡ done ++ wanted_behind test front (merge_entries held es fs)
+    → new ≡ done ++ wanted_behind test inner (merge_rows (side_rows held d.1) (side_rows held d.2))
+    → target ≡ new ++ wanted_behind test front (merge_entries held next.2 next.3)
+directory_walked held m n es fs next d test front inner target done new way is dir entered so_far now =
     let known = directory_is held m n es fs next d way is dir in
     let inside : List (List ℕ) = merge_rows (side_rows held d.1) (side_rows held d.2) in
-    one_pair held m n es fs next front target done new way is so_far
-    (now ∙ ap (λ p. done ++ behind p inside) entered ∙ ap (λ ps. done ++ ps) (behind_below front d.0 inside) ∙ sym (ap (λ ps. done ++ behind front ps) known.0))
+    one_pair test front (merge_entries held es fs) (here held next) (merge_entries held next.2 next.3) target done new (one_more held m n es fs next way is) so_far
+    (now ∙ ap (λ p. done ++ wanted_behind test p inside) entered ∙ ap (λ ps. done ++ filter test ps) (behind_below front d.0 inside)
+    ∙ sym (ap (λ ps. done ++ wanted_behind test front ps) known.0))
+
+-- nothing is wanted of what lies below a directory
+none_wanted : (test : List ℕ → Bool) (dir : List ℕ) (ps : List (List ℕ)) → ((path : List ℕ) → lies_below path dir ≡ true → test path ≡ false)
+    → wanted_behind test (dir ++ 47 ∷ []) ps ≡ []
+none_wanted test dir [] outside = refl
+none_wanted test dir (p ∷ ps) outside =
+    let passed : test ((dir ++ 47 ∷ []) ++ p) ≡ false = ap test (append_assoc dir (47 ∷ []) p) ∙ outside (dir ++ 47 ∷ p) (lies_inside dir p) in
+    ap (λ b. cond b (((dir ++ 47 ∷ []) ++ p) ∷ wanted_behind test (dir ++ 47 ∷ []) ps) (wanted_behind test (dir ++ 47 ∷ []) ps)) passed
+    ∙ none_wanted test dir ps outside
+
+-- a directory below which nothing is wanted
+pub directory_left : (held : List Held) (m n : ℕ) (es fs : List Entry) (next : Next) (d : Directory) (test : List ℕ → Bool) (front : List ℕ) (target done : List (List ℕ)) → IsWay held m n es fs → Some next ≡ next_pair es fs
+    → directory next.0 next.1 ≡ Some d → ((path : List ℕ) → lies_below path (front ++ d.0) ≡ true → test path ≡ false)
+    → target ≡ done ++ wanted_behind test front (merge_entries held es fs)
+    → target ≡ done ++ wanted_behind test front (merge_entries held next.2 next.3)
+directory_left held m n es fs next d test front target done way is dir outside so_far =
+    directory_walked held m n es fs next d test front (front ++ d.0 ++ 47 ∷ []) target done done way is dir refl so_far
+    (sym (ap (λ ps. done ++ ps) (none_wanted test (front ++ d.0) (merge_rows (side_rows held d.1) (side_rows held d.2)) outside) ∙ append-nil done))
 
 -- the bytes before the name are there again
 pub left : (front inner name : List ℕ) → inner ≡ front ++ name ++ 47 ∷ [] → take (length front) inner ≡ front
 left front inner name is = ap (take (length front)) (is ∙ append_assoc front name (47 ∷ [])) ∙ take-append_seam front (name ++ 47 ∷ [])
-
-side_is : (a b : Option Id) → same_side a b ≡ true → a ≡ b
-side_is None None h = refl
-side_is (Some a) (Some b) h = ap Some (same_id-is a b h)
-side_is None (Some b) h = absurd (cc)
-side_is (Some a) None h = absurd (cc)
-
--- a tree does not differ from itself
-pub same_sides : (held : List Held) (first second : Option Id) (front : List ℕ) (done : List (List ℕ)) → same_side first second ≡ true
-    → done ≡ done ++ behind front (merge_rows (side_rows held first) (side_rows held second))
-same_sides held first second front done same =
-    sym (ap (λ ps. done ++ behind front ps) (ap (λ side. merge_rows (side_rows held side) (side_rows held second)) (side_is first second same) ∙ same_law (side_rows held second)) ∙ append-nil done)

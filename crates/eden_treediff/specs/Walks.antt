@@ -1,5 +1,5 @@
 -- A walk over two trees of a store, of which one may be missing.
-use Rattle.std.specs.Prelude.{◌≡◌, ℕ, Bool, true, false, List, [], ◌++◌, map, Option, Some, None, Result, Ok, Err}
+use Rattle.std.specs.Prelude.{◌≡◌, ℕ, Bool, true, false, List, [], ◌++◌, map, filter, Option, Some, None, Result, Ok, Err}
 use Rattle.std.specs.Borrow.{Bor}
 use Rattle.eden_ids.specs.declared.id.Id.{Id}
 use Rattle.eden_objects.specs.Objects.{Held, find, payload_of}
@@ -42,6 +42,10 @@ same_side _ _ = false
 -- the paths behind the bytes that they begin with
 abbrev pub behind : List ℕ → List (List ℕ) → List (List ℕ)
 behind front ps = map (λ p. front ++ p) ps
+
+-- those of them that are wanted
+abbrev pub wanted_behind : (List ℕ → Bool) → List ℕ → List (List ℕ) → List (List ℕ)
+wanted_behind test front ps = filter test (behind front ps)
 
 abbrev pub directory_read : Option (Bor (List ℕ) × Option Id × Option Id) → Option Directory
 directory_read None = None

@@ -21,5 +21,5 @@ mod settled;
 mod tests;
 mod walk;
 
-pub use difference::diff;
+pub use difference::{diff, diff_admitted};
 pub use laws::merge_law;

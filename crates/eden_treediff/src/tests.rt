@@ -1,4 +1,4 @@
-use crate::diff;
+use crate::{diff, diff_admitted};
 use eden_globs::Filter;
 use eden_ids::{GitNaming, Id, Kind, Path};
 use eden_objects::{CommitFault, Store};
@@ -77,13 +77,32 @@ impl World {
 
     /// The paths that two commits differ on, one a line.
     fn diff(&self, alloc: Global, first: &str, second: &str) -> Result<Vec<u8>, Fail> {
-        let mut text = Vec::new(alloc);
-        for path in diff(alloc, &self.store, self.id(first), self.id(second))?.iter() {
-            text.extend_from_slice(path.as_bytes())?;
-            text.push(b'\n')?;
-        }
-        Ok(text)
+        let paths = diff(alloc, &self.store, self.id(first), self.id(second))?;
+        joined(alloc, paths.as_slice())
     }
+}
+
+/// Some paths, one a line.
+fn joined(alloc: Global, paths: &[Path]) -> Result<Vec<u8>, Fail> {
+    let mut text = Vec::new(alloc);
+    for path in paths.iter() {
+        text.extend_from_slice(path.as_bytes())?;
+        text.push(b'\n')?;
+    }
+    Ok(text)
+}
+
+/// The paths that two commits differ on and a pattern admits, one a line.
+fn diff_by(
+    alloc: Global,
+    store: &Store<GitNaming>,
+    pattern: &[u8],
+    first: Id,
+    second: Id,
+) -> Result<Vec<u8>, Fail> {
+    let filter = Filter::parse(alloc, &[pattern])?;
+    let paths = diff_admitted(alloc, store, first, second, &filter)?;
+    joined(alloc, paths.as_slice())
 }
 
 /// A store of the objects of a table.
@@ -179,6 +198,26 @@ fn shared_subtrees(rt: HostRuntime) -> Result<(), Fail> {
     let paths = diff(alloc, &world.store, first, second)?;
     assert_eq!(rt; paths.len(), 1);
     assert!(rt; paths.iter().all(|path| path.as_bytes() == b"f".as_slice()));
+    Ok(())
+}
+
+#[test]
+fn shared_subtrees_by_a_narrow_filter(rt: HostRuntime) -> Result<(), Fail> {
+    let alloc = rt.alloc();
+    let mut world = wide_world(alloc)?;
+    world.put(alloc, ("tree", "other", "100644 a y"))?;
+    let first = wide_commit(alloc, &mut world, "100644 f x", "plain")?;
+    let second = wide_commit(alloc, &mut world, "100644 f y", "other")?;
+    let found = diff_by(alloc, &world.store, b"f".as_slice(), first, second)?;
+    assert_eq!(rt; found.as_slice(), b"f\n".as_slice());
+    let mut line = b"z".to_vec(alloc)?;
+    for _ in 0..40_u64 {
+        line.extend_from_slice(b"/b".as_slice())?;
+    }
+    line.extend_from_slice(b"/a".as_slice())?;
+    let found = diff_by(alloc, &world.store, line.as_slice(), first, second)?;
+    line.push(b'\n')?;
+    assert_eq!(rt; found.as_slice(), line.as_slice());
     Ok(())
 }
 
@@ -299,6 +338,54 @@ fn each_pair_of_a_family(rt: HostRuntime) -> Result<(), Fail> {
             let wanted = plain_diff(alloc, rows.as_slice(), others.as_slice())?;
             let found = diff(alloc, &world.store, *first, *second)?;
             assert_eq!(rt; found.as_slice(), wanted.as_slice());
+        }
+    }
+    Ok(())
+}
+
+/// Those of some paths that a filter admits.
+fn admitted(alloc: Global, paths: &[Path], filter: &Filter) -> Result<Vec<Path>, Fail> {
+    let mut wanted = Vec::new(alloc);
+    for path in paths.iter() {
+        if filter.admits(path) {
+            wanted.push(path.copy()?)?;
+        }
+    }
+    Ok(wanted)
+}
+
+/// Whether two commits differ on just those paths that a filter admits of the ones that are found one by one.
+fn is_right(
+    alloc: Global,
+    store: &Store<GitNaming>,
+    filter: &Filter,
+    first: Id,
+    second: Id,
+) -> Result<bool, Fail> {
+    let all = Filter::parse(alloc, &[])?;
+    let rows = store.list(first, &all)?;
+    let others = store.list(second, &all)?;
+    let whole = plain_diff(alloc, rows.as_slice(), others.as_slice())?;
+    let wanted = admitted(alloc, whole.as_slice(), filter)?;
+    let found = diff_admitted(alloc, store, first, second, filter)?;
+    Ok(found.as_slice() == wanted.as_slice())
+}
+
+#[test]
+fn each_pair_of_a_family_by_filters(rt: HostRuntime) -> Result<(), Fail> {
+    let alloc = rt.alloc();
+    let rows = [("blob", "x", "x"), ("blob", "y", "y")];
+    let mut world = world_of(alloc, rows.as_slice())?;
+    let commits = family(alloc, &mut world)?;
+    for pattern in ["**", "a/**", "*", "**/b", "a/a/a", "none"] {
+        let filter = Filter::parse(alloc, &[pattern.as_bytes()])?;
+        for first in commits.iter() {
+            for second in commits.iter() {
+                assert!(rt;
+                    is_right(alloc, &world.store, &filter, *first, *second)?,
+                    "{pattern}"
+                );
+            }
         }
     }
     Ok(())

@@ -1,16 +1,18 @@
 ghost use Rattle.std.specs.Prelude.{◌≡◌, ◌++◌, ◌∷◌, [], IfOk, OnOk, true};
+ghost use Rattle.eden_globs.specs.Filters.{admits};
 ghost use Rattle.eden_ids.specs.Paths.{IsPath};
 ghost use Rattle.eden_objects.specs.Listings.{ArePaths};
 ghost use Rattle.eden_treediff.specs.Merges.{merge_rows};
 ghost use Rattle.eden_treediff.specs.Settled.{AreSettled, HoldSame, KeepsSettled, is_known};
-ghost use Rattle.eden_treediff.specs.Walks.{IsSide, behind, same_side, side_bytes, side_rows};
+ghost use Rattle.eden_treediff.specs.Walks.{IsSide, same_side, side_bytes, side_rows, wanted_behind};
 
 use crate::changes::Changes;
 use crate::columns::changed_rows;
 use crate::pair::next_pair;
 use crate::settled::Settled;
+use eden_globs::Filter;
 use eden_ids::{Id, Naming, NoMemory, Path};
-use eden_objects::{Store, path_behind};
+use eden_objects::{Store, enter, is_entered, is_wanted, path_behind};
 use std::alloc::Global;
 
 /// The paths that were found so far, and the bytes that stand before each name of the directory that is read.
@@ -21,31 +23,19 @@ pub(crate) struct Found {
 }
 
 impl Found {
-    /// Adds a file of the directory that is read.
-    fn add(&mut self, alloc: Global, name: &[u8]) -> Result<(), NoMemory>
+    /// Adds a file of the directory that is read, if it is wanted.
+    fn add(&mut self, alloc: Global, filter: &Filter, name: &[u8]) -> Result<(), NoMemory>
         requires { IsPath (self.old.front.items ++ name.now) }
-        ensures paths { OnOk result (self.new.paths.items ≡ self.old.paths.items ++ (self.old.front.items ++ name.now) ∷ []) }
+        ensures paths { OnOk result (self.new.paths.items
+            ≡ self.old.paths.items ++ wanted_behind (admits filter.now) self.old.front.items (name.now ∷ [])) }
         ensures front { OnOk result (self.new.front.items ≡ self.old.front.items) }
     {
+        if !is_wanted(&mut self.front, filter, name)? {
+            return Ok(());
+        }
         let path = path_behind(alloc, &mut self.front, name)?;
-        match self.paths.push(path) {
-            Ok(()) => Ok(()),
-            Err(_) => Err(NoMemory),
-        }
-    }
-
-    /// Goes on to a directory of the one that is read.
-    fn enter(&mut self, name: &[u8]) -> Result<(), NoMemory>
-        ensures paths { OnOk result (self.new.paths.items ≡ self.old.paths.items) }
-        ensures front { OnOk result (self.new.front.items ≡ self.old.front.items ++ name.now ++ 47 ∷ []) }
-    {
-        let Ok(_) = self.front.extend_from_slice(name) else {
-            return Err(NoMemory);
-        };
-        match self.front.push(b'/') {
-            Ok(()) => Ok(()),
-            Err(_) => Err(NoMemory),
-        }
+        self.paths.push(path)?;
+        Ok(())
     }
 }
 
@@ -75,39 +65,44 @@ fn entries_of<N: Naming + Drop>(store: &Store<N>, side: Option<Id>) -> &[u8]
     }
 }
 
-/// Adds the paths on which two trees differ, directory by directory. What both have under one id is not read.
+/// Adds the wanted paths on which two trees differ, directory by directory, and says whether the two are known to hold the same files.
+/// What both have under one id is not read, nor is a directory below which nothing is wanted.
 ///
-/// The entries that both sides have are compared as whole columns, first of ids and then of kinds. A pair of trees that names no path is
-/// remembered, and is not read again.
+/// The entries that both sides have are compared as whole columns, first of ids and then of kinds. A pair of trees that was read whole
+/// and names no path is remembered, and is not read again; of one that was not read whole nothing is known, since elsewhere another
+/// part of it may be wanted.
 pub(crate) fn walk<N: Naming + Drop>(
     alloc: Global,
     store: &Store<N>,
     first: Option<Id>,
     second: Option<Id>,
+    filter: &Filter,
     found: &mut Found,
     settled: &mut Settled,
-) -> Result<(), NoMemory>
+) -> Result<bool, NoMemory>
     requires first { IsSide store.now first }
     requires second { IsSide store.now second }
     requires settled { AreSettled store.now settled.old }
     requires first_paths { ArePaths found.old.front.items (side_rows store.now first) }
     requires second_paths { ArePaths found.old.front.items (side_rows store.now second) }
-    ensures paths { OnOk result (found.new.paths.items
-        ≡ found.old.paths.items ++ behind found.old.front.items (merge_rows (side_rows store.now first) (side_rows store.now second))) }
+    ensures paths { OnOk result (found.new.paths.items ≡ found.old.paths.items
+        ++ wanted_behind (admits filter.now) found.old.front.items (merge_rows (side_rows store.now first) (side_rows store.now second))) }
     ensures front { OnOk result (found.new.front.items ≡ found.old.front.items) }
     ensures settled { OnOk result (AreSettled store.now settled.new) }
     ensures kept { OnOk result (KeepsSettled settled.old settled.new) }
-    ensures known { OnOk result (HoldSame store.now first second → is_known settled.new first second ≡ true) }
+    ensures same { IfOk result (λ same. same ≡ true → is_known settled.new first second ≡ true) }
+    // Where everything is wanted, it says so of all that do.
+    ensures known { IfOk result (λ same. filter.now ≡ [] → HoldSame store.now first second → same ≡ true) }
 {
     store.closed_law();
     if same_side(first, second) || settled.has(first, second) {
-        return Ok(());
+        return Ok(true);
     }
-    let before = found.paths.len();
     let mut left = entries_of(store, first);
     let mut right = entries_of(store, second);
     let rows = changed_rows(alloc, left, right)?;
     let mut changes = Changes::of(&rows);
+    let mut same = true;
     'pairs: while let Some(pair) = next_pair(left, right) {
         left = pair.left;
         right = pair.right;
@@ -115,16 +110,26 @@ pub(crate) fn walk<N: Naming + Drop>(
             continue;
         }
         let Some((name, tree, other)) = pair.directory() else {
-            found.add(alloc, pair.name())?;
+            found.add(alloc, filter, pair.name())?;
+            same = false;
             continue;
         };
+        let entered = is_entered(&mut found.front, filter, name)?;
+        if !entered {
+            same = false;
+            continue;
+        }
         let length = found.front.len();
-        found.enter(name)?;
-        walk(alloc, store, tree, other, found, settled)?;
+        enter(&mut found.front, name)?;
+        let inside = walk(alloc, store, tree, other, filter, found, settled)?;
         found.front.truncate(length);
+        if !inside {
+            same = false;
+        }
     }
-    if found.paths.len() != before {
-        return Ok(());
+    if !same {
+        return Ok(false);
     }
-    settled.add(first, second)
+    settled.add(first, second)?;
+    Ok(true)
 }

@@ -6,5 +6,5 @@ use Rattle.eden_accumulate.proofs.snapshot.marked_over.Given as goal
 abbrev pub invariant-loop-entry : goal.invariant-loop-entry
 invariant-loop-entry g l = record {
   root : l.work.root ≡ l.initial.work.root;
-  files : marked_over l.present (means l.store l.work) (drop l.entry-index l.touched) ≡ marked_over l.present (means l.store l.initial.work) l.touched;
+  files : marked_over l.filter l.present (means l.store l.work) (drop l.entry-index l.touched) ≡ marked_over l.filter l.present (means l.store l.initial.work) l.touched;
 }

@@ -1,8 +1,14 @@
-use Rattle.eden_treediff.specs.Walks.{side_rows}
-use Rattle.eden_treediff.proofs.Sides.{both_sides}
+use Rattle.std.proofs.Common.{◌≡◌, Some}
+use Rattle.eden_objects.specs.Commits.{commit_map}
+use Rattle.eden_treediff.specs.Merges.{admitted_differences, differences}
+use Rattle.eden_treediff.proofs.Sides.{if_ok, none_left_out}
 use Rattle.eden_treediff.proofs.difference.diff.Goals as goal
 
-pub returns-in-Ok-paths_between-clause-paths : goal.returns-in-Ok-paths_between-clause-paths
-returns-in-Ok-paths_between-clause-paths g c =
-    both_sides g.N.Naming.id c.args.store.now c.args.first c.args.second (side_rows c.args.store.now c.in-Ok.tree) (side_rows c.args.store.now c.in-Ok-side_of.other)
-    c.in-Ok-paths_between.paths.items c.closed_law.ensures.closed c.closed_law.ensures.named c.in-Ok.ensures.1 c.in-Ok-side_of.ensures.1 c.in-Ok-paths_between.ensures
+pub returns-clause-paths : goal.returns-clause-paths
+returns-clause-paths g c =
+    let held = c.args.store.now in
+    if_ok c.diff_admitted.result
+    (λ paths. admitted_differences c.all-all.result (commit_map held c.args.first) (commit_map held c.args.second) ≡ Some paths.items)
+    (λ paths. differences (commit_map held c.args.first) (commit_map held c.args.second) ≡ Some paths.items)
+    (λ paths is. none_left_out c.all-all.result (differences (commit_map held c.args.first) (commit_map held c.args.second)) paths.items c.all-all.ensures is)
+    c.diff_admitted.ensures.paths

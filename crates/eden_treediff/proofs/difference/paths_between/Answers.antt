@@ -1,3 +1,4 @@
+use Rattle.eden_globs.specs.Filters.{admits}
 use Rattle.eden_treediff.specs.Merges.{merge_rows}
 use Rattle.eden_treediff.specs.Walks.{side_rows}
 use Rattle.eden_treediff.proofs.Legal.{top_legal}
@@ -6,7 +7,7 @@ use Rattle.eden_treediff.proofs.difference.paths_between.Goals as goal
 
 pub returns : goal.returns
 returns g c =
-    all_found c.new.result.items c.new-2.result.items (merge_rows (side_rows c.args.store.now c.args.first) (side_rows c.args.store.now c.args.second)) c.walk.new.found.paths.items
+    all_found (admits c.args.filter.now) c.new.result.items c.new-2.result.items (merge_rows (side_rows c.args.store.now c.args.first) (side_rows c.args.store.now c.args.second)) c.walk.new.found.paths.items
     c.new.ensures.items c.new-2.ensures.items c.in_ok-walk.ensures.paths
 
 pub walk-requires-clause-first_paths : goal.walk-requires-clause-first_paths

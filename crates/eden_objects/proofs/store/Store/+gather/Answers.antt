@@ -53,17 +53,16 @@ entries-preserved-then-not-entered g t c =
 pub entries-preserved-in_default-kind : goal.entries-preserved-in_default-kind
 entries-preserved-in_default-kind g t c =
     let front : List ℕ = c.args.listing.now.front.items in
-    let entered : c.enter.new.self.front.items ≡ front ++ c.in-Some.entry.name.now ++ 47 ∷ [] =
-    c.in_ok-enter.ensures.front ∙ ap (λ bytes. bytes ++ c.in-Some.entry.name.now ++ 47 ∷ []) (c.in_ok-entered.ensures.front ∙ c.entries.invariant.front) in
+    let entered : c.enter.new.front.items ≡ front ++ c.in-Some.entry.name.now ++ 47 ∷ [] =
+    c.in_ok-enter.ensures ∙ ap (λ bytes. bytes ++ c.in-Some.entry.name.now ++ 47 ∷ []) (c.in_ok-entered.ensures.front ∙ c.entries.invariant.front) in
     let rows : c.gather.new.listing.rows.items
-    ≡ c.entries.listing.rows.items ++ rows_behind (admits c.args.filter.now) c.enter.new.self.front.items (tree_rows c.args.self.now c.in-Some.entry.id) =
-    c.in_ok-gather.ensures.rows
-    ∙ ap (λ found. found ++ rows_behind (admits c.args.filter.now) c.enter.new.self.front.items (tree_rows c.args.self.now c.in-Some.entry.id)) c.in_ok-enter.ensures.rows in
+    ≡ c.entries.listing.rows.items ++ rows_behind (admits c.args.filter.now) c.enter.new.front.items (tree_rows c.args.self.now c.in-Some.entry.id) =
+    c.in_ok-gather.ensures.rows in
     let long : c.len-length.result ≡ length c.is_entered.new.front.items = search rules in
     let length_is : c.len-length.result ≡ length front = long ∙ ap length (c.in_ok-entered.ensures.front ∙ c.entries.invariant.front) in
     record {
       listed =
-          one_dir (admits c.args.filter.now) front c.enter.new.self.front.items (tree_rows c.args.self.now)
+          one_dir (admits c.args.filter.now) front c.enter.new.front.items (tree_rows c.args.self.now)
           (c.args.listing.now.rows.items ++ rows_behind (admits c.args.filter.now) front (tree_rows c.args.self.now c.args.tree)) c.entries.listing.rows.items c.gather.new.listing.rows.items (plain c.in-Some.entry)
           (entries_of c.in-Some.after.now) (entries_of c.entries.rest.now) c.in-Some.ensures.entries c.in_default-kind.is entered c.entries.invariant.listed rows;
       front =
@@ -80,14 +79,14 @@ pub gather-requires : goal.gather-requires
 gather-requires g t c κs within =
     let held : List Held = c.args.self.now in
     let front : List ℕ = c.args.listing.now.front.items in
-    let entered : c.enter.new.self.front.items ≡ front ++ c.in-Some.entry.name.now ++ 47 ∷ [] =
-    c.in_ok-enter.ensures.front ∙ ap (λ bytes. bytes ++ c.in-Some.entry.name.now ++ 47 ∷ []) (c.in_ok-entered.ensures.front ∙ c.entries.invariant.front) in
+    let entered : c.enter.new.front.items ≡ front ++ c.in-Some.entry.name.now ++ 47 ∷ [] =
+    c.in_ok-enter.ensures ∙ ap (λ bytes. bytes ++ c.in-Some.entry.name.now ++ 47 ∷ []) (c.in_ok-entered.ensures.front ∙ c.entries.invariant.front) in
     let tree =
     dir_is_held held (plain c.in-Some.entry) (entries_of c.in-Some.after.now) (entries_of c.entries.rest.now) c.in-Some.ensures.entries c.in_default-kind.is c.entries.invariant.held in
     let less : tree_depth held c.in-Some.entry.id < tree_depth held c.args.tree =
     dir_is_below (tree_depth held) (plain c.in-Some.entry) (entries_of c.in-Some.after.now) (entries_of c.entries.rest.now) (tree_depth held c.args.tree) c.in-Some.ensures.entries
     c.in_default-kind.is c.entries.invariant.below in
-    let paths : ArePaths c.enter.new.self.front.items (tree_rows held c.in-Some.entry.id) =
-    dir_paths front c.enter.new.self.front.items (tree_rows held) (plain c.in-Some.entry) (entries_of c.in-Some.after.now) (entries_of c.entries.rest.now) c.in-Some.ensures.entries
+    let paths : ArePaths c.enter.new.front.items (tree_rows held c.in-Some.entry.id) =
+    dir_paths front c.enter.new.front.items (tree_rows held) (plain c.in-Some.entry) (entries_of c.in-Some.after.now) (entries_of c.entries.rest.now) c.in-Some.ensures.entries
     c.in_default-kind.is entered c.entries.invariant.paths in
     (search rules, (search rules, (tree, paths)))
