@@ -1,6 +1,6 @@
 -- What a mount tells of its past is what the worlds reply for which it stands.
-use Rattle.std.proofs.Common.{◌≡◌, ℕ, true, List, Option, Some, None, sym, ap, subst, ◌∙◌}
-use Rattle.std.specs.Prelude.{IsSome}
+use Rattle.std.proofs.Common.{◌≡◌, ℕ, true, List, Option, Some, None, refl, sym, ap, subst, ◌∙◌}
+use Rattle.std.specs.Prelude.{IsSome, Ok, Err}
 use Rattle.eden_ids.specs.declared.id.Id.{Id}
 use Rattle.eden_objects.specs.Commits.{commit_map}
 use Rattle.eden_ids.specs.declared.content.Content.{Content}
@@ -17,9 +17,11 @@ use Rattle.eden_history.specs.declared.message.Reply.TheVariants.{BasisIs, Chang
 use Rattle.eden_history.specs.declared.message.Request.TheVariants.{Basis, Poll, Fetch}
 use Rattle.eden_history.specs.declared.position.Position.{Position}
 use Rattle.eden_history.specs.Worlds.{WorldState, now, position_of}
+use Rattle.eden_history.specs.Status.{status_of}
 use Rattle.eden_history.specs.Replies.{admitted, admitted_paths, bounded, cause_of, polled, reply_of}
 use Rattle.eden_query.specs.declared.raw.Raw.TheVariants as raw
 use Rattle.eden_query.specs.Raws.{is_answerable, told}
+use Rattle.eden_query.specs.Settled.{settled, settled_by, settled_of}
 
 pub ranged_tells : (mount : State) (query : Query) (since : Position) (patterns : List (List ℕ)) (range : Range)
     → IsStatus mount since None → EndsNow mount range → Tells mount since range → (world : WorldState) → StandsFor mount world
@@ -57,3 +59,27 @@ pub based_answerable : (mount : State) (query : Query) (snapshot : Snapshot)
 based_answerable mount query snapshot place some =
     let root : snapshot.position.root ≡ mount.work.root = ap (λ (p : Position). p.root) (place some.0 some.1) ∙ sym some.1.root in
     subst (λ (r : Id). IsSome (commit_map mount.held r)) (sym root) some.1.fits.0
+
+-- ---- where it is answered
+
+pub ranged_settled : (mount : State) (query : Query) (since : Position) (range : Range)
+    → IsStatus mount since None → EndsNow mount range → (world : WorldState) → StandsFor mount world
+    → settled (raw.Ranged query range) ≡ settled_by (position_of (now world)) (status_of world since)
+ranged_settled mount query since range good ends world h =
+    (λ i. Ok (ends world h i)) ∙ sym (ap (settled_by (position_of (now world))) (good world h))
+
+pub refused_settled : (mount : State) (query : Query) (since : Position) (fault : SinceFault) (cause : Cause)
+    → IsStatus mount since (Some fault) → cause ≡ cause_of fault → (world : WorldState) → StandsFor mount world
+    → settled (raw.Refused query cause) ≡ settled_by (position_of (now world)) (status_of world since)
+refused_settled mount query since fault cause is same world h =
+    (λ i. Err (same i)) ∙ sym (ap (settled_by (position_of (now world))) (is world h))
+
+pub based_settled : (mount : State) (query : Query) (snapshot : Snapshot)
+    → ((world : WorldState) → StandsFor mount world → snapshot.position ≡ position_of (now world))
+    → (world : WorldState) → StandsFor mount world → settled (raw.Based query snapshot) ≡ Ok (position_of (now world))
+based_settled mount query snapshot place world h = λ i. Ok (place world h i)
+
+pub held_settled : (mount : State) (query : Query) (position : Position) (path : List ℕ) (content : Option Content)
+    → ((world : WorldState) → StandsFor mount world → position ≡ position_of (now world))
+    → (world : WorldState) → StandsFor mount world → settled (raw.Held query position path content) ≡ settled_of world (Fetch query path)
+held_settled mount query position path content place world h = λ i. Ok (place world h i)

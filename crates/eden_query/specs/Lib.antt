@@ -2,5 +2,6 @@ pub mod Reading
 pub mod Listing
 pub mod Answers
 pub mod Raws
+pub mod Settled
 pub mod Servers
 pub mod Laws

@@ -28,7 +28,7 @@ pub use crate::fault::{DecodeFault, EncodeFault};
 pub use crate::laws::{reply_law, request_law};
 pub use crate::raw::Raw;
 pub use crate::served::Served;
-pub use crate::serving::serve;
+pub use crate::serving::{reply_to, serve};
 pub use eden_stream::{BODY_LIMIT, FrameFault, ServeFault};
 
 mod answering;

@@ -4,9 +4,11 @@ ghost use Rattle.std.specs.Prelude.{◌≡◌, ℕ, List, None, IfOk, true};
 ghost use Rattle.eden_ids.specs.FileMaps.{file_at};
 ghost use Rattle.eden_objects.specs.Commits.{commit_map};
 ghost use Rattle.eden_accumulate.specs.Mounts.{StandsFor, files_of};
-ghost use Rattle.eden_history.specs.Worlds.{WorldState};
+ghost use Rattle.eden_history.specs.Worlds.{WorldState, now, position_of};
+ghost use Rattle.eden_history.specs.Status.{status_of};
 ghost use Rattle.eden_history.specs.Replies.{reply_of};
 ghost use Rattle.eden_query.specs.Raws.{is_answerable, patterns_of, told};
+ghost use Rattle.eden_query.specs.Settled.{settled, settled_by, settled_of};
 
 use crate::raw::Raw;
 use crate::served::Served;
@@ -17,10 +19,11 @@ use eden_objects::Store;
 use std::sync::Arc;
 
 /// Which files are held, as a basis asks for them.
-#[tactic(auto, using(crate::proofs::Telling::based_tells, crate::proofs::Telling::based_answerable))]
+#[tactic(auto, using(crate::proofs::Telling::based_tells, crate::proofs::Telling::based_answerable, crate::proofs::Telling::based_settled))]
 fn based<N: Naming + Drop>(mount: &Mount<N>, query: Query) -> Result<Raw, NoMemory>
     ensures replies { IfOk result (λ raw. (world : WorldState) → StandsFor mount.now world → (patterns : List (List ℕ))
         → told mount.now.held patterns raw ≡ reply_of world (Request.Basis query patterns)) }
+    ensures settled { IfOk result (λ raw. (world : WorldState) → StandsFor mount.now world → settled raw ≡ Ok (position_of (now world))) }
     ensures answerable { IfOk result (λ raw. is_answerable (commit_map mount.now.held) raw ≡ true) }
 {
     mount.stands_law();
@@ -29,7 +32,7 @@ fn based<N: Naming + Drop>(mount: &Mount<N>, query: Query) -> Result<Raw, NoMemo
 }
 
 /// What changed since a position, as it is asked for.
-#[tactic(auto, using(crate::proofs::Telling::ranged_tells, crate::proofs::Telling::refused_tells))]
+#[tactic(auto, using(crate::proofs::Telling::ranged_tells, crate::proofs::Telling::refused_tells, crate::proofs::Telling::ranged_settled, crate::proofs::Telling::refused_settled))]
 fn ranged<N: Naming + Drop>(
     mount: &Mount<N>,
     query: Query,
@@ -37,6 +40,8 @@ fn ranged<N: Naming + Drop>(
 ) -> Result<Raw, NoMemory>
     ensures replies { IfOk result (λ raw. (world : WorldState) → StandsFor mount.now world → (patterns : List (List ℕ))
         → told mount.now.held patterns raw ≡ reply_of world (Request.Poll query since.now patterns)) }
+    ensures settled { IfOk result (λ raw. (world : WorldState) → StandsFor mount.now world
+        → settled raw ≡ settled_by (position_of (now world)) (status_of world since.now)) }
     ensures answerable { IfOk result (λ raw. is_answerable (commit_map mount.now.held) raw ≡ true) }
 {
     match mount.range_since(since) {
@@ -59,10 +64,11 @@ fn content_at<N: Naming + Drop>(mount: &Mount<N>, path: &Path) -> Result<Option<
 }
 
 /// What a request asks for.
-#[tactic(auto, using(crate::proofs::Telling::held_tells))]
+#[tactic(auto, using(crate::proofs::Telling::held_tells, crate::proofs::Telling::held_settled))]
 fn raw_of<N: Naming + Drop>(mount: &Mount<N>, request: &Request) -> Result<Raw, NoMemory>
     ensures replies { IfOk result (λ raw. (world : WorldState) → StandsFor mount.now world
         → told mount.now.held (patterns_of request.now) raw ≡ reply_of world request.now) }
+    ensures settled { IfOk result (λ raw. (world : WorldState) → StandsFor mount.now world → settled raw ≡ settled_of world request.now) }
     ensures answerable { IfOk result (λ raw. is_answerable (commit_map mount.now.held) raw ≡ true) }
 {
     match request {
@@ -84,6 +90,11 @@ impl<N: Naming + Drop> Served<N> for Mount<N> {
 
     ghost stored = { λ _. None };
 
+    // A mount stores no history.
+    ghost apply_gives = { λ _ _ _ _ _. Unit {0} };
+
+    ghost hold_gives = { λ _ _ _ _ _. Unit {0} };
+
     fn store(&self) -> &Arc<Store<N>> {
         self.store()
     }
@@ -93,10 +104,12 @@ impl<N: Naming + Drop> Served<N> for Mount<N> {
     }
 
     fn hold(&mut self, _caller: u64, request: &Request) -> Result<Raw, NoMemory> {
+        self.stands_law();
         raw_of(self, request)
     }
 
     fn apply(&mut self, _caller: u64, change: &Change) -> Result<Answer, NoMemory> {
+        self.stands_law();
         self.apply(change)
     }
 }

@@ -4,11 +4,16 @@ ghost use Rattle.std.specs.Prelude.{◌≡◌, ℕ, List, Option, true, IfOk, On
 ghost use Rattle.std.specs.Arc.{arc_value};
 ghost use Rattle.eden_objects.specs.Objects.{Held};
 ghost use Rattle.eden_objects.specs.Commits.{commit_map};
+ghost use Rattle.eden_history.specs.declared.answer.Answer.{Answer};
+ghost use Rattle.eden_history.specs.declared.change.Change.{Change};
+ghost use Rattle.eden_history.specs.declared.message.Request.{Request};
 ghost use Rattle.eden_history.specs.Worlds.{WorldState};
+ghost use Rattle.eden_query.specs.declared.raw.Raw.{Raw};
 ghost use Rattle.eden_history.specs.Replies.{reply_of};
 ghost use Rattle.eden_history.specs.Outcome.{answer_of, world_after};
 ghost use Rattle.eden_query.specs.Raws.{is_answerable, patterns_of, told};
 ghost use Rattle.eden_query.specs.Servers.{raised};
+ghost use Rattle.eden_query.specs.Settled.{settled, settled_of};
 
 use crate::raw::Raw;
 use eden_history::{Answer, Change, Request};
@@ -29,6 +34,13 @@ pub trait Served<N: Naming + Drop> {
     // The length of its stored history, where it stores one.
     ghost stored: { Self → Option ℕ };
 
+    // That a change of this caller with this answer took the server from the first state to the second: where a history is stored, which
+    // entry it gave there.
+    ghost apply_gives: { Self → ℕ → Change → Answer → Self → Type 0 };
+
+    // The same of a request, and of what was held for it.
+    ghost hold_gives: { Self → ℕ → Request → Raw → Self → Type 0 };
+
     /// The objects. This takes no memory.
     fn store(&self) -> &Arc<Store<N>>
         ensures held { arc_value result.now ≡ held self.now }
@@ -42,11 +54,15 @@ pub trait Served<N: Naming + Drop> {
     ///
     /// `NoMemory` comes where a growth was refused; nothing has changed then.
     fn hold(&mut self, caller: u64, request: &Request) -> Result<Raw, NoMemory>
+        // There is such a history.
+        ensures world { (world : WorldState) × stands_for self.old world }
         ensures replies { IfOk result (λ raw. (world : WorldState) → stands_for self.old world
             → told (held self.old) (patterns_of request.now) raw ≡ reply_of world request.now) }
+        ensures settled { IfOk result (λ raw. (world : WorldState) → stands_for self.old world → settled raw ≡ settled_of world request.now) }
         ensures answerable { IfOk result (λ raw. is_answerable (commit_map (held self.old)) raw ≡ true) }
         ensures stands { (world : WorldState) → stands_for self.old world → stands_for self.new world }
         ensures held { held self.new ≡ held self.old }
+        ensures given { IfOk result (λ raw. hold_gives self.old caller request.now raw self.new) }
         ensures noted { OnOk result (stored self.new ≡ raised (stored self.old)) }
         ensures unchanged { OnErr result (self.new ≡ self.old) };
 
@@ -54,8 +70,10 @@ pub trait Served<N: Naming + Drop> {
     ///
     /// `NoMemory` comes where a growth was refused; nothing has changed then.
     fn apply(&mut self, caller: u64, change: &Change) -> Result<Answer, NoMemory>
+        ensures world { (world : WorldState) × stands_for self.old world }
         ensures answer { IfOk result (λ answer. (world : WorldState) → stands_for self.old world → answer ≡ answer_of world change.now) }
         ensures stands { OnOk result ((world : WorldState) → stands_for self.old world → stands_for self.new (world_after world change.now)) }
+        ensures given { IfOk result (λ answer. apply_gives self.old caller change.now answer self.new) }
         ensures noted { OnOk result (stored self.new ≡ raised (stored self.old)) }
         ensures unchanged { OnErr result (self.new ≡ self.old) };
 }

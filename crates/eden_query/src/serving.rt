@@ -61,16 +61,20 @@ fn filter_of<'a>(request: &'a Request, everything: &'a Filter) -> &'a Filter
     }
 }
 
-/// What the server replies to a request.
-fn reply_to<N: Naming + Drop, T: Served<N>>(
+/// What a server replies to a request of this caller: what it holds for the request, answered with the request's filter over the
+/// server's objects.
+///
+/// `NoMemory` comes where a growth was refused. What was held keeps its entry then, where a history is stored.
+pub fn reply_to<N: Naming + Drop, T: Served<N>>(
     server: &mut T,
+    caller: u64,
     request: &Request,
 ) -> Result<Reply, NoMemory>
     ensures reply { IfOk result (λ reply. (world : WorldState) → T.stands_for server.old world → reply ≡ reply_of world request.now) }
     ensures fits { IfOk result (λ reply. length (reply_bytes reply) ≤ 16777216) }
     ensures stands { (world : WorldState) → T.stands_for server.old world → T.stands_for server.new world }
 {
-    let raw = server.hold(STREAM, request)?;
+    let raw = server.hold(caller, request)?;
     let store = server.store();
     let everything = Filter::all(store.allocator());
     let filter = filter_of(request, &everything);
@@ -102,7 +106,7 @@ fn answer_body<N: Naming + Drop, T: Served<N>>(
             };
         }
     };
-    let reply = match reply_to(server, &request) {
+    let reply = match reply_to(server, STREAM, &request) {
         Ok(reply) => reply,
         Err(_) => return Told::NoMemory,
     };
