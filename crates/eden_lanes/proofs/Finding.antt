@@ -1,6 +1,6 @@
 -- How the first row that holds an id is found among the first ids of a column.
 use Rattle.std.proofs.lemmas.Iterator.Adapters.{position_from-zero}
-use Rattle.std.proofs.Common.{take, ◌≡◌, ℕ, zero, suc, List, [], ◌∷◌, ◌++◌, length, get_or, refl, ap, sym, ◌∙◌, ◌+◌, ◌≤◌, ◌<◌, ◌-◌, arith, Bool, true, false, cond, subst, ◌||◌}
+use Rattle.std.proofs.Common.{take, ◌≡◌, ℕ, suc, List, [], ◌∷◌, ◌++◌, length, get_or, refl, ap, sym, ◌∙◌, ◌+◌, ◌≤◌, ◌<◌, ◌-◌, arith, Bool, true, false, cond, subst, ◌||◌}
 use Rattle.std.specs.Prelude.{Option, Some, None}
 use Rattle.std.specs.List.{list_any, position, position_from}
 use Rattle.std.specs.Simd.Lanes.{chunk}

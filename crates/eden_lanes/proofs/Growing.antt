@@ -1,15 +1,15 @@
 -- How the rows at which two columns of ids differ grow, one row or eight at a time.
-use Rattle.std.proofs.Common.{◌≡◌, ℕ, zero, suc, List, [], ◌∷◌, ◌++◌, length, get_or, take, drop, refl, ap, sym, ◌∙◌, ◌+◌, ◌-◌, ◌*◌, ◌/◌, ◌%◌, ◌^◌, ◌≤◌, ◌<◌, arith, Bool, true, false, cond, nat_eq, length-append}
+use Rattle.std.proofs.Common.{◌≡◌, ℕ, suc, List, [], ◌∷◌, ◌++◌, length, get_or, take, refl, ap, sym, ◌∙◌, ◌+◌, ◌-◌, ◌*◌, ◌/◌, ◌%◌, ◌^◌, ◌≤◌, ◌<◌, arith, Bool, true, false, cond, nat_eq, length-append}
 use Rattle.std.specs.Prelude.{count_ones}
 use Rattle.std.specs.Simd.Lanes.{chunk, mask_l, zip2}
 use Rattle.std.proofs.lemmas.List.{append-nil, length-take}
 use Rattle.std.proofs.Math.Nat.{two-pow-succ}
-use Rattle.std.proofs.lemmas.Simd.{bit_mask_l, get_or-chunk, get_or-zip2, length-chunk, length-zip2, mask_l-lt, ones-mask_l, ones-mask_l_cons}
+use Rattle.std.proofs.lemmas.Simd.{bit_mask_l, get_or-chunk, get_or-zip2, length-chunk, ones-mask_l, ones-mask_l_cons}
 use Rattle.eden_ids.specs.declared.id.Id.{Id}
 use Rattle.eden_ids.specs.Columns.{id_of_words}
 use Rattle.eden_ids.specs.Sameness.{same_id}
 use Rattle.eden_lanes.specs.Rows.{differ_from, differing_ids}
-use Rattle.eden_lanes.proofs.Differing.{among, among-more, among-one}
+use Rattle.eden_lanes.proofs.Differing.{among-more, among-one}
 
 -- the rows at which the first ids of two columns differ
 abbrev pub ids_among : ℕ → List Id → List Id → List ℕ

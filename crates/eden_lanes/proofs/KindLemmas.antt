@@ -5,7 +5,7 @@ use Rattle.std.specs.Cmp.Lexicographic.{pointwise}
 use Rattle.std.proofs.lemmas.List.{append-nil}
 use Rattle.std.proofs.lemmas.Simd.{length-zip2, mask_l-mod, tops_compared}
 use Rattle.eden_lanes.specs.Rows.{differing_kinds}
-use Rattle.eden_lanes.proofs.Differing.{among, among-more, among-one, differ_from-same}
+use Rattle.eden_lanes.proofs.Differing.{among-more, among-one, differ_from-same}
 
 -- the rows at which the first kinds of two columns differ
 abbrev pub kinds_among : ℕ → List ℕ → List ℕ → List ℕ

@@ -1,16 +1,15 @@
 -- What the mask of a comparison of eight ids tells: a bit is set where they are the same.
-use Rattle.std.proofs.Common.{bit_and, ◌≡◌, ℕ, sym, List, [], ◌∷◌, length, map, refl, ap, ◌∙◌, ◌+◌, ◌-◌, ◌*◌, ◌≤◌, ◌<◌, ◌%◌, ◌^◌, arith, Bool, true, false, cond, not, nat_eq, ◌&&◌, ◌||◌, take, drop}
+use Rattle.std.proofs.Common.{bit_and, ◌≡◌, ℕ, sym, List, [], ◌∷◌, length, map, refl, ap, ◌∙◌, ◌+◌, ◌-◌, ◌*◌, ◌%◌, ◌^◌, arith, Bool, true, false, cond, not, nat_eq, ◌&&◌, ◌||◌, take, drop}
 use Rattle.std.specs.Prelude.{replicate}
-use Rattle.std.specs.List.{All, list_any}
+use Rattle.std.specs.List.{list_any}
 use Rattle.std.specs.Simd.Lanes.{Each1, chunk, mask_l, zip2, top}
-use Rattle.std.specs.Cmp.Lexicographic.{pointwise}
 use Rattle.std.proofs.lemmas.List.{take-map, take_rest, drop-map, length-map}
-use Rattle.std.proofs.lemmas.Simd.{Each1-replicate, length-chunk, mask_l-mod, length-zip2, length-replicate, zip2_splat_left}
+use Rattle.std.proofs.lemmas.Simd.{mask_l-mod, length-zip2, zip2_splat_left}
 use Rattle.eden_ids.specs.declared.id.Id.{Id}
 use Rattle.eden_ids.specs.Columns.{IsOfItsWords, word}
 use Rattle.eden_ids.specs.Sameness.{same_id}
 use Rattle.eden_lanes.specs.Masks.{lanes_of, same_word}
-use Rattle.eden_lanes.proofs.Words.{each_of, words_tell}
+use Rattle.eden_lanes.proofs.Words.{words_tell}
 
 -- a comparison of words, lane by lane
 abbrev pub equal_lanes : List ℕ → List ℕ → List ℕ

@@ -1,10 +1,10 @@
 -- Ids are the same where their five words are.
-use Rattle.std.proofs.Common.{◌≡◌, ℕ, List, length, get_or, map, refl, ap, sym, ◌∙◌, ◌+◌, ◌≤◌, ◌<◌, arith, Bool, true, false, ◌&&◌, nat_eq}
+use Rattle.std.proofs.Common.{◌≡◌, ℕ, List, length, get_or, map, ap, sym, ◌∙◌, ◌<◌, Bool, ◌&&◌}
 use Rattle.std.specs.Bool.{Decides}
 use Rattle.std.specs.List.{All}
 use Rattle.std.specs.Simd.Lanes.{Each1, chunk}
 use Rattle.std.proofs.lemmas.Bool.Decides.{Decides-and, Decides-eqb, Decides-like, same_from_decides}
-use Rattle.std.proofs.lemmas.List.{get_or-map, get_or_default}
+use Rattle.std.proofs.lemmas.List.{get_or-map}
 use Rattle.std.proofs.lemmas.Simd.{Each1-from_get_or, Each1-chunk}
 use Rattle.eden_ids.specs.declared.id.Id.{Id}
 use Rattle.eden_ids.specs.Columns.{IsOfItsWords, id_of_words, word}

@@ -1,4 +1,4 @@
-use Rattle.std.proofs.Common.{◌*◌, ◌/◌, length, sym, ◌∙◌, arith}
+use Rattle.std.proofs.Common.{◌*◌, ◌/◌, sym, ◌∙◌, arith}
 use Rattle.eden_lanes.proofs.Finding.{first_in-found, first_in-whole}
 use Rattle.eden_lanes.proofs.find.find_row.Goals as goal
 

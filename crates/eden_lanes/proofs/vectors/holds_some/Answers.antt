@@ -1,4 +1,4 @@
-use Rattle.std.proofs.Common.{arith, rules, ap, not, nat_eq, ◌∙◌}
+use Rattle.std.proofs.Common.{rules}
 use Rattle.std.specs.Prelude.{replicate}
 use Rattle.std.specs.Simd.Lanes.{chunk}
 use Rattle.std.proofs.lemmas.Simd.{Each1-replicate, length-chunk, length-replicate}
