@@ -1,6 +1,6 @@
-// Measures eden_lanes beside plain loops and memcmp. How to run it: README.md.
+// Measures eden_lanes beside plain loops, its former kernel and memcmp. How to run it: README.md.
+use std::arch::x86_64::*;
 use std::hint::black_box;
-use std::time::Instant;
 
 extern "C" {
     fn eden_lanes_differ_rows(a: *const u8, a_len: usize, b: *const u8, b_len: usize, rounds: usize) -> usize;
@@ -8,45 +8,174 @@ extern "C" {
     fn eden_lanes_find_row(
         a: *const u8, a_len: usize, b: *const u8, b_len: usize, id: *const u8, id_len: usize, rounds: usize,
     ) -> usize;
+    fn clock_gettime(clock: i32, time: *mut [i64; 2]) -> i32;
 }
 
 type Id = [u8; 20];
 
-fn plain_rows(a: &[Id], b: &[Id]) -> Vec<usize> {
-    let mut rows = Vec::new();
-    for row in 0..a.len() {
-        if a[row] != b[row] {
-            rows.push(row);
+/// Five columns of words, as eden_lanes has them.
+struct Words([Vec<u32>; 5]);
+
+impl Words {
+    fn new(ids: &[Id]) -> Words {
+        let word = |id: &Id, at: usize| u32::from_be_bytes([id[at], id[at + 1], id[at + 2], id[at + 3]]);
+        Words([0, 4, 8, 12, 16].map(|at| ids.iter().map(|id| word(id, at)).collect()))
+    }
+
+    /// The columns, cut to one length, so that the loops below need no test of their bounds.
+    fn columns(&self, rows: usize) -> [&[u32]; 5] {
+        [&self.0[0][..rows], &self.0[1][..rows], &self.0[2][..rows], &self.0[3][..rows], &self.0[4][..rows]]
+    }
+
+    fn len(&self) -> usize {
+        self.0[0].len()
+    }
+}
+
+/// What is measured beside eden_lanes, over the same ids.
+struct Side<'a> {
+    ids: &'a [Id],
+    words: Words,
+}
+
+mod bytes {
+    use super::*;
+
+    pub fn rows(a: &[Id], b: &[Id]) -> Vec<usize> {
+        let mut rows = Vec::new();
+        for row in 0..a.len().min(b.len()) {
+            if a[row] != b[row] {
+                rows.push(row);
+            }
+        }
+        rows
+    }
+
+    pub fn count(a: &[Id], b: &[Id]) -> usize {
+        a.iter().zip(b).filter(|(x, y)| x != y).count()
+    }
+
+    pub fn find(a: &[Id], id: &Id) -> Option<usize> {
+        a.iter().position(|x| x == id)
+    }
+}
+
+/// Plain loops over columns of words, which stop at the first word of a row that differs, or look at all five.
+mod words {
+    use super::*;
+
+    fn stops(a: &[&[u32]; 5], b: &[&[u32]; 5], row: usize) -> bool {
+        a[0][row] != b[0][row] || a[1][row] != b[1][row] || a[2][row] != b[2][row] || a[3][row] != b[3][row] || a[4][row] != b[4][row]
+    }
+
+    fn looks_at_all(a: &[&[u32]; 5], b: &[&[u32]; 5], row: usize) -> bool {
+        (a[0][row] ^ b[0][row] | a[1][row] ^ b[1][row] | a[2][row] ^ b[2][row] | a[3][row] ^ b[3][row] | a[4][row] ^ b[4][row]) != 0
+    }
+
+    fn rows_by(a: &Words, b: &Words, differs: impl Fn(&[&[u32]; 5], &[&[u32]; 5], usize) -> bool) -> Vec<usize> {
+        let rows = a.len();
+        let (a, b) = (a.columns(rows), b.columns(rows));
+        let mut found = Vec::new();
+        for row in 0..rows {
+            if differs(&a, &b, row) {
+                found.push(row);
+            }
+        }
+        found
+    }
+
+    pub fn rows(a: &Words, b: &Words) -> Vec<usize> {
+        rows_by(a, b, stops)
+    }
+
+    pub fn rows_of_all(a: &Words, b: &Words) -> Vec<usize> {
+        rows_by(a, b, looks_at_all)
+    }
+
+    pub fn count(a: &Words, b: &Words) -> usize {
+        let rows = a.len();
+        let (a, b) = (a.columns(rows), b.columns(rows));
+        (0..rows).filter(|&row| stops(&a, &b, row)).count()
+    }
+
+    pub fn count_all(a: &Words, b: &Words) -> usize {
+        let rows = a.len();
+        let (a, b) = (a.columns(rows), b.columns(rows));
+        (0..rows).filter(|&row| looks_at_all(&a, &b, row)).count()
+    }
+
+    pub fn find(a: &Words, id: &Id) -> Option<usize> {
+        let wanted = Words::new(&[*id]);
+        let rows = a.len();
+        let (a, id) = (a.columns(rows), wanted.columns(1));
+        (0..rows).position(|row| (0..5).all(|place| a[place][row] == id[place][0]))
+    }
+}
+
+/// The former kernel of eden_lanes: ids in one run of bytes, four of which are five vectors of sixteen bytes.
+mod former {
+    use super::*;
+
+    fn same_four(a: &[Id], b: &[Id], row: usize) -> bool {
+        let (a, b) = (a[row..row + 4].as_flattened(), b[row..row + 4].as_flattened());
+        let mut same = unsafe { _mm_set1_epi8(-1) };
+        for at in [0, 16, 32, 48, 64] {
+            unsafe {
+                let (x, y) = (_mm_loadu_si128(a[at..].as_ptr().cast()), _mm_loadu_si128(b[at..].as_ptr().cast()));
+                same = _mm_and_si128(same, _mm_cmpeq_epi8(x, y));
+            }
+        }
+        unsafe { _mm_movemask_epi8(same) == 0xffff }
+    }
+
+    pub fn rows(a: &[Id], b: &[Id]) -> Vec<usize> {
+        let (fours, mut rows) = (a.len() / 4, Vec::new());
+        for four in 0..fours {
+            if !same_four(a, b, 4 * four) {
+                rows.extend((4 * four..4 * four + 4).filter(|&row| a[row] != b[row]));
+            }
+        }
+        rows.extend((4 * fours..a.len()).filter(|&row| a[row] != b[row]));
+        rows
+    }
+
+    pub fn count(a: &[Id], b: &[Id]) -> usize {
+        let (fours, mut count) = (a.len() / 4, 0);
+        for four in 0..fours {
+            if !same_four(a, b, 4 * four) {
+                count += (4 * four..4 * four + 4).filter(|&row| a[row] != b[row]).count();
+            }
+        }
+        count + (4 * fours..a.len()).filter(|&row| a[row] != b[row]).count()
+    }
+}
+
+/// The processor time of this thread, in seconds.
+fn now() -> f64 {
+    let mut time = [0; 2];
+    assert_eq!(unsafe { clock_gettime(3, &mut time) }, 0);
+    time[0] as f64 + time[1] as f64 / 1e9
+}
+
+/// The seconds of a round of each call, which takes the number of its rounds and may prepare its columns first: the least of seven
+/// tries with rounds, less the least with none. The calls take turns, so that what else runs on the machine meets them alike.
+fn seconds(rounds: usize, calls: &mut [&mut dyn FnMut(usize) -> usize]) -> Vec<f64> {
+    let mut least = vec![[f64::MAX; 2]; calls.len()];
+    for _ in 0..7 {
+        for (call, least) in calls.iter_mut().zip(&mut least) {
+            for (rounds, least) in [0, rounds].into_iter().zip(least) {
+                let begun = now();
+                black_box(call(rounds));
+                *least = least.min(now() - begun);
+            }
         }
     }
-    rows
-}
-
-fn plain_count(a: &[Id], b: &[Id]) -> usize {
-    a.iter().zip(b).filter(|(x, y)| x != y).count()
-}
-
-fn plain_find(a: &[Id], id: &Id) -> Option<usize> {
-    a.iter().position(|x| x == id)
-}
-
-/// The seconds of a round, of a call that takes the number of its rounds and may prepare its columns first: the least of
-/// seven tries with rounds, less the least with none.
-fn seconds(rounds: usize, mut call: impl FnMut(usize) -> usize) -> f64 {
-    let mut least = |rounds: usize| {
-        (0..7).fold(f64::MAX, |least, _| {
-            let begun = Instant::now();
-            black_box(call(rounds));
-            least.min(begun.elapsed().as_secs_f64())
-        })
-    };
-    let empty = least(0);
-    (least(rounds) - empty) / rounds as f64
+    least.iter().map(|[empty, full]| (full - empty) / rounds as f64).collect()
 }
 
 /// So many rounds of a call.
 fn repeated(rounds: usize, mut round: impl FnMut() -> usize) -> usize {
-    (0..rounds).map(|_| round()).last().unwrap_or(0)
+    (0..rounds).map(|_| black_box(round())).last().unwrap_or(0)
 }
 
 fn ids_of(seed: u64, count: usize) -> Vec<Id> {
@@ -68,57 +197,72 @@ fn ids_of(seed: u64, count: usize) -> Vec<Id> {
         .collect()
 }
 
-fn print(name: &str, bytes: usize, lanes: f64, plain: f64, memcmp: f64) {
-    let rate = |seconds: f64| bytes as f64 / seconds / 1e9;
-    println!(
-        "{name:34} {:6.2} GB/s   plain loop {:6.2} GB/s   ratio {:.2}   of memcmp's rate {:.2}",
-        rate(lanes), rate(plain), plain / lanes, rate(lanes) / memcmp
-    );
+/// A line of the table: bytes a second of each call, and how many times as fast as the others the first one is.
+fn print(name: &str, bytes: usize, seconds: &[f64]) {
+    let rates: Vec<String> = seconds.iter().map(|time| format!("{:.1}", bytes as f64 / time / 1e9)).collect();
+    let ratios: Vec<String> = seconds[1..].iter().map(|time| format!("{:.2}", time / seconds[0])).collect();
+    println!("| {name} | {} | {} |", rates.join(" | "), ratios.join(" | "));
 }
 
-struct Size {
-    count: usize,
-    rounds: usize,
-    memcmp: f64,
+fn measure_rows(name: &str, rounds: usize, a: &Side, b: &Side) {
+    let (x, y) = (a.ids.as_flattened(), b.ids.as_flattened());
+    let equal = a.ids.to_vec();
+    let mut lanes = |rounds| unsafe { eden_lanes_differ_rows(x.as_ptr(), x.len(), y.as_ptr(), y.len(), rounds) };
+    assert_eq!(lanes(1), bytes::rows(a.ids, b.ids).len());
+    let mut stops = |rounds| repeated(rounds, || black_box(words::rows(black_box(&a.words), black_box(&b.words))).len());
+    let mut all = |rounds| repeated(rounds, || black_box(words::rows_of_all(black_box(&a.words), black_box(&b.words))).len());
+    let mut plain = |rounds| repeated(rounds, || black_box(bytes::rows(black_box(a.ids), black_box(b.ids))).len());
+    let mut former = |rounds| repeated(rounds, || black_box(former::rows(black_box(a.ids), black_box(b.ids))).len());
+    let mut memcmp = |rounds| repeated(rounds, || (black_box(x) == black_box(equal.as_flattened())) as usize);
+    let times = seconds(rounds, &mut [&mut lanes, &mut stops, &mut all, &mut plain, &mut former, &mut memcmp]);
+    print(&format!("`differ_rows`, {name}"), 2 * x.len(), &times);
 }
 
-fn measure(size: &Size, name: &str, a: &[Id], b: &[Id]) {
-    let (x, y) = (a.as_flattened(), b.as_flattened());
-    let both = x.len() + y.len();
-    let wanted = plain_rows(a, b).len();
-    let rows = |rounds| unsafe { eden_lanes_differ_rows(x.as_ptr(), x.len(), y.as_ptr(), y.len(), rounds) };
-    assert_eq!(rows(1), wanted);
-    let plain = |rounds| repeated(rounds, || black_box(plain_rows(black_box(a), black_box(b))).len());
-    print(&format!("differ_rows, {name}"), both, seconds(size.rounds, rows), seconds(size.rounds, plain), size.memcmp);
-    let count = |rounds| unsafe { eden_lanes_count_differing(x.as_ptr(), x.len(), y.as_ptr(), y.len(), rounds) };
-    assert_eq!(count(1), wanted);
-    let plain = |rounds| repeated(rounds, || plain_count(black_box(a), black_box(b)));
-    print(&format!("count_differing, {name}"), both, seconds(size.rounds, count), seconds(size.rounds, plain), size.memcmp);
+fn measure_count(name: &str, rounds: usize, a: &Side, b: &Side) {
+    let (x, y) = (a.ids.as_flattened(), b.ids.as_flattened());
+    let equal = a.ids.to_vec();
+    let mut lanes = |rounds| unsafe { eden_lanes_count_differing(x.as_ptr(), x.len(), y.as_ptr(), y.len(), rounds) };
+    assert_eq!(lanes(1), bytes::count(a.ids, b.ids));
+    let mut stops = |rounds| repeated(rounds, || words::count(black_box(&a.words), black_box(&b.words)));
+    let mut all = |rounds| repeated(rounds, || words::count_all(black_box(&a.words), black_box(&b.words)));
+    let mut plain = |rounds| repeated(rounds, || bytes::count(black_box(a.ids), black_box(b.ids)));
+    let mut former = |rounds| repeated(rounds, || former::count(black_box(a.ids), black_box(b.ids)));
+    let mut memcmp = |rounds| repeated(rounds, || (black_box(x) == black_box(equal.as_flattened())) as usize);
+    let times = seconds(rounds, &mut [&mut lanes, &mut stops, &mut all, &mut plain, &mut former, &mut memcmp]);
+    print(&format!("`count_differing`, {name}"), 2 * x.len(), &times);
 }
 
-fn measure_all(count: usize, rounds: usize) {
-    let a = ids_of(1, count);
-    let same = a.clone();
-    let (x, y) = (a.as_flattened(), same.as_flattened());
-    let time = seconds(rounds, |rounds| repeated(rounds, || (black_box(x) == black_box(y)) as usize));
-    let size = Size { count, rounds, memcmp: (x.len() + y.len()) as f64 / time / 1e9 };
-    println!("{} ids, {} bytes a column; memcmp of two equal columns {:.2} GB/s", size.count, x.len(), size.memcmp);
-    measure(&size, "equal columns", &a, &same);
-    for (name, every) in [("one of 1,000 differs", 1000), ("one of 10 differs", 10), ("all differ", 1)] {
-        let mut b = a.clone();
-        b.iter_mut().step_by(every).for_each(|id| id[19] ^= 1);
-        measure(&size, name, &a, &b);
-    }
+fn measure_find(rounds: usize, a: &Side, b: &Side) {
+    let (x, y) = (a.ids.as_flattened(), b.ids.as_flattened());
     let id = [7; 20];
-    let find = |rounds| unsafe {
+    let mut lanes = |rounds| unsafe {
         eden_lanes_find_row(x.as_ptr(), x.len(), y.as_ptr(), y.len(), id.as_ptr(), id.len(), rounds)
     };
-    assert_eq!(find(1), usize::MAX);
-    let plain = |rounds| repeated(rounds, || plain_find(black_box(&a), black_box(&id)).unwrap_or(0));
-    print("find_row, absent", x.len(), seconds(rounds, find), seconds(rounds, plain), size.memcmp);
+    assert_eq!(lanes(1), usize::MAX);
+    let mut words = |rounds| repeated(rounds, || words::find(black_box(&a.words), black_box(&id)).unwrap_or(0));
+    let mut plain = |rounds| repeated(rounds, || bytes::find(black_box(a.ids), black_box(&id)).unwrap_or(0));
+    let times = seconds(rounds, &mut [&mut lanes, &mut words, &mut plain]);
+    print("`find_row`, no row holds the id", x.len(), &times);
+}
+
+fn measure(count: usize, rounds: usize) {
+    let ids = ids_of(1, count);
+    let first = Side { ids: &ids, words: Words::new(&ids) };
+    println!("{count} ids, {} bytes a column. GB/s of eden_lanes, plain over words (stops; looks at all), plain over ids, the former kernel,", 20 * count);
+    println!("memcmp of equal columns; then how many times as fast eden_lanes is as each");
+    for (name, every) in [("equal columns", usize::MAX), ("one row of 1,000 differs", 1000), ("one row of 10 differs", 10), ("all rows differ", 1)] {
+        let mut others = ids.clone();
+        if every != usize::MAX {
+            others.iter_mut().step_by(every).for_each(|id| id[19] ^= 1);
+        }
+        let second = Side { ids: &others, words: Words::new(&others) };
+        measure_rows(name, rounds, &first, &second);
+        measure_count(name, rounds, &first, &second);
+    }
+    measure_find(rounds, &first, &first);
 }
 
 fn main() {
-    measure_all(4_000_000, 20);
-    measure_all(2_000, 40_000);
+    measure(4_000_000, 12);
+    measure(2_000, 10_000);
 }

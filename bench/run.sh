@@ -3,6 +3,6 @@
 set -e
 cd "$(dirname "$0")/.."
 (cd crates/eden_lanes_c && rt lib)
-rustc -C opt-level=3 bench/lanes.rs -o crates/eden_lanes_c/out/lanes \
+rustc --edition 2021 -C opt-level=3 -C target-cpu=x86-64-v2 bench/lanes.rs -o crates/eden_lanes_c/out/lanes \
     -C link-arg=crates/eden_lanes_c/out/libeden_lanes_c.a -C link-arg="${KIT:-/opt/rattle}/c/liblibc_c.a"
 crates/eden_lanes_c/out/lanes

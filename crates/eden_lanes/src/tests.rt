@@ -42,12 +42,12 @@ fn rows_one_by_one(alloc: Global, a: &IdColumn, b: &IdColumn) -> Result<Vec<usiz
 }
 
 #[test]
-fn kernel_lengths(rt: HostRuntime) -> Result<(), Fail> {
+fn kernel_blocks(rt: HostRuntime) -> Result<(), Fail> {
     let alloc = rt.alloc();
     let none = IdColumn::new(alloc);
     assert_eq!(rt; differ_rows(alloc, &none, &none)?.len(), 0);
     assert_eq!(rt; find_row(&none, id_of(0)), None);
-    for count in [1, 3, 4, 5, 7, 8, 9] {
+    for count in [1, 3, 4, 5, 7, 8, 9, 15, 16, 17, 24, 25, 4_097] {
         let last = count - 1;
         let first = column_of(alloc, count, count, 0)?;
         let second = column_of(alloc, count, last, 19)?;
@@ -70,22 +70,26 @@ fn kernel_lengths(rt: HostRuntime) -> Result<(), Fail> {
 }
 
 #[test]
-fn each_byte_of_each_row_is_compared(rt: HostRuntime) -> Result<(), Fail> {
+fn each_word_of_each_row_is_compared(rt: HostRuntime) -> Result<(), Fail> {
     let alloc = rt.alloc();
-    for count in 0..68 {
-        let plain = column_of(alloc, count, count, 0)?;
-        for row in 0..count {
-            for byte in 0..20 {
-                let changed = column_of(alloc, count, row, byte)?;
+    for row in 0..131 {
+        for place in 0..5_usize {
+            let changed_one = changed_id(row, 4 * place + row % 4);
+            let mut plain = column_of(alloc, row + 1, row + 1, 0)?;
+            let mut changed = column_of(alloc, row, row, 0)?;
+            changed.push(changed_one)?;
+            for count in row + 1..132 {
                 assert_eq!(rt; plain.len(), changed.len());
-                let wanted = rows_one_by_one(alloc, &plain, &changed)?;
                 let found = differ_rows(alloc, &plain, &changed)?;
                 assert_eq!(rt; found.as_slice(), [row].as_slice());
-                assert_eq!(rt; wanted.as_slice(), [row].as_slice());
                 assert_eq!(rt; count_differing(&plain, &changed), 1);
-                assert_eq!(rt; find_row(&changed, changed_id(row, byte)), Some(row));
-                assert_eq!(rt; find_row(&plain, changed_id(row, byte)), None);
+                assert_eq!(rt; find_row(&changed, changed_one), Some(row));
+                assert_eq!(rt; find_row(&plain, changed_one), None);
+                plain.push(id_of(count))?;
+                changed.push(id_of(count))?;
             }
+            let one_by_one = rows_one_by_one(alloc, &plain, &changed)?;
+            assert_eq!(rt; one_by_one.as_slice(), [row].as_slice());
         }
     }
     Ok(())
