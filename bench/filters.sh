@@ -2,7 +2,7 @@
 # Measures what filters cost. README.md says what is measured, and how.
 set -e
 cd "$(dirname "$0")/.."
-for name in filter_times; do
+for name in filter_times basis_times; do
     (cd "crates/$name" && rt run) > "crates/$name/out/built" 2>&1 || { cat "crates/$name/out/built"; exit 1; }
     "crates/$name/out/$name" 2>&1 > /dev/null
 done
