@@ -110,6 +110,13 @@ mod words {
         let (a, id) = (a.columns(rows), wanted.columns(1));
         (0..rows).position(|row| (0..5).all(|place| a[place][row] == id[place][0]))
     }
+
+    pub fn find_by_all(a: &Words, id: &Id) -> Option<usize> {
+        let wanted = Words::new(&[*id]);
+        let rows = a.len();
+        let (a, id) = (a.columns(rows), wanted.columns(1));
+        (0..rows).position(|row| (0..5).map(|place| a[place][row] ^ id[place][0]).fold(0, |all, part| all | part) == 0)
+    }
 }
 
 /// The former kernel of eden_lanes: ids in one run of bytes, four of which are five vectors of sixteen bytes.
@@ -148,6 +155,27 @@ mod former {
         }
         count + (4 * fours..a.len()).filter(|&row| a[row] != b[row]).count()
     }
+
+    /// A part of each of four ids is in the second or the fourth vector of the five: the others are seldom looked at.
+    pub fn find(a: &[Id], id: &Id) -> Option<usize> {
+        let four_times = [*id; 4];
+        let pattern = four_times.as_flattened();
+        let apart = |bytes: &[u8], at: usize| unsafe {
+            let (x, y) = (_mm_loadu_si128(bytes[at..].as_ptr().cast()), _mm_loadu_si128(pattern[at..].as_ptr().cast()));
+            !_mm_movemask_epi8(_mm_cmpeq_epi8(x, y)) & 0xffff
+        };
+        let fours = a.len() / 4;
+        for four in 0..fours {
+            let rows = &a[4 * four..4 * four + 4];
+            let (second, fourth) = (apart(rows.as_flattened(), 16), apart(rows.as_flattened(), 48));
+            if second % 16 == 0 || second / 16 == 0 || fourth % 4096 == 0 || fourth / 4096 == 0 {
+                if let Some(row) = rows.iter().position(|x| x == id) {
+                    return Some(4 * four + row);
+                }
+            }
+        }
+        (4 * fours..a.len()).find(|&row| a[row] == *id)
+    }
 }
 
 /// The processor time of this thread, in seconds.
@@ -157,11 +185,11 @@ fn now() -> f64 {
     time[0] as f64 + time[1] as f64 / 1e9
 }
 
-/// The seconds of a round of each call, which takes the number of its rounds and may prepare its columns first: the least of seven
+/// The seconds of a round of each call, which takes the number of its rounds and may prepare its columns first: the least of five
 /// tries with rounds, less the least with none. The calls take turns, so that what else runs on the machine meets them alike.
 fn seconds(rounds: usize, calls: &mut [&mut dyn FnMut(usize) -> usize]) -> Vec<f64> {
     let mut least = vec![[f64::MAX; 2]; calls.len()];
-    for _ in 0..7 {
+    for _ in 0..5 {
         for (call, least) in calls.iter_mut().zip(&mut least) {
             for (rounds, least) in [0, rounds].into_iter().zip(least) {
                 let begun = now();
@@ -201,7 +229,7 @@ fn ids_of(seed: u64, count: usize) -> Vec<Id> {
 fn print(name: &str, bytes: usize, seconds: &[f64]) {
     let rates: Vec<String> = seconds.iter().map(|time| format!("{:.1}", bytes as f64 / time / 1e9)).collect();
     let ratios: Vec<String> = seconds[1..].iter().map(|time| format!("{:.2}", time / seconds[0])).collect();
-    println!("| {name} | {} | {} |", rates.join(" | "), ratios.join(" | "));
+    println!("| {name} | {} | {} |", rates.join(" | "), ratios.join(", "));
 }
 
 fn measure_rows(name: &str, rounds: usize, a: &Side, b: &Side) {
@@ -239,17 +267,23 @@ fn measure_find(rounds: usize, a: &Side, b: &Side) {
         eden_lanes_find_row(x.as_ptr(), x.len(), y.as_ptr(), y.len(), id.as_ptr(), id.len(), rounds)
     };
     assert_eq!(lanes(1), usize::MAX);
-    let mut words = |rounds| repeated(rounds, || words::find(black_box(&a.words), black_box(&id)).unwrap_or(0));
+    let mut stops = |rounds| repeated(rounds, || words::find(black_box(&a.words), black_box(&id)).unwrap_or(0));
+    let mut all = |rounds| repeated(rounds, || words::find_by_all(black_box(&a.words), black_box(&id)).unwrap_or(0));
     let mut plain = |rounds| repeated(rounds, || bytes::find(black_box(a.ids), black_box(&id)).unwrap_or(0));
-    let times = seconds(rounds, &mut [&mut lanes, &mut words, &mut plain]);
+    let mut former = |rounds| repeated(rounds, || former::find(black_box(a.ids), black_box(&id)).unwrap_or(0));
+    let equal = a.ids.to_vec();
+    let mut memcmp = |rounds| repeated(rounds, || (black_box(x) == black_box(equal.as_flattened())) as usize);
+    let mut times = seconds(rounds, &mut [&mut lanes, &mut stops, &mut all, &mut plain, &mut former, &mut memcmp]);
+    // It reads two columns, and the search one.
+    times[5] /= 2.0;
     print("`find_row`, no row holds the id", x.len(), &times);
 }
 
 fn measure(count: usize, rounds: usize) {
     let ids = ids_of(1, count);
     let first = Side { ids: &ids, words: Words::new(&ids) };
-    println!("{count} ids, {} bytes a column. GB/s of eden_lanes, plain over words (stops; looks at all), plain over ids, the former kernel,", 20 * count);
-    println!("memcmp of equal columns; then how many times as fast eden_lanes is as each");
+    println!("\n{count} ids, {} bytes a column\n", 20 * count);
+    println!("| call | `eden_lanes` | words, to the first that differs | words, all five | ids | former | `memcmp` | `eden_lanes` is as fast as each, times |");
     for (name, every) in [("equal columns", usize::MAX), ("one row of 1,000 differs", 1000), ("one row of 10 differs", 10), ("all rows differ", 1)] {
         let mut others = ids.clone();
         if every != usize::MAX {
@@ -263,6 +297,6 @@ fn measure(count: usize, rounds: usize) {
 }
 
 fn main() {
-    measure(4_000_000, 12);
-    measure(2_000, 10_000);
+    measure(4_000_000, 24);
+    measure(2_000, 4_000);
 }
