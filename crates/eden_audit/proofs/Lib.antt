@@ -1,0 +1,6 @@
+pub mod Accounted
+pub mod Alike
+pub mod Covered
+pub mod Marked
+pub mod Retold
+pub mod Walked

@@ -1,0 +1,4 @@
+-- Words that the code alone uses.
+pub mod Marks
+pub mod Replayed
+pub mod Walks
