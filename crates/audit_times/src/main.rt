@@ -1,0 +1,133 @@
+//! What an audit of 100,000 calls takes beside the calls themselves. See bench/README.md.
+//!
+//! One caller writes files of a mount that stores its history, polls after each nine writes, and notes what it was told. Standard output
+//! tells what the audit says of its log, and standard error what processor time the calls and the audit took.
+#![tactic(auto)]
+
+use anyhow::Result;
+use eden_accumulate::Mount;
+use eden_audit::{Answer, Audited, Call, CallLog, LogEntry, audit};
+use eden_globs::Filter;
+use eden_history::{Change, Query, Request};
+use eden_ids::{GitNaming, Id, Kind, Path, Sequence};
+use eden_objects::Store;
+use eden_query::{Served, reply_to};
+use std::alloc::Global;
+use std::sync::Arc;
+use std::time::{CpuClock, Duration};
+
+/// How many calls are made.
+const CALLS: u64 = 100_000;
+
+/// A mount of the empty commit that stores its history, and whose journal keeps all of it.
+fn opened(alloc: Global) -> Result<Audited<GitNaming>> {
+    let store = Arc::new(alloc, Store::new(alloc, GitNaming))?;
+    Ok(Audited::new(
+        alloc,
+        Mount::mount(alloc, store, Id::ZERO, 1, 1_000_000_000)?,
+    )?)
+}
+
+/// The write of one of 1,000 files.
+fn write(alloc: Global, turn: u64) -> Result<Change> {
+    let file = turn % 1_000;
+    let text = format!(in alloc; "dir{}/file{file}", file / 100)?;
+    Ok(Change::Write {
+        path: Path::parse(alloc, text.as_bytes())?,
+        kind: Kind::Plain,
+        bytes: Sequence::new(alloc),
+    })
+}
+
+/// A poll since nine numbers before the present one.
+fn poll(alloc: Global, audited: &Audited<GitNaming>, turn: u64) -> Request {
+    let mut since = audited.mount().position();
+    since.sequence = since.sequence.saturating_sub(9);
+    Request::Poll {
+        query: Query {
+            mirror: 1,
+            life: 1,
+            number: turn,
+        },
+        since,
+        filter: Filter::all(alloc),
+    }
+}
+
+/// Makes a change, and gives it with its answer.
+fn change(alloc: Global, audited: &mut Audited<GitNaming>, turn: u64) -> Result<(Call, Answer)> {
+    let change = write(alloc, turn)?;
+    let answer = audited.apply(1, &change)?;
+    Ok((Call::Change(change), Answer::Made(answer)))
+}
+
+/// Asks, and gives what was asked with its answer.
+fn ask(alloc: Global, audited: &mut Audited<GitNaming>, turn: u64) -> Result<(Call, Answer)> {
+    let request = poll(alloc, audited, turn);
+    let reply = reply_to(audited, 1, &request)?;
+    Ok((Call::Ask(request), Answer::Replied(reply)))
+}
+
+/// Makes the call of a turn, and notes it.
+fn call(
+    alloc: Global,
+    audited: &mut Audited<GitNaming>,
+    entries: &mut Vec<LogEntry>,
+    turn: u64,
+) -> Result<()> {
+    let (call, answer) = if turn % 10 == 9 {
+        ask(alloc, audited, turn)?
+    } else {
+        change(alloc, audited, turn)?
+    };
+    Ok(entries.push(LogEntry {
+        ticket: turn.saturating_add(1),
+        call,
+        answer,
+    })?)
+}
+
+/// Makes all calls, and gives the log of the one that made them.
+fn calls(alloc: Global, audited: &mut Audited<GitNaming>) -> Result<CallLog> {
+    let mut entries = Vec::new(alloc);
+    for turn in 0..CALLS {
+        call(alloc, audited, &mut entries, turn)?;
+    }
+    Ok(CallLog {
+        caller: 1,
+        entries: Sequence::from_vec(entries),
+    })
+}
+
+/// The milliseconds of a time.
+fn milliseconds(time: Duration) -> u64 {
+    let whole = time.as_secs().saturating_mul(1_000);
+    whole.saturating_add(u64::from(time.subsec_nanos()) / 1_000_000)
+}
+
+/// Audits a log, tells what the audit says, and gives the time that it took.
+fn told(rt: &HostRuntime, audited: &Audited<GitNaming>, log: CallLog) -> Result<Duration> {
+    let logs = vec![in rt.alloc(); log]?;
+    let start = rt.thread_cpu_time()?;
+    let said = audit(rt.alloc(), audited, logs.as_slice());
+    let time = rt.thread_cpu_time()?.saturating_sub(start);
+    match said {
+        Ok(()) => println!(rt; "audit: Ok")?,
+        Err(fault) => println!(rt; "audit: {fault}")?,
+    }
+    Ok(time)
+}
+
+fn main(rt: HostRuntime) -> Result<()> {
+    let mut audited = opened(rt.alloc())?;
+    let start = rt.thread_cpu_time()?;
+    let log = calls(rt.alloc(), &mut audited)?;
+    let made = rt.thread_cpu_time()?.saturating_sub(start);
+    let judged = told(&rt, &audited, log)?;
+    eprintln!(rt;
+        "{CALLS} calls: {} ms, audit {} ms",
+        milliseconds(made),
+        milliseconds(judged)
+    )?;
+    Ok(())
+}
