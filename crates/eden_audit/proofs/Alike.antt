@@ -1,5 +1,5 @@
 -- When two values are the same.
-use Rattle.std.proofs.Common.{◌≡◌, ◌↔◌, ℕ, List, [], ◌∷◌, Bool, true, ◌&&◌, map, refl, sym, ◌∙◌, ap, subst, IsTrue}
+use Rattle.std.proofs.Common.{◌≡◌, ℕ, List, [], ◌∷◌, Bool, true, ◌&&◌, refl, ◌∙◌, ap}
 use Rattle.std.specs.Prelude.{nat_eq}
 use Rattle.std.specs.Global.{Vec}
 use Rattle.std.specs.Bool.{Decides}

@@ -1,4 +1,3 @@
-use Rattle.std.proofs.Common.{rules, ◌≡◌}
 use Rattle.eden_audit.proofs.Alike.{lists_decides}
 use Rattle.eden_audit.proofs.same.same_patterns.Goals as goal
 
