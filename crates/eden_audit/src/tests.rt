@@ -180,3 +180,17 @@ fn call_without_an_answer(rt: HostRuntime) -> Result<(), Fail> {
     assert_eq!(rt; told(alloc, Answer::Unanswered)?, Ok(()));
     Ok(())
 }
+
+#[test]
+fn copies_say_the_same(rt: HostRuntime) -> Result<(), Fail> {
+    let call = Call::Change(write(rt.alloc(), "a")?);
+    let copy = call.copy()?;
+    if let Call::Change(Change::Write { path, .. }) = &copy {
+        assert_eq!(rt; path.as_bytes(), b"a".as_slice());
+    } else {
+        assert!(rt; false, "another call");
+    }
+    let answer = Answer::Made(eden_history::Answer::At(position(2)));
+    assert!(rt; answer.copy()? == answer);
+    Ok(())
+}
