@@ -1,5 +1,5 @@
 -- How the rows at which two columns of ids differ grow, one row or eight at a time.
-use Rattle.std.proofs.Common.{◌≡◌, ℕ, suc, List, [], ◌∷◌, ◌++◌, length, get_or, take, refl, ap, sym, ◌∙◌, ◌+◌, ◌-◌, ◌*◌, ◌/◌, ◌%◌, ◌^◌, ◌≤◌, ◌<◌, arith, Bool, true, false, cond, nat_eq, length-append}
+use Rattle.std.proofs.Common.{◌≡◌, ℕ, zero, suc, List, [], ◌∷◌, ◌++◌, length, get_or, take, refl, ap, sym, ◌∙◌, ◌+◌, ◌-◌, ◌*◌, ◌/◌, ◌%◌, ◌^◌, ◌≤◌, ◌<◌, arith, Bool, true, false, cond, nat_eq, length-append}
 use Rattle.std.specs.Prelude.{count_ones}
 use Rattle.std.specs.Simd.Lanes.{chunk, mask_l, zip2}
 use Rattle.std.proofs.lemmas.List.{append-nil, length-take}
@@ -68,6 +68,37 @@ eight_same n a b first second set =
     sym (among-more same_id n 8 a b (omega arith) (omega arith)
     ∙ rw (all_set n (chunk n 8 a) (chunk n 8 b) (omega arith) all) (append-nil (ids_among n a b)))
 
+-- so many rows, from one on
+abbrev rows_from : ℕ → ℕ → List ℕ
+rows_from k zero = []
+rows_from k (suc n) = k ∷ rows_from (k + 1) n
+
+-- every row differs where no bit is set
+none_set : (k : ℕ) (us vs : List Id) → length us ≡ length vs → mask_l (zip2 same_id us vs) ≡ 0 → differ_from same_id k us vs ≡ rows_from k (length us)
+none_set k [] vs long set = refl
+none_set k (u ∷ us) [] long set = absurd (omega arith)
+none_set k (u ∷ us) (v ∷ vs) long set = by (same_id u v) set (λ e. none_set (k + 1) us vs (omega arith) e)
+  where
+    m : ℕ
+    m = mask_l (zip2 same_id us vs)
+
+    by : (t : Bool) → cond t 1 0 + 2 * m ≡ 0 → (m ≡ 0 → differ_from same_id (k + 1) us vs ≡ rows_from (k + 1) (length us))
+        → cond t [] (k ∷ []) ++ differ_from same_id (k + 1) us vs ≡ k ∷ rows_from (k + 1) (length us)
+    by true set rest = absurd (omega (arith, set))
+    by false set rest = ap (λ (ns : List ℕ). k ∷ ns) (rest (omega (arith, set)))
+
+eight_rows : (k : ℕ) → rows_from k 8 ≡ k ∷ (k + 1) ∷ (k + 2) ∷ (k + 3) ∷ (k + 4) ∷ (k + 5) ∷ (k + 6) ∷ (k + 7) ∷ []
+eight_rows k = grind (arith)
+
+pub eight_differ : (n : ℕ) (a b : List Id) → n + 8 ≤ length a → n + 8 ≤ length b → bits_at n a b ≡ 0
+    → ids_among n a b ++ (n ∷ (n + 1) ∷ (n + 2) ∷ (n + 3) ∷ (n + 4) ∷ (n + 5) ∷ (n + 6) ∷ (n + 7) ∷ []) ≡ ids_among (n + 8) a b
+eight_differ n a b first second clear =
+    let x = length-chunk n 8 a first in
+    let y = length-chunk n 8 b second in
+    let rows : differ_from same_id n (chunk n 8 a) (chunk n 8 b) ≡ rows_from n 8 =
+    none_set n (chunk n 8 a) (chunk n 8 b) (omega arith) clear ∙ ap (rows_from n) x in
+    sym (among-more same_id n 8 a b (omega arith) (omega arith) ∙ ap (λ (ns : List ℕ). ids_among n a b ++ ns) (rows ∙ eight_rows n))
+
 -- as many rows differ as bits are clear
 ones : (k : ℕ) (us vs : List Id) → length us ≡ length vs
     → count_ones (mask_l (zip2 same_id us vs)) + length (differ_from same_id k us vs) ≡ length us
@@ -124,6 +155,6 @@ short k (u ∷ us) (v ∷ vs) = by (same_id u v) (short (k + 1) us vs)
 pub length-ids_among : (n : ℕ) (a b : List Id) → length (ids_among n a b) ≤ n
 length-ids_among n a b = let l = short 0 (take n a) (take n b) in let m = length-take n a in omega (arith, l, m)
 
-pub ruleset grows = (next, bit, eight_same)
+pub ruleset grows = (next, bit, eight_same, eight_differ)
 
 pub ruleset counts = (count_of_eight, count_eight_more)

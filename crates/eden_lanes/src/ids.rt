@@ -13,10 +13,8 @@ fn push_unless(found: &mut Vec<usize>, same: bool, row: usize) -> Result<(), NoM
     if same {
         return Ok(());
     }
-    match found.push(row) {
-        Ok(()) => Ok(()),
-        Err(_) => Err(NoMemory),
-    }
+    found.push(row)?;
+    Ok(())
 }
 
 /// Puts the rows from `from` on and before `to` at which the ids differ below the others.
@@ -56,6 +54,10 @@ fn push_eight(
 {
     let same = same_eight(a, b, row);
     if same == 255 {
+        return Ok(());
+    }
+    if same == 0 {
+        found.extend_from_slice(&[row, row + 1, row + 2, row + 3, row + 4, row + 5, row + 6, row + 7])?;
         return Ok(());
     }
     for place in 0..8_usize {

@@ -16,10 +16,8 @@ fn push_if_apart(found: &mut Vec<usize>, a: &[u8], b: &[u8], row: usize) -> Resu
     if a[row] == b[row] {
         return Ok(());
     }
-    match found.push(row) {
-        Ok(()) => Ok(()),
-        Err(_) => Err(NoMemory),
-    }
+    found.push(row)?;
+    Ok(())
 }
 
 /// Puts the rows from `from` on and before `to` at which the kinds differ below the others.
