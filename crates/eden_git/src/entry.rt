@@ -3,6 +3,7 @@ ghost use Rattle.eden_git.specs.Trees.{cut, is_name, kind_of_mode, read_entry, r
 ghost use Rattle.eden_git.specs.Entries.{plain, parts_of, reading_of, id_of_parts, id_front};
 
 use crate::fault::EntryFault;
+use bstr::ByteSlice;
 use eden_ids::{Id, Kind, is_component};
 
 /// An entry of a tree, whose name stands in the payload.
@@ -17,16 +18,11 @@ pub struct RawEntry<'a> {
 }
 
 /// The bytes before the first that is `byte`, and those after it. None where it does not come. This takes no memory.
-#[tactic(auto, using(crate::proofs::Cuts::cut_step, crate::proofs::Cuts::cut_here, crate::proofs::Cuts::behind_none))]
 pub fn cut(bytes: &[u8], byte: u8) -> Option<(&[u8], &[u8])>
     ensures { parts_of result ≡ cut byte bytes.now }
 {
-    for at in 0..bytes.len() {
-        if bytes[at] == byte {
-            return Some((&bytes[..at], &bytes[at + 1..]));
-        }
-    }
-    None
+    let at = bytes.find_byte(byte)?;
+    Some((&bytes[..at], &bytes[at + 1..]))
 }
 
 /// What a mode says: `None` inside for a directory.
