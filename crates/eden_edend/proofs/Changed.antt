@@ -3,8 +3,9 @@ use Rattle.std.proofs.Common.{◌≡◌, ◌≢◌, ℕ, List, ◌++◌, Option,
 use Rattle.std.specs.Prelude.{codes, IfOk, IfErr, OnOk, OnErr}
 use Rattle.std.proofs.lemmas.Result.{on_ok_weaker}
 use Rattle.eden_ids.specs.declared.id.Id.{Id}
+use Rattle.eden_ids.specs.Paths.{path_fault}
 use Rattle.eden_script.specs.declared.label.Binding.{Binding}
-use Rattle.eden_script.specs.ScriptText.{answer_text, made, moved, refused_text}
+use Rattle.eden_script.specs.ScriptText.{answer_text, changed, first_path_fault, made, moved, refused_text}
 use Rattle.eden_accumulate.specs.declared.root.Checked.{Checked}
 use Rattle.eden_accumulate.specs.Mounts.{Answers, Follows, Refuses, State, StandsFor}
 use Rattle.eden_history.specs.declared.answer.Answer.{Answer}
@@ -17,7 +18,7 @@ use Rattle.eden_history.specs.declared.position.Position.{Position}
 use Rattle.eden_history.specs.Worlds.{Row, Commits, WorldState, commits_of, now, position_of}
 use Rattle.eden_history.specs.Outcome.{Outcome, answer_at, answer_of, answered, extended, outcome, world_after}
 use Rattle.eden_history.specs.Outcome.Outcome.{Refuses as Refused, NoEvent, Next}
-use Rattle.eden_edend.specs.internal.Told.{MountTells, answer_checked, answer_made}
+use Rattle.eden_edend.specs.internal.Told.{MountTells, PathOrRefusal, answer_checked, answer_made}
 
 -- a change that is made isn't answered as one that is refused
 not_refused : (commits : Commits) (row : Row) (change : Change) (position : Position) (fault : ChangeFault) → answer_at commits row change position ≢ answer.Refused fault
@@ -110,3 +111,22 @@ pub unbound_tells : (mount : State) (bindings : List Binding) (world : WorldStat
 unbound_tells mount bindings world change (Some id) name old new e h named result printed = cc
 unbound_tells mount bindings world change None name old new e h named result printed =
     on_ok_weaker result (λ p. (h, p ∙ ap (λ n. old ++ refused_text n) named)) printed
+
+-- a word that was read as a path
+pub read_as : (word path old mid : List ℕ) (told : Option (List ℕ)) → told ≡ Some path → PathOrRefusal word told old mid → PathOrRefusal word (Some path) old mid
+read_as word path old mid told is reading = subst (λ t. PathOrRefusal word t old mid) is reading
+
+-- a change of that path is one of the word
+pub path_tells : (mount after : State) (bindings : List Binding) (change : List ℕ → Change) (word path old mid new : List ℕ) → PathOrRefusal word (Some path) old mid
+    → {X E : Type 0} (result : Result X E) → ((world : WorldState) → StandsFor mount world → OnOk result (MountTells (made bindings world (change path)) after mid new))
+    → (world : WorldState) → StandsFor mount world → OnOk result (MountTells (changed bindings world (path_fault word) (change word)) after old new)
+path_tells mount after bindings change word path old mid new reading result tells world h = rw (reading.0, sym reading.1, sym reading.2) (tells world h)
+
+-- of two paths
+pub paths_tell : (mount after : State) (bindings : List Binding) (change : List ℕ → List ℕ → Change) (first path second other old mid late new : List ℕ)
+    → PathOrRefusal first (Some path) old mid → PathOrRefusal second (Some other) mid late → {X E : Type 0} (result : Result X E)
+    → ((world : WorldState) → StandsFor mount world → OnOk result (MountTells (made bindings world (change path other)) after late new))
+    → (world : WorldState) → StandsFor mount world
+    → OnOk result (MountTells (changed bindings world (first_path_fault (path_fault first) (path_fault second)) (change first second)) after old new)
+paths_tell mount after bindings change first path second other old mid late new reading also result tells world h =
+    rw (reading.0, also.0, sym reading.1, sym also.1, sym reading.2, sym also.2) (tells world h)

@@ -1,13 +1,13 @@
 //! What the lines that change a mount make of it.
 
-ghost use Rattle.std.specs.Prelude.{◌≡◌, OnOk};
+ghost use Rattle.std.specs.Prelude.{◌≡◌, IfOk, OnOk};
 ghost use Rattle.eden_ids.specs.Paths.{path_fault};
 ghost use Rattle.eden_history.specs.declared.change.Change.TheVariants as change;
 ghost use Rattle.eden_history.specs.Worlds.{WorldState};
 ghost use Rattle.eden_accumulate.specs.Mounts.{StandsFor};
 ghost use Rattle.eden_script.specs.Labels.{bound};
 ghost use Rattle.eden_script.specs.ScriptText as script;
-ghost use Rattle.eden_edend.specs.internal.Told.{MountTells};
+ghost use Rattle.eden_edend.specs.internal.Told.{MountTells, PathOrRefusal};
 
 use crate::labels::Labels;
 use crate::texts::{path_fault_name, push_checked, push_made, push_refused};
@@ -16,18 +16,22 @@ use eden_ids::{GitNaming, Id, Kind, Path, PathFault};
 use eden_script::{Label, Word};
 use std::alloc::{AllocError, Global};
 
-fn write(
-    mount: &mut Mount<GitNaming>,
-    labels: &Labels,
-    path: &Path,
-    kind: Kind,
-    bytes: &[u8],
+/// The path that a word is. Where it is none, that is told, and there is nothing to change.
+fn path_or_refusal(
+    alloc: Global,
+    word: &Word,
     text: &mut Vec<u8>,
-) -> Result<(), AllocError>
-    ensures { (world : WorldState) → StandsFor mount.old world → OnOk result (MountTells (script.made labels.now world (change.Write path.now kind bytes.now)) mount.new text.old.items text.new.items) }
+) -> Result<Option<Path>, AllocError>
+    ensures { IfOk result (λ path. PathOrRefusal word.now path text.old.items text.new.items) }
 {
-    let made = mount.write(path, kind, bytes);
-    push_made(text, labels, &made)
+    match Path::parse(alloc, word.as_bytes()) {
+        Ok(path) => Ok(Some(path)),
+        Err(PathFault::NoMemory) => Err(AllocError),
+        Err(fault) => {
+            push_refused(text, path_fault_name(fault))?;
+            Ok(None)
+        }
+    }
 }
 
 /// Sets the file at a path.
@@ -42,22 +46,10 @@ pub(crate) fn tell_write(
 ) -> Result<(), AllocError>
     ensures { (world : WorldState) → StandsFor mount.old world → OnOk result (MountTells (script.changed labels.now world (path_fault path.now) (change.Write path.now kind bytes.now)) mount.new text.old.items text.new.items) }
 {
-    match Path::parse(alloc, path.as_bytes()) {
-        Ok(path) => write(mount, labels, &path, kind, bytes.as_bytes(), text),
-        Err(PathFault::NoMemory) => Err(AllocError),
-        Err(fault) => push_refused(text, path_fault_name(fault)),
-    }
-}
-
-fn remove(
-    mount: &mut Mount<GitNaming>,
-    labels: &Labels,
-    path: &Path,
-    text: &mut Vec<u8>,
-) -> Result<(), AllocError>
-    ensures { (world : WorldState) → StandsFor mount.old world → OnOk result (MountTells (script.made labels.now world (change.Remove path.now)) mount.new text.old.items text.new.items) }
-{
-    let made = mount.remove(path);
+    let Some(path) = path_or_refusal(alloc, path, text)? else {
+        return Ok(());
+    };
+    let made = mount.write(&path, kind, bytes.as_bytes());
     push_made(text, labels, &made)
 }
 
@@ -71,41 +63,11 @@ pub(crate) fn tell_remove(
 ) -> Result<(), AllocError>
     ensures { (world : WorldState) → StandsFor mount.old world → OnOk result (MountTells (script.changed labels.now world (path_fault path.now) (change.Remove path.now)) mount.new text.old.items text.new.items) }
 {
-    match Path::parse(alloc, path.as_bytes()) {
-        Ok(path) => remove(mount, labels, &path, text),
-        Err(PathFault::NoMemory) => Err(AllocError),
-        Err(fault) => push_refused(text, path_fault_name(fault)),
-    }
-}
-
-fn rename(
-    mount: &mut Mount<GitNaming>,
-    labels: &Labels,
-    old: &Path,
-    new: &Path,
-    text: &mut Vec<u8>,
-) -> Result<(), AllocError>
-    ensures { (world : WorldState) → StandsFor mount.old world → OnOk result (MountTells (script.made labels.now world (change.Rename old.now new.now)) mount.new text.old.items text.new.items) }
-{
-    let made = mount.rename(old, new);
+    let Some(path) = path_or_refusal(alloc, path, text)? else {
+        return Ok(());
+    };
+    let made = mount.remove(&path);
     push_made(text, labels, &made)
-}
-
-fn tell_rename_to(
-    alloc: Global,
-    mount: &mut Mount<GitNaming>,
-    labels: &Labels,
-    old: &Path,
-    new: &Word,
-    text: &mut Vec<u8>,
-) -> Result<(), AllocError>
-    ensures { (world : WorldState) → StandsFor mount.old world → OnOk result (MountTells (script.changed labels.now world (path_fault new.now) (change.Rename old.now new.now)) mount.new text.old.items text.new.items) }
-{
-    match Path::parse(alloc, new.as_bytes()) {
-        Ok(new) => rename(mount, labels, old, &new, text),
-        Err(PathFault::NoMemory) => Err(AllocError),
-        Err(fault) => push_refused(text, path_fault_name(fault)),
-    }
 }
 
 /// Takes the file at one path away and puts it at another. Of two paths the first that is none is told.
@@ -119,11 +81,14 @@ pub(crate) fn tell_rename(
 ) -> Result<(), AllocError>
     ensures { (world : WorldState) → StandsFor mount.old world → OnOk result (MountTells (script.changed labels.now world (script.first_path_fault (path_fault old.now) (path_fault new.now)) (change.Rename old.now new.now)) mount.new text.old.items text.new.items) }
 {
-    match Path::parse(alloc, old.as_bytes()) {
-        Ok(old) => tell_rename_to(alloc, mount, labels, &old, new, text),
-        Err(PathFault::NoMemory) => Err(AllocError),
-        Err(fault) => push_refused(text, path_fault_name(fault)),
-    }
+    let Some(old) = path_or_refusal(alloc, old, text)? else {
+        return Ok(());
+    };
+    let Some(new) = path_or_refusal(alloc, new, text)? else {
+        return Ok(());
+    };
+    let made = mount.rename(&old, &new);
+    push_made(text, labels, &made)
 }
 
 /// Forgets what changed so far.

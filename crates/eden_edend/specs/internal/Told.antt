@@ -1,6 +1,8 @@
 -- What a session holds of the script's, and what it makes of a line.
 use Rattle.std.specs.Prelude.{◌≡◌, ℕ, false, is_some, List, ◌++◌, Option, Some, None, Result, Ok, Err}
 use Rattle.eden_ids.specs.declared.id.Id.{Id}
+use Rattle.eden_ids.specs.declared.path.PathFault.{PathFault}
+use Rattle.eden_ids.specs.Paths.{path_fault}
 use Rattle.eden_objects.specs.declared.fault.PutFault.{PutFault}
 use Rattle.eden_objects.specs.declared.fault.PutFault.TheVariants.{NoMemory}
 use Rattle.eden_objects.specs.Objects.{Held}
@@ -14,7 +16,7 @@ use Rattle.eden_history.specs.declared.answer.Answer.TheVariants as answer
 use Rattle.eden_history.specs.declared.change.ChangeFault.{ChangeFault}
 use Rattle.eden_history.specs.declared.position.Position.{Position}
 use Rattle.eden_history.specs.Worlds.{WorldState}
-use Rattle.eden_script.specs.ScriptText.{Session, Told, MountTold, script_text}
+use Rattle.eden_script.specs.ScriptText.{Session, Told, MountTold, path_fault_text, refused_text, script_text}
 
 -- there is a mount where the script has one, and it stands for the script's
 abbrev pub MountStands : Option State → Option WorldState → Type 0
@@ -36,6 +38,11 @@ Holds mount store held = is_some mount ≡ false → store ≡ held
 -- the mount and the text after a line of the mount are those that the line tells
 abbrev pub MountTells : MountTold → State → List ℕ → List ℕ → Type 0
 MountTells told mount old new = MountStands (Some mount) told.0 × (new ≡ old ++ told.1)
+
+-- a word is a path, and nothing is told of it; or it is none, and that is told
+abbrev pub PathOrRefusal : List ℕ → Option (List ℕ) → List ℕ → List ℕ → Type 0
+PathOrRefusal word (Some path) old new = (path_fault word ≡ None) × (path ≡ word) × (new ≡ old)
+PathOrRefusal word None old new = (fault : PathFault) × (path_fault word ≡ Some fault) × (new ≡ old ++ refused_text (path_fault_text fault))
 
 -- a put gave its outcome; nothing is said where memory ran out
 abbrev pub Gave : Result Id PutFault → List Held → List Held → Outcome → Type 0
