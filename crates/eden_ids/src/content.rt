@@ -42,4 +42,14 @@ impl Content {
     {
         Ok(self.clone()?)
     }
+
+    /// A file that is equal to this one, or none where there is none. `NoMemory` comes where a growth was refused.
+    pub fn copy_of(content: &Option<Content>) -> Result<Option<Content>, NoMemory>
+        ensures { IfOk result (λ copy. copy ≡ content.now) }
+    {
+        match content {
+            Some(content) => Ok(Some(content.copy()?)),
+            None => Ok(None),
+        }
+    }
 }

@@ -1,11 +1,11 @@
-ghost use Rattle.std.specs.Prelude.{◌≡◌, ◌≢◌, ℕ, None, Some, IfOk, IfErr, not, nat_eq, length};
+ghost use Rattle.std.specs.Prelude.{◌≡◌, ◌≢◌, ◌++◌, ℕ, None, Some, IfOk, IfErr, not, nat_eq, length};
 ghost use Rattle.std.specs.List.{list_all};
 ghost use Rattle.std.specs.Ordering.{nat_cmp, as_partial_cmp};
 ghost use Rattle.std.specs.Cmp.Lexicographic.{pointwise, slice_cmp};
 ghost use Rattle.std.specs.Cmp.{partial_order_from_own_ties};
 ghost use Rattle.std.specs.Cmp.Rules.{comparing, hashing};
 ghost use Rattle.std.proofs.Common.{rules};
-ghost use Rattle.eden_ids.specs.Paths.{components, is_component, path_fault, lies_below, clashes};
+ghost use Rattle.eden_ids.specs.Paths.{IsPath, components, is_component, path_fault, lies_below, clashes};
 
 use crate::memory::NoMemory;
 use std::alloc::{AllocError, Global};
@@ -121,6 +121,19 @@ impl Path {
             return Err(fault);
         }
         let bytes = bytes.to_vec(alloc)?;
+        Ok(Path { bytes })
+    }
+
+    /// The path of two parts that stand one behind the other, such as a directory's, which ends with a slash, and a name.
+    ///
+    /// Condition: together they are a path; that isn't judged again. `NoMemory` comes where a growth was refused.
+    pub fn joined(alloc: Global, front: &[u8], name: &[u8]) -> Result<Path, NoMemory>
+        requires { IsPath (front.now ++ name.now) }
+        ensures { IfOk result (λ path. path ≡ front.now ++ name.now) }
+    {
+        let mut bytes = Vec::with_capacity(alloc, front.len() + name.len())?;
+        bytes.extend_from_slice(front)?;
+        bytes.extend_from_slice(name)?;
         Ok(Path { bytes })
     }
 

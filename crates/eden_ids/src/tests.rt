@@ -71,6 +71,14 @@ fn paths_keep_their_bytes(rt: HostRuntime) -> Result<(), Fail> {
 }
 
 #[test]
+fn two_parts_are_one_path(rt: HostRuntime) -> Result<(), Fail> {
+    let alloc = rt.alloc();
+    let path = Path::joined(alloc, b"src/".as_slice(), b"a".as_slice())?;
+    assert!(rt; path.as_bytes() == b"src/a".as_slice());
+    Ok(())
+}
+
+#[test]
 fn clashing_paths(rt: HostRuntime) -> Result<(), Fail> {
     let alloc = rt.alloc();
     for (p, q, below, clash) in [
@@ -102,6 +110,9 @@ fn contents_are_copied_whole(rt: HostRuntime) -> Result<(), Fail> {
     let content = plain(rt.alloc(), "hello")?;
     let copy = content.copy()?;
     assert!(rt; copy == content);
+    let held = Some(content);
+    assert!(rt; Content::copy_of(&held)? == held);
+    assert!(rt; Content::copy_of(&None)?.is_none());
     assert_eq!(rt; copy.bytes.len(), 5);
     assert!(rt; !copy.bytes.is_empty());
     assert!(rt; copy.bytes.into_vec().as_slice() == b"hello".as_slice());

@@ -8,7 +8,7 @@ use Rattle.std.proofs.lemmas.Simd.{mask_l-mod, length-zip2, zip2_splat_left}
 use Rattle.eden_ids.specs.declared.id.Id.{Id}
 use Rattle.eden_ids.specs.Columns.{IsOfItsWords, word}
 use Rattle.eden_ids.specs.Sameness.{same_id}
-use Rattle.eden_lanes.specs.Masks.{lanes_of, same_word}
+use Rattle.eden_lanes.specs.internal.Masks.{lanes_of, same_word}
 use Rattle.eden_lanes.proofs.Words.{words_tell}
 
 -- a comparison of words, lane by lane

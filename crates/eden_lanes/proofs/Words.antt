@@ -9,7 +9,7 @@ use Rattle.std.proofs.lemmas.Simd.{Each1-from_get_or, Each1-chunk}
 use Rattle.eden_ids.specs.declared.id.Id.{Id}
 use Rattle.eden_ids.specs.Columns.{IsOfItsWords, id_of_words, word}
 use Rattle.eden_ids.specs.Sameness.{same_id}
-use Rattle.eden_lanes.specs.Masks.{same_word}
+use Rattle.eden_lanes.specs.internal.Masks.{same_word}
 use Rattle.eden_lanes.proofs.RowLaws.{same_id-Decides}
 
 -- all five words are the same

@@ -1,3 +1,3 @@
 pub mod Laws
-pub mod Masks
 pub mod Rows
+pub mod internal

@@ -4,7 +4,7 @@ ghost use Rattle.std.specs.Simd.Lanes.{chunk, mask_l, zip2};
 ghost use Rattle.std.specs.Cmp.Lexicographic.{pointwise};
 ghost use Rattle.eden_ids.specs.Columns.{IsOfItsWords};
 ghost use Rattle.eden_ids.specs.Sameness.{same_id};
-ghost use Rattle.eden_lanes.specs.Masks.{same_word};
+ghost use Rattle.eden_lanes.specs.internal.Masks.{same_word};
 
 use eden_ids::{Id, IdColumn};
 use std::simd::prelude::*;

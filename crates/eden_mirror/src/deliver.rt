@@ -10,16 +10,6 @@ use crate::mirror::{Mirror, Round};
 use eden_history::{Cause, Files, Marked, Outcome, Position, Query, Reply};
 use eden_ids::{Content, NoMemory, Path};
 
-/// A file that is equal to this one, or none where there is none.
-fn copy_of(content: &Option<Content>) -> Result<Option<Content>, NoMemory>
-    ensures { IfOk result (λ copy. copy ≡ content.now) }
-{
-    match content {
-        Some(content) => Ok(Some(content.copy()?)),
-        None => Ok(None),
-    }
-}
-
 impl Mirror {
     /// Ends the round at its target.
     fn place_at(&mut self, target: Position) -> Outcome
@@ -108,7 +98,7 @@ impl Mirror {
         if position.sequence < target.sequence || !awaited.has(path) {
             return Ok(Outcome::Ignored);
         }
-        self.files.put(path, copy_of(content)?)?;
+        self.files.put(path, Content::copy_of(content)?)?;
         awaited.answer(path);
         if awaited.is_empty() {
             return Ok(self.place_at(target));

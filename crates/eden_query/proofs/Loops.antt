@@ -6,7 +6,7 @@ use Rattle.std.proofs.Math.Seq.{get_or-append_seam}
 use Rattle.eden_query.specs.declared.fault.DecodeFault.{DecodeFault}
 use Rattle.eden_query.specs.declared.fault.DecodeFault.TheVariants.{NoMemory}
 use Rattle.eden_query.specs.Reading.{◌>>=◌, text_at, patterns_at, items_at}
-use Rattle.eden_query.specs.Listing.{last_by}
+use Rattle.eden_query.specs.internal.Listing.{last_by}
 
 -- what was read before, and what is still read
 abbrev pub with_front : {X : Type 0} → List X → Result (List X × List ℕ) DecodeFault → Result (List X × List ℕ) DecodeFault

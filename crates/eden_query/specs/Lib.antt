@@ -1,7 +1,7 @@
 pub mod Reading
-pub mod Listing
 pub mod Answers
 pub mod Raws
 pub mod Settled
 pub mod Servers
 pub mod Laws
+pub mod internal

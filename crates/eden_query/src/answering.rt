@@ -15,16 +15,6 @@ use eden_objects::{CommitFault, Store};
 use eden_ranges::expand_admitted;
 use std::alloc::Global;
 
-/// The file that was held, or none.
-fn copy_of(content: &Option<Content>) -> Result<Option<Content>, NoMemory>
-    ensures { IfOk result (λ copy. copy ≡ content.now) }
-{
-    match content {
-        Some(content) => Ok(Some(content.copy()?)),
-        None => Ok(None),
-    }
-}
-
 /// The paths of the files that the snapshot shows and the filter admits.
 fn listed<N: Naming + Drop>(
     snapshot: &Snapshot,
@@ -80,7 +70,7 @@ pub fn answer<N: Naming + Drop>(
                 query: *query,
                 position: *position,
                 path: path.copy()?,
-                content: copy_of(content)?,
+                content: Content::copy_of(content)?,
             };
             Ok(reply.bounded(*query))
         }

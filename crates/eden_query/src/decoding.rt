@@ -3,7 +3,7 @@ ghost use Rattle.eden_history.specs.declared.message.Request.{Request};
 ghost use Rattle.eden_history.specs.declared.message.Reply.{Reply};
 ghost use Rattle.eden_history.specs.Spells.{SpellsRequest, SpellsReply};
 ghost use Rattle.eden_query.specs.Reading.{Gives, tag_at, is_above, next_at, paths_at, path_listing_at, marked_at, list_at, listing_at, basis_at, poll_at, fetch_at, based_at, changes_at, held_at, refused_at, read_request, read_reply};
-ghost use Rattle.eden_query.specs.Listing.{last_marked, last_path};
+ghost use Rattle.eden_query.specs.internal.Listing.{last_marked, last_path};
 
 use crate::fault::DecodeFault;
 use crate::fields::{

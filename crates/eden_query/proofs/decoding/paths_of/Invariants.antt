@@ -1,6 +1,6 @@
 use Rattle.std.proofs.Common.{◌≡◌, ◌-◌, None}
 use Rattle.eden_query.specs.Reading.{paths_at}
-use Rattle.eden_query.specs.Listing.{last_path}
+use Rattle.eden_query.specs.internal.Listing.{last_path}
 use Rattle.eden_query.proofs.Loops.{with_front}
 use Rattle.eden_query.proofs.decoding.paths_of.Given as goal
 
