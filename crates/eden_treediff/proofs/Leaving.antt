@@ -4,16 +4,20 @@ use Rattle.std.specs.Cmp.{tied_itself}
 use Rattle.std.specs.Cmp.Lexicographic.{nat_list_cmp_total}
 use Rattle.std.specs.FinMap.Entries.{by_order}
 use Rattle.eden_ids.specs.declared.content.Kind.{Kind}
+use Rattle.eden_ids.specs.declared.id.Id.{Id}
+use Rattle.eden_objects.specs.Closed.{IsClosed}
+use Rattle.eden_objects.specs.Listings.{ArePaths}
 use Rattle.eden_objects.specs.Objects.{Held}
 use Rattle.eden_objects.proofs.Closed.{same_id-refl}
 use Rattle.eden_git.specs.Trees.{Entry, key}
+use Rattle.eden_treediff.specs.Merges.{merge_rows}
 use Rattle.eden_treediff.specs.Merging.{IsLeftOut, Rests}
 use Rattle.eden_treediff.specs.Pairs.{Next, is_changed, next_pair, same_mode}
-use Rattle.eden_treediff.specs.Walks.{wanted_behind}
+use Rattle.eden_treediff.specs.Walks.{IsSide, side_depth, side_entries, side_rows, wanted_behind}
 use Rattle.eden_treediff.proofs.Exact.{kind_same}
-use Rattle.eden_treediff.proofs.Legal.{AreLegal, legal_after}
+use Rattle.eden_treediff.proofs.Legal.{AreLegal, legal_after, legal_begins}
 use Rattle.eden_treediff.proofs.Settling.{same_goes_on}
-use Rattle.eden_treediff.proofs.Steps.{IsWay, here, is_next, merge_entries, one_more, skipped, unchanged, way_goes_on}
+use Rattle.eden_treediff.proofs.Steps.{IsWay, all_merged, here, is_next, merge_entries, one_more, skipped, unchanged, way_begins, way_goes_on}
 
 -- what the walk knows where these entries are left: what is to be found beside what was found, whether all so far is the same, and
 -- that the entries are those of trees
@@ -56,3 +60,19 @@ pub left_out : (held : List Held) (m n : ℕ) (test : List ℕ → Bool) (front 
 left_out held m n test front target done whole same old rests out is =
     left_front held m n test front target done whole same out.0 rests.0 rests.1
     (subst (λ (r : Rests). Stands held m n test front target done whole same r) (λ i. (out.1 i, out.2 i)) is)
+
+pub begins : (held : List Held) (first second : Option Id) (test : List ℕ → Bool) (front : List ℕ) (done : List (List ℕ)) → IsClosed held → IsSide held first → IsSide held second
+    → ArePaths front (side_rows held first) → ArePaths front (side_rows held second) → (rests : Rests) → rests ≡ (side_entries held first, side_entries held second)
+    → Stands held (side_depth held first) (side_depth held second) test front (done ++ wanted_behind test front (merge_rows (side_rows held first) (side_rows held second)))
+    done (merge_rows (side_rows held first) (side_rows held second)) true rests
+begins held first second test front done closed one two paths others rests is =
+    let whole = all_merged held first second closed one two in
+    let whole_paths : List (List ℕ) = merge_rows (side_rows held first) (side_rows held second) in
+    subst (λ (r : Rests). Stands held (side_depth held first) (side_depth held second) test front (done ++ wanted_behind test front whole_paths) done whole_paths true r) (sym is)
+    (
+      ap (λ ps. done ++ wanted_behind test front ps) whole,
+      (λ yes. whole),
+      way_begins held first second closed one two,
+      legal_begins held front first closed one paths,
+      legal_begins held front second closed two others,
+    )

@@ -115,6 +115,9 @@ long_rest side ahead =
     let low = ahead.1 in
     omega (arith, rest, whole, low)
 
+abbrev pub moved : Side → ℕ → Side
+moved side to = record { rows = side.rows; row = to; end = side.end }
+
 abbrev pub Skips : Side → Side → Changed → ℕ → Type 0
 Skips left right changed to =
     (front : List Entry) × (rest_of left ≡ front ++ drop to (entries_lent left.rows)) × (rest_of right ≡ front ++ drop to (entries_lent right.rows))

@@ -44,7 +44,7 @@ impl<'a> Merge<'a> {
         left: Option<Rows<'a>>,
         right: Option<Rows<'a>>,
     ) -> Result<Merge<'a>, NoMemory>
-        ensures { IfOk result (λ merge. merge ≡ (entries_lent left, entries_lent right)) }
+        ensures { IfOk result (λ merge. merge ≡ (entries_lent left.entry, entries_lent right.entry)) }
     {
         let changed = Changed::between(alloc, &left, &right)?;
         Ok(Merge {
@@ -99,11 +99,12 @@ impl<'a> Merge<'a> {
     fn pass_both(&mut self)
         ensures { self.new ≡ (drop 1 self.old.0, drop 1 self.old.1) }
     {
-        if let Some(changed) = &mut self.changed {
-            changed.pass(self.left.row);
-        }
+        let row = self.left.row;
         self.left.pass();
         self.right.pass();
+        if let Some(changed) = &mut self.changed {
+            changed.pass(row);
+        }
     }
 
     /// The next pair, if there is one. Entries that both sides have alike may be left out before it.

@@ -17,9 +17,9 @@ pub(crate) struct Side<'a> {
 impl<'a> Side<'a> {
     /// All entries.
     pub(crate) fn new(rows: Option<Rows<'a>>) -> Side<'a>
-        ensures rows { result.rows ≡ rows }
+        ensures rows { result.rows ≡ rows.entry }
         ensures row { result.row ≡ 0 }
-        ensures end { result.end ≡ length (entries_lent rows) }
+        ensures end { result.end ≡ length (entries_lent rows.entry) }
     {
         let end = match &rows {
             Some(rows) => rows.len(),

@@ -1,40 +1,29 @@
-use Rattle.std.proofs.Common.{rules, ◌≡◌, ◌++◌, ◌∷◌, [], ℕ, ◌+◌, ◌<◌, true, false, length, map, take, ◌||◌, List, sym, ap, subst, ◌∙◌, arith}
+use Rattle.std.proofs.Common.{rules, ◌≡◌, ◌++◌, ◌∷◌, [], ℕ, ◌+◌, ◌<◌, true, false, length, map, take, ◌||◌, List, Some, sym, ap, subst, ◌∙◌, arith}
 use Rattle.eden_globs.specs.Filters.{admits}
 use Rattle.eden_ids.specs.Paths.{IsPath, lies_below}
 use Rattle.eden_objects.specs.Objects.{Held}
-use Rattle.eden_git.specs.Trees.{Entry, entries_of}
-use Rattle.eden_treediff.specs.Columns.{common}
+use Rattle.eden_git.specs.Trees.{Entry}
 use Rattle.eden_treediff.specs.Merges.{merge_rows}
-use Rattle.eden_treediff.specs.Pairs.{Directory, Next, name_of, next_of}
+use Rattle.eden_treediff.specs.Merging.{Rests, next_of}
+use Rattle.eden_treediff.specs.Pairs.{Directory, Next, name_of, next_pair}
 use Rattle.eden_treediff.specs.Settled.{is_known, is_settled}
-use Rattle.eden_treediff.specs.Walks.{directory_read, side_depth, side_entries, side_rows, wanted_behind}
+use Rattle.eden_treediff.specs.Walks.{directory_read, side_depth, side_rows, wanted_behind}
 use Rattle.eden_treediff.proofs.Blocks.{below}
 use Rattle.eden_treediff.proofs.Legal.{AreLegal, entered_legal, found_legal, legal_after, legal_begins}
-use Rattle.eden_treediff.proofs.Rows.{tells_next}
-use Rattle.eden_treediff.proofs.Settling.{known_same, known_sides, none_inside, nothing_left, other_from, same_goes_on, settled_more, some_path}
+use Rattle.eden_treediff.proofs.Leaving.{begins, left_out}
+use Rattle.eden_treediff.proofs.Merging.{step_shorter}
+use Rattle.eden_treediff.proofs.Settling.{all_walked, known_same, known_sides, none_inside, nothing_left, other_from, same_goes_on, settled_more, some_path}
 use Rattle.eden_treediff.proofs.Steps.{IsWay, is_next, merge_entries, way_begins, way_goes_on, all_merged, here, one_file, one_more, skipped, unchanged, file_found, directory_is, directory_left, directory_walked, left}
 use Rattle.eden_treediff.proofs.walk.+walk.Goals.{then-same_side-via-then-same_side, then-same_side-via-else-same_side+then-has}
 use Rattle.eden_treediff.proofs.walk.+walk.Goals as goal
 
 pub pairs-init : goal.pairs-init
 pairs-init g t c =
-    let held : List Held = c.args.store.now in
-    let one : side_entries held c.args.first ≡ entries_of c.entries_of-left.result.now = ap entries_of (sym c.entries_of-left.ensures) in
-    let two : side_entries held c.args.second ≡ entries_of c.entries_of-right.result.now = ap entries_of (sym c.entries_of-right.ensures) in
-    let whole : merge_rows (side_rows held c.args.first) (side_rows held c.args.second) ≡ merge_entries held (entries_of c.entries_of-left.result.now) (entries_of c.entries_of-right.result.now) =
-    all_merged held c.args.first c.args.second c.closed_law.ensures.closed c.requires.first c.requires.second
-    ∙ ap (λ es. merge_entries held es (side_entries held c.args.second)) one
-    ∙ ap (merge_entries held (entries_of c.entries_of-left.result.now)) two in
     record {
-      stands = (
-        ap (λ ps. c.args.found.now.paths.items ++ wanted_behind (admits c.args.filter.now) c.args.found.now.front.items ps) whole,
-        λ yes. whole,
-        subst (λ fs. IsWay held (side_depth held c.args.first) (side_depth held c.args.second) (entries_of c.entries_of-left.result.now) fs) two
-          (subst (λ es. IsWay held (side_depth held c.args.first) (side_depth held c.args.second) es (side_entries held c.args.second)) one
-          (way_begins held c.args.first c.args.second c.closed_law.ensures.closed c.requires.first c.requires.second)),
-        subst (AreLegal held c.args.found.now.front.items) one (legal_begins held c.args.found.now.front.items c.args.first c.closed_law.ensures.closed c.requires.first c.requires.first_paths),
-        subst (AreLegal held c.args.found.now.front.items) two (legal_begins held c.args.found.now.front.items c.args.second c.closed_law.ensures.closed c.requires.second c.requires.second_paths),
-      );
+      stands =
+          begins c.args.store.now c.args.first c.args.second (admits c.args.filter.now) c.args.found.now.front.items c.args.found.now.paths.items c.closed_law.ensures.closed
+          c.requires.first c.requires.second c.requires.first_paths c.requires.second_paths c.in_ok-merge.merge
+          (c.in_ok-merge.ensures ∙ λ i. (c.rows_of.ensures i, c.rows_of-2.ensures i));
       other = λ no. let bad : true ≡ false = no in absurd (cc);
       front = λ i. c.args.found.now.front.items;
       settled = c.requires.settled;
@@ -289,9 +278,40 @@ returns-then-same_side-clause-paths g t c =
     ] in
     known_sides held c.args.settled.now c.args.first c.args.second (admits c.args.filter.now) c.args.found.now.front.items c.args.found.now.paths.items c.requires.settled known
 
+pub returns-then-not-same-clause-paths : goal.returns-then-not-same-clause-paths
+returns-then-not-same-clause-paths g t c =
+    let held : List Held = c.args.store.now in
+    let m : ℕ = side_depth held c.args.first in
+    let n : ℕ = side_depth held c.args.second in
+    let whole : List (List ℕ) = merge_rows (side_rows held c.args.first) (side_rows held c.args.second) in
+    let front : List ℕ = c.args.found.now.front.items in
+    let target : List (List ℕ) = c.args.found.now.paths.items ++ wanted_behind (admits c.args.filter.now) front whole in
+    let rests : Rests = c.in_default.ensures.0 in
+    let stands = left_out held m n (admits c.args.filter.now) front target c.pairs.found.paths.items whole c.pairs.same c.pairs.merge rests c.in_default.ensures.1 c.pairs.invariant.stands in
+    all_walked held rests.0 rests.1 (admits c.args.filter.now) front target c.pairs.found.paths.items c.in_default.ensures.2 stands.0
+
+pub returns-clause-paths : goal.returns-clause-paths
+returns-clause-paths g t c =
+    let held : List Held = c.args.store.now in
+    let m : ℕ = side_depth held c.args.first in
+    let n : ℕ = side_depth held c.args.second in
+    let whole : List (List ℕ) = merge_rows (side_rows held c.args.first) (side_rows held c.args.second) in
+    let front : List ℕ = c.args.found.now.front.items in
+    let target : List (List ℕ) = c.args.found.now.paths.items ++ wanted_behind (admits c.args.filter.now) front whole in
+    let rests : Rests = c.in_default.ensures.0 in
+    let stands = left_out held m n (admits c.args.filter.now) front target c.pairs.found.paths.items whole c.pairs.same c.pairs.merge rests c.in_default.ensures.1 c.pairs.invariant.stands in
+    all_walked held rests.0 rests.1 (admits c.args.filter.now) front target c.pairs.found.paths.items c.in_default.ensures.2 stands.0
+
 pub returns-clause-settled : goal.returns-clause-settled
 returns-clause-settled g t c =
     let held : List Held = c.args.store.now in
+    let m : ℕ = side_depth held c.args.first in
+    let n : ℕ = side_depth held c.args.second in
+    let whole : List (List ℕ) = merge_rows (side_rows held c.args.first) (side_rows held c.args.second) in
+    let front : List ℕ = c.args.found.now.front.items in
+    let target : List (List ℕ) = c.args.found.now.paths.items ++ wanted_behind (admits c.args.filter.now) front whole in
+    let rests : Rests = c.in_default.ensures.0 in
+    let stands = left_out held m n (admits c.args.filter.now) front target c.pairs.found.paths.items whole c.pairs.same c.pairs.merge rests c.in_default.ensures.1 c.pairs.invariant.stands in
     settled_more held c.pairs.settled c.add-2.new.self c.args.first c.args.second c.pairs.invariant.settled
-    (stands.1 c.if-not-same.false ∙ nothing_left held (entries_of c.pairs.left.now) (entries_of c.pairs.right.now) c.in_default.ensures.next)
+    (stands.1 c.if-not-same.false ∙ nothing_left held rests.0 rests.1 c.in_default.ensures.2)
     c.in_ok-add-2.ensures
