@@ -40,8 +40,14 @@ fn entries_by_rows(rt: HostRuntime) -> Result<(), Fail> {
     let columns = Columns::of(rt.alloc(), payload)?;
     let rows = Rows::new(payload, &columns);
     assert_eq!(rt; rows.len(), 2);
-    assert_eq!(rt; rows.entry(0).map(|entry| entry.name), Some(b"a.b".as_slice()));
-    assert_eq!(rt; rows.entry(1).map(|entry| entry.name), Some(b"a".as_slice()));
+    assert_eq!(rt;
+        rows.entry(0).map(|entry| entry.name),
+        Some(b"a.b".as_slice())
+    );
+    assert_eq!(rt;
+        rows.entry(1).map(|entry| entry.name),
+        Some(b"a".as_slice())
+    );
     assert!(rt; rows.entry(2).is_none());
     assert_eq!(rt; rows.ids().len(), 2);
     assert_eq!(rt; rows.ids().get(1), Some(Id([2; 20])));
@@ -77,7 +83,11 @@ fn names_of_two_trees(rt: HostRuntime) -> Result<(), Fail> {
         let other = &other[..other.len().min(1000)];
         let (columns, beside) = (Columns::of(alloc, payload)?, Columns::of(alloc, other)?);
         let rows = Rows::new(payload, &columns);
-        assert_eq!(rt; rows.has_names_of(&Rows::new(other, &beside)), same, "{names}, {others}");
+        assert_eq!(rt;
+            rows.has_names_of(&Rows::new(other, &beside)),
+            same,
+            "{names}, {others}"
+        );
     }
     Ok(())
 }

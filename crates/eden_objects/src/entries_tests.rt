@@ -71,7 +71,10 @@ fn entries_by_rows(rt: HostRuntime) -> Result<(), Fail> {
         return Err(Fail::new("a tree has its entries"));
     };
     assert_eq!(rt; rows.len(), 2);
-    assert_eq!(rt; rows.entry(1).map(|entry| entry.name), Some(b"a".as_slice()));
+    assert_eq!(rt;
+        rows.entry(1).map(|entry| entry.name),
+        Some(b"a".as_slice())
+    );
     assert_eq!(rt; rows.ids().get(0), Some(blob));
     assert_eq!(rt; rows.ids().get(1), Some(empty));
     assert_eq!(rt; rows.kinds(), [2, 0].as_slice());

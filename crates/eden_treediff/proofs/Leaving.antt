@@ -1,5 +1,5 @@
 -- Entries with which both sides begin are left out: the two sides have the same files there.
-use Rattle.std.proofs.Common.{◌≡◌, ℕ, ◌++◌, Bool, true, false, not, ◌&&◌, List, [], ◌∷◌, Option, Some, None, refl, sym, ap, subst, ◌∙◌}
+use Rattle.std.proofs.Common.{◌≡◌, ℕ, ◌++◌, Bool, true, false, not, ◌&&◌, List, [], ◌∷◌, Option, Some, None, refl, sym, ap, subst}
 use Rattle.std.specs.Cmp.{tied_itself}
 use Rattle.std.specs.Cmp.Lexicographic.{nat_list_cmp_total}
 use Rattle.std.specs.FinMap.Entries.{by_order}
@@ -49,7 +49,7 @@ left_front held m n test front target done whole same (e ∷ es) us vs is =
     left_front held m n test front target done whole same es us vs (
       skipped held m n left right next test front target done is.2 itself (same_entry e) is.0,
       (λ yes. same_goes_on whole (merge_entries held left right) (here held next) (merge_entries held next.2 next.3) (one_more held m n left right next is.2 itself)
-      (unchanged held m n left right next is.2 itself (same_entry e)) (is.1 yes)),
+          (unchanged held m n left right next is.2 itself (same_entry e)) (is.1 yes)),
       way_goes_on held m n left right next is.2 itself,
       legal_after held front left (Some e) (es ++ us) met.0 is.3,
       legal_after held front right (Some e) (es ++ vs) met.1 is.4,
@@ -68,8 +68,7 @@ pub begins : (held : List Held) (first second : Option Id) (test : List ℕ → 
 begins held first second test front done closed one two paths others rests is =
     let whole = all_merged held first second closed one two in
     let whole_paths : List (List ℕ) = merge_rows (side_rows held first) (side_rows held second) in
-    subst (λ (r : Rests). Stands held (side_depth held first) (side_depth held second) test front (done ++ wanted_behind test front whole_paths) done whole_paths true r) (sym is)
-    (
+    subst (λ (r : Rests). Stands held (side_depth held first) (side_depth held second) test front (done ++ wanted_behind test front whole_paths) done whole_paths true r) (sym is) (
       ap (λ ps. done ++ wanted_behind test front ps) whole,
       (λ yes. whole),
       way_begins held first second closed one two,

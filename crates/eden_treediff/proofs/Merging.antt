@@ -1,21 +1,15 @@
 -- One step over what is left of two directories.
-use Rattle.std.proofs.Common.{◌≡◌, ℕ, zero, suc, ◌+◌, ◌<◌, ◌≤◌, ◌++◌, Bool, true, false, cond, nat_lt, min, List, [], ◌∷◌, drop, length, Option, Some, None, refl, sym, ap, subst, ◌∙◌, arith, drop_of_length-le, length-append}
+use Rattle.std.proofs.Common.{◌≡◌, ℕ, zero, suc, ◌+◌, ◌<◌, ◌≤◌, ◌++◌, Bool, true, false, cond, nat_lt, min, List, [], ◌∷◌, drop, length, Some, refl, sym, ap, subst, ◌∙◌, arith, drop_of_length-le, length-append}
 use Rattle.std.proofs.lemmas.Bool.{ltb-false, ltb-true}
 use Rattle.std.proofs.lemmas.List.{drop-drop, length-drop, length-map}
 use Rattle.std.proofs.Math.Seq.{drop-append_seam}
-use Rattle.std.specs.declared.cmp.Ordering.{Ordering}
-use Rattle.std.specs.declared.cmp.Ordering.TheVariants.{Less, Equal, Greater}
-use Rattle.std.specs.FinMap.Entries.{by_order}
 use Rattle.std.specs.List.{slice_get}
-use Rattle.std.specs.Ordering.{nat_cmp}
-use Rattle.std.specs.Cmp.Lexicographic.{slice_cmp}
-use Rattle.eden_git.specs.Trees.{Entry, key}
+use Rattle.eden_git.specs.Trees.{Entry}
 use Rattle.eden_git.specs.Columns.{names_of}
 use Rattle.eden_treediff.specs.declared.changed.Changed.{Changed}
 use Rattle.eden_treediff.specs.declared.side.Side.{Side}
 use Rattle.eden_treediff.specs.Columns.{AreChanges, AreTold, IsAhead, entries_lent, first_row, passed, rest_of, rows_after}
-use Rattle.eden_treediff.specs.Merging.{IsLeftOut, IsNextOf, Rests, next_of, option_next}
-use Rattle.eden_treediff.specs.Pairs.{Next, first_of, next_of_both, next_pair, order_of}
+use Rattle.eden_treediff.specs.Pairs.{first_of}
 use Rattle.eden_treediff.proofs.Rows.{jump, passed_row}
 
 -- the first of what is left stands at the row
@@ -43,68 +37,6 @@ row_passed side false is ahead =
 
 pub side_passed : (side : Side) → IsAhead side → (rest_of (passed side) ≡ drop 1 (rest_of side)) × IsAhead (passed side)
 side_passed side ahead = row_passed side (nat_lt side.row side.end) refl ahead
-
--- the next pair by the order of the first entries
-
-order_inside : (o p : Ordering) → Some o ≡ Some p → o ≡ p
-order_inside o p is = cc
-
-pub by_order_of : (es fs : List Entry) (o : Ordering) → order_of (first_of es) (first_of fs) ≡ Some o
-    → next_pair es fs ≡ Some (by_order o (first_of es, None, drop 1 es, fs) (first_of es, first_of fs, drop 1 es, drop 1 fs) (None, first_of fs, es, drop 1 fs))
-by_order_of [] [] o is = absurd (cc)
-by_order_of (e ∷ es) [] o is =
-    subst (λ o. next_pair (e ∷ es) [] ≡ Some (by_order o (Some e, None, es, []) (Some e, None, es, []) (None, None, e ∷ es, []))) (order_inside Less o is) refl
-by_order_of [] (f ∷ fs) o is =
-    subst (λ o. next_pair [] (f ∷ fs) ≡ Some (by_order o (None, None, [], f ∷ fs) (None, Some f, [], fs) (None, Some f, [], fs))) (order_inside Greater o is) refl
-by_order_of (e ∷ es) (f ∷ fs) o is =
-    subst (λ o. next_pair (e ∷ es) (f ∷ fs) ≡ Some (by_order o (Some e, None, es, f ∷ fs) (Some e, Some f, es, fs) (None, Some f, e ∷ es, fs)))
-    (order_inside (slice_cmp nat_cmp (key e) (key f)) o is) refl
-
-pub none_next : (es fs : List Entry) → order_of (first_of es) (first_of fs) ≡ None → next_pair es fs ≡ None
-none_next [] [] is = refl
-none_next (e ∷ es) [] is = absurd (cc)
-none_next [] (f ∷ fs) is = absurd (cc)
-none_next (e ∷ es) (f ∷ fs) is = absurd (cc)
-
--- what was left out, and the pair, are no longer there
-shorter_by : (o : Ordering) (e f : Entry) (es fs : List Entry) (next : Next) → next ≡ by_order o (Some e, None, es, f ∷ fs) (Some e, Some f, es, fs) (None, Some f, e ∷ es, fs)
-    → length next.2 + length next.3 < length (e ∷ es) + length (f ∷ fs)
-shorter_by Less e f es fs next is =
-    let left : length next.2 ≡ length es = ap (λ (n : Next). length n.2) is in
-    let right : length next.3 ≡ length (f ∷ fs) = ap (λ (n : Next). length n.3) is in
-    omega (arith, left, right)
-shorter_by Equal e f es fs next is =
-    let left : length next.2 ≡ length es = ap (λ (n : Next). length n.2) is in
-    let right : length next.3 ≡ length fs = ap (λ (n : Next). length n.3) is in
-    omega (arith, left, right)
-shorter_by Greater e f es fs next is =
-    let left : length next.2 ≡ length (e ∷ es) = ap (λ (n : Next). length n.2) is in
-    let right : length next.3 ≡ length fs = ap (λ (n : Next). length n.3) is in
-    omega (arith, left, right)
-
-next_inside : (a b : Next) → Some a ≡ Some b → a ≡ b
-next_inside a b h = cc
-
-next_shorter : (es fs : List Entry) (next : Next) → Some next ≡ next_pair es fs → length next.2 + length next.3 < length es + length fs
-next_shorter [] [] next is = absurd (cc)
-next_shorter (e ∷ es) [] next is =
-    let same : next ≡ (Some e, None, es, []) = next_inside next (Some e, None, es, []) is in
-    let left : length next.2 ≡ length es = ap (λ (n : Next). length n.2) same in
-    let right : length next.3 ≡ 0 = ap (λ (n : Next). length n.3) same in
-    omega (arith, left, right)
-next_shorter [] (f ∷ fs) next is =
-    let same : next ≡ (None, Some f, [], fs) = next_inside next (None, Some f, [], fs) is in
-    let left : length next.2 ≡ 0 = ap (λ (n : Next). length n.2) same in
-    let right : length next.3 ≡ length fs = ap (λ (n : Next). length n.3) same in
-    omega (arith, left, right)
-next_shorter (e ∷ es) (f ∷ fs) next is = shorter_by (slice_cmp nat_cmp (key e) (key f)) e f es fs next (next_inside next (next_of_both e es f fs) is)
-
-pub step_shorter : (old rests : Rests) (next : Next) → IsLeftOut old rests → Some next ≡ next_pair rests.0 rests.1 → length next.2 + length next.3 < length old.0 + length old.1
-step_shorter old rests next out is =
-    let less = next_shorter rests.0 rests.1 next is in
-    let left : length old.0 ≡ length out.0 + length rests.0 = ap length out.1 ∙ length-append out.0 rests.0 in
-    let right : length old.1 ≡ length out.0 + length rests.1 = ap length out.2 ∙ length-append out.0 rests.1 in
-    omega (arith, less, left, right)
 
 -- the rows are passed over up to the first that differs
 

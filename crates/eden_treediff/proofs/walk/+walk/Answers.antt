@@ -1,4 +1,4 @@
-use Rattle.std.proofs.Common.{rules, ◌≡◌, ◌++◌, ◌∷◌, [], ℕ, ◌+◌, ◌<◌, true, false, length, map, take, ◌||◌, List, Some, sym, ap, subst, ◌∙◌, arith}
+use Rattle.std.proofs.Common.{rules, ◌≡◌, ◌++◌, ◌∷◌, [], ℕ, ◌+◌, ◌<◌, true, false, length, map, take, ◌||◌, List, Some, sym, ap, subst, ◌∙◌}
 use Rattle.eden_globs.specs.Filters.{admits}
 use Rattle.eden_ids.specs.Paths.{IsPath, lies_below}
 use Rattle.eden_objects.specs.Objects.{Held}
@@ -9,11 +9,10 @@ use Rattle.eden_treediff.specs.Pairs.{Directory, Next, name_of, next_pair}
 use Rattle.eden_treediff.specs.Settled.{is_known, is_settled}
 use Rattle.eden_treediff.specs.Walks.{directory_read, side_depth, side_rows, wanted_behind}
 use Rattle.eden_treediff.proofs.Blocks.{below}
-use Rattle.eden_treediff.proofs.Legal.{AreLegal, entered_legal, found_legal, legal_after, legal_begins}
+use Rattle.eden_treediff.proofs.Legal.{entered_legal, found_legal, legal_after}
 use Rattle.eden_treediff.proofs.Leaving.{begins, left_out}
-use Rattle.eden_treediff.proofs.Merging.{step_shorter}
 use Rattle.eden_treediff.proofs.Settling.{all_walked, known_same, known_sides, none_inside, nothing_left, other_from, same_goes_on, settled_more, some_path}
-use Rattle.eden_treediff.proofs.Steps.{IsWay, is_next, merge_entries, way_begins, way_goes_on, all_merged, here, one_file, one_more, skipped, unchanged, file_found, directory_is, directory_left, directory_walked, left}
+use Rattle.eden_treediff.proofs.Steps.{is_next, merge_entries, way_goes_on, here, one_file, one_more, skipped, unchanged, file_found, directory_is, directory_left, directory_walked, left}
 use Rattle.eden_treediff.proofs.walk.+walk.Goals.{then-same_side-via-then-same_side, then-same_side-via-else-same_side+then-has}
 use Rattle.eden_treediff.proofs.walk.+walk.Goals as goal
 
@@ -124,7 +123,7 @@ pairs-preserved-then-not-entered g t c =
     record {
       stands = (
         directory_left held m n es fs next d (admits c.args.filter.now) front target c.pairs.found.paths.items stands.2 is
-          (sym c.directory.ensures ∙ ap directory_read c.in-Some-directory.is) outside stands.0,
+            (sym c.directory.ensures ∙ ap directory_read c.in-Some-directory.is) outside stands.0,
         λ yes. let bad : false ≡ true = yes in absurd (cc),
         way_goes_on held m n es fs next stands.2 is,
         legal_after held front es next.0 next.2 met.0 stands.3,
@@ -213,7 +212,7 @@ pairs-preserved-then-not-inside g t c =
     record {
       stands = (
         directory_walked held m n es fs next d (admits c.args.filter.now) front c.enter.new.front.items target c.pairs.found.paths.items c.walk.new.found.paths.items
-          stands.2 is dir entered stands.0 c.in_ok-inside.ensures.paths,
+            stands.2 is dir entered stands.0 c.in_ok-inside.ensures.paths,
         λ yes. let bad : false ≡ true = yes in absurd (cc),
         way_goes_on held m n es fs next stands.2 is,
         legal_after held front es next.0 next.2 met.0 stands.3,
@@ -256,7 +255,7 @@ pairs-preserved g t c =
     record {
       stands = (
         directory_walked held m n es fs next d (admits c.args.filter.now) front c.enter.new.front.items target c.pairs.found.paths.items c.walk.new.found.paths.items
-          stands.2 is dir entered stands.0 c.in_ok-inside.ensures.paths,
+            stands.2 is dir entered stands.0 c.in_ok-inside.ensures.paths,
         λ yes. same_goes_on whole (merge_entries held es fs) (here held next) rest parts nothing (stands.1 yes),
         way_goes_on held m n es fs next stands.2 is,
         legal_after held front es next.0 next.2 met.0 stands.3,

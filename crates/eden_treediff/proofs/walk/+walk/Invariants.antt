@@ -1,4 +1,4 @@
-use Rattle.std.proofs.Common.{◌≡◌, ◌+◌, ◌++◌, [], true, false, length}
+use Rattle.std.proofs.Common.{◌≡◌, ◌+◌, ◌++◌, [], false, length}
 use Rattle.eden_globs.specs.Filters.{admits}
 use Rattle.eden_treediff.specs.Merges.{merge_rows}
 use Rattle.eden_treediff.specs.Settled.{AreSettled, HoldSame, KeepsSettled}

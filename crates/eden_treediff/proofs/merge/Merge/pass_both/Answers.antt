@@ -1,4 +1,4 @@
-use Rattle.std.proofs.Common.{◌≡◌, drop, Option, Some, sym, ap, subst, ◌∙◌}
+use Rattle.std.proofs.Common.{◌≡◌, drop, Option, ap, subst, ◌∙◌}
 use Rattle.eden_treediff.specs.declared.changed.Changed.{Changed}
 use Rattle.eden_treediff.specs.Columns.{AreTold, passed, rest_of}
 use Rattle.eden_treediff.specs.Merging.{Rests}
@@ -15,9 +15,12 @@ invariant_of-self c =
     elim c.match-self.branch [
       | in-Some w ↦
           let told = subst (λ (changed : Option Changed). AreTold changed left right) w.in-Some.is c.self.invariant.2 in
-          rw (w.self-inside-is, c.pass.ensures, c.pass-2.ensures)
-          (one.1, two.1, both_told left right w.in-Some.changed w.pass-in-Some.new.self.ids w.pass-in-Some.new.self.kinds c.self.invariant.0 c.self.invariant.1 told
-          w.pass-in-Some.ensures.ids w.pass-in-Some.ensures.kinds)
+          rw (w.self-inside-is, c.pass.ensures, c.pass-2.ensures) (
+            one.1,
+            two.1,
+            both_told left right w.in-Some.changed w.pass-in-Some.new.self.ids w.pass-in-Some.new.self.kinds c.self.invariant.0 c.self.invariant.1 told
+                w.pass-in-Some.ensures.ids w.pass-in-Some.ensures.kinds,
+          )
       | in_default w ↦ rw (w.self-inside-is, w.in_default.is, c.pass.ensures, c.pass-2.ensures) (one.1, two.1, tt)
     ]
 
