@@ -5,3 +5,4 @@ pub mod Slashes
 mod Keys
 mod Noting
 mod Searching
+mod Naming

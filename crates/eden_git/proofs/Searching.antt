@@ -15,9 +15,6 @@ use Rattle.eden_git.specs.Trees.{Entry, entries_of, key, key_of}
 use Rattle.eden_git.specs.Starts.{AreInOrder, AreStarts, entry_at, first_from, is_before}
 use Rattle.eden_git.specs.Directories.{dir_if, dir_named, file_if, file_named, or_later}
 
-abbrev pub AreSorted : List Entry → Type 0
-AreSorted es = IsStrictlySortedBy (slice_cmp nat_cmp) (map key es)
-
 less_is : (o : Ordering) → is_lt o ≡ true → o ≡ Less
 less_is Less h = refl
 less_is Equal h = cc h
@@ -31,11 +28,11 @@ not_less Greater h = refl
 irreflexive : (k : List ℕ) → is_lt (slice_cmp nat_cmp k k) ≡ false
 irreflexive k = not_less (slice_cmp nat_cmp k k) (nat_list_cmp_total.antisymm k k)
 
-abbrev first_of : List (Option Entry) → Option Entry
+abbrev pub first_of : List (Option Entry) → Option Entry
 first_of [] = None
 first_of (o ∷ os) = o
 
-abbrev others_of : List (Option Entry) → List (Option Entry)
+abbrev pub others_of : List (Option Entry) → List (Option Entry)
 others_of [] = []
 others_of (o ∷ os) = os
 
@@ -54,7 +51,7 @@ later_before w k f (x ∷ xs) (e ∷ es) same lower zero d less before =
 later_before w k f (x ∷ xs) (e ∷ es) same lower (suc j) d less before =
     later_before w k f xs es (ap others_of same) lower.1 j d (omega (arith, less)) before
 
-parted : (w : List ℕ) (f : ℕ → Option Entry) (xs : List ℕ) (es : List Entry) → map f xs ≡ map Some es → AreSorted es → IsPartitionedBy (λ x. is_before w (f x)) xs
+parted : (w : List ℕ) (f : ℕ → Option Entry) (xs : List ℕ) (es : List Entry) → map f xs ≡ map Some es → AreInOrder es → IsPartitionedBy (λ x. is_before w (f x)) xs
 parted w f [] es same sorted i j d low less before = absurd (omega (arith, less))
 parted w f (x ∷ xs) [] same sorted i j d low less before = cc same
 parted w f (x ∷ xs) (e ∷ es) same sorted zero zero d low less before = before
@@ -65,7 +62,7 @@ parted w f (x ∷ xs) (e ∷ es) same sorted (suc i) zero d low less before = ab
 parted w f (x ∷ xs) (e ∷ es) same sorted (suc i) (suc j) d low less before =
     parted w f xs es (ap others_of same) (sorted_tail (slice_cmp nat_cmp) (key e) (map key es) sorted) i j d (omega (arith, low)) (omega (arith, less)) before
 
-pub starts_parted : (w payload starts : List ℕ) → AreStarts payload starts → AreInOrder payload → IsPartitionedBy (λ start. is_before w (entry_at payload start)) starts
+pub starts_parted : (w payload starts : List ℕ) → AreStarts payload starts → AreInOrder (entries_of payload) → IsPartitionedBy (λ start. is_before w (entry_at payload start)) starts
 starts_parted w payload starts same sorted = parted w (entry_at payload) starts (entries_of payload) same sorted
 
 -- what stands at the place behind them is the first entry that doesn't
@@ -118,7 +115,7 @@ module _ {A : Type 0} (here : Entry → Option A) (w : List ℕ) (apart : (e : E
       (apart e (λ same. sym (ap is_lt higher.0) ∙ ap (λ y. is_lt (slice_cmp nat_cmp k y)) same ∙ reached))
       ∙ none_after k es higher.1 reached
 
-  by_first : (es : List Entry) → AreSorted es → any_here es ≡ here_of (first_from w es)
+  by_first : (es : List Entry) → AreInOrder es → any_here es ≡ here_of (first_from w es)
   by_first [] sorted = refl
   by_first (e ∷ es) sorted =
       by (is_lt (slice_cmp nat_cmp (key e) w)) refl (by_first es (sorted_tail (slice_cmp nat_cmp) (key e) (map key es) sorted)) where
@@ -148,18 +145,18 @@ any_file : (name : List ℕ) (es : List Entry) → file_named name es ≡ any_he
 any_file name [] = refl
 any_file name (e ∷ es) = ap (or_later (file_here name e)) (any_file name es)
 
-file_by : (name payload : List ℕ) → AreInOrder payload
-    → file_named name (entries_of payload) ≡ here_of (file_here name) name (λ e apart. file_apart name e.name e.kind e.id apart) (first_from name (entries_of payload))
-file_by name payload sorted = any_file name (entries_of payload) ∙ by_first (file_here name) name (λ e apart. file_apart name e.name e.kind e.id apart) (entries_of payload) sorted
+file_by : (name : List ℕ) (es : List Entry) → AreInOrder es
+    → file_named name es ≡ here_of (file_here name) name (λ e apart. file_apart name e.name e.kind e.id apart) (first_from name es)
+file_by name es sorted = any_file name es ∙ by_first (file_here name) name (λ e apart. file_apart name e.name e.kind e.id apart) es sorted
 
-pub file_first : (name payload : List ℕ) (e : Entry) → AreInOrder payload → Some e ≡ first_from name (entries_of payload)
-    → file_if e.kind e.id (same_bytes e.name name) ≡ file_named name (entries_of payload)
-file_first name payload e sorted is =
-    ap (here_of (file_here name) name (λ e apart. file_apart name e.name e.kind e.id apart)) is ∙ sym (file_by name payload sorted)
+pub file_first : (name : List ℕ) (es : List Entry) (e : Entry) → AreInOrder es → Some e ≡ first_from name es
+    → file_if e.kind e.id (same_bytes e.name name) ≡ file_named name es
+file_first name es e sorted is =
+    ap (here_of (file_here name) name (λ e apart. file_apart name e.name e.kind e.id apart)) is ∙ sym (file_by name es sorted)
 
-pub file_none : (name payload : List ℕ) → AreInOrder payload → None ≡ first_from name (entries_of payload) → None ≡ file_named name (entries_of payload)
-file_none name payload sorted is =
-    ap (here_of (file_here name) name (λ e apart. file_apart name e.name e.kind e.id apart)) is ∙ sym (file_by name payload sorted)
+pub file_none : (name : List ℕ) (es : List Entry) → AreInOrder es → None ≡ first_from name es → None ≡ file_named name es
+file_none name es sorted is =
+    ap (here_of (file_here name) name (λ e apart. file_apart name e.name e.kind e.id apart)) is ∙ sym (file_by name es sorted)
 
 -- a directory, whose key ends in a slash
 
@@ -177,17 +174,17 @@ any_dir : (name : List ℕ) (es : List Entry) → dir_named name es ≡ any_here
 any_dir name [] = refl
 any_dir name (e ∷ es) = ap (or_later (dir_here name e)) (any_dir name es)
 
-dir_by : (name payload : List ℕ) → AreInOrder payload
-    → dir_named name (entries_of payload)
-    ≡ here_of (dir_here name) (name ++ 47 ∷ []) (λ e apart. dir_apart name e.name e.kind e.id apart) (first_from (name ++ 47 ∷ []) (entries_of payload))
-dir_by name payload sorted =
-    any_dir name (entries_of payload) ∙ by_first (dir_here name) (name ++ 47 ∷ []) (λ e apart. dir_apart name e.name e.kind e.id apart) (entries_of payload) sorted
+dir_by : (name : List ℕ) (es : List Entry) → AreInOrder es
+    → dir_named name es
+    ≡ here_of (dir_here name) (name ++ 47 ∷ []) (λ e apart. dir_apart name e.name e.kind e.id apart) (first_from (name ++ 47 ∷ []) es)
+dir_by name es sorted =
+    any_dir name es ∙ by_first (dir_here name) (name ++ 47 ∷ []) (λ e apart. dir_apart name e.name e.kind e.id apart) es sorted
 
-pub dir_first : (name payload : List ℕ) (e : Entry) → AreInOrder payload → Some e ≡ first_from (name ++ 47 ∷ []) (entries_of payload)
-    → dir_if e.kind e.id (same_bytes e.name name) ≡ dir_named name (entries_of payload)
-dir_first name payload e sorted is =
-    ap (here_of (dir_here name) (name ++ 47 ∷ []) (λ e apart. dir_apart name e.name e.kind e.id apart)) is ∙ sym (dir_by name payload sorted)
+pub dir_first : (name : List ℕ) (es : List Entry) (e : Entry) → AreInOrder es → Some e ≡ first_from (name ++ 47 ∷ []) es
+    → dir_if e.kind e.id (same_bytes e.name name) ≡ dir_named name es
+dir_first name es e sorted is =
+    ap (here_of (dir_here name) (name ++ 47 ∷ []) (λ e apart. dir_apart name e.name e.kind e.id apart)) is ∙ sym (dir_by name es sorted)
 
-pub dir_none : (name payload : List ℕ) → AreInOrder payload → None ≡ first_from (name ++ 47 ∷ []) (entries_of payload) → None ≡ dir_named name (entries_of payload)
-dir_none name payload sorted is =
-    ap (here_of (dir_here name) (name ++ 47 ∷ []) (λ e apart. dir_apart name e.name e.kind e.id apart)) is ∙ sym (dir_by name payload sorted)
+pub dir_none : (name : List ℕ) (es : List Entry) → AreInOrder es → None ≡ first_from (name ++ 47 ∷ []) es → None ≡ dir_named name es
+dir_none name es sorted is =
+    ap (here_of (dir_here name) (name ++ 47 ∷ []) (λ e apart. dir_apart name e.name e.kind e.id apart)) is ∙ sym (dir_by name es sorted)

@@ -2,5 +2,6 @@ pub mod Words
 pub mod Trees
 pub mod Entries
 pub mod Starts
+pub mod Columns
 pub mod Directories
 pub mod Commits

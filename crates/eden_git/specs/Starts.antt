@@ -18,9 +18,9 @@ entry_at payload start = entry_read (read_entry (drop start payload))
 abbrev pub AreStarts : List ℕ → List ℕ → Type 0
 AreStarts payload starts = map (entry_at payload) starts ≡ map Some (entries_of payload)
 
--- the keys of a payload's entries ascend
-abbrev pub AreInOrder : List ℕ → Type 0
-AreInOrder payload = IsStrictlySortedBy (slice_cmp nat_cmp) (map key (entries_of payload))
+-- the keys of entries ascend
+abbrev pub AreInOrder : List Entry → Type 0
+AreInOrder es = IsStrictlySortedBy (slice_cmp nat_cmp) (map key es)
 
 abbrev pub is_before : List ℕ → Option Entry → Bool
 is_before wanted None = false

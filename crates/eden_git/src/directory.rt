@@ -1,11 +1,11 @@
 ghost use Rattle.std.specs.Prelude.{◌≡◌, ◌<◌, length, IfSome};
 ghost use Rattle.eden_ids.specs.Sameness.{same_bytes};
-ghost use Rattle.eden_git.specs.Starts.{AreInOrder, AreStarts};
+ghost use Rattle.eden_git.specs.Starts.{AreInOrder};
 ghost use Rattle.eden_git.specs.Trees.{entries_of};
 ghost use Rattle.eden_git.specs.Directories.{entries_read, file_if, file_named, dir_if, dir_named};
 
 use crate::entry::{RawEntry, read_entry};
-use crate::starts::first_from;
+use crate::rows::Rows;
 use eden_ids::{Id, Kind};
 
 /// The first entry of some bytes and what stands behind it, if there is one. So the entries of a tree's payload are read one after
@@ -50,40 +50,38 @@ fn dir_with(entry: &RawEntry<'_>, name: &[u8]) -> Option<Id>
     }
 }
 
-/// The file with a name among the entries of a payload, which begin at these places. It is found by a search,
-/// and this takes no memory.
-#[tactic(auto, using(crate::proofs::Searching::file_first, crate::proofs::Searching::file_none))]
-pub fn file_in(payload: &[u8], starts: &[u32], name: &[u8]) -> Option<(Kind, Id)>
-    requires starts { AreStarts payload.now starts.now }
-    requires in_order { AreInOrder payload.now }
-    ensures { result ≡ file_named name.now (entries_of payload.now) }
-{
-    let wanted = RawEntry {
-        name,
-        kind: Some(Kind::Plain),
-        id: Id::ZERO,
-    };
-    match first_from(payload, starts, &wanted) {
-        Some(entry) => file_with(&entry, name),
-        None => None,
+impl<'a> Rows<'a> {
+    /// The file with a name, which is found by a search.
+    #[tactic(auto, using(crate::proofs::Searching::file_first, crate::proofs::Searching::file_none))]
+    pub fn file(&self, name: &[u8]) -> Option<(Kind, Id)>
+        requires { AreInOrder self.now }
+        ensures { result ≡ file_named name.now self.now }
+    {
+        let wanted = RawEntry {
+            name,
+            kind: Some(Kind::Plain),
+            id: Id::ZERO,
+        };
+        match self.first_from(&wanted) {
+            Some(entry) => file_with(&entry, name),
+            None => None,
+        }
     }
-}
 
-/// The tree of the directory with a name among the entries of a payload, which begin at these places. It is found by a search,
-/// and this takes no memory.
-#[tactic(auto, using(crate::proofs::Searching::dir_first, crate::proofs::Searching::dir_none))]
-pub fn dir_in(payload: &[u8], starts: &[u32], name: &[u8]) -> Option<Id>
-    requires starts { AreStarts payload.now starts.now }
-    requires in_order { AreInOrder payload.now }
-    ensures { result ≡ dir_named name.now (entries_of payload.now) }
-{
-    let wanted = RawEntry {
-        name,
-        kind: None,
-        id: Id::ZERO,
-    };
-    match first_from(payload, starts, &wanted) {
-        Some(entry) => dir_with(&entry, name),
-        None => None,
+    /// The tree of the directory with a name, which is found by a search.
+    #[tactic(auto, using(crate::proofs::Searching::dir_first, crate::proofs::Searching::dir_none))]
+    pub fn directory(&self, name: &[u8]) -> Option<Id>
+        requires { AreInOrder self.now }
+        ensures { result ≡ dir_named name.now self.now }
+    {
+        let wanted = RawEntry {
+            name,
+            kind: None,
+            id: Id::ZERO,
+        };
+        match self.first_from(&wanted) {
+            Some(entry) => dir_with(&entry, name),
+            None => None,
+        }
     }
 }

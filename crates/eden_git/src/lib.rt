@@ -9,19 +9,22 @@
 //! ```
 #![tactic(auto)]
 
+pub use crate::columns::Columns;
 pub use crate::commit::tree_named;
-pub use crate::directory::{dir_in, file_in, next_entry};
+pub use crate::directory::next_entry;
 pub use crate::entry::{RawEntry, cut, read_entry};
 pub use crate::fault::EntryFault;
 pub use crate::order::key_order;
-pub use crate::starts::starts_of;
+pub use crate::rows::Rows;
 pub use crate::word::{Word, same_word};
 
+mod columns;
 mod commit;
 mod directory;
 mod entry;
 mod fault;
 mod order;
+mod rows;
 mod starts;
 #[cfg(test)]
 mod tests;

@@ -1,5 +1,5 @@
 use crate::{
-    EntryFault, RawEntry, Word, cut, key_order, next_entry, read_entry, same_word, starts_of,
+    Columns, EntryFault, RawEntry, Rows, Word, cut, key_order, next_entry, read_entry, same_word,
     tree_named,
 };
 use eden_ids::{Id, Kind};
@@ -30,8 +30,65 @@ fn entries_one_by_one(rt: HostRuntime) -> Result<(), Fail> {
     assert_eq!(rt; second.map(|read| read.0.kind), Some(None));
     assert_eq!(rt; second.map(|read| read.0.id), Some(Id([2; 20])));
     assert!(rt; end.is_empty() && next_entry(end).is_none());
-    let starts = starts_of(rt.alloc(), &payload[..payload.len().min(100)])?;
-    assert_eq!(rt; starts.as_slice(), [0, 31].as_slice());
+    Ok(())
+}
+
+#[test]
+fn entries_by_rows(rt: HostRuntime) -> Result<(), Fail> {
+    let payload = two_entries(rt.alloc())?;
+    let payload = &payload[..payload.len().min(100)];
+    let columns = Columns::of(rt.alloc(), payload)?;
+    let rows = Rows::new(payload, &columns);
+    assert_eq!(rt; rows.len(), 2);
+    assert_eq!(rt;
+        rows.entry(0).map(|entry| entry.name),
+        Some(b"a.b".as_slice())
+    );
+    assert_eq!(rt;
+        rows.entry(1).map(|entry| entry.name),
+        Some(b"a".as_slice())
+    );
+    assert!(rt; rows.entry(2).is_none());
+    assert_eq!(rt; rows.ids().len(), 2);
+    assert_eq!(rt; rows.ids().get(1), Some(Id([2; 20])));
+    assert_eq!(rt; rows.kinds(), [2, 0].as_slice());
+    Ok(())
+}
+
+/// The bytes of plain files with these names, each with an id of its place.
+fn files(alloc: Global, names: &str) -> Result<Vec<u8>, Fail> {
+    let mut payload = Vec::new(alloc);
+    for (place, name) in names.split(' ').enumerate().take(100) {
+        payload.extend_from_slice(b"100644 ".as_slice())?;
+        payload.extend_from_slice(name.as_bytes())?;
+        payload.push(0)?;
+        payload.extend_from_slice([place as u8; 20].as_slice())?;
+    }
+    Ok(payload)
+}
+
+#[test]
+fn names_of_two_trees(rt: HostRuntime) -> Result<(), Fail> {
+    let alloc = rt.alloc();
+    for (names, others, same) in [
+        ("a b.c d", "a b.c d", true),
+        ("a b.c d", "a b.c e", false),
+        ("a b.c d", "a b.cd", false),
+        ("ab c", "a bc", false),
+        ("a b", "a", false),
+        ("a", "a b", false),
+    ] {
+        let (payload, other) = (files(alloc, names)?, files(alloc, others)?);
+        let payload = &payload[..payload.len().min(1000)];
+        let other = &other[..other.len().min(1000)];
+        let (columns, beside) = (Columns::of(alloc, payload)?, Columns::of(alloc, other)?);
+        let rows = Rows::new(payload, &columns);
+        assert_eq!(rt;
+            rows.has_names_of(&Rows::new(other, &beside)),
+            same,
+            "{names}, {others}"
+        );
+    }
     Ok(())
 }
 

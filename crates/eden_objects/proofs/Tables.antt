@@ -1,9 +1,12 @@
 -- The table of a store, read from its newest entry, against what a look-up in it finds.
 use Rattle.std.proofs.Common.{◌≡◌, ◌∙◌, sym, refl, ap, ℕ, Bool, true, false, cond, List, [], ◌∷◌, ◌++◌, Option, Some, None, length, reverse}
+use Rattle.std.specs.Prelude.{IfSome}
 use Rattle.std.proofs.lemmas.List.{reverse-append, reverse-reverse}
 use Rattle.std.specs.Map.{lookup}
 use Rattle.std.specs.Cmp.Lexicographic.{same_text}
 use Rattle.eden_ids.specs.declared.id.Id.{Id}
+use Rattle.std.specs.Global.{Box}
+use Rattle.eden_objects.specs.declared.outline.Outline.{Outline}
 use Rattle.eden_objects.specs.declared.store.Object.{Object}
 use Rattle.eden_git.specs.declared.word.Word.{Word}
 use Rattle.eden_git.specs.declared.word.Word.TheVariants.{Tree}
@@ -15,7 +18,8 @@ use Rattle.eden_objects.specs.Counts.{capped}
 use Rattle.eden_git.specs.Trees.{Entry, entries_of}
 use Rattle.eden_objects.specs.Trees.{tree_fold, entries_depth, entries_reach}
 use Rattle.eden_objects.specs.Closed.{IsClosed, IsSound, IsTree, AllNamed}
-use Rattle.eden_objects.specs.Contents.{held_of, option_held, helds, Measures, AreMeasured, TellsOutline}
+use Rattle.eden_objects.proofs.CommitLaws.{same_word-is}
+use Rattle.eden_objects.specs.Contents.{held_of, option_held, helds, IsOutlined, Measures, AreMeasured, TellsOutline, TellsTree}
 
 pub same_id-is : (a b : Id) → same_id a b ≡ true → a ≡ b
 same_id-is a b h = ap (λ bytes. record { 0 = bytes }) (same_text a.0 b.0 (sym h))
@@ -87,21 +91,37 @@ fold_past : {A : Type 0} (none : A) (step : (Id → A) → List Entry → A) (h 
 unfolding tree_fold
 fold_past none step h earlier id is = rw is refl
 
+tree_further : (h : Held) (earlier : List Held) (id : Id) (outline : Option (Box Outline)) → same_id id h.id ≡ false
+    → IfSome outline (λ o. TellsTree earlier id o.value) → IfSome outline (λ o. TellsTree (h ∷ earlier) id o.value)
+tree_further h earlier id None past tells = tt
+tree_further h earlier id (Some outline) past tells = (
+  tells.0 ∙ sym (fold_past 0 entries_depth h earlier id past),
+  tells.1 ∙ sym (fold_past 0 entries_reach h earlier id past),
+  tells.2,
+  tells.3,
+  tells.4 ∙ sym (ap (λ rows. capped (length rows)) (fold_past [] entries_rows h earlier id past)),
+)
+
 outlined_further : (h : Held) (earlier : List Held) (id : Id) (object : Option Object) → same_id id h.id ≡ false
     → TellsOutline earlier id object → TellsOutline (h ∷ earlier) id object
 outlined_further h earlier id None past tells = tells
-outlined_further h earlier id (Some object) past tells = λ is_tree. (
-  (tells is_tree).0 ∙ sym (fold_past 0 entries_depth h earlier id past),
-  (tells is_tree).1 ∙ sym (fold_past 0 entries_reach h earlier id past),
-  (tells is_tree).2,
-  (tells is_tree).3,
-  (tells is_tree).4,
-  (tells is_tree).5 ∙ sym (ap (λ rows. capped (length rows)) (fold_past [] entries_rows h earlier id past)),
-)
+outlined_further h earlier id (Some object) past tells = (tells.0, tree_further h earlier id object.outline past tells.1)
 
 small_tree : (word : Word) (payload : List ℕ) (earlier : List Held) → word ≡ Tree → IsSound word payload earlier
     → IsTree earlier (entries_of payload)
 small_tree word payload earlier is sound = rw is at sound
+
+tree_here : (h : Held) (earlier : List Held) (id : Id) (outline : Option (Box Outline)) → same_id id h.id ≡ true → IsSound h.word h.payload earlier
+    → IsOutlined earlier h.word h.payload outline → IfSome outline (λ o. TellsTree (h ∷ earlier) id o.value)
+tree_here h earlier id None is sound fits = tt
+tree_here h earlier id (Some outline) is sound fits =
+    let tree = small_tree h.word h.payload earlier (same_word-is h.word Tree fits.0.0) sound in (
+      fits.1.0.0 ∙ sym (fold_here 0 entries_depth h earlier id is),
+      fits.1.0.1 ∙ sym (fold_here 0 entries_reach h earlier id is),
+      rw fits.1.0.0 tree.3,
+      rw fits.1.0.1 tree.4,
+      fits.1.1 ∙ sym (ap (λ rows. capped (length rows)) (fold_here [] entries_rows h earlier id is)),
+    )
 
 pub outlined_in_table : (table : List (Id × Object)) (id : Id) → IsClosed (helds table) → AreMeasured table
     → TellsOutline (helds table) id (lookup (same_id id) table)
@@ -112,15 +132,7 @@ outlined_in_table (e ∷ table) id closed measured = by (same_id id e.0) refl (o
 
   by : (t : Bool) → same_id id e.0 ≡ t → TellsOutline (helds table) id (lookup (same_id id) table)
       → TellsOutline (h ∷ helds table) id (cond t (Some e.1) (lookup (same_id id) table))
-  by true is rest = λ is_tree.
-      let tree = small_tree e.1.word e.1.payload.items (helds table) is_tree closed.1 in (
-        (measured.0.0 is_tree).0 ∙ sym (fold_here 0 entries_depth h (helds table) id is),
-        (measured.0.0 is_tree).1 ∙ sym (fold_here 0 entries_reach h (helds table) id is),
-        rw (measured.0.0 is_tree).0 tree.3,
-        rw (measured.0.0 is_tree).1 tree.4,
-        measured.0.1 is_tree,
-        measured.0.2 is_tree ∙ sym (ap (λ rows. capped (length rows)) (fold_here [] entries_rows h (helds table) id is)),
-      )
+  by true is rest = (measured.0.0, tree_here h (helds table) id e.1.outline is closed.1 measured.0)
   by false is rest = outlined_further h (helds table) id (lookup (same_id id) table) is rest
 
 pub outlined_in : (entries : List (Id × Object)) (id : Id) → IsClosed (helds (reverse entries)) → AreMeasured (reverse entries)

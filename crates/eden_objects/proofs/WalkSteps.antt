@@ -1,11 +1,15 @@
 -- One step of a walk down a path, from a directory to what its entries say of the path's first name.
-use Rattle.std.proofs.Common.{◌≡◌, ℕ, ◌+◌, ◌<◌, ◌++◌, Bool, true, false, List, [], ◌∷◌, length, Option, Some, None, sym, ap, subst, ◌∙◌, arith, length-append}
+use Rattle.std.proofs.Common.{◌≡◌, ℕ, ◌+◌, ◌<◌, ◌++◌, Bool, true, false, cond, List, [], ◌∷◌, length, Option, Some, None, sym, ap, subst, ◌∙◌, arith, length-append}
 use Rattle.std.specs.List.{AllByRecursion}
 use Rattle.eden_ids.specs.declared.id.Id.{Id}
 use Rattle.eden_ids.specs.declared.content.Kind.{Kind}
 use Rattle.eden_objects.specs.Objects.{Held, find, payload_of}
 use Rattle.eden_ids.specs.Sameness.{same_bytes}
 use Rattle.eden_git.specs.Trees.{Entry, cut, entries_of}
+use Rattle.eden_objects.specs.Readings as reading
+use Rattle.eden_objects.specs.Readings.{tree_entries}
+use Rattle.eden_git.specs.Words.{same_word}
+use Rattle.eden_git.specs.declared.word.Word.TheVariants.{Tree}
 use Rattle.eden_objects.specs.Commits.{find_row, tree_rows, entries_rows}
 use Rattle.eden_objects.specs.Puts.{word_wanted}
 use Rattle.eden_git.specs.Starts.{AreInOrder}
@@ -58,6 +62,21 @@ dir_held held c child (e ∷ es) all found = held_if held e.kind e.id child (sam
 pub child_here : (held : List Held) (id : Id) (c : List ℕ) (child : Id) → IsClosed held → HasTree held id → Some child ≡ dir_named c (entries_in held id) → HasTree held child
 child_here held id c child closed has found = dir_held held c child (entries_in held id) (tree_here held closed id has).0 found
 
--- the entries of a tree that is held stand in order
-pub order_here : (held : List Held) (id : Id) (h : Option Held) → IsClosed held → HasTree held id → h ≡ find id held → AreInOrder (payload_of h)
-order_here held id h closed has is = subst (λ o. AreInOrder (payload_of o)) (sym is) (tree_here held closed id has).1
+-- what is lent of a tree that is held are its entries, and they stand in order
+
+tree_lent : (held : List Held) (id : Id) → HasTree held id → Some (entries_in held id) ≡ tree_entries held id
+tree_lent held id has =
+    ap (λ o. Some (entries_of (payload_of o))) has.1
+    ∙ sym (ap (λ o. reading.entries_in (reading.tree_in o)) has.1 ∙ ap (λ word. reading.entries_in (cond (same_word word Tree) (Some has.0.payload) None)) has.2)
+
+pub rows_lent : (held : List Held) (id : Id) (es : List Entry) → HasTree held id → Some es ≡ tree_entries held id → es ≡ entries_in held id
+rows_lent held id es has is = some_inside es (entries_in held id) (is ∙ sym (tree_lent held id has))
+  where
+    some_inside : (es fs : List Entry) → Some es ≡ Some fs → es ≡ fs
+    some_inside es fs same = cc
+
+pub none_lent : (held : List Held) (id : Id) → HasTree held id → None ≡ tree_entries held id → ⊥
+none_lent held id has is = let bad : Some (entries_in held id) ≡ None = tree_lent held id has ∙ sym is in cc
+
+pub order_here : (held : List Held) (id : Id) (es : List Entry) → IsClosed held → HasTree held id → Some es ≡ tree_entries held id → AreInOrder es
+order_here held id es closed has is = subst AreInOrder (sym (rows_lent held id es has is)) (tree_here held closed id has).1

@@ -1,5 +1,6 @@
 -- How the table of a store is read as the list of its objects. A table is given newest first.
-use Rattle.std.specs.Prelude.{◌≡◌, ℕ, ◌≤◌, Bool, ◌&&◌, List, [], ◌∷◌, map, Option, Some, None, Result, Ok, Err, if◌then◌else◌}
+use Rattle.std.specs.Prelude.{◌≡◌, ℕ, ◌≤◌, Bool, true, false, ◌&&◌, List, [], ◌∷◌, map, Option, Some, None, IfSome, Result, Ok, Err, if◌then◌else◌}
+use Rattle.std.specs.Global.{Box}
 use Rattle.eden_ids.specs.declared.id.Id.{Id}
 use Rattle.eden_git.specs.declared.word.Word.{Word}
 use Rattle.eden_git.specs.declared.word.Word.TheVariants.{Tree}
@@ -12,7 +13,7 @@ use Rattle.eden_objects.specs.Objects.{Held}
 use Rattle.eden_git.specs.Words.{same_word}
 use Rattle.eden_ids.specs.Sameness.{same_bytes}
 use Rattle.eden_objects.specs.Counts.{files_of_entries, files_of_tree}
-use Rattle.eden_git.specs.Starts.{AreStarts}
+use Rattle.eden_git.specs.Columns.{AreColumns}
 use Rattle.eden_git.specs.Trees.{entries_of}
 use Rattle.eden_objects.specs.Trees.{entries_depth, entries_reach, tree_depth, tree_reach}
 
@@ -32,33 +33,40 @@ standing_answer object id word payload = if is_object object word payload then O
 abbrev pub helds : List (Id × Object) → List Held
 helds table = map (λ e. held_of e.0 e.1) table
 
+-- the columns of a tree are kept beside it, and of no other object
+abbrev pub AreKept : Word → List ℕ → Option (Box Outline) → Type 0
+AreKept word payload None = same_word word Tree ≡ false
+AreKept word payload (Some outline) = (same_word word Tree ≡ true) × AreColumns payload outline.value.columns
+
 -- a tree's depth and reach, by what it names
-abbrev pub SizeFits : List Held → Word → List ℕ → Size → Type 0
-SizeFits earlier word payload size = word ≡ Tree
-    → (size.depth ≡ entries_depth (tree_depth earlier) (entries_of payload))
+abbrev pub SizeFits : List Held → List ℕ → Size → Type 0
+SizeFits earlier payload size =
+    (size.depth ≡ entries_depth (tree_depth earlier) (entries_of payload))
     × (size.reach ≡ entries_reach (tree_reach earlier) (entries_of payload))
 
--- how many files it comes to
-abbrev pub FilesFit : List Held → Word → List ℕ → ℕ → Type 0
-FilesFit earlier word payload files = word ≡ Tree → files ≡ files_of_entries earlier (entries_of payload)
+-- and how many files it comes to
+abbrev pub OutlineFits : List Held → List ℕ → Outline → Type 0
+OutlineFits earlier payload outline = SizeFits earlier payload outline.size × (outline.files ≡ files_of_entries earlier (entries_of payload))
 
--- and the places at which its entries begin
-abbrev pub OutlineFits : List Held → Word → List ℕ → Outline → Type 0
-OutlineFits earlier word payload outline =
-    SizeFits earlier word payload outline.size × (word ≡ Tree → AreStarts payload outline.starts.items) × FilesFit earlier word payload outline.files
+abbrev pub IsOutlined : List Held → Word → List ℕ → Option (Box Outline) → Type 0
+IsOutlined earlier word payload outline = AreKept word payload outline × IfSome outline (λ o. OutlineFits earlier payload o.value)
 
 -- they are kept beside it
 abbrev pub Measures : List Held → Object → Type 0
-Measures earlier object = OutlineFits earlier object.word object.payload.items object.outline
+Measures earlier object = IsOutlined earlier object.word object.payload.items object.outline
 
 abbrev pub AreMeasured : List (Id × Object) → Type 0
 AreMeasured [] = Unit {0}
 AreMeasured (e ∷ earlier) = Measures (helds earlier) e.1 × AreMeasured earlier
 
+abbrev pub HasColumns : Object → Type 0
+HasColumns object = AreKept object.word object.payload.items object.outline
+
+-- what is kept of the tree with an id: its depth and its reach, with their limits, and how many files it comes to
+abbrev pub TellsTree : List Held → Id → Outline → Type 0
+TellsTree held id outline = (outline.size.depth ≡ tree_depth held id) × (outline.size.reach ≡ tree_reach held id)
+    × (outline.size.depth ≤ 64) × (outline.size.reach ≤ 1024) × (outline.files ≡ files_of_tree held id)
+
 abbrev pub TellsOutline : List Held → Id → Option Object → Type 0
 TellsOutline held id None = Unit {0}
-TellsOutline held id (Some object) = object.word ≡ Tree
-    → (object.outline.size.depth ≡ tree_depth held id) × (object.outline.size.reach ≡ tree_reach held id)
-    × (object.outline.size.depth ≤ 64) × (object.outline.size.reach ≤ 1024)
-    × AreStarts object.payload.items object.outline.starts.items
-    × (object.outline.files ≡ files_of_tree held id)
+TellsOutline held id (Some object) = HasColumns object × IfSome object.outline (λ o. TellsTree held id o.value)

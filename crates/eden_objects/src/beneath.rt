@@ -44,9 +44,6 @@ impl<N: Naming + Drop> Store<N> {
         requires { HasTree self.now tree }
         ensures { result ≡ files_of_tree self.now tree }
     {
-        match self.object(tree) {
-            Some(object) => object.outline.files,
-            None => 0,
-        }
+        self.outline(tree).files
     }
 }

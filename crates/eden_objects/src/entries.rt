@@ -1,5 +1,7 @@
 ghost use Rattle.std.specs.Prelude.{◌≡◌, ◌∷◌, ◌++◌, [], map, option_copied, Some, None, if◌then◌else◌, IfOk, OnOk};
 ghost use Rattle.eden_objects.specs.Objects.{find};
+ghost use Rattle.eden_objects.specs.Closed.{HasTree};
+ghost use Rattle.eden_objects.specs.Contents.{HasColumns, TellsTree};
 ghost use Rattle.eden_git.specs.Words.{same_word};
 ghost use Rattle.eden_git.specs.Trees.{entries_of};
 ghost use Rattle.eden_git.specs.Entries.{plain};
@@ -7,8 +9,9 @@ ghost use Rattle.eden_objects.specs.Walks.{tree_seen};
 ghost use Rattle.eden_objects.specs.Readings.{tree_entries, tree_payload};
 ghost use Rattle.eden_objects.specs.Copies.{copied, copied_all};
 
+use crate::outline::Outline;
 use crate::store::{Object, Store};
-use eden_git::{RawEntry, Word, next_entry, same_word};
+use eden_git::{RawEntry, Rows, Word, next_entry, same_word};
 use eden_ids::{Id, Kind, Naming, NoMemory};
 use std::alloc::Global;
 
@@ -72,6 +75,17 @@ impl Object {
             None
         }
     }
+
+    /// The entries with their columns, if the object is a tree.
+    fn rows(&self) -> Option<Rows<'_>>
+        requires { HasColumns self.now }
+        ensures { result ≡ (if same_word self.now.word Word.Tree then Some (entries_of self.now.payload.items) else None) }
+    {
+        match &self.outline {
+            Some(outline) => Some(Rows::new(self.payload.as_slice(), &outline.columns)),
+            None => None,
+        }
+    }
 }
 
 impl<N: Naming + Drop> Store<N> {
@@ -93,6 +107,33 @@ impl<N: Naming + Drop> Store<N> {
         match self.object(id) {
             Some(object) => object.entries(),
             None => None,
+        }
+    }
+
+    /// The entries of the tree with an id, with the columns that are kept of them. None where the id is not that of a tree. This takes
+    /// no memory.
+    pub fn rows(&self, id: Id) -> Option<Rows<'_>>
+        ensures { result ≡ tree_entries self.now id }
+    {
+        match self.object(id) {
+            Some(object) => object.rows(),
+            None => None,
+        }
+    }
+
+    /// What is kept of a tree.
+    pub(crate) fn outline(&self, tree: Id) -> &Outline
+        requires { HasTree self.now tree }
+        ensures { TellsTree self.now tree result.now }
+    {
+        match self.object(tree) {
+            Some(object) => match &object.outline {
+                Some(outline) => outline,
+                // The object is a tree.
+                None => unreachable!(),
+            },
+            // The tree is there.
+            None => unreachable!(),
         }
     }
 

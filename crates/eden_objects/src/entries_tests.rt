@@ -63,6 +63,29 @@ fn entries_one_by_one(rt: HostRuntime) -> Result<(), Fail> {
 }
 
 #[test]
+fn entries_by_rows(rt: HostRuntime) -> Result<(), Fail> {
+    let alloc = rt.alloc();
+    let mut store = Store::new(alloc, GitNaming);
+    let (tree, blob, empty) = put_two(alloc, &mut store)?;
+    let Some(rows) = store.rows(tree) else {
+        return Err(Fail::new("a tree has its entries"));
+    };
+    assert_eq!(rt; rows.len(), 2);
+    assert_eq!(rt;
+        rows.entry(1).map(|entry| entry.name),
+        Some(b"a".as_slice())
+    );
+    assert_eq!(rt; rows.ids().get(0), Some(blob));
+    assert_eq!(rt; rows.ids().get(1), Some(empty));
+    assert_eq!(rt; rows.kinds(), [2, 0].as_slice());
+    assert_eq!(rt; store.rows(empty).map(|rows| rows.len()), Some(0));
+    for id in [blob, Id([1; 20])] {
+        assert!(rt; store.rows(id).is_none());
+    }
+    Ok(())
+}
+
+#[test]
 fn tree_of_a_commit(rt: HostRuntime) -> Result<(), Fail> {
     let alloc = rt.alloc();
     let mut store = Store::new(alloc, GitNaming);

@@ -2,6 +2,7 @@
 ghost use Rattle.std.specs.List.{AllByRecursion};
 ghost use Rattle.std.specs.Prelude.{◌≡◌, ◌≢◌, ◌≤◌, List, [], ◌∷◌, length, Some, None, IfOk, IfErr};
 ghost use Rattle.eden_objects.specs.Objects.{find};
+ghost use Rattle.eden_git.specs.Columns.{AreColumns};
 ghost use Rattle.eden_git.specs.Trees.{Entry, entries_of};
 ghost use Rattle.eden_objects.specs.Trees.{depth_of, entries_depth, entries_reach, reach_of, tree_depth, tree_reach};
 ghost use Rattle.eden_objects.specs.Closed.{IsHeld, IsSound};
@@ -17,8 +18,8 @@ use crate::outline::Outline;
 use crate::seen::Seen;
 use crate::size::Size;
 use crate::store::{PAYLOAD_LIMIT, Store};
-use eden_git::{RawEntry, Word, next_entry, read_entry, same_word, starts_of, tree_named};
-use eden_ids::{Id, Kind, Naming, NoMemory};
+use eden_git::{Columns, RawEntry, Word, next_entry, read_entry, same_word, tree_named};
+use eden_ids::{Id, Kind, Naming};
 
 /// What a directory, or else a file, has to be.
 fn word_wanted(kind: Option<Kind>) -> Word
@@ -93,12 +94,10 @@ impl<N: Naming + Drop> Store<N> {
                 reach: length,
             };
         }
-        match self.object(entry.id) {
-            Some(child) => Size {
-                depth: 1 + child.outline.size.depth,
-                reach: length + 1 + child.outline.size.reach,
-            },
-            None => Size::NONE,
+        let child = self.outline(entry.id).size;
+        Size {
+            depth: 1 + child.depth,
+            reach: length + 1 + child.reach,
         }
     }
 
@@ -132,7 +131,7 @@ impl<N: Naming + Drop> Store<N> {
         requires { length payload.now ≤ 8388608 }
         ensures passes { IfOk result (λ size. tree_fault payload.now self.now ≡ None) }
         ensures sound { IfOk result (λ size. IsSound Word.Tree payload.now self.now) }
-        ensures fits { IfOk result (λ size. SizeFits self.now Word.Tree payload.now size) }
+        ensures fits { IfOk result (λ size. SizeFits self.now payload.now size) }
         ensures refuses { IfErr result (λ fault. fault ≢ PutFault.NoMemory → tree_fault payload.now self.now ≡ Some fault) }
     {
         let size = match self.judged(payload) {
@@ -174,24 +173,29 @@ impl<N: Naming + Drop> Store<N> {
     }
 
     /// What is kept of a tree beside its payload, or why the payload is no tree's that the store may hold.
-    pub(crate) fn outline_of(&self, payload: &[u8]) -> Result<Outline, PutFault>
+    pub(crate) fn outline_of(&self, payload: &[u8]) -> Result<Box<Outline>, PutFault>
         requires { length payload.now ≤ 8388608 }
         ensures passes { IfOk result (λ outline. tree_fault payload.now self.now ≡ None) }
         ensures sound { IfOk result (λ outline. IsSound Word.Tree payload.now self.now) }
-        ensures fits { IfOk result (λ outline. OutlineFits self.now Word.Tree payload.now outline) }
+        ensures columns { IfOk result (λ outline. AreColumns payload.now outline.value.columns) }
+        ensures fits { IfOk result (λ outline. OutlineFits self.now payload.now outline.value) }
         ensures refuses { IfErr result (λ fault. fault ≢ PutFault.NoMemory → tree_fault payload.now self.now ≡ Some fault) }
     {
         let size = match self.tree_size(payload) {
             Ok(size) => size,
             Err(fault) => return Err(fault),
         };
-        match starts_of(self.allocator(), payload) {
-            Ok(starts) => Ok(Outline {
-                size,
-                files: self.files_in(payload),
-                starts,
-            }),
-            Err(NoMemory) => Err(PutFault::NoMemory),
+        let Ok(columns) = Columns::of(self.allocator(), payload) else {
+            return Err(PutFault::NoMemory);
+        };
+        let outline = Outline {
+            size,
+            files: self.files_in(payload),
+            columns,
+        };
+        match Box::new(self.allocator(), outline) {
+            Ok(outline) => Ok(outline),
+            Err(_) => Err(PutFault::NoMemory),
         }
     }
 }

@@ -26,7 +26,7 @@ pub use crate::fault::{CommitFault, NoCommit, PutFault};
 pub use crate::front::{enter, is_entered, is_wanted, path_behind};
 pub use crate::laws::{commit_map_law, grown_law, same_object_law, tree_law};
 pub use crate::store::Store;
-pub use eden_git::{RawEntry, Word, key_order, next_entry};
+pub use eden_git::{RawEntry, Rows, Word, key_order, next_entry};
 
 mod beneath;
 mod commit;

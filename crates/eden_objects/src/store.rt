@@ -4,7 +4,7 @@ ghost use Rattle.eden_git.specs.Words.{same_word, word_text};
 ghost use Rattle.eden_ids.specs.Sameness.{same_bytes};
 ghost use Rattle.eden_objects.specs.Puts.{PutGives, TreeGives, put_outcome, blob_outcome, commit_outcome, named, tree_outcome};
 ghost use Rattle.eden_objects.specs.Closed.{IsClosed, IsSound, AllNamed};
-ghost use Rattle.eden_objects.specs.Contents.{held_of, option_held, Measures, OutlineFits, TellsOutline, is_object, standing_answer};
+ghost use Rattle.eden_objects.specs.Contents.{held_of, option_held, IsOutlined, Measures, TellsOutline, is_object, standing_answer};
 
 use crate::fault::PutFault;
 use crate::outline::Outline;
@@ -22,8 +22,8 @@ pub(crate) const PAYLOAD_LIMIT: usize = 8_388_608;
 pub(crate) struct Object {
     pub(crate) word: Word,
     pub(crate) payload: Vec<u8>,
-    /// What is kept of a tree; nothing is said of another object's.
-    pub(crate) outline: Outline,
+    /// What is kept of a tree, and of no other object.
+    pub(crate) outline: Option<Box<Outline>>,
 }
 
 impl Object {
@@ -93,7 +93,7 @@ impl<N: Naming + Drop> Store<N> {
         if payload.len() > PAYLOAD_LIMIT {
             return Err(PutFault::TooLarge);
         }
-        self.put(Word::Blob, payload, Outline::none(self.allocator()))
+        self.put(Word::Blob, payload, None)
     }
 
     /// Puts a tree, whose payload is its entries, and answers its id; the same tree may be there already. An entry is a mode in octal
@@ -106,7 +106,7 @@ impl<N: Naming + Drop> Store<N> {
     /// `NoMemory` may stand in place of any answer but `TooLarge` where a growth was refused. After a refusal the store is as before.
     ///
     /// It takes time in the order of the payload's length and, for n entries, of n log n; no child is read. Beside the payload it keeps
-    /// the place at which each entry begins, in 4 bytes, or up to 8 as the vector of them grows.
+    /// the columns of the entries (`eden_git::Columns`), by which names are found and trees compared.
     pub fn put_tree(&mut self, payload: &[u8]) -> Result<Id, PutFault>
         ensures { TreeGives result self.old self.new payload.now (tree_outcome N.id payload.now self.old) }
     {
@@ -114,7 +114,7 @@ impl<N: Naming + Drop> Store<N> {
             return Err(PutFault::TooLarge);
         }
         match self.outline_of(payload) {
-            Ok(outline) => self.put(Word::Tree, payload, outline),
+            Ok(outline) => self.put(Word::Tree, payload, Some(outline)),
             Err(fault) => Err(fault),
         }
     }
@@ -131,7 +131,7 @@ impl<N: Naming + Drop> Store<N> {
         if let Some(fault) = self.commit_fault(payload) {
             return Err(fault);
         }
-        self.put(Word::Commit, payload, Outline::none(self.allocator()))
+        self.put(Word::Commit, payload, None)
     }
 
     /// The object with an id.
@@ -170,9 +170,14 @@ impl<N: Naming + Drop> Store<N> {
     }
 
     /// Puts a new object, or finds it there.
-    fn put(&mut self, word: Word, payload: &[u8], outline: Outline) -> Result<Id, PutFault>
+    fn put(
+        &mut self,
+        word: Word,
+        payload: &[u8],
+        outline: Option<Box<Outline>>,
+    ) -> Result<Id, PutFault>
         requires sound { IsSound word payload.now self.old }
-        requires measured { OutlineFits self.old word payload.now outline }
+        requires measured { IsOutlined self.old word payload.now outline }
         ensures { PutGives result self.old self.new (put_outcome (named N.id word payload.now) self.old) }
     {
         let id = self.naming.id_of(word.text(), payload);

@@ -5,14 +5,13 @@ ghost use Rattle.eden_git.specs.Words.{same_word};
 ghost use Rattle.eden_objects.specs.Commits.{commit_rows, find_row, row_in, tree_rows};
 ghost use Rattle.eden_git.specs.Commits.{tree_named};
 ghost use Rattle.eden_objects.specs.Closed.{HasTree};
-ghost use Rattle.eden_git.specs.Starts.{AreInOrder, AreStarts};
 ghost use Rattle.eden_git.specs.Trees.{entries_of};
 ghost use Rattle.eden_objects.specs.Walks.{IsTreeOf, rows_of_tree, tree_seen};
 ghost use Rattle.eden_git.specs.Directories.{dir_named, file_named};
 
 use crate::fault::NoCommit;
 use crate::store::{Object, Store};
-use eden_git::{Word, cut, dir_in, file_in, same_word, tree_named};
+use eden_git::{Word, cut, same_word, tree_named};
 use eden_ids::{Id, Kind, Naming, Path};
 
 impl Object {
@@ -36,34 +35,6 @@ impl Object {
         } else {
             None
         }
-    }
-}
-
-impl Object {
-    /// The file with a name in the tree that the object is.
-    fn file(&self, name: &[u8]) -> Option<(Kind, Id)>
-        requires starts { AreStarts self.now.payload.items self.now.outline.starts.items }
-        requires in_order { AreInOrder self.now.payload.items }
-        ensures { result ≡ file_named name.now (entries_of self.now.payload.items) }
-    {
-        file_in(
-            self.payload.as_slice(),
-            self.outline.starts.as_slice(),
-            name,
-        )
-    }
-
-    /// The tree of the directory with a name in the tree that the object is.
-    fn dir(&self, name: &[u8]) -> Option<Id>
-        requires starts { AreStarts self.now.payload.items self.now.outline.starts.items }
-        requires in_order { AreInOrder self.now.payload.items }
-        ensures { result ≡ dir_named name.now (entries_of self.now.payload.items) }
-    {
-        dir_in(
-            self.payload.as_slice(),
-            self.outline.starts.as_slice(),
-            name,
-        )
     }
 }
 
@@ -116,8 +87,8 @@ impl<N: Naming + Drop> Store<N> {
         ensures { result ≡ file_named name.now (entries_of (payload_of (find tree self.now))) }
     {
         self.closed_law();
-        match self.object(tree) {
-            Some(object) => object.file(name),
+        match self.rows(tree) {
+            Some(rows) => rows.file(name),
             None => None,
         }
     }
@@ -128,8 +99,8 @@ impl<N: Naming + Drop> Store<N> {
         ensures { result ≡ dir_named name.now (entries_of (payload_of (find tree self.now))) }
     {
         self.closed_law();
-        match self.object(tree) {
-            Some(object) => object.dir(name),
+        match self.rows(tree) {
+            Some(rows) => rows.directory(name),
             None => None,
         }
     }

@@ -8,3 +8,5 @@ mod Legal
 mod Settling
 mod Sides
 mod Rows
+mod Merging
+mod Leaving

@@ -4,3 +4,4 @@ pub mod Pairs
 pub mod Walks
 pub mod Columns
 pub mod Settled
+pub mod Merging

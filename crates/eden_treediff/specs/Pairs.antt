@@ -1,5 +1,7 @@
 -- The entries of two directories, side by side in the order of their keys.
 use Rattle.std.specs.Prelude.{ℕ, Bool, true, false, not, ◌&&◌, List, [], ◌∷◌, Option, Some, None}
+use Rattle.std.specs.declared.cmp.Ordering.{Ordering}
+use Rattle.std.specs.declared.cmp.Ordering.TheVariants.{Less, Greater}
 use Rattle.std.specs.Ordering.{nat_cmp}
 use Rattle.std.specs.Cmp.Lexicographic.{slice_cmp}
 use Rattle.std.specs.FinMap.Entries.{by_order}
@@ -7,9 +9,7 @@ use Rattle.eden_ids.specs.declared.id.Id.{Id}
 use Rattle.eden_ids.specs.declared.content.Kind.{Kind}
 use Rattle.eden_ids.specs.FileMaps.{same_kind}
 use Rattle.eden_ids.specs.Sameness.{same_id}
-use Rattle.eden_git.specs.Trees.{Entry, entries_of, key}
-use Rattle.eden_git.specs.Entries.{option_plain}
-use Rattle.eden_treediff.specs.declared.pair.Pair.{Pair}
+use Rattle.eden_git.specs.Trees.{Entry, key}
 
 -- the next entry on each side, both where they have one key, and what is left on each side
 abbrev pub Next : Type 0
@@ -24,12 +24,16 @@ next_pair (e ∷ es) [] = Some (Some e, None, es, [])
 next_pair [] (f ∷ fs) = Some (None, Some f, [], fs)
 next_pair (e ∷ es) (f ∷ fs) = Some (next_of_both e es f fs)
 
-abbrev pub next_of : Pair → Next
-next_of pair = (option_plain pair.first, option_plain pair.second, entries_of pair.left.now, entries_of pair.right.now)
+abbrev pub first_of : List Entry → Option Entry
+first_of [] = None
+first_of (e ∷ es) = Some e
 
-abbrev pub option_next : Option Pair → Option Next
-option_next None = None
-option_next (Some pair) = Some (next_of pair)
+-- how the keys of two entries stand, a missing one behind each other
+abbrev pub order_of : Option Entry → Option Entry → Option Ordering
+order_of None None = None
+order_of (Some e) None = Some Less
+order_of None (Some f) = Some Greater
+order_of (Some e) (Some f) = Some (slice_cmp nat_cmp (key e) (key f))
 
 -- both are directories, or files of one kind
 abbrev pub same_mode : Option Kind → Option Kind → Bool

@@ -11,12 +11,13 @@
 //! ```
 #![tactic(auto)]
 
-mod changes;
-mod columns;
+mod changed;
 mod difference;
 mod laws;
+mod merge;
 mod pair;
 mod settled;
+mod side;
 #[cfg(test)]
 mod tests;
 mod walk;

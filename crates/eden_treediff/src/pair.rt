@@ -1,39 +1,29 @@
-ghost use Rattle.std.specs.Prelude.{◌≡◌, ◌+◌, ◌<◌, length, Some, None, IfSome};
-ghost use Rattle.eden_git.specs.Trees.{entries_of};
+ghost use Rattle.std.specs.Prelude.{◌≡◌, None, Some};
 ghost use Rattle.eden_git.specs.Entries.{option_plain};
-ghost use Rattle.eden_treediff.specs.Pairs.{directory, directory_of, name_of, next_of, next_pair, option_next};
+ghost use Rattle.eden_treediff.specs.Pairs.{directory, directory_of, is_changed, name_of, order_of, same_mode};
 ghost use Rattle.eden_treediff.specs.Walks.{directory_read};
 
-use eden_ids::Id;
-use eden_objects::{RawEntry, key_order, next_entry};
+use eden_ids::{Id, Kind, is_same_kind};
+use eden_objects::{RawEntry, key_order};
 use std::cmp::Ordering;
 
-/// The next entry of each of two directories, both where they have one key, and what is left to read.
+/// The next entry of each of two directories, both where they have one key.
 #[derive(Clone, Copy)]
 pub(crate) struct Pair<'a> {
     pub(crate) first: Option<RawEntry<'a>>,
     pub(crate) second: Option<RawEntry<'a>>,
-    pub(crate) left: &'a [u8],
-    pub(crate) right: &'a [u8],
 }
 
 impl<'a> Pair<'a> {
-    /// The entry of one side, or those of both.
-    fn new(
-        first: Option<RawEntry<'a>>,
-        second: Option<RawEntry<'a>>,
-        left: &'a [u8],
-        right: &'a [u8],
-    ) -> Pair<'a>
-        ensures next { next_of result ≡ (option_plain first.entry, option_plain second.entry, entries_of left.now, entries_of right.now) }
-        ensures left { result.left.now ≡ left.now }
-        ensures right { result.right.now ≡ right.now }
+    /// Whether the entry is one side's alone, or those of both are not the same.
+    pub(crate) fn is_changed(&self) -> bool
+        ensures { result ≡ is_changed (option_plain self.now.first) (option_plain self.now.second) }
     {
-        Pair {
-            first,
-            second,
-            left,
-            right,
+        match (&self.first, &self.second) {
+            (Some(entry), Some(other)) => {
+                !(is_same_mode(entry.kind, other.kind) && entry.id == other.id)
+            }
+            _ => true,
         }
     }
 
@@ -75,19 +65,28 @@ fn directory_of<'a>(
     }
 }
 
-/// The first entries of two directories, in the order of their keys.
-pub(crate) fn next_pair<'a>(left: &'a [u8], right: &'a [u8]) -> Option<Pair<'a>>
-    ensures next { option_next result ≡ next_pair (entries_of left.now) (entries_of right.now) }
-    ensures shorter { IfSome result (λ pair. length pair.left.now + length pair.right.now < length left.now + length right.now) }
+/// Whether both are directories, or files of one kind.
+fn is_same_mode(kind: Option<Kind>, other: Option<Kind>) -> bool
+    ensures { result ≡ same_mode kind other }
 {
-    match (next_entry(left), next_entry(right)) {
+    match (kind, other) {
+        (None, None) => true,
+        (Some(kind), Some(other)) => is_same_kind(kind, other),
+        _ => false,
+    }
+}
+
+/// How the keys of two entries stand, a missing one behind each other; `None` where both are missing.
+pub(crate) fn order_of(
+    first: &Option<RawEntry<'_>>,
+    second: &Option<RawEntry<'_>>,
+) -> Option<Ordering>
+    ensures { result ≡ order_of (option_plain first.now) (option_plain second.now) }
+{
+    match (first, second) {
         (None, None) => None,
-        (Some((entry, after)), None) => Some(Pair::new(Some(entry), None, after, right)),
-        (None, Some((other, behind))) => Some(Pair::new(None, Some(other), left, behind)),
-        (Some((entry, after)), Some((other, behind))) => match key_order(&entry, &other) {
-            Ordering::Less => Some(Pair::new(Some(entry), None, after, right)),
-            Ordering::Equal => Some(Pair::new(Some(entry), Some(other), after, behind)),
-            Ordering::Greater => Some(Pair::new(None, Some(other), left, behind)),
-        },
+        (Some(_), None) => Some(Ordering::Less),
+        (None, Some(_)) => Some(Ordering::Greater),
+        (Some(entry), Some(other)) => Some(key_order(entry, other)),
     }
 }

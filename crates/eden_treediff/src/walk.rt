@@ -4,15 +4,14 @@ ghost use Rattle.eden_ids.specs.Paths.{IsPath};
 ghost use Rattle.eden_objects.specs.Listings.{ArePaths};
 ghost use Rattle.eden_treediff.specs.Merges.{merge_rows};
 ghost use Rattle.eden_treediff.specs.Settled.{AreSettled, HoldSame, KeepsSettled, is_known};
-ghost use Rattle.eden_treediff.specs.Walks.{IsSide, same_side, side_bytes, side_rows, wanted_behind};
+ghost use Rattle.eden_treediff.specs.Columns.{entries_lent};
+ghost use Rattle.eden_treediff.specs.Walks.{IsSide, same_side, side_entries, side_rows, wanted_behind};
 
-use crate::changes::Changes;
-use crate::columns::changed_rows;
-use crate::pair::next_pair;
+use crate::merge::Merge;
 use crate::settled::Settled;
 use eden_globs::Filter;
 use eden_ids::{Id, Naming, NoMemory, Path};
-use eden_objects::{Store, enter, is_entered, is_wanted, path_behind};
+use eden_objects::{Rows, Store, enter, is_entered, is_wanted, path_behind};
 use std::alloc::Global;
 
 /// The paths that were found so far, and the bytes that stand before each name of the directory that is read.
@@ -50,26 +49,22 @@ fn same_side(first: Option<Id>, second: Option<Id>) -> bool
     }
 }
 
-/// The entries of a tree, of which a missing one has none.
-fn entries_of<N: Naming + Drop>(store: &Store<N>, side: Option<Id>) -> &[u8]
+/// The entries of a tree, if it is not missing.
+fn rows_of<N: Naming + Drop>(store: &Store<N>, side: Option<Id>) -> Option<Rows<'_>>
     requires { IsSide store.now side }
-    ensures { result.now ≡ side_bytes store.now side }
+    ensures { entries_lent result ≡ side_entries store.now side }
 {
     match side {
-        Some(id) => match store.tree(id) {
-            Some(payload) => payload,
-            // The side is known to be a tree.
-            None => unreachable!(),
-        },
-        None => b"".as_slice(),
+        Some(id) => store.rows(id),
+        None => None,
     }
 }
 
 /// Adds the wanted paths on which two trees differ, directory by directory, and says whether the two are known to hold the same files.
 /// What both have under one id is not read, nor is a directory below which nothing is wanted.
 ///
-/// The entries that both sides have are compared as whole columns, first of ids and then of kinds. A pair of trees that was read whole
-/// and names no path is remembered, and is not read again; of one that was not read whole nothing is known, since elsewhere another
+/// The entries of two directories of the same names are compared as whole columns, first of ids and then of kinds. A pair of trees that
+/// was read whole and names no path is remembered, and is not read again; of one that was not read whole nothing is known, since elsewhere another
 /// part of it may be wanted.
 pub(crate) fn walk<N: Naming + Drop>(
     alloc: Global,
@@ -98,15 +93,10 @@ pub(crate) fn walk<N: Naming + Drop>(
     if same_side(first, second) || settled.has(first, second) {
         return Ok(true);
     }
-    let mut left = entries_of(store, first);
-    let mut right = entries_of(store, second);
-    let rows = changed_rows(alloc, left, right)?;
-    let mut changes = Changes::of(&rows);
+    let mut merge = Merge::new(alloc, rows_of(store, first), rows_of(store, second))?;
     let mut same = true;
-    'pairs: while let Some(pair) = next_pair(left, right) {
-        left = pair.left;
-        right = pair.right;
-        if !changes.is_changed(&pair) {
+    'pairs: while let Some(pair) = merge.next() {
+        if !pair.is_changed() {
             continue;
         }
         let Some((name, tree, other)) = pair.directory() else {

@@ -1,46 +1,32 @@
-use Rattle.std.proofs.Common.{rules, ◌≡◌, ◌++◌, ◌∷◌, [], ℕ, ◌+◌, ◌<◌, true, false, length, map, take, ◌||◌, List, sym, ap, subst, ◌∙◌, arith}
+use Rattle.std.proofs.Common.{rules, ◌≡◌, ◌++◌, ◌∷◌, [], ℕ, ◌+◌, ◌<◌, true, false, length, map, take, ◌||◌, List, Some, sym, ap, subst, ◌∙◌}
 use Rattle.eden_globs.specs.Filters.{admits}
 use Rattle.eden_ids.specs.Paths.{IsPath, lies_below}
 use Rattle.eden_objects.specs.Objects.{Held}
-use Rattle.eden_git.specs.Trees.{Entry, entries_of}
-use Rattle.eden_treediff.specs.Columns.{common}
+use Rattle.eden_git.specs.Trees.{Entry}
 use Rattle.eden_treediff.specs.Merges.{merge_rows}
-use Rattle.eden_treediff.specs.Pairs.{Directory, Next, name_of, next_of}
+use Rattle.eden_treediff.specs.Merging.{Rests, next_of}
+use Rattle.eden_treediff.specs.Pairs.{Directory, Next, name_of, next_pair}
 use Rattle.eden_treediff.specs.Settled.{is_known, is_settled}
-use Rattle.eden_treediff.specs.Walks.{directory_read, side_depth, side_entries, side_rows, wanted_behind}
+use Rattle.eden_treediff.specs.Walks.{directory_read, side_depth, side_rows, wanted_behind}
 use Rattle.eden_treediff.proofs.Blocks.{below}
-use Rattle.eden_treediff.proofs.Legal.{AreLegal, entered_legal, found_legal, legal_after, legal_begins}
-use Rattle.eden_treediff.proofs.Rows.{tells_next}
-use Rattle.eden_treediff.proofs.Settling.{known_same, known_sides, none_inside, nothing_left, other_from, same_goes_on, settled_more, some_path}
-use Rattle.eden_treediff.proofs.Steps.{IsWay, is_next, merge_entries, way_begins, way_goes_on, all_merged, here, one_file, one_more, skipped, unchanged, file_found, directory_is, directory_left, directory_walked, left}
+use Rattle.eden_treediff.proofs.Legal.{entered_legal, found_legal, legal_after}
+use Rattle.eden_treediff.proofs.Leaving.{begins, left_out}
+use Rattle.eden_treediff.proofs.Settling.{all_walked, known_same, known_sides, none_inside, nothing_left, other_from, same_goes_on, settled_more, some_path}
+use Rattle.eden_treediff.proofs.Steps.{is_next, merge_entries, way_goes_on, here, one_file, one_more, skipped, unchanged, file_found, directory_is, directory_left, directory_walked, left}
 use Rattle.eden_treediff.proofs.walk.+walk.Goals.{then-same_side-via-then-same_side, then-same_side-via-else-same_side+then-has}
 use Rattle.eden_treediff.proofs.walk.+walk.Goals as goal
 
 pub pairs-init : goal.pairs-init
 pairs-init g t c =
-    let held : List Held = c.args.store.now in
-    let one : side_entries held c.args.first ≡ entries_of c.entries_of-left.result.now = ap entries_of (sym c.entries_of-left.ensures) in
-    let two : side_entries held c.args.second ≡ entries_of c.entries_of-right.result.now = ap entries_of (sym c.entries_of-right.ensures) in
-    let whole : merge_rows (side_rows held c.args.first) (side_rows held c.args.second) ≡ merge_entries held (entries_of c.entries_of-left.result.now) (entries_of c.entries_of-right.result.now) =
-    all_merged held c.args.first c.args.second c.closed_law.ensures.closed c.requires.first c.requires.second
-    ∙ ap (λ es. merge_entries held es (side_entries held c.args.second)) one
-    ∙ ap (merge_entries held (entries_of c.entries_of-left.result.now)) two in
     record {
-      listed =
-          ap (λ ps. c.args.found.now.paths.items ++ wanted_behind (admits c.args.filter.now) c.args.found.now.front.items ps) whole;
-      same = λ yes. whole;
+      stands =
+          begins c.args.store.now c.args.first c.args.second (admits c.args.filter.now) c.args.found.now.front.items c.args.found.now.paths.items c.closed_law.ensures.closed
+          c.requires.first c.requires.second c.requires.first_paths c.requires.second_paths c.in_ok-merge.merge
+          (c.in_ok-merge.ensures ∙ λ i. (c.rows_of.ensures i, c.rows_of-2.ensures i));
       other = λ no. let bad : true ≡ false = no in absurd (cc);
-      tells = c.of-changes.ensures.tells (common (entries_of c.entries_of-left.result.now) (entries_of c.entries_of-right.result.now)) c.in_ok-rows.ensures;
-      room = (let row = c.of-changes.ensures.row in let left = c.entries_of-left.type_inv in let right = c.entries_of-right.type_inv in omega (arith, row, left.1, right.1));
       front = λ i. c.args.found.now.front.items;
       settled = c.requires.settled;
       kept = λ a b is. is;
-      first_legal = subst (AreLegal held c.args.found.now.front.items) one (legal_begins held c.args.found.now.front.items c.args.first c.closed_law.ensures.closed c.requires.first c.requires.first_paths);
-      second_legal = subst (AreLegal held c.args.found.now.front.items) two (legal_begins held c.args.found.now.front.items c.args.second c.closed_law.ensures.closed c.requires.second c.requires.second_paths);
-      way =
-          subst (λ fs. IsWay held (side_depth held c.args.first) (side_depth held c.args.second) (entries_of c.entries_of-left.result.now) fs) two
-          (subst (λ es. IsWay held (side_depth held c.args.first) (side_depth held c.args.second) es (side_entries held c.args.second)) one
-          (way_begins held c.args.first c.args.second c.closed_law.ensures.closed c.requires.first c.requires.second));
     }
 
 pub pairs-preserved-then-not-is_changed : goal.pairs-preserved-then-not-is_changed
@@ -48,29 +34,31 @@ pairs-preserved-then-not-is_changed g t c =
     let held : List Held = c.args.store.now in
     let m : ℕ = side_depth held c.args.first in
     let n : ℕ = side_depth held c.args.second in
-    let es : List Entry = entries_of c.pairs.left.now in
-    let fs : List Entry = entries_of c.pairs.right.now in
-    let next : Next = next_of c.in-Some.pair in
-    let told = c.is_changed.ensures.tells (common next.2 next.3) (tells_next c.pairs.changes es fs next c.in-Some.ensures.next c.pairs.invariant.tells) in
-    let met = is_next held m n es fs next c.pairs.invariant.way c.in-Some.ensures.next in
-    let parts = one_more held m n es fs next c.pairs.invariant.way c.in-Some.ensures.next in
     let whole : List (List ℕ) = merge_rows (side_rows held c.args.first) (side_rows held c.args.second) in
-    let rest : List (List ℕ) = merge_entries held next.2 next.3 in
     let front : List ℕ = c.args.found.now.front.items in
     let target : List (List ℕ) = c.args.found.now.paths.items ++ wanted_behind (admits c.args.filter.now) front whole in
-    let same = sym told.0 ∙ c.if-not-is_changed.true in
+    let rests : Rests = c.in-Some.ensures.0 in
+    let stands = left_out held m n (admits c.args.filter.now) front target c.pairs.found.paths.items whole c.pairs.same c.pairs.merge rests c.in-Some.ensures.1 c.pairs.invariant.stands in
+    let es : List Entry = rests.0 in
+    let fs : List Entry = rests.1 in
+    let next : Next = next_of c.in-Some.pair c.next.new.self in
+    let is : Some next ≡ next_pair es fs = c.in-Some.ensures.2 in
+    let met = is_next held m n es fs next stands.2 is in
+    let parts = one_more held m n es fs next stands.2 is in
+    let rest : List (List ℕ) = merge_entries held next.2 next.3 in
+    let same = sym c.is_changed.ensures ∙ c.if-not-is_changed.true in
     record {
-      listed = skipped held m n es fs next (admits c.args.filter.now) front target c.pairs.found.paths.items c.pairs.invariant.way c.in-Some.ensures.next same c.pairs.invariant.listed;
-      same = λ yes. same_goes_on whole (merge_entries held es fs) (here held next) rest parts (unchanged held m n es fs next c.pairs.invariant.way c.in-Some.ensures.next same) (c.pairs.invariant.same yes);
+      stands = (
+        skipped held m n es fs next (admits c.args.filter.now) front target c.pairs.found.paths.items stands.2 is same stands.0,
+        λ yes. same_goes_on whole (merge_entries held es fs) (here held next) rest parts (unchanged held m n es fs next stands.2 is same) (stands.1 yes),
+        way_goes_on held m n es fs next stands.2 is,
+        legal_after held front es next.0 next.2 met.0 stands.3,
+        legal_after held front fs next.1 next.3 met.1 stands.4,
+      );
       other = c.pairs.invariant.other;
-      tells = told.1;
-      room = (let less = c.in-Some.ensures.shorter in let row = c.is_changed.ensures.row in let before = c.pairs.invariant.room in omega (arith, less, row, before));
       front = c.pairs.invariant.front;
       settled = c.pairs.invariant.settled;
       kept = c.pairs.invariant.kept;
-      first_legal = legal_after held front es next.0 next.2 met.0 c.pairs.invariant.first_legal;
-      second_legal = legal_after held front fs next.1 next.3 met.1 c.pairs.invariant.second_legal;
-      way = way_goes_on held m n es fs next c.pairs.invariant.way c.in-Some.ensures.next;
     }
 
 pub pairs-preserved-in_default-directory : goal.pairs-preserved-in_default-directory
@@ -78,35 +66,37 @@ pairs-preserved-in_default-directory g t c =
     let held : List Held = c.args.store.now in
     let m : ℕ = side_depth held c.args.first in
     let n : ℕ = side_depth held c.args.second in
-    let es : List Entry = entries_of c.pairs.left.now in
-    let fs : List Entry = entries_of c.pairs.right.now in
-    let next : Next = next_of c.in-Some.pair in
-    let told = c.is_changed.ensures.tells (common next.2 next.3) (tells_next c.pairs.changes es fs next c.in-Some.ensures.next c.pairs.invariant.tells) in
-    let met = is_next held m n es fs next c.pairs.invariant.way c.in-Some.ensures.next in
-    let parts = one_more held m n es fs next c.pairs.invariant.way c.in-Some.ensures.next in
     let whole : List (List ℕ) = merge_rows (side_rows held c.args.first) (side_rows held c.args.second) in
-    let rest : List (List ℕ) = merge_entries held next.2 next.3 in
     let front : List ℕ = c.args.found.now.front.items in
     let target : List (List ℕ) = c.args.found.now.paths.items ++ wanted_behind (admits c.args.filter.now) front whole in
-    let changed = sym told.0 ∙ c.if-not-is_changed.false in
+    let rests : Rests = c.in-Some.ensures.0 in
+    let stands = left_out held m n (admits c.args.filter.now) front target c.pairs.found.paths.items whole c.pairs.same c.pairs.merge rests c.in-Some.ensures.1 c.pairs.invariant.stands in
+    let es : List Entry = rests.0 in
+    let fs : List Entry = rests.1 in
+    let next : Next = next_of c.in-Some.pair c.next.new.self in
+    let is : Some next ≡ next_pair es fs = c.in-Some.ensures.2 in
+    let met = is_next held m n es fs next stands.2 is in
+    let parts = one_more held m n es fs next stands.2 is in
+    let rest : List (List ℕ) = merge_entries held next.2 next.3 in
+    let changed = sym c.is_changed.ensures ∙ c.if-not-is_changed.false in
     let file = sym c.directory.ensures ∙ ap directory_read c.in_default-directory.is in
     let added : c.add.new.self.paths.items ≡ c.pairs.found.paths.items ++ wanted_behind (admits c.args.filter.now) front (name_of next.0 next.1 ∷ []) =
     c.in_ok-add.ensures.paths
     ∙ ap (λ (bytes : List ℕ). c.pairs.found.paths.items ++ wanted_behind (admits c.args.filter.now) bytes (c.name.result.now ∷ [])) c.pairs.invariant.front
     ∙ ap (λ (bytes : List ℕ). c.pairs.found.paths.items ++ wanted_behind (admits c.args.filter.now) front (bytes ∷ [])) c.name.ensures in
     record {
-      listed = file_found held m n es fs next (admits c.args.filter.now) front target c.pairs.found.paths.items c.add.new.self.paths.items c.pairs.invariant.way c.in-Some.ensures.next changed file c.pairs.invariant.listed added;
-      same = λ yes. let bad : false ≡ true = yes in absurd (cc);
-      other = λ no. other_from (c.args.filter.now ≡ []) whole (merge_entries held es fs) (here held next) rest c.pairs.same parts c.pairs.invariant.same c.pairs.invariant.other
-          (λ all. some_path (name_of next.0 next.1) (here held next) (one_file held m n es fs next c.pairs.invariant.way c.in-Some.ensures.next changed file));
-      tells = told.1;
-      room = (let less = c.in-Some.ensures.shorter in let row = c.is_changed.ensures.row in let before = c.pairs.invariant.room in omega (arith, less, row, before));
+      stands = (
+        file_found held m n es fs next (admits c.args.filter.now) front target c.pairs.found.paths.items c.add.new.self.paths.items stands.2 is changed file stands.0 added,
+        λ yes. let bad : false ≡ true = yes in absurd (cc),
+        way_goes_on held m n es fs next stands.2 is,
+        legal_after held front es next.0 next.2 met.0 stands.3,
+        legal_after held front fs next.1 next.3 met.1 stands.4,
+      );
+      other = λ no. other_from (c.args.filter.now ≡ []) whole (merge_entries held es fs) (here held next) rest c.pairs.same parts stands.1 c.pairs.invariant.other
+          (λ all. some_path (name_of next.0 next.1) (here held next) (one_file held m n es fs next stands.2 is changed file));
       front = c.in_ok-add.ensures.front ∙ c.pairs.invariant.front;
       settled = c.pairs.invariant.settled;
       kept = c.pairs.invariant.kept;
-      first_legal = legal_after held front es next.0 next.2 met.0 c.pairs.invariant.first_legal;
-      second_legal = legal_after held front fs next.1 next.3 met.1 c.pairs.invariant.second_legal;
-      way = way_goes_on held m n es fs next c.pairs.invariant.way c.in-Some.ensures.next;
     }
 
 pub pairs-preserved-then-not-entered : goal.pairs-preserved-then-not-entered
@@ -114,34 +104,35 @@ pairs-preserved-then-not-entered g t c =
     let held : List Held = c.args.store.now in
     let m : ℕ = side_depth held c.args.first in
     let n : ℕ = side_depth held c.args.second in
-    let es : List Entry = entries_of c.pairs.left.now in
-    let fs : List Entry = entries_of c.pairs.right.now in
-    let next : Next = next_of c.in-Some.pair in
-    let told = c.is_changed.ensures.tells (common next.2 next.3) (tells_next c.pairs.changes es fs next c.in-Some.ensures.next c.pairs.invariant.tells) in
-    let met = is_next held m n es fs next c.pairs.invariant.way c.in-Some.ensures.next in
-    let parts = one_more held m n es fs next c.pairs.invariant.way c.in-Some.ensures.next in
     let whole : List (List ℕ) = merge_rows (side_rows held c.args.first) (side_rows held c.args.second) in
-    let rest : List (List ℕ) = merge_entries held next.2 next.3 in
     let front : List ℕ = c.args.found.now.front.items in
     let target : List (List ℕ) = c.args.found.now.paths.items ++ wanted_behind (admits c.args.filter.now) front whole in
+    let rests : Rests = c.in-Some.ensures.0 in
+    let stands = left_out held m n (admits c.args.filter.now) front target c.pairs.found.paths.items whole c.pairs.same c.pairs.merge rests c.in-Some.ensures.1 c.pairs.invariant.stands in
+    let es : List Entry = rests.0 in
+    let fs : List Entry = rests.1 in
+    let next : Next = next_of c.in-Some.pair c.next.new.self in
+    let is : Some next ≡ next_pair es fs = c.in-Some.ensures.2 in
+    let met = is_next held m n es fs next stands.2 is in
+    let parts = one_more held m n es fs next stands.2 is in
+    let rest : List (List ℕ) = merge_entries held next.2 next.3 in
     let d : Directory = (c.in-Some-directory.name.now, c.in-Some-directory.tree, c.in-Some-directory.other) in
     let outside : (path : List ℕ) → lies_below path (front ++ c.in-Some-directory.name.now) ≡ true → admits c.args.filter.now path ≡ false =
     subst (λ bytes. (path : List ℕ) → lies_below path (bytes ++ c.in-Some-directory.name.now) ≡ true → admits c.args.filter.now path ≡ false)
     c.pairs.invariant.front (c.in_ok-entered.ensures.outside c.if-not-entered.true) in
     record {
-      listed =
-          directory_left held m n es fs next d (admits c.args.filter.now) front target c.pairs.found.paths.items c.pairs.invariant.way c.in-Some.ensures.next
-          (sym c.directory.ensures ∙ ap directory_read c.in-Some-directory.is) outside c.pairs.invariant.listed;
-      same = λ yes. let bad : false ≡ true = yes in absurd (cc);
+      stands = (
+        directory_left held m n es fs next d (admits c.args.filter.now) front target c.pairs.found.paths.items stands.2 is
+            (sym c.directory.ensures ∙ ap directory_read c.in-Some-directory.is) outside stands.0,
+        λ yes. let bad : false ≡ true = yes in absurd (cc),
+        way_goes_on held m n es fs next stands.2 is,
+        legal_after held front es next.0 next.2 met.0 stands.3,
+        legal_after held front fs next.1 next.3 met.1 stands.4,
+      );
       other = λ no all none. let bad : false ≡ true = sym c.if-not-entered.true ∙ c.in_ok-entered.ensures.all all in absurd (cc);
-      tells = told.1;
-      room = (let less = c.in-Some.ensures.shorter in let row = c.is_changed.ensures.row in let before = c.pairs.invariant.room in omega (arith, less, row, before));
       front = c.in_ok-entered.ensures.front ∙ c.pairs.invariant.front;
       settled = c.pairs.invariant.settled;
       kept = c.pairs.invariant.kept;
-      first_legal = legal_after held front es next.0 next.2 met.0 c.pairs.invariant.first_legal;
-      second_legal = legal_after held front fs next.1 next.3 met.1 c.pairs.invariant.second_legal;
-      way = way_goes_on held m n es fs next c.pairs.invariant.way c.in-Some.ensures.next;
     }
 
 pub walk-requires : goal.walk-requires
@@ -149,24 +140,26 @@ walk-requires g t c κs within =
     let held : List Held = c.args.store.now in
     let m : ℕ = side_depth held c.args.first in
     let n : ℕ = side_depth held c.args.second in
-    let es : List Entry = entries_of c.pairs.left.now in
-    let fs : List Entry = entries_of c.pairs.right.now in
-    let next : Next = next_of c.in-Some.pair in
-    let told = c.is_changed.ensures.tells (common next.2 next.3) (tells_next c.pairs.changes es fs next c.in-Some.ensures.next c.pairs.invariant.tells) in
-    let met = is_next held m n es fs next c.pairs.invariant.way c.in-Some.ensures.next in
-    let parts = one_more held m n es fs next c.pairs.invariant.way c.in-Some.ensures.next in
     let whole : List (List ℕ) = merge_rows (side_rows held c.args.first) (side_rows held c.args.second) in
-    let rest : List (List ℕ) = merge_entries held next.2 next.3 in
     let front : List ℕ = c.args.found.now.front.items in
     let target : List (List ℕ) = c.args.found.now.paths.items ++ wanted_behind (admits c.args.filter.now) front whole in
+    let rests : Rests = c.in-Some.ensures.0 in
+    let stands = left_out held m n (admits c.args.filter.now) front target c.pairs.found.paths.items whole c.pairs.same c.pairs.merge rests c.in-Some.ensures.1 c.pairs.invariant.stands in
+    let es : List Entry = rests.0 in
+    let fs : List Entry = rests.1 in
+    let next : Next = next_of c.in-Some.pair c.next.new.self in
+    let is : Some next ≡ next_pair es fs = c.in-Some.ensures.2 in
+    let met = is_next held m n es fs next stands.2 is in
+    let parts = one_more held m n es fs next stands.2 is in
+    let rest : List (List ℕ) = merge_entries held next.2 next.3 in
     let d : Directory = (c.in-Some-directory.name.now, c.in-Some-directory.tree, c.in-Some-directory.other) in
     let dir = sym c.directory.ensures ∙ ap directory_read c.in-Some-directory.is in
-    let known = directory_is held m n es fs next d c.pairs.invariant.way c.in-Some.ensures.next dir in
+    let known = directory_is held m n es fs next d stands.2 is dir in
     let less : side_depth held c.in-Some-directory.tree + side_depth held c.in-Some-directory.other < side_depth held c.args.first + side_depth held c.args.second = known.3 in
     let entered : c.enter.new.front.items ≡ front ++ c.in-Some-directory.name.now ++ 47 ∷ [] =
     c.in_ok-enter.ensures ∙ ap (λ bytes. bytes ++ c.in-Some-directory.name.now ++ 47 ∷ []) (c.in_ok-entered.ensures.front ∙ c.pairs.invariant.front) in
-    let paths = entered_legal held front c.enter.new.front.items es fs next d c.pairs.invariant.way.0 c.pairs.invariant.way.1 met
-    c.pairs.invariant.first_legal c.pairs.invariant.second_legal dir entered in
+    let paths = entered_legal held front c.enter.new.front.items es fs next d stands.2.0 stands.2.1 met
+    stands.3 stands.4 dir entered in
     (search rules, (search rules, (known.1, (known.2, (c.pairs.invariant.settled, paths)))))
 
 pub add-requires : goal.add-requires
@@ -174,17 +167,19 @@ add-requires g t c =
     let held : List Held = c.args.store.now in
     let m : ℕ = side_depth held c.args.first in
     let n : ℕ = side_depth held c.args.second in
-    let es : List Entry = entries_of c.pairs.left.now in
-    let fs : List Entry = entries_of c.pairs.right.now in
-    let next : Next = next_of c.in-Some.pair in
-    let told = c.is_changed.ensures.tells (common next.2 next.3) (tells_next c.pairs.changes es fs next c.in-Some.ensures.next c.pairs.invariant.tells) in
-    let met = is_next held m n es fs next c.pairs.invariant.way c.in-Some.ensures.next in
-    let parts = one_more held m n es fs next c.pairs.invariant.way c.in-Some.ensures.next in
     let whole : List (List ℕ) = merge_rows (side_rows held c.args.first) (side_rows held c.args.second) in
-    let rest : List (List ℕ) = merge_entries held next.2 next.3 in
     let front : List ℕ = c.args.found.now.front.items in
     let target : List (List ℕ) = c.args.found.now.paths.items ++ wanted_behind (admits c.args.filter.now) front whole in
-    let legal = found_legal held front es fs next met c.pairs.invariant.first_legal c.pairs.invariant.second_legal (sym c.directory.ensures ∙ ap directory_read c.in_default-directory.is) in
+    let rests : Rests = c.in-Some.ensures.0 in
+    let stands = left_out held m n (admits c.args.filter.now) front target c.pairs.found.paths.items whole c.pairs.same c.pairs.merge rests c.in-Some.ensures.1 c.pairs.invariant.stands in
+    let es : List Entry = rests.0 in
+    let fs : List Entry = rests.1 in
+    let next : Next = next_of c.in-Some.pair c.next.new.self in
+    let is : Some next ≡ next_pair es fs = c.in-Some.ensures.2 in
+    let met = is_next held m n es fs next stands.2 is in
+    let parts = one_more held m n es fs next stands.2 is in
+    let rest : List (List ℕ) = merge_entries held next.2 next.3 in
+    let legal = found_legal held front es fs next met stands.3 stands.4 (sym c.directory.ensures ∙ ap directory_read c.in_default-directory.is) in
     subst (λ bytes. IsPath (bytes ++ c.name.result.now)) (sym c.pairs.invariant.front) (subst (λ bytes. IsPath (front ++ bytes)) (sym c.name.ensures) legal)
 
 pub pairs-preserved-then-not-inside : goal.pairs-preserved-then-not-inside
@@ -192,19 +187,21 @@ pairs-preserved-then-not-inside g t c =
     let held : List Held = c.args.store.now in
     let m : ℕ = side_depth held c.args.first in
     let n : ℕ = side_depth held c.args.second in
-    let es : List Entry = entries_of c.pairs.left.now in
-    let fs : List Entry = entries_of c.pairs.right.now in
-    let next : Next = next_of c.in-Some.pair in
-    let told = c.is_changed.ensures.tells (common next.2 next.3) (tells_next c.pairs.changes es fs next c.in-Some.ensures.next c.pairs.invariant.tells) in
-    let met = is_next held m n es fs next c.pairs.invariant.way c.in-Some.ensures.next in
-    let parts = one_more held m n es fs next c.pairs.invariant.way c.in-Some.ensures.next in
     let whole : List (List ℕ) = merge_rows (side_rows held c.args.first) (side_rows held c.args.second) in
-    let rest : List (List ℕ) = merge_entries held next.2 next.3 in
     let front : List ℕ = c.args.found.now.front.items in
     let target : List (List ℕ) = c.args.found.now.paths.items ++ wanted_behind (admits c.args.filter.now) front whole in
+    let rests : Rests = c.in-Some.ensures.0 in
+    let stands = left_out held m n (admits c.args.filter.now) front target c.pairs.found.paths.items whole c.pairs.same c.pairs.merge rests c.in-Some.ensures.1 c.pairs.invariant.stands in
+    let es : List Entry = rests.0 in
+    let fs : List Entry = rests.1 in
+    let next : Next = next_of c.in-Some.pair c.next.new.self in
+    let is : Some next ≡ next_pair es fs = c.in-Some.ensures.2 in
+    let met = is_next held m n es fs next stands.2 is in
+    let parts = one_more held m n es fs next stands.2 is in
+    let rest : List (List ℕ) = merge_entries held next.2 next.3 in
     let d : Directory = (c.in-Some-directory.name.now, c.in-Some-directory.tree, c.in-Some-directory.other) in
     let dir = sym c.directory.ensures ∙ ap directory_read c.in-Some-directory.is in
-    let known = directory_is held m n es fs next d c.pairs.invariant.way c.in-Some.ensures.next dir in
+    let known = directory_is held m n es fs next d stands.2 is dir in
     let inner : List (List ℕ) = merge_rows (side_rows held c.in-Some-directory.tree) (side_rows held c.in-Some-directory.other) in
     let entered : c.enter.new.front.items ≡ front ++ c.in-Some-directory.name.now ++ 47 ∷ [] =
     c.in_ok-enter.ensures ∙ ap (λ bytes. bytes ++ c.in-Some-directory.name.now ++ 47 ∷ []) (c.in_ok-entered.ensures.front ∙ c.pairs.invariant.front) in
@@ -213,21 +210,19 @@ pairs-preserved-then-not-inside g t c =
     let no_path : (c.args.filter.now ≡ []) → here held next ≡ [] → ⊥ =
     λ all none. let bad : false ≡ true = sym c.if-not-inside.true ∙ c.in_ok-inside.ensures.known all (none_inside (below c.in-Some-directory.name.now) (here held next) inner known.0 none) in absurd (cc) in
     record {
-      listed =
-          directory_walked held m n es fs next d (admits c.args.filter.now) front c.enter.new.front.items target c.pairs.found.paths.items c.walk.new.found.paths.items
-          c.pairs.invariant.way c.in-Some.ensures.next dir entered c.pairs.invariant.listed c.in_ok-inside.ensures.paths;
-      same = λ yes. let bad : false ≡ true = yes in absurd (cc);
-      other = λ no. other_from (c.args.filter.now ≡ []) whole (merge_entries held es fs) (here held next) rest c.pairs.same parts c.pairs.invariant.same c.pairs.invariant.other no_path;
-      tells = told.1;
-      room = (let less = c.in-Some.ensures.shorter in let row = c.is_changed.ensures.row in let before = c.pairs.invariant.room in omega (arith, less, row, before));
-      front =
-          c.truncate.ensures.items ∙ ap (λ n. take n c.walk.new.found.front.items) length_is
+      stands = (
+        directory_walked held m n es fs next d (admits c.args.filter.now) front c.enter.new.front.items target c.pairs.found.paths.items c.walk.new.found.paths.items
+            stands.2 is dir entered stands.0 c.in_ok-inside.ensures.paths,
+        λ yes. let bad : false ≡ true = yes in absurd (cc),
+        way_goes_on held m n es fs next stands.2 is,
+        legal_after held front es next.0 next.2 met.0 stands.3,
+        legal_after held front fs next.1 next.3 met.1 stands.4,
+      );
+      other = λ no. other_from (c.args.filter.now ≡ []) whole (merge_entries held es fs) (here held next) rest c.pairs.same parts stands.1 c.pairs.invariant.other no_path;
+      front = c.truncate.ensures.items ∙ ap (λ n. take n c.walk.new.found.front.items) length_is
           ∙ left front c.walk.new.found.front.items c.in-Some-directory.name.now (c.in_ok-inside.ensures.front ∙ entered);
       settled = c.in_ok-inside.ensures.settled;
       kept = λ a b is. c.in_ok-inside.ensures.kept a b (c.pairs.invariant.kept a b is);
-      first_legal = legal_after held front es next.0 next.2 met.0 c.pairs.invariant.first_legal;
-      second_legal = legal_after held front fs next.1 next.3 met.1 c.pairs.invariant.second_legal;
-      way = way_goes_on held m n es fs next c.pairs.invariant.way c.in-Some.ensures.next;
     }
 
 pub pairs-preserved : goal.pairs-preserved
@@ -235,19 +230,21 @@ pairs-preserved g t c =
     let held : List Held = c.args.store.now in
     let m : ℕ = side_depth held c.args.first in
     let n : ℕ = side_depth held c.args.second in
-    let es : List Entry = entries_of c.pairs.left.now in
-    let fs : List Entry = entries_of c.pairs.right.now in
-    let next : Next = next_of c.in-Some.pair in
-    let told = c.is_changed.ensures.tells (common next.2 next.3) (tells_next c.pairs.changes es fs next c.in-Some.ensures.next c.pairs.invariant.tells) in
-    let met = is_next held m n es fs next c.pairs.invariant.way c.in-Some.ensures.next in
-    let parts = one_more held m n es fs next c.pairs.invariant.way c.in-Some.ensures.next in
     let whole : List (List ℕ) = merge_rows (side_rows held c.args.first) (side_rows held c.args.second) in
-    let rest : List (List ℕ) = merge_entries held next.2 next.3 in
     let front : List ℕ = c.args.found.now.front.items in
     let target : List (List ℕ) = c.args.found.now.paths.items ++ wanted_behind (admits c.args.filter.now) front whole in
+    let rests : Rests = c.in-Some.ensures.0 in
+    let stands = left_out held m n (admits c.args.filter.now) front target c.pairs.found.paths.items whole c.pairs.same c.pairs.merge rests c.in-Some.ensures.1 c.pairs.invariant.stands in
+    let es : List Entry = rests.0 in
+    let fs : List Entry = rests.1 in
+    let next : Next = next_of c.in-Some.pair c.next.new.self in
+    let is : Some next ≡ next_pair es fs = c.in-Some.ensures.2 in
+    let met = is_next held m n es fs next stands.2 is in
+    let parts = one_more held m n es fs next stands.2 is in
+    let rest : List (List ℕ) = merge_entries held next.2 next.3 in
     let d : Directory = (c.in-Some-directory.name.now, c.in-Some-directory.tree, c.in-Some-directory.other) in
     let dir = sym c.directory.ensures ∙ ap directory_read c.in-Some-directory.is in
-    let known = directory_is held m n es fs next d c.pairs.invariant.way c.in-Some.ensures.next dir in
+    let known = directory_is held m n es fs next d stands.2 is dir in
     let inner : List (List ℕ) = merge_rows (side_rows held c.in-Some-directory.tree) (side_rows held c.in-Some-directory.other) in
     let entered : c.enter.new.front.items ≡ front ++ c.in-Some-directory.name.now ++ 47 ∷ [] =
     c.in_ok-enter.ensures ∙ ap (λ bytes. bytes ++ c.in-Some-directory.name.now ++ 47 ∷ []) (c.in_ok-entered.ensures.front ∙ c.pairs.invariant.front) in
@@ -256,21 +253,19 @@ pairs-preserved g t c =
     let alike : inner ≡ [] = known_same held c.walk.new.settled c.in-Some-directory.tree c.in-Some-directory.other c.in_ok-inside.ensures.settled (c.in_ok-inside.ensures.same c.if-not-inside.false) in
     let nothing : here held next ≡ [] = known.0 ∙ ap (map (below c.in-Some-directory.name.now)) alike in
     record {
-      listed =
-          directory_walked held m n es fs next d (admits c.args.filter.now) front c.enter.new.front.items target c.pairs.found.paths.items c.walk.new.found.paths.items
-          c.pairs.invariant.way c.in-Some.ensures.next dir entered c.pairs.invariant.listed c.in_ok-inside.ensures.paths;
-      same = λ yes. same_goes_on whole (merge_entries held es fs) (here held next) rest parts nothing (c.pairs.invariant.same yes);
+      stands = (
+        directory_walked held m n es fs next d (admits c.args.filter.now) front c.enter.new.front.items target c.pairs.found.paths.items c.walk.new.found.paths.items
+            stands.2 is dir entered stands.0 c.in_ok-inside.ensures.paths,
+        λ yes. same_goes_on whole (merge_entries held es fs) (here held next) rest parts nothing (stands.1 yes),
+        way_goes_on held m n es fs next stands.2 is,
+        legal_after held front es next.0 next.2 met.0 stands.3,
+        legal_after held front fs next.1 next.3 met.1 stands.4,
+      );
       other = c.pairs.invariant.other;
-      tells = told.1;
-      room = (let less = c.in-Some.ensures.shorter in let row = c.is_changed.ensures.row in let before = c.pairs.invariant.room in omega (arith, less, row, before));
-      front =
-          c.truncate.ensures.items ∙ ap (λ n. take n c.walk.new.found.front.items) length_is
+      front = c.truncate.ensures.items ∙ ap (λ n. take n c.walk.new.found.front.items) length_is
           ∙ left front c.walk.new.found.front.items c.in-Some-directory.name.now (c.in_ok-inside.ensures.front ∙ entered);
       settled = c.in_ok-inside.ensures.settled;
       kept = λ a b is. c.in_ok-inside.ensures.kept a b (c.pairs.invariant.kept a b is);
-      first_legal = legal_after held front es next.0 next.2 met.0 c.pairs.invariant.first_legal;
-      second_legal = legal_after held front fs next.1 next.3 met.1 c.pairs.invariant.second_legal;
-      way = way_goes_on held m n es fs next c.pairs.invariant.way c.in-Some.ensures.next;
     }
 
 pub returns-then-same_side-clause-paths : goal.returns-then-same_side-clause-paths
@@ -282,9 +277,40 @@ returns-then-same_side-clause-paths g t c =
     ] in
     known_sides held c.args.settled.now c.args.first c.args.second (admits c.args.filter.now) c.args.found.now.front.items c.args.found.now.paths.items c.requires.settled known
 
+pub returns-then-not-same-clause-paths : goal.returns-then-not-same-clause-paths
+returns-then-not-same-clause-paths g t c =
+    let held : List Held = c.args.store.now in
+    let m : ℕ = side_depth held c.args.first in
+    let n : ℕ = side_depth held c.args.second in
+    let whole : List (List ℕ) = merge_rows (side_rows held c.args.first) (side_rows held c.args.second) in
+    let front : List ℕ = c.args.found.now.front.items in
+    let target : List (List ℕ) = c.args.found.now.paths.items ++ wanted_behind (admits c.args.filter.now) front whole in
+    let rests : Rests = c.in_default.ensures.0 in
+    let stands = left_out held m n (admits c.args.filter.now) front target c.pairs.found.paths.items whole c.pairs.same c.pairs.merge rests c.in_default.ensures.1 c.pairs.invariant.stands in
+    all_walked held rests.0 rests.1 (admits c.args.filter.now) front target c.pairs.found.paths.items c.in_default.ensures.2 stands.0
+
+pub returns-clause-paths : goal.returns-clause-paths
+returns-clause-paths g t c =
+    let held : List Held = c.args.store.now in
+    let m : ℕ = side_depth held c.args.first in
+    let n : ℕ = side_depth held c.args.second in
+    let whole : List (List ℕ) = merge_rows (side_rows held c.args.first) (side_rows held c.args.second) in
+    let front : List ℕ = c.args.found.now.front.items in
+    let target : List (List ℕ) = c.args.found.now.paths.items ++ wanted_behind (admits c.args.filter.now) front whole in
+    let rests : Rests = c.in_default.ensures.0 in
+    let stands = left_out held m n (admits c.args.filter.now) front target c.pairs.found.paths.items whole c.pairs.same c.pairs.merge rests c.in_default.ensures.1 c.pairs.invariant.stands in
+    all_walked held rests.0 rests.1 (admits c.args.filter.now) front target c.pairs.found.paths.items c.in_default.ensures.2 stands.0
+
 pub returns-clause-settled : goal.returns-clause-settled
 returns-clause-settled g t c =
     let held : List Held = c.args.store.now in
+    let m : ℕ = side_depth held c.args.first in
+    let n : ℕ = side_depth held c.args.second in
+    let whole : List (List ℕ) = merge_rows (side_rows held c.args.first) (side_rows held c.args.second) in
+    let front : List ℕ = c.args.found.now.front.items in
+    let target : List (List ℕ) = c.args.found.now.paths.items ++ wanted_behind (admits c.args.filter.now) front whole in
+    let rests : Rests = c.in_default.ensures.0 in
+    let stands = left_out held m n (admits c.args.filter.now) front target c.pairs.found.paths.items whole c.pairs.same c.pairs.merge rests c.in_default.ensures.1 c.pairs.invariant.stands in
     settled_more held c.pairs.settled c.add-2.new.self c.args.first c.args.second c.pairs.invariant.settled
-    (c.pairs.invariant.same c.if-not-same.false ∙ nothing_left held (entries_of c.pairs.left.now) (entries_of c.pairs.right.now) c.in_default.ensures.next)
+    (stands.1 c.if-not-same.false ∙ nothing_left held rests.0 rests.1 c.in_default.ensures.2)
     c.in_ok-add-2.ensures

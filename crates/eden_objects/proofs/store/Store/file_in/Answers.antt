@@ -1,9 +1,13 @@
-use Rattle.std.proofs.Common.{rules, sym, Some}
-use Rattle.eden_objects.specs.Contents.{held_of}
-use Rattle.eden_objects.proofs.WalkSteps.{order_here}
+use Rattle.std.proofs.Common.{rules, ap, ◌∙◌}
+use Rattle.eden_git.specs.Directories.{file_named}
+use Rattle.eden_objects.proofs.WalkSteps.{none_lent, order_here, rows_lent}
 use Rattle.eden_objects.proofs.store.Store.file_in.Goals as goal
 
-pub file-requires-clause-in_order : goal.file-requires-clause-in_order
-file-requires-clause-in_order g c =
-    order_here c.args.self.now c.args.tree (Some (held_of c.args.tree c.in-Some.object.now)) c.closed_law.ensures.closed c.requires
-    (sym (search rules))
+pub file-requires : goal.file-requires
+file-requires g c = order_here c.args.self.now c.args.tree c.in-Some.rows c.closed_law.ensures.closed c.requires c.in-Some.ensures
+
+pub returns-in-Some : goal.returns-in-Some
+returns-in-Some g c = c.file.ensures ∙ ap (file_named c.args.name.now) (rows_lent c.args.self.now c.args.tree c.in-Some.rows c.requires c.in-Some.ensures)
+
+pub returns-in-None : goal.returns-in-None
+returns-in-None g c = absurd (none_lent c.args.self.now c.args.tree c.requires c.in-None.ensures)

@@ -1,0 +1,11 @@
+use Rattle.std.proofs.Common.{rules, ◌≡◌, ◌∙◌, Some}
+use Rattle.eden_git.specs.Entries.{plain}
+use Rattle.eden_git.specs.Starts.{first_from}
+use Rattle.eden_git.proofs.Searching.{file_first}
+use Rattle.eden_git.proofs.rows.Rows.file.Goals as goal
+
+pub returns-in-Some : goal.returns-in-Some
+returns-in-Some c =
+    let found : Some (plain c.in-Some.entry) ≡ first_from c.args.name.now c.args.self.now = search rules in
+    let file = file_first c.args.name.now c.args.self.now (plain c.in-Some.entry) c.requires found in
+    c.file_with.ensures ∙ file

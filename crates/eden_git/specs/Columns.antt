@@ -1,0 +1,37 @@
+-- The entries of a tree by columns: in the order in which they stand, the place where each begins, its id, its kind as a byte, and its
+-- name. In bytes 47 is the slash, which no name has.
+use Rattle.std.specs.Prelude.{◌≡◌, ℕ, List, [], ◌∷◌, ◌++◌, map, Option, Some, None}
+use Rattle.std.specs.List.{flat_map}
+use Rattle.eden_ids.specs.declared.id.Id.{Id}
+use Rattle.eden_ids.specs.declared.content.Kind.{Kind}
+use Rattle.eden_ids.specs.declared.content.Kind.TheVariants.{Plain, Exec, Link}
+use Rattle.eden_git.specs.declared.columns.Columns.{Columns}
+use Rattle.eden_git.specs.Trees.{Entry, entries_of}
+use Rattle.eden_git.specs.Starts.{AreStarts}
+
+abbrev pub ids_of : List Entry → List Id
+ids_of es = map (λ e. e.id) es
+
+-- a kind as a byte: 0 for a directory
+abbrev pub kind_byte : Option Kind → ℕ
+kind_byte None = 0
+kind_byte (Some Plain) = 1
+kind_byte (Some Exec) = 2
+kind_byte (Some Link) = 3
+
+abbrev pub kinds_of : List Entry → List ℕ
+kinds_of es = map (λ e. kind_byte e.kind) es
+
+abbrev pub names_of : List Entry → List (List ℕ)
+names_of es = map (λ e. e.name) es
+
+-- the names in one text, a slash behind each
+abbrev pub text_of : List Entry → List ℕ
+text_of es = flat_map (λ e. e.name ++ 47 ∷ []) es
+
+-- these are the columns of a payload's entries
+abbrev pub AreColumns : List ℕ → Columns → Type 0
+AreColumns payload columns = AreStarts payload columns.starts.items
+    × (columns.ids ≡ ids_of (entries_of payload))
+    × (columns.kinds.items ≡ kinds_of (entries_of payload))
+    × (columns.names.items ≡ text_of (entries_of payload))

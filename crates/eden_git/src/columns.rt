@@ -1,0 +1,81 @@
+//! The entries of a tree as columns, so that those of two trees are compared column by column.
+ghost use Rattle.std.specs.Prelude.{◌≡◌, ◌≤◌, ◌++◌, ◌∷◌, [], length, IfOk, OnOk};
+ghost use Rattle.eden_git.specs.Columns.{AreColumns, kind_byte};
+
+use crate::entry::{RawEntry, read_entry};
+use eden_ids::{IdColumn, Kind, NoMemory};
+use std::alloc::Global;
+
+/// What is kept of the entries of a tree's payload, each in a column of its own.
+///
+/// Beside the payload this takes some 26 bytes for each entry and the bytes of its name, up to twice that as the columns grow.
+#[derive(Drop)]
+pub struct Columns {
+    /// The place in the payload at which each entry begins.
+    pub(crate) starts: Vec<u32>,
+    pub(crate) ids: IdColumn,
+    /// The kinds as bytes, 0 for a directory.
+    pub(crate) kinds: Vec<u8>,
+    /// The names one behind the other, a slash behind each.
+    pub(crate) names: Vec<u8>,
+}
+
+/// A kind as a byte, 0 for a directory.
+fn kind_byte(kind: Option<Kind>) -> u8
+    ensures { result ≡ kind_byte kind }
+{
+    match kind {
+        None => 0,
+        Some(Kind::Plain) => 1,
+        Some(Kind::Exec) => 2,
+        Some(Kind::Link) => 3,
+    }
+}
+
+impl Columns {
+    fn new(alloc: Global) -> Columns
+        ensures starts { result.starts.items ≡ [] }
+        ensures ids { result.ids ≡ [] }
+        ensures kinds { result.kinds.items ≡ [] }
+        ensures names { result.names.items ≡ [] }
+    {
+        Columns {
+            starts: Vec::new(alloc),
+            ids: IdColumn::new(alloc),
+            kinds: Vec::new(alloc),
+            names: Vec::new(alloc),
+        }
+    }
+
+    /// Puts an entry below the others.
+    fn push(&mut self, start: u32, entry: &RawEntry<'_>) -> Result<(), NoMemory>
+        ensures starts { OnOk result (self.new.starts.items ≡ self.old.starts.items ++ start ∷ []) }
+        ensures ids { OnOk result (self.new.ids ≡ self.old.ids ++ entry.now.id ∷ []) }
+        ensures kinds { OnOk result (self.new.kinds.items ≡ self.old.kinds.items ++ kind_byte entry.now.kind ∷ []) }
+        ensures names { OnOk result (self.new.names.items ≡ self.old.names.items ++ entry.now.name.now ++ 47 ∷ []) }
+    {
+        self.starts.push(start)?;
+        self.ids.push(entry.id)?;
+        self.kinds.push(kind_byte(entry.kind))?;
+        self.names.extend_from_slice(entry.name)?;
+        self.names.push(b'/')?;
+        Ok(())
+    }
+
+    /// The columns of the entries of a payload, which is read once.
+    ///
+    /// `NoMemory` comes where a growth was refused.
+    pub fn of(alloc: Global, payload: &[u8]) -> Result<Columns, NoMemory>
+        requires { length payload.now ≤ 8388608 }
+        ensures { IfOk result (λ columns. AreColumns payload.now columns) }
+    {
+        let mut columns = Columns::new(alloc);
+        let mut rest = payload;
+        'entries: while let Ok((entry, behind)) = read_entry(rest) {
+            let start = (payload.len() - rest.len()) as u32;
+            columns.push(start, &entry)?;
+            rest = behind;
+        }
+        Ok(columns)
+    }
+}

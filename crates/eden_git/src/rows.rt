@@ -1,0 +1,81 @@
+//! The entries of a tree, lent.
+ghost use Rattle.std.specs.Prelude.{◌≡◌, ◌≢◌, length, slice_get, MatchBool};
+ghost use Rattle.eden_git.specs.Trees.{entries_of};
+ghost use Rattle.eden_git.specs.Entries.{option_plain};
+ghost use Rattle.eden_git.specs.Columns.{AreColumns, ids_of, kinds_of, names_of};
+
+use crate::columns::Columns;
+use crate::entry::RawEntry;
+use crate::starts::entry_at;
+use eden_ids::IdColumn;
+use std::marker::Model;
+
+/// The entries of a tree, by its payload and the columns that are kept of it.
+///
+/// Its value is the list of the entries; a row is the place of an entry in it, counted from 0. It borrows both, and takes no memory,
+/// nor does any of its calls.
+#[derive(Drop)]
+pub struct Rows<'a> {
+    pub(crate) payload: &'a [u8],
+    pub(crate) columns: &'a Columns,
+}
+
+impl<'a> Model for Rows<'a> {
+    ghost use Rattle.std.specs.Prelude.{List};
+    ghost use Rattle.eden_git.specs.Trees.{Entry, entries_of};
+    ghost use Rattle.eden_git.specs.Columns.{AreColumns};
+
+    ghost Value = { List Entry };
+
+    ghost view = { λ r. entries_of r.payload.now };
+
+    ghost invariant = { λ r. AreColumns r.payload.now r.columns.now };
+}
+
+impl<'a> Rows<'a> {
+    /// The entries of a payload, of which these are the columns.
+    pub fn new(payload: &'a [u8], columns: &'a Columns) -> Rows<'a>
+        requires { AreColumns payload.now columns.now }
+        ensures { result ≡ entries_of payload.now }
+    {
+        Rows { payload, columns }
+    }
+
+    /// The number of entries.
+    pub fn len(&self) -> usize
+        ensures { result ≡ length self.now }
+    {
+        self.columns.starts.len()
+    }
+
+    /// The entry at a row, or `None` where there are no more.
+    pub fn entry(&self, row: usize) -> Option<RawEntry<'a>>
+        ensures { option_plain result ≡ slice_get self.now row }
+    {
+        match self.columns.starts.get(row) {
+            Some(start) => entry_at(self.payload, *start),
+            None => None,
+        }
+    }
+
+    /// The ids of the entries.
+    pub fn ids(&self) -> &'a IdColumn
+        ensures { result.now ≡ ids_of self.now }
+    {
+        &self.columns.ids
+    }
+
+    /// The kinds of the entries as bytes: 0 for a directory, 1 for a plain file, 2 for an executable one, 3 for a link.
+    pub fn kinds(&self) -> &'a [u8]
+        ensures { result.now ≡ kinds_of self.now }
+    {
+        self.columns.kinds.as_slice()
+    }
+
+    /// Whether the names are the same as those of other entries, row for row. All of them are compared at once.
+    pub fn has_names_of(&self, other: &Rows<'_>) -> bool
+        ensures { MatchBool result (names_of self.now ≡ names_of other.now) (names_of self.now ≢ names_of other.now) }
+    {
+        self.columns.names.as_slice() == other.columns.names.as_slice()
+    }
+}

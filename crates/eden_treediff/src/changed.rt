@@ -1,0 +1,99 @@
+//! The rows at which two directories of the same names differ.
+ghost use Rattle.std.specs.Prelude.{◌≡◌, IfOk, IfSome, min};
+ghost use Rattle.eden_treediff.specs.Columns.{AreChanges, entries_lent, first_row, rows_after};
+
+use eden_ids::NoMemory;
+use eden_lanes::{differ_kinds, differ_rows};
+use eden_objects::Rows;
+use std::alloc::Global;
+use std::marker::Model;
+
+/// Rows in ascending order, of which those that were passed are left out.
+#[derive(Drop)]
+pub(crate) struct Ahead {
+    rows: Vec<usize>,
+    passed: usize,
+}
+
+impl Model for Ahead {
+    ghost use Rattle.std.specs.Prelude.{ℕ, List, drop};
+
+    ghost Value = { List ℕ };
+
+    ghost view = { λ a. drop a.passed a.rows.items };
+}
+
+impl Ahead {
+    fn new(rows: Vec<usize>) -> Ahead
+        ensures { result ≡ rows.items }
+    {
+        Ahead { rows, passed: 0 }
+    }
+
+    /// The first row, or else this end.
+    fn first_or(&self, end: usize) -> usize
+        ensures { result ≡ first_row self.now end }
+    {
+        match self.rows.get(self.passed) {
+            Some(row) => *row,
+            None => end,
+        }
+    }
+
+    /// Passes a row, if it is the first.
+    fn pass(&mut self, row: usize)
+        ensures { self.new ≡ rows_after row self.old }
+    {
+        if self.passed < self.rows.len() && self.rows[self.passed] == row {
+            self.passed += 1;
+        }
+    }
+}
+
+/// The rows to come at which the ids of the entries differ, and those at which the kinds do.
+#[derive(Drop)]
+pub(crate) struct Changed {
+    ids: Ahead,
+    kinds: Ahead,
+}
+
+impl Changed {
+    /// The rows of two directories. There are none to tell where a directory is missing, or the names are not the same: then the entries
+    /// are not those of the same rows.
+    pub(crate) fn between(
+        alloc: Global,
+        left: &Option<Rows<'_>>,
+        right: &Option<Rows<'_>>,
+    ) -> Result<Option<Changed>, NoMemory>
+        ensures { IfOk result (λ changed. IfSome changed (λ c. AreChanges 0 c.ids c.kinds (entries_lent left.now) (entries_lent right.now))) }
+    {
+        let (Some(left), Some(right)) = (left, right) else {
+            return Ok(None);
+        };
+        if !left.has_names_of(right) {
+            return Ok(None);
+        }
+        let ids = differ_rows(alloc, left.ids(), right.ids())?;
+        let kinds = differ_kinds(alloc, left.kinds(), right.kinds())?;
+        Ok(Some(Changed {
+            ids: Ahead::new(ids),
+            kinds: Ahead::new(kinds),
+        }))
+    }
+
+    /// The first row at which something differs, or else this end.
+    pub(crate) fn first_or(&self, end: usize) -> usize
+        ensures { result ≡ min (first_row self.now.ids end) (first_row self.now.kinds end) }
+    {
+        self.ids.first_or(end).min(self.kinds.first_or(end))
+    }
+
+    /// Passes a row, if something differs there.
+    pub(crate) fn pass(&mut self, row: usize)
+        ensures ids { self.new.ids ≡ rows_after row self.old.ids }
+        ensures kinds { self.new.kinds ≡ rows_after row self.old.kinds }
+    {
+        self.ids.pass(row);
+        self.kinds.pass(row);
+    }
+}

@@ -1,0 +1,138 @@
+//! The entries of two directories, side by side.
+ghost use Rattle.std.specs.Prelude.{◌≡◌, drop, IfOk};
+ghost use Rattle.eden_git.specs.Entries.{option_plain};
+ghost use Rattle.eden_treediff.specs.Columns.{entries_lent};
+ghost use Rattle.eden_treediff.specs.Merging.{IsLeftOut, IsNextOf};
+ghost use Rattle.eden_treediff.specs.Pairs.{first_of};
+
+use crate::changed::Changed;
+use crate::pair::{Pair, order_of};
+use crate::side::Side;
+use eden_ids::NoMemory;
+use eden_objects::{RawEntry, Rows};
+use std::alloc::Global;
+use std::cmp::Ordering;
+use std::marker::Model;
+
+/// The entries of two directories in the order of their keys, those of one key as one pair.
+///
+/// Its value is what is left of both. While the names are the same, row for row, it is known beforehand which rows differ, and no other
+/// is read.
+#[derive(Drop)]
+pub(crate) struct Merge<'a> {
+    left: Side<'a>,
+    right: Side<'a>,
+    /// The rows that differ, where the names of what is left are the same.
+    changed: Option<Changed>,
+}
+
+impl<'a> Model for Merge<'a> {
+    ghost use Rattle.eden_treediff.specs.Merging.{Rests};
+    ghost use Rattle.eden_treediff.specs.Columns.{AreTold, IsAhead, rest_of};
+
+    ghost Value = { Rests };
+
+    ghost view = { λ m. (rest_of m.left, rest_of m.right) };
+
+    ghost invariant = { λ m. IsAhead m.left × IsAhead m.right × AreTold m.changed m.left m.right };
+}
+
+impl<'a> Merge<'a> {
+    /// Before the first entries. The columns of two directories of the same names are compared here.
+    pub(crate) fn new(
+        alloc: Global,
+        left: Option<Rows<'a>>,
+        right: Option<Rows<'a>>,
+    ) -> Result<Merge<'a>, NoMemory>
+        ensures { IfOk result (λ merge. merge ≡ (entries_lent left.entry, entries_lent right.entry)) }
+    {
+        let changed = Changed::between(alloc, &left, &right)?;
+        Ok(Merge {
+            left: Side::new(left),
+            right: Side::new(right),
+            changed,
+        })
+    }
+
+    /// Goes on to the first row that differs, where the rows are known that do.
+    fn skip(&mut self)
+        ensures { IsLeftOut self.old self.new }
+    {
+        if let Some(changed) = &self.changed {
+            let row = changed.first_or(self.left.end);
+            self.left.row = row;
+            self.right.row = row;
+        }
+    }
+
+    /// The next entry of the first side.
+    fn first(&self) -> Option<RawEntry<'a>>
+        ensures { option_plain result ≡ first_of self.now.0 }
+    {
+        self.left.next()
+    }
+
+    /// The next entry of the second side.
+    fn second(&self) -> Option<RawEntry<'a>>
+        ensures { option_plain result ≡ first_of self.now.1 }
+    {
+        self.right.next()
+    }
+
+    /// Goes on behind the next entry of the first side. The sides then no longer stand at one row.
+    fn pass_first(&mut self)
+        ensures { self.new ≡ (drop 1 self.old.0, self.old.1) }
+    {
+        self.changed = None;
+        self.left.pass();
+    }
+
+    /// Goes on behind the next entry of the second side. The sides then no longer stand at one row.
+    fn pass_second(&mut self)
+        ensures { self.new ≡ (self.old.0, drop 1 self.old.1) }
+    {
+        self.changed = None;
+        self.right.pass();
+    }
+
+    /// Goes on behind the next entries of both sides.
+    fn pass_both(&mut self)
+        ensures { self.new ≡ (drop 1 self.old.0, drop 1 self.old.1) }
+    {
+        let row = self.left.row;
+        self.left.pass();
+        self.right.pass();
+        if let Some(changed) = &mut self.changed {
+            changed.pass(row);
+        }
+    }
+
+    /// The next pair, if there is one. Entries that both sides have alike may be left out before it.
+    pub(crate) fn next(&mut self) -> Option<Pair<'a>>
+        ensures { IsNextOf self.old self.new result }
+    {
+        self.skip();
+        let (first, second) = (self.first(), self.second());
+        match order_of(&first, &second) {
+            None => None,
+            Some(Ordering::Less) => {
+                self.pass_first();
+                Some(Pair {
+                    first,
+                    second: None,
+                })
+            }
+            Some(Ordering::Equal) => {
+                self.pass_both();
+                Some(Pair { first, second })
+            }
+            Some(Ordering::Greater) => {
+                self.pass_second();
+                Some(Pair {
+                    first: None,
+                    second,
+                })
+            }
+        }
+    }
+}
