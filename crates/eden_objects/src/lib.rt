@@ -23,7 +23,7 @@
 pub use crate::commit::Commit;
 pub use crate::entries::Entry;
 pub use crate::fault::{CommitFault, NoCommit, PutFault};
-pub use crate::front::{enter, is_entered, is_wanted, path_behind};
+pub use crate::front::{enter, is_entered, is_wanted};
 pub use crate::laws::{commit_map_law, grown_law, same_object_law, tree_law};
 pub use crate::store::Store;
 pub use eden_git::{RawEntry, Rows, Word, key_order, next_entry};

@@ -6,7 +6,7 @@ ghost use Rattle.eden_objects.specs.Closed.{HasTree};
 ghost use Rattle.eden_objects.specs.Listings.{ArePaths, IsBelow, Lists, behind, rows_behind, rows_below};
 
 use crate::fault::{CommitFault, NoCommit};
-use crate::front::{enter, is_entered, is_wanted, path_behind};
+use crate::front::{enter, is_entered, is_wanted};
 use crate::store::Store;
 use eden_git::{cut, next_entry};
 use eden_globs::Filter;
@@ -38,11 +38,9 @@ impl Listing {
         if !is_wanted(&mut self.front, filter, name)? {
             return Ok(());
         }
-        let path = path_behind(alloc, &mut self.front, name)?;
-        match self.rows.push((path, kind, id)) {
-            Ok(()) => Ok(()),
-            Err(_) => Err(NoMemory),
-        }
+        let path = Path::joined(alloc, self.front.as_slice(), name)?;
+        self.rows.push((path, kind, id))?;
+        Ok(())
     }
 }
 

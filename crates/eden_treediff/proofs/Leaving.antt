@@ -11,9 +11,9 @@ use Rattle.eden_objects.specs.Objects.{Held}
 use Rattle.eden_objects.proofs.Closed.{same_id-refl}
 use Rattle.eden_git.specs.Trees.{Entry, key}
 use Rattle.eden_treediff.specs.Merges.{merge_rows}
-use Rattle.eden_treediff.specs.Merging.{IsLeftOut, Rests}
-use Rattle.eden_treediff.specs.Pairs.{Next, is_changed, next_pair, same_mode}
-use Rattle.eden_treediff.specs.Walks.{IsSide, side_depth, side_entries, side_rows, wanted_behind}
+use Rattle.eden_treediff.specs.internal.Merging.{IsLeftOut, Rests}
+use Rattle.eden_treediff.specs.internal.Pairs.{Next, is_changed, next_pair, same_mode}
+use Rattle.eden_treediff.specs.internal.Walks.{IsSide, side_depth, side_entries, side_rows, wanted_behind}
 use Rattle.eden_treediff.proofs.Exact.{kind_same}
 use Rattle.eden_treediff.proofs.Legal.{AreLegal, legal_after, legal_begins}
 use Rattle.eden_treediff.proofs.Settling.{same_goes_on}

@@ -9,8 +9,8 @@ use Rattle.eden_objects.specs.Commits.{entries_rows, tree_rows}
 use Rattle.eden_objects.specs.Closed.{IsClosed}
 use Rattle.eden_objects.specs.Listings.{ArePaths}
 use Rattle.eden_objects.proofs.Legal.{dir_paths, file_path, later_paths, top_paths}
-use Rattle.eden_treediff.specs.Pairs.{Directory, Next, directory, directory_of, name_of}
-use Rattle.eden_treediff.specs.Walks.{IsSide, side_entries, side_rows}
+use Rattle.eden_treediff.specs.internal.Pairs.{Directory, Next, directory, directory_of, name_of}
+use Rattle.eden_treediff.specs.internal.Walks.{IsSide, side_entries, side_rows}
 use Rattle.eden_treediff.proofs.Pairs.{IsNext, IsRest, Meet, OfEntry, also_dir, dir_inside, entry_named, listed, one_name}
 use Rattle.eden_treediff.proofs.Steps.{side_whole}
 

@@ -8,8 +8,8 @@ use Rattle.eden_git.specs.Trees.{Entry}
 use Rattle.eden_git.specs.Columns.{names_of}
 use Rattle.eden_treediff.specs.declared.changed.Changed.{Changed}
 use Rattle.eden_treediff.specs.declared.side.Side.{Side}
-use Rattle.eden_treediff.specs.Columns.{AreChanges, AreTold, IsAhead, entries_lent, first_row, passed, rest_of, rows_after}
-use Rattle.eden_treediff.specs.Pairs.{first_of}
+use Rattle.eden_treediff.specs.internal.Columns.{AreChanges, AreTold, IsAhead, entries_lent, first_row, passed, rest_of, rows_after}
+use Rattle.eden_treediff.specs.internal.Pairs.{first_of}
 use Rattle.eden_treediff.proofs.Rows.{jump, passed_row}
 
 -- the first of what is left stands at the row

@@ -23,8 +23,8 @@ use Rattle.eden_objects.proofs.Closed.{child_below, later_below, same_id-is}
 use Rattle.eden_objects.proofs.Rising.{file_entries, all_dir}
 use Rattle.eden_git.proofs.Slashes.{has_slash, name_has_none}
 use Rattle.eden_treediff.specs.Merges.{merge_rows}
-use Rattle.eden_treediff.specs.Pairs.{Directory, Next, next_of_both, next_pair, is_changed, same_mode, name_of, directory, directory_of}
-use Rattle.eden_treediff.specs.Walks.{IsSide, side_rows, side_depth}
+use Rattle.eden_treediff.specs.internal.Pairs.{Directory, Next, next_of_both, next_pair, is_changed, same_mode, name_of, directory, directory_of}
+use Rattle.eden_treediff.specs.internal.Walks.{IsSide, side_rows, side_depth}
 use Rattle.eden_treediff.proofs.Blocks.{order, below, AllBelow, merge_blocks, merge_under}
 use Rattle.eden_treediff.proofs.Exact.{is_path, same_law}
 

@@ -14,9 +14,9 @@ use Rattle.eden_git.specs.Trees.{Entry}
 use Rattle.eden_objects.proofs.Closed.{same_id-is}
 use Rattle.eden_treediff.specs.declared.settled.Settled.{Settled}
 use Rattle.eden_treediff.specs.Merges.{merge_rows}
-use Rattle.eden_treediff.specs.Pairs.{next_pair}
-use Rattle.eden_treediff.specs.Settled.{AreSettled, HoldSame, is_known, is_settled, side_cmp, sides_cmp}
-use Rattle.eden_treediff.specs.Walks.{same_side, side_rows, wanted_behind}
+use Rattle.eden_treediff.specs.internal.Pairs.{next_pair}
+use Rattle.eden_treediff.specs.internal.Settled.{AreSettled, HoldSame, is_known, is_settled, side_cmp, sides_cmp}
+use Rattle.eden_treediff.specs.internal.Walks.{same_side, side_rows, wanted_behind}
 use Rattle.eden_treediff.proofs.Exact.{same_law}
 use Rattle.eden_treediff.proofs.Steps.{merge_entries}
 

@@ -9,7 +9,7 @@ use Rattle.eden_objects.specs.Closed.{HasTree, IsClosed, AllNamed}
 use Rattle.eden_objects.specs.Walks.{tree_seen}
 use Rattle.eden_objects.proofs.TreeOf.{seen_rows, seen_tree}
 use Rattle.eden_treediff.specs.Merges.{admitted, admitted_differences, differences, merge_rows, option_admitted}
-use Rattle.eden_treediff.specs.Walks.{behind, side_rows, wanted_behind}
+use Rattle.eden_treediff.specs.internal.Walks.{behind, side_rows, wanted_behind}
 use Rattle.eden_treediff.proofs.Listed.{listed_law}
 
 pub empty_side : (held : List Held) (commit : Id) → same_id commit zero_id ≡ true → commit_rows held commit ≡ Some []

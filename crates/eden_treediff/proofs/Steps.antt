@@ -15,8 +15,8 @@ use Rattle.eden_objects.specs.Closed.{IsClosed}
 use Rattle.eden_objects.proofs.WalkSteps.{rows_here, tree_here}
 use Rattle.eden_objects.proofs.Gathering.{depth_here, inside as lies_inside}
 use Rattle.eden_treediff.specs.Merges.{merge_rows}
-use Rattle.eden_treediff.specs.Pairs.{Directory, Next, directory, is_changed, name_of, next_pair}
-use Rattle.eden_treediff.specs.Walks.{IsSide, behind, side_depth, side_entries, side_rows, wanted_behind}
+use Rattle.eden_treediff.specs.internal.Pairs.{Directory, Next, directory, is_changed, name_of, next_pair}
+use Rattle.eden_treediff.specs.internal.Walks.{IsSide, behind, side_depth, side_entries, side_rows, wanted_behind}
 use Rattle.eden_treediff.proofs.Blocks.{below}
 use Rattle.eden_treediff.proofs.Pairs.{IsDirectory, IsNext, IsRest, next_is, rest_after, entry_held, entry_named, depth_after, entry_depth, merge_next, nothing_changed, file_changed, directory_met, rows_of_entry}
 

@@ -1,6 +1,6 @@
 //! The rows at which two directories of the same names differ.
 ghost use Rattle.std.specs.Prelude.{◌≡◌, IfOk, IfSome, min};
-ghost use Rattle.eden_treediff.specs.Columns.{AreChanges, entries_lent, first_row, rows_after};
+ghost use Rattle.eden_treediff.specs.internal.Columns.{AreChanges, entries_lent, first_row, rows_after};
 
 use eden_ids::NoMemory;
 use eden_lanes::{differ_kinds, differ_rows};

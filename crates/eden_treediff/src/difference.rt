@@ -2,7 +2,7 @@ ghost use Rattle.std.specs.Prelude.{◌≡◌, ◌≢◌, Some, None, IfOk, IfEr
 ghost use Rattle.eden_objects.specs.Commits.{commit_map, commit_rows};
 ghost use Rattle.eden_objects.specs.Objects.{find};
 ghost use Rattle.eden_treediff.specs.Merges.{admitted, admitted_differences, differences, merge_rows};
-ghost use Rattle.eden_treediff.specs.Walks.{IsSide, IsSideOf, side_rows};
+ghost use Rattle.eden_treediff.specs.internal.Walks.{IsSide, IsSideOf, side_rows};
 
 use crate::settled::Settled;
 use crate::walk::{Found, walk};

@@ -1,9 +1,9 @@
 //! The entries of two directories, side by side.
 ghost use Rattle.std.specs.Prelude.{◌≡◌, drop, IfOk};
 ghost use Rattle.eden_git.specs.Entries.{option_plain};
-ghost use Rattle.eden_treediff.specs.Columns.{entries_lent};
-ghost use Rattle.eden_treediff.specs.Merging.{IsLeftOut, IsNextOf};
-ghost use Rattle.eden_treediff.specs.Pairs.{first_of};
+ghost use Rattle.eden_treediff.specs.internal.Columns.{entries_lent};
+ghost use Rattle.eden_treediff.specs.internal.Merging.{IsLeftOut, IsNextOf};
+ghost use Rattle.eden_treediff.specs.internal.Pairs.{first_of};
 
 use crate::changed::Changed;
 use crate::pair::{Pair, order_of};
@@ -27,8 +27,8 @@ pub(crate) struct Merge<'a> {
 }
 
 impl<'a> Model for Merge<'a> {
-    ghost use Rattle.eden_treediff.specs.Merging.{Rests};
-    ghost use Rattle.eden_treediff.specs.Columns.{AreTold, IsAhead, rest_of};
+    ghost use Rattle.eden_treediff.specs.internal.Merging.{Rests};
+    ghost use Rattle.eden_treediff.specs.internal.Columns.{AreTold, IsAhead, rest_of};
 
     ghost Value = { Rests };
 

@@ -1,7 +1,7 @@
 ghost use Rattle.std.specs.Prelude.{◌≡◌, None, Some};
 ghost use Rattle.eden_git.specs.Entries.{option_plain};
-ghost use Rattle.eden_treediff.specs.Pairs.{directory, directory_of, is_changed, name_of, order_of, same_mode};
-ghost use Rattle.eden_treediff.specs.Walks.{directory_read};
+ghost use Rattle.eden_treediff.specs.internal.Pairs.{directory, directory_of, is_changed, name_of, order_of, same_mode};
+ghost use Rattle.eden_treediff.specs.internal.Walks.{directory_read};
 
 use eden_ids::{Id, Kind, is_same_kind};
 use eden_objects::{RawEntry, key_order};

@@ -1,7 +1,7 @@
 //! The pairs of trees that a walk found to hold the same files.
 ghost use Rattle.std.specs.Prelude.{◌≡◌, OnOk, true};
 ghost use Rattle.std.specs.BTreeSet.{Updates};
-ghost use Rattle.eden_treediff.specs.Settled.{NoneSettled, is_settled, sides_cmp};
+ghost use Rattle.eden_treediff.specs.internal.Settled.{NoneSettled, is_settled, sides_cmp};
 
 use eden_ids::{Id, NoMemory};
 use std::alloc::Global;

@@ -1,6 +1,6 @@
 ghost use Rattle.std.specs.Prelude.{◌≡◌, length, slice_get};
 ghost use Rattle.eden_git.specs.Entries.{option_plain};
-ghost use Rattle.eden_treediff.specs.Columns.{entries_lent, passed};
+ghost use Rattle.eden_treediff.specs.internal.Columns.{entries_lent, passed};
 
 use eden_objects::{RawEntry, Rows};
 

@@ -3,9 +3,9 @@ ghost use Rattle.eden_globs.specs.Filters.{admits};
 ghost use Rattle.eden_ids.specs.Paths.{IsPath};
 ghost use Rattle.eden_objects.specs.Listings.{ArePaths};
 ghost use Rattle.eden_treediff.specs.Merges.{merge_rows};
-ghost use Rattle.eden_treediff.specs.Settled.{AreSettled, HoldSame, KeepsSettled, is_known};
-ghost use Rattle.eden_treediff.specs.Columns.{entries_lent};
-ghost use Rattle.eden_treediff.specs.Walks.{IsSide, same_side, side_entries, side_rows, wanted_behind};
+ghost use Rattle.eden_treediff.specs.internal.Settled.{AreSettled, HoldSame, KeepsSettled, is_known};
+ghost use Rattle.eden_treediff.specs.internal.Columns.{entries_lent};
+ghost use Rattle.eden_treediff.specs.internal.Walks.{IsSide, same_side, side_entries, side_rows, wanted_behind};
 
 use crate::merge::Merge;
 use crate::settled::Settled;
@@ -32,7 +32,7 @@ impl Found {
         if !is_wanted(&mut self.front, filter, name)? {
             return Ok(());
         }
-        let path = path_behind(alloc, &mut self.front, name)?;
+        let path = Path::joined(alloc, self.front.as_slice(), name)?;
         self.paths.push(path)?;
         Ok(())
     }

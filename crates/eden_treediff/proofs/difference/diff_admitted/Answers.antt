@@ -1,4 +1,4 @@
-use Rattle.eden_treediff.specs.Walks.{side_rows}
+use Rattle.eden_treediff.specs.internal.Walks.{side_rows}
 use Rattle.eden_treediff.proofs.Sides.{both_sides}
 use Rattle.eden_treediff.proofs.difference.diff_admitted.Goals as goal
 

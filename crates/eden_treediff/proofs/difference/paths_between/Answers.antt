@@ -1,6 +1,6 @@
 use Rattle.eden_globs.specs.Filters.{admits}
 use Rattle.eden_treediff.specs.Merges.{merge_rows}
-use Rattle.eden_treediff.specs.Walks.{side_rows}
+use Rattle.eden_treediff.specs.internal.Walks.{side_rows}
 use Rattle.eden_treediff.proofs.Legal.{top_legal}
 use Rattle.eden_treediff.proofs.Sides.{all_found}
 use Rattle.eden_treediff.proofs.difference.paths_between.Goals as goal

@@ -4,10 +4,10 @@ use Rattle.eden_ids.specs.Paths.{IsPath, lies_below}
 use Rattle.eden_objects.specs.Objects.{Held}
 use Rattle.eden_git.specs.Trees.{Entry}
 use Rattle.eden_treediff.specs.Merges.{merge_rows}
-use Rattle.eden_treediff.specs.Merging.{Rests, next_of}
-use Rattle.eden_treediff.specs.Pairs.{Directory, Next, name_of, next_pair}
-use Rattle.eden_treediff.specs.Settled.{is_known, is_settled}
-use Rattle.eden_treediff.specs.Walks.{directory_read, side_depth, side_rows, wanted_behind}
+use Rattle.eden_treediff.specs.internal.Merging.{Rests, next_of}
+use Rattle.eden_treediff.specs.internal.Pairs.{Directory, Next, name_of, next_pair}
+use Rattle.eden_treediff.specs.internal.Settled.{is_known, is_settled}
+use Rattle.eden_treediff.specs.internal.Walks.{directory_read, side_depth, side_rows, wanted_behind}
 use Rattle.eden_treediff.proofs.Blocks.{below}
 use Rattle.eden_treediff.proofs.Legal.{entered_legal, found_legal, legal_after}
 use Rattle.eden_treediff.proofs.Leaving.{begins, left_out}

@@ -1,8 +1,8 @@
 use Rattle.std.proofs.Common.{◌≡◌, ◌+◌, ◌++◌, [], false, length}
 use Rattle.eden_globs.specs.Filters.{admits}
 use Rattle.eden_treediff.specs.Merges.{merge_rows}
-use Rattle.eden_treediff.specs.Settled.{AreSettled, HoldSame, KeepsSettled}
-use Rattle.eden_treediff.specs.Walks.{side_depth, side_rows, wanted_behind}
+use Rattle.eden_treediff.specs.internal.Settled.{AreSettled, HoldSame, KeepsSettled}
+use Rattle.eden_treediff.specs.internal.Walks.{side_depth, side_rows, wanted_behind}
 use Rattle.eden_treediff.proofs.Leaving.{Stands}
 use Rattle.eden_treediff.proofs.walk.+walk.Given as goal
 

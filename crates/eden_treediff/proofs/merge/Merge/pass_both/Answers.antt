@@ -1,7 +1,7 @@
 use Rattle.std.proofs.Common.{◌≡◌, drop, Option, ap, subst, ◌∙◌}
 use Rattle.eden_treediff.specs.declared.changed.Changed.{Changed}
-use Rattle.eden_treediff.specs.Columns.{AreTold, passed, rest_of}
-use Rattle.eden_treediff.specs.Merging.{Rests}
+use Rattle.eden_treediff.specs.internal.Columns.{AreTold, passed, rest_of}
+use Rattle.eden_treediff.specs.internal.Merging.{Rests}
 use Rattle.eden_treediff.proofs.Merging.{both_told, side_passed}
 use Rattle.eden_treediff.proofs.merge.Merge.pass_both.Goals.{in-Some, in_default}
 use Rattle.eden_treediff.proofs.merge.Merge.pass_both.Goals as goal

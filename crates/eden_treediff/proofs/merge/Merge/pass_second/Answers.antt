@@ -1,6 +1,6 @@
 use Rattle.std.proofs.Common.{◌≡◌, drop, ap, ◌∙◌}
-use Rattle.eden_treediff.specs.Columns.{rest_of}
-use Rattle.eden_treediff.specs.Merging.{Rests}
+use Rattle.eden_treediff.specs.internal.Columns.{rest_of}
+use Rattle.eden_treediff.specs.internal.Merging.{Rests}
 use Rattle.eden_treediff.proofs.Merging.{side_passed}
 use Rattle.eden_treediff.proofs.merge.Merge.pass_second.Goals as goal
 

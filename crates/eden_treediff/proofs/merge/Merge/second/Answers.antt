@@ -1,7 +1,7 @@
 use Rattle.std.proofs.Common.{ap, ◌∙◌}
-use Rattle.eden_treediff.specs.Columns.{entries_lent}
-use Rattle.eden_treediff.specs.Merging.{Rests}
-use Rattle.eden_treediff.specs.Pairs.{first_of}
+use Rattle.eden_treediff.specs.internal.Columns.{entries_lent}
+use Rattle.eden_treediff.specs.internal.Merging.{Rests}
+use Rattle.eden_treediff.specs.internal.Pairs.{first_of}
 use Rattle.eden_treediff.proofs.Merging.{first_left}
 use Rattle.eden_treediff.proofs.merge.Merge.second.Goals as goal
 

@@ -1,7 +1,7 @@
 use Rattle.std.proofs.Common.{Option, refl, sym, ap, subst, ◌∙◌}
 use Rattle.eden_treediff.specs.declared.changed.Changed.{Changed}
-use Rattle.eden_treediff.specs.Columns.{AreTold}
-use Rattle.eden_treediff.specs.Merging.{Rests}
+use Rattle.eden_treediff.specs.internal.Columns.{AreTold}
+use Rattle.eden_treediff.specs.internal.Merging.{Rests}
 use Rattle.eden_treediff.proofs.Merging.{all_skipped, moved}
 use Rattle.eden_treediff.proofs.merge.Merge.skip.Goals as goal
 

@@ -3,7 +3,7 @@ use Rattle.std.specs.Prelude.{◌≡◌, List, ◌++◌, Option, Some, None}
 use Rattle.eden_git.specs.Entries.{option_plain}
 use Rattle.eden_git.specs.Trees.{Entry}
 use Rattle.eden_treediff.specs.declared.pair.Pair.{Pair}
-use Rattle.eden_treediff.specs.Pairs.{Next, next_pair}
+use Rattle.eden_treediff.specs.internal.Pairs.{Next, next_pair}
 
 -- what is left of each side
 abbrev pub Rests : Type 0

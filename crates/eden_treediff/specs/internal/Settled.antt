@@ -9,7 +9,7 @@ use Rattle.eden_ids.specs.declared.id.Id.{Id}
 use Rattle.eden_objects.specs.Objects.{Held}
 use Rattle.eden_treediff.specs.declared.settled.Settled.{Settled}
 use Rattle.eden_treediff.specs.Merges.{merge_rows}
-use Rattle.eden_treediff.specs.Walks.{same_side, side_rows}
+use Rattle.eden_treediff.specs.internal.Walks.{same_side, side_rows}
 
 -- a missing tree stands before each other, and trees by their ids
 abbrev pub side_cmp : Option Id → Option Id → Ordering

@@ -9,7 +9,7 @@ use Rattle.eden_objects.specs.Trees.{tree_depth}
 use Rattle.eden_objects.specs.Commits.{Row, commit_rows, tree_rows}
 use Rattle.eden_objects.specs.Closed.{HasTree}
 use Rattle.eden_objects.specs.declared.fault.NoCommit.{NoCommit}
-use Rattle.eden_treediff.specs.Pairs.{Directory}
+use Rattle.eden_treediff.specs.internal.Pairs.{Directory}
 
 -- a side is a tree of the store, or is missing
 abbrev pub IsSide : List Held → Option Id → Type 0

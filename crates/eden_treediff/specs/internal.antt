@@ -1,0 +1,6 @@
+-- Words that the code alone uses.
+pub mod Columns
+pub mod Merging
+pub mod Pairs
+pub mod Settled
+pub mod Walks
