@@ -7,7 +7,7 @@ use Rattle.eden_objects.specs.Objects.{Held}
 use Rattle.eden_git.specs.Trees.{Entry, read_entry, entries, entries_after, entries_of}
 use Rattle.eden_objects.specs.Trees.{greater, depth_of, reach_of, entries_depth, entries_reach, tree_depth, tree_reach}
 use Rattle.eden_objects.specs.Puts.{entries_fault, entry_fault, fault_after, first_fault}
-use Rattle.eden_objects.specs.Earlier.{HasSeen}
+use Rattle.eden_objects.specs.internal.Earlier.{HasSeen}
 
 -- the step of the definitions, where bytes are left
 

@@ -7,7 +7,7 @@ use Rattle.std.specs.BTreeSet.{BTreeSet, Updates, contains}
 use Rattle.std.specs.BTreeMap.{is_at}
 use Rattle.eden_ids.specs.Sameness.{same_bytes}
 use Rattle.eden_git.specs.Trees.{Entry}
-use Rattle.eden_objects.specs.Earlier.{has_name}
+use Rattle.eden_objects.specs.internal.Earlier.{has_name}
 
 or_first : (t x : Bool) → cond t true x ≡ (t || x)
 or_first true x = refl

@@ -6,9 +6,9 @@ pub mod Closed
 pub mod Laws
 pub mod Walks
 pub mod Contents
-pub mod Earlier
 pub mod Listings
 pub mod Readings
 pub mod Copies
 pub mod Files
 pub mod Counts
+pub mod internal

@@ -6,7 +6,7 @@ ghost use Rattle.eden_git.specs.Columns.{AreColumns};
 ghost use Rattle.eden_git.specs.Trees.{Entry, entries_of};
 ghost use Rattle.eden_objects.specs.Trees.{depth_of, entries_depth, entries_reach, reach_of, tree_depth, tree_reach};
 ghost use Rattle.eden_objects.specs.Closed.{IsHeld, IsSound};
-ghost use Rattle.eden_objects.specs.Earlier.{HasSeen};
+ghost use Rattle.eden_objects.specs.internal.Earlier.{HasSeen};
 ghost use Rattle.eden_git.specs.Entries.{plain};
 ghost use Rattle.eden_objects.specs.Contents.{OutlineFits, SizeFits};
 ghost use Rattle.eden_objects.specs.Counts.{files_of_entries};

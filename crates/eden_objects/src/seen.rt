@@ -2,7 +2,7 @@
 ghost use Rattle.std.specs.Prelude.{◌≡◌, ◌∷◌, [], List, OnOk};
 ghost use Rattle.eden_git.specs.Trees.{Entry};
 ghost use Rattle.eden_git.specs.Entries.{option_plain, plain};
-ghost use Rattle.eden_objects.specs.Earlier.{HasSeen, has_name, is_above_last};
+ghost use Rattle.eden_objects.specs.internal.Earlier.{HasSeen, has_name, is_above_last};
 
 use eden_git::{RawEntry, key_order};
 use eden_ids::NoMemory;

@@ -11,7 +11,7 @@ use crate::merge::Merge;
 use crate::settled::Settled;
 use eden_globs::Filter;
 use eden_ids::{Id, Naming, NoMemory, Path};
-use eden_objects::{Rows, Store, enter, is_entered, is_wanted, path_behind};
+use eden_objects::{Rows, Store, enter, is_entered, is_wanted};
 use std::alloc::Global;
 
 /// The paths that were found so far, and the bytes that stand before each name of the directory that is read.

@@ -2,7 +2,7 @@ use Rattle.std.proofs.Common.{rules, ◌≡◌, ◌<◌, length, List, None, Ok,
 use Rattle.eden_git.specs.Trees.{Entry, read_entry}
 use Rattle.eden_objects.specs.Trees.{greater, depth_of, reach_of, tree_depth, tree_reach}
 use Rattle.eden_objects.specs.Puts.{entry_fault}
-use Rattle.eden_objects.specs.Earlier.{HasSeen}
+use Rattle.eden_objects.specs.internal.Earlier.{HasSeen}
 use Rattle.eden_git.specs.Entries.{plain}
 use Rattle.eden_objects.proofs.Judging.{begins, stands, goes_on}
 use Rattle.eden_objects.proofs.Refusals.{entry_held}
