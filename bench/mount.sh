@@ -3,6 +3,7 @@
 # README.md says what is measured, and how. It needs git and the kit.
 #
 # usage: bench/mount.sh [TRIES]
+# EDEND names the program that is measured, if it is another than this one, as one of an earlier commit.
 set -euo pipefail
 
 tries=${1:-5}
@@ -10,8 +11,11 @@ root=$(cd "$(dirname "$0")/.." && pwd)
 work=$(mktemp -d)
 . "$root/tests-with-git/object-lines.sh"
 trap 'rm -rf "$work"' EXIT
-(cd "$root/crates/edend" && rt run -- run < /dev/null) > "$work/built" 2>&1 || { cat "$work/built"; exit 1; }
-edend=$root/crates/edend/out/edend
+edend=${EDEND:-}
+if [ -z "$edend" ]; then
+    (cd "$root/crates/edend" && rt run -- run < /dev/null) > "$work/built" 2>&1 || { cat "$work/built"; exit 1; }
+    edend=$root/crates/edend/out/edend
+fi
 
 # The path of file F of directory D of a shape: 1,000 directories side by side, or ten in each of ten in each of ten.
 path='
