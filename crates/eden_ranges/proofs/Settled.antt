@@ -22,7 +22,7 @@ use Rattle.eden_history.specs.Touches.{TouchMap, first_before, touched, untouche
 use Rattle.eden_history.proofs.Touched.{get-touched}
 use Rattle.eden_ranges.specs.declared.names.Mention.{Mention}
 use Rattle.eden_ranges.specs.internal.Mentions.{told}
-use Rattle.eden_ranges.specs.internal.Names.{Mentioned, joined, noted, settled, settled_from, touched_if}
+use Rattle.eden_ranges.specs.internal.Names.{Mentioned, changes_in, joined, kept, noted, settled, settled_from, touched_if}
 
 -- ---- paths in order
 
@@ -338,15 +338,6 @@ settling_ends done others i m whole past so_far =
     ∙ so_far
 
 -- ---- where files were changed
-
-abbrev kept : List ℕ → Option Touch → List (List ℕ × Touch) → List (List ℕ × Touch)
-kept p None es = es
-kept p (Some touch) es = (p, touch) ∷ es
-
--- the mentions that tell of a change
-abbrev pub changes_in : List Mentioned → List (List ℕ × Touch)
-changes_in [] = []
-changes_in (m ∷ ms) = kept m.0 m.1 (changes_in ms)
 
 first : (a b : Bool) → T (a && b) → T a
 first true b h = tt

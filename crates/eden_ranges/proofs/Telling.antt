@@ -1,17 +1,15 @@
 -- Mentions of each path once, told as marked paths and as changes of files.
-use Rattle.std.proofs.Common.{◌≡◌, ℕ, List, [], ◌∷◌, ◌++◌, map, Option, Some, None, refl, sym, ap, ◌∙◌, append_assoc}
+use Rattle.std.proofs.Common.{◌≡◌, ℕ, List, [], ◌∷◌, ◌++◌, map, length, drop, ◌+◌, ◌<◌, ◌≤◌, Option, Some, None, refl, sym, ap, ◌∙◌, append_assoc, append-nil}
+use Rattle.std.proofs.Math.ListN.{get_or}
+use Rattle.std.proofs.lemmas.List.{drop_all, drop_more}
 use Rattle.std.specs.FinMap as fin
-use Rattle.eden_ids.specs.FileMaps.{listing, path_set}
 use Rattle.eden_deltas.specs.declared.touch.FileTouch.{FileTouch}
-use Rattle.eden_deltas.specs.Deltas.{touch}
-use Rattle.eden_history.specs.declared.mark.Mark.{Mark}
 use Rattle.eden_history.specs.declared.mark.Marked.{Marked}
 use Rattle.eden_history.specs.declared.touches.Touch.{Touch}
-use Rattle.eden_history.specs.Touches.{TouchMap, listed, listed_touch, mark_told, marked_at, untouched}
+use Rattle.eden_history.specs.Touches.{TouchMap, listed_touch, mark_told, marked_at}
 use Rattle.eden_ranges.specs.declared.names.Mention.{Mention}
 use Rattle.eden_ranges.specs.internal.Mentions.{told}
-use Rattle.eden_ranges.specs.internal.Names.{Mentioned, noted}
-use Rattle.eden_ranges.proofs.Settled.{changes_in, changes_listed}
+use Rattle.eden_ranges.specs.internal.Names.{Mentioned, changes_in, kept}
 
 -- ---- marks
 
@@ -41,7 +39,22 @@ next_told done rest x = append_assoc done (x ∷ []) rest
 abbrev pub changes : List Mention → List FileTouch
 changes ms = map listed_touch (changes_in (map told ms))
 
-pub changes_are : (ms : List Mention) (mentions : List Mentioned)
-    → map told ms ≡ map (λ p. (p, fin.get (noted mentions untouched) p)) (listing (path_set (map (λ m. m.0) mentions)))
-    → changes ms ≡ listed (noted mentions untouched)
-changes_are ms mentions is = ap (map listed_touch) (changes_listed mentions (map told ms) is)
+-- one more mention, by what it tells
+pub change_told : (done : List FileTouch) (m : Mention) (touch : Touch) (rest : List Mention) → m.touch ≡ Some touch
+    → (done ++ listed_touch (m.path.now, touch) ∷ []) ++ changes rest ≡ done ++ changes (m ∷ rest)
+change_told done m touch rest is =
+    append_assoc done (listed_touch (m.path.now, touch) ∷ []) (changes rest)
+    ∙ ap (λ o. done ++ map listed_touch (kept m.path.now o (changes_in (map told rest)))) (sym is)
+
+pub no_change_told : (done : List FileTouch) (m : Mention) (rest : List Mention) → m.touch ≡ None → done ++ changes rest ≡ done ++ changes (m ∷ rest)
+no_change_told done m rest is = ap (λ o. done ++ map listed_touch (kept m.path.now o (changes_in (map told rest)))) (sym is)
+
+-- ---- a list that is told from a place on
+
+pub mention_at : (ms : List Mention) (i : ℕ) (m : Mention) → i < length ms → m ≡ get_or ms i m → m ∷ drop (i + 1) ms ≡ drop i ms
+mention_at ms i m within is = sym (drop_more ms i m within ∙ ap (λ n. n ∷ drop (i + 1) ms) (sym is))
+
+pub nothing_left : {X : Type 0} (tell : List Mention → List X) (done : List X) (ms : List Mention) (i : ℕ) (all : List X) → tell [] ≡ [] → length ms ≤ i
+    → done ++ tell (drop i ms) ≡ all → done ≡ all
+nothing_left tell done ms i all none past told_all =
+    sym (append-nil done) ∙ ap (λ xs. done ++ xs) (sym none) ∙ ap (λ xs. done ++ tell xs) (sym (drop_all i ms past)) ∙ told_all

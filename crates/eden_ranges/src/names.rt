@@ -4,8 +4,8 @@ ghost use Rattle.std.specs.Prelude.{◌≡◌, ◌++◌, ◌∷◌, [], List, ma
 ghost use Rattle.std.specs.FinMap as fin;
 ghost use Rattle.eden_ids.specs.FileMaps.{listing};
 ghost use Rattle.eden_deltas.specs.declared.touch.FileTouch.{FileTouch};
-ghost use Rattle.eden_history.specs.Touches.{listed, mark_told, marked_at};
-ghost use Rattle.eden_ranges.specs.internal.Names.{joined, nothing_named, settled, with_path, with_touch};
+ghost use Rattle.eden_history.specs.Touches.{listed, listed_touch, mark_told, marked_at};
+ghost use Rattle.eden_ranges.specs.internal.Names.{changes_in, joined, nothing_named, settled, with_path, with_touch};
 ghost use Rattle.eden_ranges.specs.internal.Mentions.{told};
 
 use eden_deltas::FileTouch;
@@ -125,7 +125,8 @@ impl<'a> Names<'a> {
 
     /// Each path once, ascending, and what all changes of files did there.
     fn settle(mut self, alloc: Global) -> Result<Vec<Mention<'a>>, NoMemory>
-        ensures { IfOk result (λ list. map told list.items ≡ map (λ path. (path, fin.get self.entry.touches path)) (listing self.entry.paths)) }
+        ensures paths { IfOk result (λ list. map told list.items ≡ map (λ path. (path, fin.get self.entry.touches path)) (listing self.entry.paths)) }
+        ensures changes { IfOk result (λ list. map listed_touch (changes_in (map told list.items)) ≡ listed self.entry.touches) }
     {
         self.mentions
             .sort_by(|left, right| left.path.cmp(right.path))?;

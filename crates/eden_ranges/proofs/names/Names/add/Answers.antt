@@ -8,4 +8,4 @@ pub returns : goal.returns
 returns c =
     ap (λ items. named (map told items)) c.in_ok-push.ensures.items
     ∙ mentioned c.self.inside.mentions.items _
-    ∙ ap (λ (names : NamedPaths). with_path names c.args.path.now) (sym c.self.view_is)
+    ∙ ap (λ (names : NamedPaths). with_path names c.args.path.now) c.self.view_is
