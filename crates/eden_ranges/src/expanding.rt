@@ -85,11 +85,7 @@ fn add_wanted<'a>(names: &mut Names<'a>, path: &'a Path, wanted: &Filter) -> Res
 }
 
 /// Notes those of these paths that the filter admits.
-fn add_paths<'a>(
-    names: &mut Names<'a>,
-    paths: &'a [Path],
-    wanted: &Filter,
-) -> Result<(), NoMemory>
+fn add_paths<'a>(names: &mut Names<'a>, paths: &'a [Path], wanted: &Filter) -> Result<(), NoMemory>
     ensures { OnOk result (names.new ≡ with_paths names.old (wanted_paths wanted.now paths.now)) }
 {
     for path in paths {
