@@ -18,6 +18,19 @@ use eden_objects::{CommitFault, Store};
 use eden_treediff::diff_admitted;
 use std::alloc::Global;
 
+/// Makes room for more paths. Where it has to grow, paths that stand twice go first: so the room is but a few times that of
+/// different paths, however many roots name them.
+fn make_room(paths: &mut Vec<Path>, more: usize) -> Result<(), NoMemory>
+    ensures { OnOk result (path_set paths.new.items ≡ path_set paths.old.items) }
+{
+    if more <= paths.capacity().saturating_sub(paths.len()) {
+        return Ok(());
+    }
+    paths.sort()?;
+    paths.dedup();
+    Ok(paths.reserve(more.max(paths.len()))?)
+}
+
 /// Adds the admitted paths on which two roots differ. Roots that are one are not looked at.
 fn add_differing<N: Naming + Drop>(
     alloc: Global,
@@ -38,6 +51,7 @@ fn add_differing<N: Naming + Drop>(
         Ok(more) => more,
         Err(fault) => return Err(fault),
     };
+    make_room(paths, more.len())?;
     Ok(paths.append(&mut more)?)
 }
 

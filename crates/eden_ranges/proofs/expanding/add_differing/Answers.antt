@@ -20,7 +20,8 @@ returns-in-Err-clause-fault g c other =
 pub returns-clause-paths : goal.returns-clause-paths
 returns-clause-paths g c =
     ap path_set c.in_ok-append.ensures.items
-    ∙ path_set-append c.args.paths.now.items c.in-Ok.more.items
+    ∙ path_set-append c.make_room.new.paths.items c.in-Ok.more.items
+    ∙ ap (union (path_set c.in-Ok.more.items)) c.in_ok-make_room.ensures
     ∙ ap (λ paths. union paths (path_set c.args.paths.now.items))
     (told_differ c.args.wanted.now (commit_map c.args.store.now) c.args.left c.args.reached c.in-Ok.more.items c.in-Ok.ensures.paths)
 
