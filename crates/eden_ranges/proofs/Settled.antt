@@ -18,7 +18,7 @@ use Rattle.eden_ids.specs.FileMaps.{listing, path_set, same_path}
 use Rattle.eden_ids.specs.Sameness.{same_bytes}
 use Rattle.eden_ids.proofs.FileMapLemmas.{bytes_same, has-listing, has-path_set, same_path-bytes, same_path-is}
 use Rattle.eden_history.specs.declared.touches.Touch.{Touch}
-use Rattle.eden_history.specs.Touches.{TouchMap, first_before, touched, untouched}
+use Rattle.eden_history.specs.Touches.{TouchMap, first_before, untouched}
 use Rattle.eden_history.proofs.Touched.{get-touched}
 use Rattle.eden_ranges.specs.declared.names.Mention.{Mention}
 use Rattle.eden_ranges.specs.internal.Mentions.{told}

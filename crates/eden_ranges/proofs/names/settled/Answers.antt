@@ -1,8 +1,6 @@
-use Rattle.std.proofs.Common.{◌≡◌, ◌∷◌, ◌+◌, true, false, List, Vec, Global, map, drop, sym, ap, ◌∙◌, arith, rules}
+use Rattle.std.proofs.Common.{◌≡◌, true, false, map, sym, ap, ◌∙◌, arith}
 use Rattle.eden_ids.specs.Sameness.{same_bytes}
-use Rattle.eden_ranges.specs.declared.names.Mention.{Mention}
 use Rattle.eden_ranges.specs.internal.Mentions.{told}
-use Rattle.eden_ranges.specs.internal.Names.{joined, settled, settled_from}
 use Rattle.eden_ranges.proofs.Settled.{settling_begins, settling_joins, settling_goes_on, settling_ends}
 use Rattle.eden_ranges.proofs.names.settled.Goals.{then-eq, else-eq+in_ok-push}
 use Rattle.eden_ranges.proofs.names.settled.Goals as goal

@@ -1,5 +1,4 @@
-use Rattle.std.proofs.Common.{◌≡◌, ◌++◌, ◌∷◌, ◌+◌, List, drop, refl, sym, ap, ◌∙◌, arith}
-use Rattle.eden_history.specs.declared.mark.Marked.{Marked}
+use Rattle.std.proofs.Common.{◌++◌, ◌∷◌, ◌+◌, drop, refl, ap, ◌∙◌, arith}
 use Rattle.eden_ranges.proofs.Telling.{marks, marks_are, mention_at, next_told, nothing_left}
 use Rattle.eden_ranges.proofs.names.Names.marked.Goals as goal
 

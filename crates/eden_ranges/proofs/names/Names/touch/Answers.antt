@@ -1,4 +1,4 @@
-use Rattle.std.proofs.Common.{map, sym, ap, ◌∙◌}
+use Rattle.std.proofs.Common.{map, ap, ◌∙◌}
 use Rattle.eden_ranges.specs.internal.Mentions.{told}
 use Rattle.eden_ranges.specs.internal.Names.{NamedPaths, named, with_touch}
 use Rattle.eden_ranges.proofs.Noting.{mentioned}
