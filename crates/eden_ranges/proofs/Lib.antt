@@ -8,4 +8,7 @@ pub mod Along
 pub mod Named
 pub mod SinceWorld
 pub mod Bridge
+pub mod Settled
+pub mod Noting
+pub mod Telling
 mod Only

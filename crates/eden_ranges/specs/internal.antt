@@ -1,2 +1,4 @@
 -- What the implementation uses alone.
 pub mod Wanted
+pub mod Names
+pub mod Mentions

@@ -1,61 +1,75 @@
-ghost use Rattle.std.specs.Prelude.{◌≡◌, ◌≢◌, ◌&&◌, true, false, IfOk, IfErr, OnOk, map, if◌then◌else◌};
-ghost use Rattle.std.specs.FinMap as fin;
+ghost use Rattle.std.specs.Prelude.{◌≡◌, ◌≢◌, ◌&&◌, true, false, IfOk, IfErr, OnOk, if◌then◌else◌};
 ghost use Rattle.eden_globs.specs.Filters.{admits};
-ghost use Rattle.eden_ids.specs.FileMaps.{listing, path_set, union};
+ghost use Rattle.eden_ids.specs.FileMaps.{path_set, union};
 ghost use Rattle.eden_objects.specs.Commits.{commit_map};
 ghost use Rattle.eden_history.specs.Named.{commits_differ};
 ghost use Rattle.eden_history.specs.Replies.{admitted};
-ghost use Rattle.eden_history.specs.Touches.{marked_at, touched, touched_by, untouched};
-ghost use Rattle.eden_ranges.specs.Expanded.{are_comparable, differing, expanded, is_comparable, only, paths_in};
+ghost use Rattle.eden_ranges.specs.Expanded.{are_comparable, differing, expanded, is_comparable, only};
+ghost use Rattle.eden_ranges.specs.internal.Names.{with_path, with_paths, with_touch, with_touches};
 ghost use Rattle.eden_ranges.specs.internal.Wanted.{wanted_paths, wanted_touches};
 
+use crate::names::Names;
 use crate::ranges::Range;
 use eden_deltas::FileTouch;
 use eden_globs::Filter;
-use eden_history::{Marked, Touches};
-use eden_ids::{Id, IdColumn, Naming, NoMemory, Path, PathTable, Sequence};
+use eden_history::Marked;
+use eden_ids::{Id, IdColumn, Naming, NoMemory, Path};
 use eden_objects::{CommitFault, Store};
 use eden_treediff::diff_admitted;
 use std::alloc::Global;
+
+/// Makes room for more paths. Where it has to grow, paths that stand twice go first: so the room is but a few times that of
+/// different paths, however many roots name them.
+fn make_room(paths: &mut Vec<Path>, more: usize) -> Result<(), NoMemory>
+    ensures { OnOk result (path_set paths.new.items ≡ path_set paths.old.items) }
+{
+    if more <= paths.capacity().saturating_sub(paths.len()) {
+        return Ok(());
+    }
+    paths.sort()?;
+    paths.dedup();
+    Ok(paths.reserve(more.max(paths.len()))?)
+}
 
 /// Adds the admitted paths on which two roots differ. Roots that are one are not looked at.
 fn add_differing<N: Naming + Drop>(
     alloc: Global,
     store: &Store<N>,
-    table: &mut PathTable,
+    paths: &mut Vec<Path>,
     left: Id,
     reached: Id,
     wanted: &Filter,
 ) -> Result<(), CommitFault>
-    ensures paths { OnOk result (table.new ≡ union (only wanted.now (commits_differ (commit_map store.now) left reached)) table.old) }
+    ensures paths { OnOk result (path_set paths.new.items ≡ union (only wanted.now (commits_differ (commit_map store.now) left reached)) (path_set paths.old.items)) }
     ensures compared { OnOk result (is_comparable (commit_map store.now) left reached ≡ true) }
     ensures fault { IfErr result (λ fault. fault ≢ CommitFault.NoMemory → is_comparable (commit_map store.now) left reached ≡ false) }
 {
     if left == reached {
         return Ok(());
     }
-    let paths = match diff_admitted(alloc, store, left, reached, wanted) {
-        Ok(paths) => paths,
+    let mut more = match diff_admitted(alloc, store, left, reached, wanted) {
+        Ok(more) => more,
         Err(fault) => return Err(fault),
     };
-    Ok(table.add_all(paths.as_slice())?)
+    make_room(paths, more.len())?;
+    Ok(paths.append(&mut more)?)
 }
 
-/// The admitted paths on which neighbouring roots differ.
+/// The admitted paths on which neighbouring roots differ: those of each two ascend, and one may stand again among the next.
 fn differing_paths<N: Naming + Drop>(
     alloc: Global,
     store: &Store<N>,
     roots: &IdColumn,
     wanted: &Filter,
-) -> Result<PathTable, CommitFault>
-    ensures paths { IfOk result (λ table. table ≡ only wanted.now (differing (commit_map store.now) roots.now)) }
+) -> Result<Vec<Path>, CommitFault>
+    ensures paths { IfOk result (λ paths. path_set paths.items ≡ only wanted.now (differing (commit_map store.now) roots.now)) }
     ensures compared { OnOk result (are_comparable (commit_map store.now) roots.now ≡ true) }
     ensures fault { IfErr result (λ fault. fault ≢ CommitFault.NoMemory → are_comparable (commit_map store.now) roots.now ≡ false) }
 {
-    let mut table = PathTable::new(alloc);
+    let mut paths = Vec::new(alloc);
     let mut place = roots.len();
     if place == 0 {
-        return Ok(table);
+        return Ok(paths);
     }
     place -= 1;
     while place > 0 {
@@ -66,96 +80,60 @@ fn differing_paths<N: Naming + Drop>(
         let Some(reached) = roots.get(place + 1) else {
             break;
         };
-        match add_differing(alloc, store, &mut table, left, reached, wanted) {
+        match add_differing(alloc, store, &mut paths, left, reached, wanted) {
             Ok(()) => {}
             Err(fault) => return Err(fault),
         }
     }
-    Ok(table)
+    Ok(paths)
 }
 
-/// Adds a path, if the filter admits it.
-fn add_wanted(table: &mut PathTable, path: &Path, wanted: &Filter) -> Result<(), NoMemory>
-    ensures { OnOk result (table.new ≡ (if admits wanted.now path.now then fin.insert table.old path.now tt else table.old)) }
+/// Notes a path that the root names, if the filter admits it.
+fn add_wanted<'a>(names: &mut Names<'a>, path: &'a Path, wanted: &Filter) -> Result<(), NoMemory>
+    ensures { OnOk result (names.new ≡ (if admits wanted.now path.now then with_path names.old path.now else names.old)) }
 {
     if wanted.admits(path) {
-        table.add(path)?;
+        names.add(path)?;
     }
     Ok(())
 }
 
-/// Adds those of these paths that the filter admits.
-fn add_unclean(table: &mut PathTable, paths: &[Path], wanted: &Filter) -> Result<(), NoMemory>
-    ensures { OnOk result (table.new ≡ union (path_set (wanted_paths wanted.now paths.now)) table.old) }
+/// Notes those of these paths that the filter admits.
+fn add_paths<'a>(names: &mut Names<'a>, paths: &'a [Path], wanted: &Filter) -> Result<(), NoMemory>
+    ensures { OnOk result (names.new ≡ with_paths names.old (wanted_paths wanted.now paths.now)) }
 {
     for path in paths {
-        add_wanted(table, path, wanted)?;
+        add_wanted(names, path, wanted)?;
     }
     Ok(())
 }
 
-/// Adds the admitted paths at which files were changed.
-fn add_touched(
-    table: &mut PathTable,
-    touches: &[FileTouch],
+/// Notes what a change of a file did, if the filter admits its path.
+fn touch_wanted<'a>(
+    names: &mut Names<'a>,
+    touch: &'a FileTouch,
     wanted: &Filter,
 ) -> Result<(), NoMemory>
-    ensures { OnOk result (table.new ≡ union (path_set (wanted_paths wanted.now (map (λ touch. touch.path) touches.now))) table.old) }
-{
-    for touch in touches {
-        add_wanted(table, &touch.path, wanted)?;
-    }
-    Ok(())
-}
-
-/// The paths that a range names and the filter admits, in byte order.
-fn named_paths<N: Naming + Drop>(
-    alloc: Global,
-    store: &Store<N>,
-    range: &Range,
-    wanted: &Filter,
-) -> Result<Vec<Path>, CommitFault>
-    ensures paths { IfOk result (λ paths. paths.items ≡ wanted_paths wanted.now (listing (paths_in store.now range.now))) }
-    ensures compared { OnOk result (are_comparable (commit_map store.now) range.now.roots ≡ true) }
-    ensures fault { IfErr result (λ fault. fault ≢ CommitFault.NoMemory → are_comparable (commit_map store.now) range.now.roots ≡ false) }
-{
-    let mut table = differing_paths(alloc, store, &range.roots, wanted)?;
-    add_unclean(&mut table, range.unclean.as_slice(), wanted)?;
-    add_touched(&mut table, range.changes.as_slice(), wanted)?;
-    Ok(table.list(alloc)?)
-}
-
-/// Tells what a change of a file did, if the filter admits its path.
-fn touch_wanted(touches: &mut Touches, touch: &FileTouch, wanted: &Filter) -> Result<(), NoMemory>
-    ensures { OnOk result (touches.new ≡ (if admits wanted.now touch.now.path then touched touches.old touch.now.path touch.now.before touch.now.after else touches.old)) }
+    ensures { OnOk result (names.new ≡ (if admits wanted.now touch.now.path then with_touch names.old touch.now else names.old)) }
 {
     if wanted.admits(&touch.path) {
-        touches.touch(touch)?;
+        names.touch(touch)?;
     }
     Ok(())
 }
 
-/// What changes of files did at the admitted paths, told in their order.
-fn touches_of(alloc: Global, changes: &[FileTouch], wanted: &Filter) -> Result<Touches, NoMemory>
-    ensures { IfOk result (λ touches. touches ≡ touched_by (wanted_touches wanted.now changes.now) untouched) }
-{
-    let mut touches = Touches::new(alloc);
-    for touch in changes {
-        touch_wanted(&mut touches, touch, wanted)?;
-    }
-    Ok(touches)
-}
-
-/// The admitted ones of these paths, each with what changes of files did there.
-fn marked(
-    alloc: Global,
-    changes: &[FileTouch],
-    paths: &[Path],
+/// Notes what changes of files did at the admitted paths.
+fn add_touches<'a>(
+    names: &mut Names<'a>,
+    touches: &'a [FileTouch],
     wanted: &Filter,
-) -> Result<Sequence<Marked>, NoMemory>
-    ensures { IfOk result (λ marked. marked ≡ marked_at (touched_by (wanted_touches wanted.now changes.now) untouched) paths.now) }
+) -> Result<(), NoMemory>
+    ensures { OnOk result (names.new ≡ with_touches names.old (wanted_touches wanted.now touches.now)) }
 {
-    touches_of(alloc, changes, wanted)?.marks_of(alloc, paths)
+    for touch in touches {
+        touch_wanted(names, touch, wanted)?;
+    }
+    Ok(())
 }
 
 /// The paths that a range names and a filter admits, in byte order, each with what became of it.
@@ -174,9 +152,12 @@ pub fn expand_admitted<N: Naming + Drop>(
     ensures compared { OnOk result (are_comparable (commit_map store.now) range.now.roots ≡ true) }
     ensures fault { IfErr result (λ fault. fault ≢ CommitFault.NoMemory → are_comparable (commit_map store.now) range.now.roots ≡ false) }
 {
-    let paths = named_paths(alloc, store, range, wanted)?;
-    let marked = marked(alloc, range.changes.as_slice(), paths.as_slice(), wanted)?;
-    Ok(marked.into_vec())
+    let differing = differing_paths(alloc, store, &range.roots, wanted)?;
+    let mut names = Names::new(alloc);
+    add_touches(&mut names, range.changes.as_slice(), wanted)?;
+    add_paths(&mut names, range.unclean.as_slice(), wanted)?;
+    add_paths(&mut names, differing.as_slice(), &Filter::all(alloc))?;
+    Ok(names.marked(alloc)?)
 }
 
 /// The paths that a range names, in byte order, each with what became of it.

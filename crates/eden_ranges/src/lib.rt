@@ -24,6 +24,7 @@ pub use crate::ranges::{Range, accumulate};
 mod expanding;
 mod gathering;
 mod laws;
+mod names;
 mod ranges;
 #[cfg(test)]
 mod tests;

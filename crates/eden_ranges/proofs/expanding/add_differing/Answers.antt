@@ -1,15 +1,16 @@
-use Rattle.std.proofs.Common.{◌≡◌, rules, true, false, Some, ap, sym, ◌∙◌}
+use Rattle.std.proofs.Common.{◌≡◌, rules, true, false, ap, ◌∙◌}
 use Rattle.eden_ids.specs.Sameness.{same_id}
 use Rattle.eden_objects.specs.Commits.{commit_map}
-use Rattle.eden_ids.specs.FileMaps.{union}
+use Rattle.eden_ids.specs.FileMaps.{path_set, union}
 use Rattle.eden_ranges.proofs.Columns.{same_root, told_comparable, refused_incomparable}
+use Rattle.eden_ranges.proofs.Noting.{path_set-append}
 use Rattle.eden_ranges.proofs.Only.{told_differ}
 use Rattle.eden_ranges.proofs.expanding.add_differing.Goals as goal
 
 pub returns-then-eq-clause-paths : goal.returns-then-eq-clause-paths
 returns-then-eq-clause-paths g c =
     let e : same_id c.args.left c.args.reached ≡ true = search rules in
-    same_root c.args.wanted.now (commit_map c.args.store.now) c.args.left c.args.reached c.args.table.now e
+    same_root c.args.wanted.now (commit_map c.args.store.now) c.args.left c.args.reached (path_set c.args.paths.now.items) e
 
 pub returns-in-Err-clause-fault : goal.returns-in-Err-clause-fault
 returns-in-Err-clause-fault g c other =
@@ -18,9 +19,11 @@ returns-in-Err-clause-fault g c other =
 
 pub returns-clause-paths : goal.returns-clause-paths
 returns-clause-paths g c =
-    c.in_ok-add_all.ensures
-    ∙ ap (λ paths. union paths c.args.table.now)
-    (told_differ c.args.wanted.now (commit_map c.args.store.now) c.args.left c.args.reached _ (c.in-Ok.ensures.paths ∙ ap Some (sym c.as_slice.ensures.value)))
+    ap path_set c.in_ok-append.ensures.items
+    ∙ path_set-append c.make_room.new.paths.items c.in-Ok.more.items
+    ∙ ap (union (path_set c.in-Ok.more.items)) c.in_ok-make_room.ensures
+    ∙ ap (λ paths. union paths (path_set c.args.paths.now.items))
+    (told_differ c.args.wanted.now (commit_map c.args.store.now) c.args.left c.args.reached c.in-Ok.more.items c.in-Ok.ensures.paths)
 
 pub returns-clause-compared : goal.returns-clause-compared
 returns-clause-compared g c =

@@ -1,5 +1,6 @@
-use Rattle.std.proofs.Common.{◌≡◌, ◌-◌, ◌+◌, rules, Some, None, subst, sym, arith}
+use Rattle.std.proofs.Common.{◌≡◌, ◌-◌, ◌+◌, rules, Some, None, ap, subst, sym, arith}
 use Rattle.std.specs.List.{slice_get}
+use Rattle.eden_ids.specs.FileMaps.{path_set}
 use Rattle.eden_objects.specs.Commits.{commit_map}
 use Rattle.eden_ranges.proofs.Columns.{Compared, never_past, comparing_begins, comparing_goes_on, comparing_ends, comparing_fails, comparing_none}
 use Rattle.eden_ranges.proofs.expanding.differing_paths.Goals.{else-loop-place-test, then-loop-place-test+in_default, then-loop-place-test+in-Some+in_default-get}
@@ -8,16 +9,16 @@ use Rattle.eden_ranges.proofs.expanding.differing_paths.Goals as goal
 pub loop-place-init : goal.loop-place-init
 loop-place-init g c =
     let n = c.len-place.ensures in
-    comparing_begins c.args.wanted.now (commit_map c.args.store.now) c.args.roots.now _ _ (omega arith) c.new-table.ensures
+    comparing_begins c.args.wanted.now (commit_map c.args.store.now) c.args.roots.now _ _ (omega arith) (ap path_set c.new-paths.ensures.items)
 
 pub loop-place-preserved : goal.loop-place-preserved
 loop-place-preserved g c =
     let at : slice_get c.args.roots.now (c.loop-place.place - 1) ≡ Some c.in-Some.left = sym c.in-Some.ensures in
     let next : slice_get c.args.roots.now (c.loop-place.place - 1 + 1) ≡ Some c.in-Some-get.reached = sym c.in-Some-get.ensures in
     let here : c.loop-place.place ≡ c.loop-place.place - 1 + 1 = omega arith in
-    comparing_goes_on c.args.wanted.now (commit_map c.args.store.now) c.args.roots.now (c.loop-place.place - 1) c.in-Some.left c.in-Some-get.reached c.loop-place.table _ at next
+    comparing_goes_on c.args.wanted.now (commit_map c.args.store.now) c.args.roots.now (c.loop-place.place - 1) c.in-Some.left c.in-Some-get.reached (path_set c.loop-place.paths.items) _ at next
     c.in-Ok.ensures.paths c.in-Ok.ensures.compared
-    (subst (λ place. Compared c.args.wanted.now (commit_map c.args.store.now) c.args.roots.now place c.loop-place.table) here c.loop-place.invariant)
+    (subst (λ place. Compared c.args.wanted.now (commit_map c.args.store.now) c.args.roots.now place (path_set c.loop-place.paths.items)) here c.loop-place.invariant)
 
 pub returns-in-Err-clause-fault : goal.returns-in-Err-clause-fault
 returns-in-Err-clause-fault g c other =
@@ -27,7 +28,7 @@ returns-in-Err-clause-fault g c other =
 
 pub returns-clause-paths : goal.returns-clause-paths
 returns-clause-paths g c = elim c.loop-place-test.branch [
-  | else-loop-place-test w ↦ (comparing_ends c.args.wanted.now (commit_map c.args.store.now) c.args.roots.now c.loop-place.place c.loop-place.table (omega arith) c.loop-place.invariant).0
+  | else-loop-place-test w ↦ (comparing_ends c.args.wanted.now (commit_map c.args.store.now) c.args.roots.now c.loop-place.place (path_set c.loop-place.paths.items) (omega arith) c.loop-place.invariant).0
   | then-loop-place-test+in_default w ↦
       let none : slice_get c.args.roots.now (c.loop-place.place - 1) ≡ None = search rules in
       absurd (never_past c.args.roots.now (c.loop-place.place - 1) (let lt = c.loop-place.invariant.0 in omega arith) none)
@@ -38,7 +39,7 @@ returns-clause-paths g c = elim c.loop-place-test.branch [
 
 pub returns-clause-compared : goal.returns-clause-compared
 returns-clause-compared g c = elim c.loop-place-test.branch [
-  | else-loop-place-test w ↦ (comparing_ends c.args.wanted.now (commit_map c.args.store.now) c.args.roots.now c.loop-place.place c.loop-place.table (omega arith) c.loop-place.invariant).1
+  | else-loop-place-test w ↦ (comparing_ends c.args.wanted.now (commit_map c.args.store.now) c.args.roots.now c.loop-place.place (path_set c.loop-place.paths.items) (omega arith) c.loop-place.invariant).1
   | then-loop-place-test+in_default w ↦
       let none : slice_get c.args.roots.now (c.loop-place.place - 1) ≡ None = search rules in
       absurd (never_past c.args.roots.now (c.loop-place.place - 1) (let lt = c.loop-place.invariant.0 in omega arith) none)
@@ -50,4 +51,4 @@ returns-clause-compared g c = elim c.loop-place-test.branch [
 pub returns-then-place-eq0-clause-paths : goal.returns-then-place-eq0-clause-paths
 returns-then-place-eq0-clause-paths g c =
     let n = c.len-place.ensures in
-    comparing_none c.args.wanted.now (commit_map c.args.store.now) c.args.roots.now _ (omega arith) c.new-table.ensures
+    comparing_none c.args.wanted.now (commit_map c.args.store.now) c.args.roots.now _ (omega arith) (ap path_set c.new-paths.ensures.items)

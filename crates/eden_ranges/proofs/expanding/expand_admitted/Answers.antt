@@ -1,14 +1,24 @@
-use Rattle.std.proofs.Common.{List, ℕ, ap, ◌∙◌}
-use Rattle.eden_history.specs.Touches.{marked_at, touched_by, untouched}
-use Rattle.eden_ranges.specs.internal.Wanted.{wanted_touches}
-use Rattle.eden_ranges.proofs.Only.{expanded_wanted}
+use Rattle.std.proofs.Common.{◌≡◌, List, ℕ, ap, ◌∙◌}
+use Rattle.eden_ids.specs.FileMaps.{listing}
+use Rattle.eden_history.specs.Touches.{marked_at}
+use Rattle.eden_ranges.specs.internal.Names.{NamedPaths, nothing_named, with_paths, with_touches}
+use Rattle.eden_ranges.specs.internal.Wanted.{wanted_paths, wanted_touches}
+use Rattle.eden_ranges.proofs.Only.{all_paths, expanded_wanted, named}
 use Rattle.eden_ranges.proofs.expanding.expand_admitted.Goals as goal
 
 pub returns-clause-marked : goal.returns-clause-marked
 returns-clause-marked g c =
     let wanted : List (List ℕ) = c.args.wanted.now in
-    expanded_wanted wanted c.args.store.now c.args.range.now c.in_ok-paths.paths.items c.into_vec.result.items c.in_ok-paths.ensures.paths
-    (c.into_vec.ensures
-    ∙ c.in_ok-marked.ensures
-    ∙ ap (λ touches. marked_at (touched_by (wanted_touches wanted touches) untouched) c.as_slice-2.result.now) c.as_slice.ensures
-    ∙ ap (marked_at (touched_by (wanted_touches wanted c.args.range.now.changes) untouched)) c.as_slice-2.ensures.value)
+    let noted : c.add_paths-3.new.names ≡ with_paths (with_paths (with_touches nothing_named (wanted_touches wanted c.args.range.now.changes)) (wanted_paths wanted c.args.range.now.unclean)) c.in_ok-differing.differing.items =
+    c.in_ok-add_paths-2.ensures
+    ∙ ap (λ paths. with_paths c.add_paths.new.names paths) (all_paths c.all.result c.as_slice-3.result.now c.all.ensures ∙ c.as_slice-3.ensures.value)
+    ∙ ap (λ (names : NamedPaths). with_paths names c.in_ok-differing.differing.items)
+    (c.in_ok-add_paths.ensures
+    ∙ ap (λ paths. with_paths c.add_touches.new.names (wanted_paths wanted paths)) c.as_slice-2.ensures
+    ∙ ap (λ (names : NamedPaths). with_paths names (wanted_paths wanted c.args.range.now.unclean))
+    (c.in_ok-add_touches.ensures
+    ∙ ap (λ touches. with_touches c.new-names.result (wanted_touches wanted touches)) c.as_slice.ensures
+    ∙ ap (λ (names : NamedPaths). with_touches names (wanted_touches wanted c.args.range.now.changes)) c.new-names.ensures)) in
+    expanded_wanted wanted c.args.store.now c.args.range.now _ c.in_ok-marked.field-0.items
+    (named wanted c.args.store.now c.args.range.now c.in_ok-differing.differing.items c.in_ok-differing.ensures.paths)
+    (c.in_ok-marked.ensures ∙ ap (λ (names : NamedPaths). marked_at names.touches (listing names.paths)) noted)
