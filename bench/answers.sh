@@ -1,0 +1,98 @@
+#!/bin/bash
+# Prints a table of what edend's answers take: polls, checkouts, lists and writes, beside Git over the same commits where Git has such an
+# answer, and how they grow. README.md says what is measured, and how. It needs git, GNU time and the kit.
+#
+# usage: bench/answers.sh [TRIES]
+# EDEND names the program that is measured, if it is another than this one, as one of an earlier commit; LARGEST the most files that are
+# written, 1,000,000 if it is not set.
+set -euo pipefail
+
+tries=${1:-5}
+root=$(cd "$(dirname "$0")/.." && pwd)
+. "$root/bench/scripts.sh"
+
+# N writes of N files in 1,000 directories: in the order of the paths, or in none.
+writes() {
+    awk -v order="$1" -v count="$2" '
+        BEGIN {
+            for (n = 0; n < count; n++) {
+                k = order == "scattered" ? (n * 7919) % count : n
+                printf "write dir%03d/file%04d plain new\n", order == "scattered" ? k % 1000 : int(k * 1000 / count), \
+                    order == "scattered" ? int(k / 1000) : k % (count / 1000 < 1 ? 1 : count / 1000)
+            }
+        }'
+}
+
+# The milliseconds of processor time of one of N lines, behind those of a file, on a mount of a commit.
+of_line() {
+    local without with
+    without=$(script "$1" < "$2")
+    with=$({ cat "$2"; repeat "$4" "$3\n"; } | script "$1")
+    awk -v all="$with" -v none="$without" -v count="$4" 'BEGIN { printf "%.3f", (all - none) / count }'
+}
+
+# A row of the table: the work, what Git takes, or a dash, and what edend takes, in milliseconds.
+row() {
+    if [ "$2" = - ]; then echo "| $1 | - | $3 ms | - |"; else echo "| $1 | $2 ms | $3 ms | $(ratio "$2" "$3") |"; fi
+}
+
+git_all() {
+    git diff-tree -r "$(git hash-object -t tree /dev/null)" one
+}
+git_some() {
+    git diff-tree -r one two
+}
+git_list() {
+    git ls-tree -r --name-only one
+}
+
+measure_polls() {
+    local count
+    for count in 100 1000 10000 100000; do
+        writes ordered "$count" > "$work/before"
+        row "poll over $count changed files" - "$(of_line empty "$work/before" 'since 1 1' $((count < 10000 ? 100 : 10)))"
+    done
+    echo 'checkout one normal' > "$work/before"
+    row "poll over a change of the root, no file to 100,000" "$(least git_all)" "$(of_line empty "$work/before" 'since 1 1' 10)"
+    echo 'checkout two normal' > "$work/before"
+    row "poll over a change of the root, 100 of 100,000 files" "$(least git_some)" "$(of_line one "$work/before" 'since 1 1' 100)"
+}
+
+measure_trees() {
+    : > "$work/before"
+    row "checkout, no file to 100,000" - "$(of_line empty "$work/before" 'checkout one normal' 1)"
+    row "list of 100,000 files" "$(least git_list)" "$(of_line one "$work/before" 'list' 10)"
+}
+
+measure_writes() {
+    local order count taken none
+    none=$(script empty < /dev/null)
+    for order in ordered scattered; do
+        for count in 1000 20000 80000 1000000; do
+            [ "$count" -le "${LARGEST:-1000000}" ] || continue
+            taken=$(writes "$order" "$count" | script empty)
+            row "$count new files, $order" - "$(awk -v a="$taken" -v b="$none" 'BEGIN { printf "%.0f", a - b }')"
+        done
+    done
+}
+
+# What a changed file costs in memory, beside a path of 15 bytes and a content of 3.
+measure_memory() {
+    local held none
+    { cat "$work/objects"; echo 'mount empty 1 1000000000'; } > "$work/script"
+    none=$(command time -f %M "$edend" run < "$work/script" 2>&1 > /dev/null)
+    { cat "$work/script"; writes ordered 80000; } > "$work/more"
+    held=$(command time -f %M "$edend" run < "$work/more" 2>&1 > /dev/null)
+    echo
+    echo "80,000 changed files: $(((held - none) / 1024)) MiB, $(((held - none) * 1024 / 80000)) bytes a file"
+}
+
+export GIT_DIR="$work/deep"
+git init -q --bare "$GIT_DIR"
+make_commits deep
+echo "| work | git | edend | edend is as fast, times |"
+echo "|---|---|---|---|"
+measure_polls
+measure_trees
+measure_writes
+measure_memory
