@@ -97,9 +97,9 @@ around k b (c ∷ cs) h filled = by c.items refl (λ r. around k c cs r filled.1
               let rest = later (rising_back b.items (flat (c ∷ cs)) h) in
               record { front = before_both k b.items _ (front_before k b.items e (es ++ flat cs) here t) rest.front; back = rest.back }
           | false ↦ λ t. record {
-              front = tt;
-              back = subst (λ fs. Above k (fs ++ flat cs)) (sym is) (back_after k e (es ++ flat cs) (rising_back b.items (e ∷ (es ++ flat cs)) here) t);
-            }
+            front = tt;
+            back = subst (λ fs. Above k (fs ++ flat cs)) (sym is) (back_after k e (es ++ flat cs) (rising_back b.items (e ∷ (es ++ flat cs)) here) t);
+          }
         ] refl)
 
 pub begun_within : (k : List ℕ) (bs : List (Vec Entry)) → begun k bs ≤ length bs

@@ -46,22 +46,22 @@ added test e es fs done more t is test_is more_is =
 -- ---- the entries below a path
 
 not_from : (q p r : List ℕ) → is_lt (by_bytes p r) ≡ false → T (is_lt (by_bytes p q)) → is_lt (by_bytes q r) ≡ false
-not_from q p r no less_one =
+not_from q p r apart less_one =
     elim (is_lt (by_bytes q r)) as (λ b. is_lt (by_bytes q r) ≡ b → b ≡ false) [
       | false ↦ λ e. refl
       | true ↦ λ e.
-          let bad : true ≡ false = sym (ap is_lt (less _ (trans p q r less_one (subst T (sym e) tt)))) ∙ no in absurd (cc)
+          let bad : true ≡ false = sym (ap is_lt (less _ (trans p q r less_one (subst T (sym e) tt)))) ∙ apart in absurd (cc)
     ] refl
 
 all_out : (p : List ℕ) (es : List Entry) → ((e : Entry) → is_lt (by_bytes e.0 (upto p)) ≡ false → lies_below e.0 p ≡ false)
     → (k : List ℕ) → is_lt (by_bytes k (upto p)) ≡ false → T (below_all by_bytes k es) → filter (λ e. lies_below e.0 p) es ≡ []
-all_out p [] out k no h = refl
-all_out p (e ∷ es) out k no h =
-    let past = not_from e.0 k (upto p) no (first _ _ h) in
-    ap (λ b. cond b (e ∷ filter (λ e. lies_below e.0 p) es) (filter (λ e. lies_below e.0 p) es)) (out e past) ∙ all_out p es out k no (second _ _ h)
+all_out p [] out k apart h = refl
+all_out p (e ∷ es) out k apart h =
+    let past = not_from e.0 k (upto p) apart (first _ _ h) in
+    ap (λ b. cond b (e ∷ filter (λ e. lies_below e.0 p) es) (filter (λ e. lies_below e.0 p) es)) (out e past) ∙ all_out p es out k apart (second _ _ h)
 
 out_end : (p q : List ℕ) → is_lt (by_bytes q (upto p)) ≡ false → lies_below q p ≡ false
-out_end p q no = below_between q p ∙ ap (λ b. not (is_lt (by_bytes q (from p))) && b) no ∙ none (not (is_lt (by_bytes q (from p))))
+out_end p q apart = below_between q p ∙ ap (λ b. not (is_lt (by_bytes q (from p))) && b) apart ∙ none (not (is_lt (by_bytes q (from p))))
   where
     none : (b : Bool) → (b && false) ≡ false
     none true = refl
@@ -86,7 +86,7 @@ below_rest p (e ∷ es) h start =
           ∙ sym (ap (λ b. cond b (e ∷ filter (λ e. lies_below e.0 p) es) (filter (λ e. lies_below e.0 p) es)) (in_range p e.0 low t))
       | false ↦ λ t.
           sym (ap (λ b. cond b (e ∷ filter (λ e. lies_below e.0 p) es) (filter (λ e. lies_below e.0 p) es)) (out_end p e.0 t)
-          ∙ all_out p es (λ e no. out_end p e.0 no) e.0 t (first _ _ h))
+          ∙ all_out p es (λ e apart. out_end p e.0 apart) e.0 t (first _ _ h))
     ] refl
 
 pub below_from : (p : List ℕ) (es : List Entry) → T (fin.is_sorted by_bytes es) → before (upto p) (drop (place (from p) es) es) ≡ filter (λ e. lies_below e.0 p) es

@@ -26,3 +26,9 @@ loop-path-preserved g c =
       there = nearer_still wanted (means c.args.store.now c.keep_touched.new.next) before after c.loop-path.invariant.there c.in_ok-keep.ensures.there;
       lean = λ lean. c.in_ok-keep.ensures.lean (c.loop-path.invariant.lean lean);
     }
+
+pub returns-clause-here : goal.returns-clause-here
+returns-clause-here g c =
+    let wanted = means c.args.store.now c.args.self.now in
+    let files = means c.args.store.now c.loop-path.next in
+    no_paths_left wanted files files c.args.paths.now c.loop-path.path-index (omega arith) c.loop-path.invariant.here (λ p agrees. agrees)

@@ -1,4 +1,5 @@
 use Rattle.std.proofs.Common.{◌≡◌, ◌++◌, refl, sym, ap, ◌∙◌, arith}
+use Rattle.std.proofs.lemmas.List.{append-nil}
 use Rattle.std.specs.FinMap as fin
 use Rattle.eden_workcopy.proofs.Touched.{kept}
 use Rattle.eden_workcopy.proofs.Woven.{begins, goes_on, ends, listed, untouched, is_shown}
@@ -18,10 +19,15 @@ loop-row-preserved c =
     c.in_ok-add_before.ensures.added c.in_ok-add_before.ensures.left mine c.in_ok-add_if.ensures
 
 pub loop-entry-init : goal.loop-entry-init
-loop-entry-init c = ?
-
-pub loop-entry-preserved : goal.loop-entry-preserved
-loop-entry-preserved c = ?
+loop-entry-init c =
+    ap (λ es. c.loop-row.paths.items ++ kept (is_shown c.args.wanted.now) es) c.into_iter-entry-iterator.ensures.into_iter_gives
+    ∙ ends (untouched c.args.self.now.overlay) (is_shown c.args.wanted.now) c.args.rows.now c.loop-row.row-index c.loop-row.entries c.loop-row.paths.items _ _
+    (omega arith) c.loop-row.invariant refl
 
 pub returns : goal.returns
-returns c = ?
+returns c =
+    λ base rows.
+    sym (append-nil c.loop-entry.paths.items)
+    ∙ ap (λ es. c.loop-entry.paths.items ++ kept (is_shown c.args.wanted.now) es) (sym c.in-None.ensures.steps.0)
+    ∙ c.loop-entry.invariant
+    ∙ listed c.args.wanted.now base c.args.self.now.overlay c.args.rows.now rows
