@@ -1,7 +1,10 @@
 pub mod Placing
+pub mod Flattened
+pub mod Shifted
 pub mod Overs
 pub mod Works
 pub mod Touched
+pub mod Walked
 pub mod Woven
 pub mod Rerooted
 pub mod Reverted

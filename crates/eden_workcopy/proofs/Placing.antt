@@ -1,5 +1,5 @@
 -- Where an entry stands, or would stand, in a list in byte order of paths.
-use Rattle.std.proofs.Common.{◌≡◌, ◌≢◌, ℕ, suc, zero, ◌<◌, ◌≤◌, Bool, true, false, cond, not, T, ◌&&◌, List, [], ◌∷◌, take, length, nat_eq, Option, Some, None, refl, sym, ap, subst, ◌∙◌, arith}
+use Rattle.std.proofs.Common.{◌≡◌, ◌≢◌, ℕ, suc, zero, ◌<◌, ◌≤◌, Bool, true, false, cond, not, T, ◌&&◌, List, [], ◌∷◌, take, length, nat_eq, Option, Some, None, Result, Ok, Err, OnErr, refl, sym, ap, subst, ◌∙◌, arith}
 use Rattle.std.specs.Prelude.{filter}
 use Rattle.std.specs.declared.cmp.Ordering.{Ordering}
 use Rattle.std.specs.declared.cmp.Ordering.TheVariants.{Less, Equal, Greater}
@@ -69,7 +69,7 @@ module _ {X : Type 0} where
       ap is_lt (less _ (trans e.0 (slice_index_or es j d).0 k (above_first e.0 es j d (first _ _ h) (omega arith)) (subst T (sym up) tt)))
   parted k (e ∷ es) h (suc i) (suc j) d low within up = parted k es (second _ _ h) i j d (omega arith) (omega arith) up
 
-  none_above : (k : List ℕ) (es : List (List ℕ × X)) → T (below_all by_bytes k es) → find by_bytes k es ≡ None
+  pub none_above : (k : List ℕ) (es : List (List ℕ × X)) → T (below_all by_bytes k es) → find by_bytes k es ≡ None
   none_above k [] h = refl
   none_above k (e ∷ es) h = ap (λ r. cond (is_eq r) (Some e.1) (find by_bytes k es)) (less _ (first _ _ h)) ∙ none_above k es (second _ _ h)
 
@@ -300,3 +300,8 @@ taken [] zero h = refl
 taken [] (suc n) h = absurd (omega arith)
 taken (e ∷ es) zero h = refl
 taken (e ∷ es) (suc n) h = ap suc (taken es n (omega arith))
+
+-- what holds where an error is handed on
+pub on_err : {A E : Type 0} (r : Result A E) {P : Type 0} → P → OnErr r P
+on_err (Ok x) p = tt
+on_err (Err e) p = p

@@ -71,34 +71,20 @@ all_nearer wanted before after (p ∷ ps) nearer all = (nearer p all.0, all_near
 pub nearer_still : (wanted a b c : FileMap) → IsNearer wanted a b → IsNearer wanted b c → IsNearer wanted a c
 nearer_still wanted a b c first second p agrees = second p (first p agrees)
 
-push : (wanted files : FileMap) (es : List Entry) (i : ℕ) (e : Entry) → i < length es → e ≡ slice_index_or es i e → AllAgree wanted files (map (λ e. e.0) (take i es)) → Agrees wanted files e.0
-    → AllAgree wanted files (map (λ e. e.0) (take (suc i) es))
-push wanted files [] i e within is all here = absurd (omega arith)
-push wanted files (x ∷ xs) zero e within is all here = (subst (λ (y : Entry). Agrees wanted files y.0) is here, tt)
-push wanted files (x ∷ xs) (suc i) e within is all here = (all.0, push wanted files xs i e (omega arith) is all.1 here)
-
-pub one_more : (wanted before after : FileMap) (es : List Entry) (i : ℕ) (e : Entry) → i < length es → e ≡ slice_index_or es i e → AllAgree wanted before (map (λ e. e.0) (take i es))
-    → IsNearer wanted before after → Agrees wanted after e.0 → AllAgree wanted after (map (λ e. e.0) (take (i + 1) es))
-one_more wanted before after es i e within is all nearer here =
-    subst (λ n. AllAgree wanted after (map {A = Entry} (λ e. e.0) (take n es))) (sym (add-one i))
-    (push wanted after es i e within is (all_nearer wanted before after (map (λ e. e.0) (take i es)) nearer all) here)
-
-joined : (wanted files : FileMap) (n : ℕ) (es : List Entry) → AllAgree wanted files (map (λ e. e.0) (take n es)) → AllAgree wanted files (map (λ e. e.0) (drop n es)) → AllAgree wanted files (map (λ e. e.0) es)
-joined wanted files zero [] front back = back
-joined wanted files zero (e ∷ es) front back = back
-joined wanted files (suc n) [] front back = back
-joined wanted files (suc n) (e ∷ es) front back = (front.0, joined wanted files n es front.1 back)
-
 -- ---- the loop: what agrees at the entries and the paths that are left agrees at all of them
 
 abbrev pub Leaves : FileMap → FileMap → List (List ℕ) → List (List ℕ) → Type 0
 Leaves wanted files left all = (next : FileMap) → IsNearer wanted files next → AllAgree wanted next left → AllAgree wanted next all
 
-pub leaves_entries : (wanted before after : FileMap) (es left whole : List Entry) (n : ℕ) → Leaves wanted before (map (λ e. e.0) es) (map (λ e. e.0) whole)
-    → IsNearer wanted before after → AllAgree wanted after (map (λ e. e.0) (take n es)) → left ≡ drop n es → Leaves wanted after (map (λ e. e.0) left) (map (λ e. e.0) whole)
-leaves_entries wanted before after es left whole n leaves nearer here is next later all =
+pub leaves_rest : (wanted before after : FileMap) (e : Entry) (es fs whole : List Entry) → es ≡ e ∷ fs → Leaves wanted before (map (λ e. e.0) es) (map (λ e. e.0) whole)
+    → IsNearer wanted before after → Agrees wanted after e.0 → Leaves wanted after (map (λ e. e.0) fs) (map (λ e. e.0) whole)
+leaves_rest wanted before after e es fs whole is leaves nearer here next later all =
     leaves next (nearer_still wanted before after next nearer later)
-    (joined wanted next n es (all_nearer wanted after next (map (λ e. e.0) (take n es)) later here) (subst (λ (fs : List Entry). AllAgree wanted next (map (λ e. e.0) fs)) is all))
+    (subst (λ (gs : List Entry). AllAgree wanted next (map (λ e. e.0) gs)) (sym is) (later e.0 here, all))
+
+pub none_leave : (wanted files next : FileMap) (es whole : List Entry) → es ≡ [] → Leaves wanted files (map (λ e. e.0) es) (map (λ e. e.0) whole) → IsNearer wanted files next
+    → AllAgree wanted next (map (λ e. e.0) whole)
+none_leave wanted files next es whole is leaves nearer = leaves next nearer (subst (λ (gs : List Entry). AllAgree wanted next (map (λ e. e.0) gs)) (sym is) tt)
 
 cut : (ps : List (List ℕ)) (i : ℕ) (p : List ℕ) → i < length ps → p ≡ slice_index_or ps i p → drop i ps ≡ p ∷ drop (suc i) ps
 cut [] i p within is = absurd (omega arith)

@@ -3,3 +3,4 @@ pub mod Layers
 pub mod Listings
 pub mod Meanings
 pub mod Reverts
+pub mod internal

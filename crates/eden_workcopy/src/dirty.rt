@@ -37,9 +37,8 @@ impl WorkCopy {
         ensures { IfOk result (λ paths. paths.items ≡ listing (differ (means store.now self.now) (commit_files store.now self.now.root))) }
     {
         let root = store.commit_files(self.root);
-        let entries = self.overlay.entries();
         let mut dirty = Vec::new(self.overlay.allocator());
-        for entry in entries {
+        for entry in self.overlay.entries() {
             add_if(&mut dirty, &entry.0, is_dirty(&root, entry))?;
         }
         Ok(dirty)

@@ -1,4 +1,4 @@
-ghost use Rattle.std.specs.Prelude.{◌≡◌, ◌++◌, ◌∷◌, [], filter, not, ◌≤◌, ◌<◌, ◌+◌, T, Some, None, IsOk, IfOk, OnOk, OnErr, length, option_copied, vec_len, vec_capacity};
+ghost use Rattle.std.specs.Prelude.{◌≡◌, filter, not, T, Some, None, OnOk, OnErr, option_copied};
 ghost use Rattle.std.specs.Ordering.{is_lt};
 ghost use Rattle.std.specs.FinMap.{is_sorted, put, find};
 ghost use Rattle.eden_ids.specs.FileMaps.{same_path};
@@ -7,7 +7,7 @@ ghost use Rattle.eden_workcopy.specs.Layers.{by_bytes, place, IsThere, Entry};
 use eden_ids::{Content, NoMemory, Path};
 
 /// Whether the entry's path comes before another in byte order.
-fn is_before(entry: &(Path, Option<Content>), path: &[u8]) -> bool
+pub(crate) fn is_before(entry: &(Path, Option<Content>), path: &[u8]) -> bool
     ensures { result ≡ is_lt (by_bytes entry.now.0 path.now) }
 {
     entry.0.as_bytes().cmp(path).is_lt()
@@ -46,8 +46,8 @@ pub(crate) fn told<'a>(
 }
 
 /// Puts an entry in its place, in that of the path's earlier entry if there is one. `NoMemory` changes nothing, and comes only where
-/// there is no room.
-#[tactic(auto, using(crate::proofs::Placing::still_sorted))]
+/// there is no earlier one.
+#[tactic(auto, using(crate::proofs::Placing::still_sorted, crate::proofs::Placing::not_told))]
 pub(crate) fn put(
     entries: &mut Vec<(Path, Option<Content>)>,
     path: Path,
@@ -57,9 +57,7 @@ pub(crate) fn put(
     ensures ok { OnOk result (entries.new.items ≡ put by_bytes path file entries.old.items) }
     ensures err { OnErr result (entries.new.items ≡ entries.old.items) }
     ensures sorted { T (is_sorted by_bytes entries.new.items) }
-    ensures succeeds { vec_len entries.old < vec_capacity entries.old → IsOk result }
-    ensures grows { vec_len entries.new ≤ vec_len entries.old + 1 }
-    ensures room { vec_capacity entries.old ≤ vec_capacity entries.new }
+    ensures absent { OnErr result (find by_bytes path entries.old.items ≡ None) }
 {
     let at = place(entries, path.as_bytes());
     if is_there(entries, at, path.as_bytes()) {

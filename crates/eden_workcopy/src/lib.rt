@@ -17,6 +17,7 @@ pub use crate::laws::{elsewhere_law, over_law, touched_law};
 pub use crate::work::WorkCopy;
 pub use crate::working::Working;
 
+mod blocks;
 mod change;
 mod dirty;
 mod entries;
@@ -29,5 +30,6 @@ mod revert;
 #[cfg(test)]
 mod tests;
 mod touch;
+mod walk;
 mod work;
 mod working;

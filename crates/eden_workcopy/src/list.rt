@@ -1,15 +1,15 @@
-ghost use Rattle.std.specs.Prelude.{◌≡◌, ◌++◌, ◌&&◌, not, T, map, filter, take, drop, is_some, IsSome, IfOk, OnOk};
+ghost use Rattle.std.specs.Prelude.{◌≡◌, ◌++◌, ◌&&◌, not, map, filter, drop, is_some, IsSome, IfOk, OnOk};
 ghost use Rattle.std.specs.FinMap as fin;
-ghost use Rattle.std.specs.FinMap.{is_sorted};
 ghost use Rattle.eden_globs.specs.Filters.{admits};
 ghost use Rattle.eden_ids.specs.FileMaps.{FileMap};
 ghost use Rattle.eden_objects.specs.Commits.{commit_map};
-ghost use Rattle.eden_workcopy.specs.Layers.{Entry, by_bytes, over, place};
+ghost use Rattle.eden_workcopy.specs.Layers.{Entry, over, place};
+ghost use Rattle.eden_workcopy.specs.internal.Blocks.{before};
 ghost use Rattle.eden_workcopy.specs.Listings.{admitted};
 ghost use Rattle.eden_workcopy.specs.Meanings.{means};
 
 use crate::dirty::add_if;
-use crate::entries::place;
+use crate::walk::Walk;
 use crate::work::WorkCopy;
 use eden_globs::Filter;
 use eden_ids::{Content, Id, Kind, Naming, NoMemory, Path};
@@ -22,37 +22,21 @@ fn is_shown(entry: &(Path, Option<Content>), wanted: &Filter) -> bool
     entry.1.is_some() && wanted.admits(&entry.0)
 }
 
-/// Adds the paths of entries at which a file stands and that the filter admits.
-fn add_shown(
+/// Adds the paths of the entries before another path at which a file stands and that the filter admits.
+fn add_before(
     paths: &mut Vec<Path>,
-    entries: &[(Path, Option<Content>)],
+    entries: &mut Walk<'_>,
+    path: &Path,
     wanted: &Filter,
 ) -> Result<(), NoMemory>
-    ensures { OnOk result (paths.new.items
-        ≡ paths.old.items ++ map (λ (e : Entry). e.0) (filter (λ e. is_some e.1 && admits wanted.now e.0) entries.now)) }
+    ensures added { OnOk result (paths.new.items
+        ≡ paths.old.items ++ map (λ (e : Entry). e.0) (filter (λ e. is_some e.1 && admits wanted.now e.0) (before path.now entries.old))) }
+    ensures left { OnOk result (entries.new ≡ drop (place path.now entries.old) entries.old) }
 {
-    for entry in entries {
+    while let Some(entry) = entries.next_before(path.as_bytes()) {
         add_if(paths, &entry.0, is_shown(entry, wanted))?;
     }
     Ok(())
-}
-
-/// Adds these paths of the entries before another path, and gives the entries that are left.
-#[tactic(auto, using(crate::proofs::Placing::place_within))]
-fn add_before<'a>(
-    paths: &mut Vec<Path>,
-    entries: &'a [(Path, Option<Content>)],
-    path: &Path,
-    wanted: &Filter,
-) -> Result<&'a [(Path, Option<Content>)], NoMemory>
-    requires { T (is_sorted by_bytes entries.now) }
-    ensures added { OnOk result (paths.new.items ≡ paths.old.items
-        ++ map (λ (e : Entry). e.0) (filter (λ e. is_some e.1 && admits wanted.now e.0) (take (place path.now entries.now) entries.now))) }
-    ensures left { IfOk result (λ left. left.now ≡ drop (place path.now entries.now) entries.now) }
-{
-    let at = place(entries, path.as_bytes());
-    add_shown(paths, &entries[..at], wanted)?;
-    Ok(&entries[at..])
 }
 
 impl WorkCopy {
@@ -71,10 +55,12 @@ impl WorkCopy {
         let mut paths = Vec::new(self.overlay.allocator());
         let mut entries = self.overlay.entries();
         for row in rows {
-            entries = add_before(&mut paths, entries, &row.0, wanted)?;
+            add_before(&mut paths, &mut entries, &row.0, wanted)?;
             add_if(&mut paths, &row.0, self.is_untouched(row.0.as_bytes()))?;
         }
-        add_shown(&mut paths, entries, wanted)?;
+        for entry in entries {
+            add_if(&mut paths, &entry.0, is_shown(entry, wanted))?;
+        }
         Ok(paths)
     }
 

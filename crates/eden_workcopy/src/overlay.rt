@@ -1,7 +1,9 @@
-ghost use Rattle.std.specs.Prelude.{◌≡◌, None, Some, IfOk, OnOk, OnErr, option_copied};
+ghost use Rattle.std.specs.Prelude.{◌≡◌, ◌+◌, ◌^◌, ◌<◌, None, Some, IfOk, OnOk, OnErr, drop, length, option_copied};
 ghost use Rattle.std.specs.FinMap as fin;
+ghost use Rattle.eden_workcopy.specs.Layers.{place};
 
-use crate::entries::{put, take_out, told};
+use crate::blocks::{Block, copy_all, put_in, take_out_of, told_in, walk_from};
+use crate::walk::Walk;
 use eden_ids::{Content, NoMemory, Path};
 use std::alloc::Global;
 use std::marker::Model;
@@ -9,23 +11,30 @@ use std::marker::Model;
 /// Some paths, in byte order, each with the file that is to stand there, or with none.
 #[derive(Drop)]
 pub(crate) struct Overlay {
-    entries: Vec<(Path, Option<Content>)>,
+    blocks: Vec<Block>,
+    /// No fewer than there are entries, so that these can be counted.
+    most: usize,
 }
 
+/// There are no more entries than so many.
+const MOST: usize = usize::MAX - 1;
+
 impl Model for Overlay {
-    ghost use Rattle.std.specs.Prelude.{T};
+    ghost use Rattle.std.specs.Prelude.{T, ◌+◌, ◌^◌, ◌<◌, ◌≤◌, length};
     ghost use Rattle.std.specs.Coded.{coded_list, coded_ℕ, coded_option};
     ghost use Rattle.std.specs.FinMap as fin;
     ghost use Rattle.eden_ids.specs.contracts.content.Content as content;
     ghost use Rattle.eden_workcopy.specs.Layers.{Layer, by_bytes};
+    ghost use Rattle.eden_workcopy.specs.internal.Blocks.{flat, AllFilled};
 
     ghost Value = { Layer };
 
     ghost coded = { fin.code (coded_list coded_ℕ) (coded_option content.the_row.coded) };
 
-    ghost view = { λ o. fin.from_sorted o.entries.items };
+    ghost view = { λ o. fin.from_sorted (flat o.blocks.items) };
 
-    ghost invariant = { λ o. T (fin.is_sorted by_bytes o.entries.items) };
+    ghost invariant = { λ o. T (fin.is_sorted by_bytes (flat o.blocks.items)) × AllFilled o.blocks.items
+        × (length (flat o.blocks.items) ≤ o.most) × (o.most + 1 < 2 ^ 64) };
 }
 
 impl Overlay {
@@ -35,7 +44,8 @@ impl Overlay {
         ensures { result ≡ fin.empty }
     {
         Overlay {
-            entries: Vec::new(alloc),
+            blocks: Vec::new(alloc),
+            most: 0,
         }
     }
 
@@ -43,27 +53,44 @@ impl Overlay {
     pub(crate) fn get(&self, path: &[u8]) -> Option<&Option<Content>>
         ensures { option_copied result ≡ fin.get self.now path.now }
     {
-        told(self.entries.as_slice(), path)
+        told_in(self.blocks.as_slice(), path)
     }
 
     /// The paths in byte order, each with what stands there.
-    pub(crate) fn entries(&self) -> &[(Path, Option<Content>)]
-        ensures { result.now ≡ fin.entries self.now }
+    pub(crate) fn entries(&self) -> Walk<'_>
+        ensures { result ≡ fin.entries self.now }
     {
-        self.entries.as_slice()
+        Walk::of(&[], self.blocks.as_slice())
+    }
+
+    /// Those of them that are not before a path.
+    pub(crate) fn entries_from(&self, path: &[u8]) -> Walk<'_>
+        ensures from { result ≡ drop (place path.now (fin.entries self.now)) (fin.entries self.now) }
+        ensures countable { length result + 1 < 2 ^ 64 }
+    {
+        walk_from(self.blocks.as_slice(), path)
     }
 
     /// What new vectors take their memory from.
     pub(crate) fn allocator(&self) -> Global {
-        *self.entries.allocator()
+        *self.blocks.allocator()
     }
 
-    /// Says what stands at a path. `NoMemory` changes nothing.
+    /// Says what stands at a path. `NoMemory` changes nothing, and comes only where nothing was said of the path.
     pub(crate) fn set(&mut self, path: Path, file: Option<Content>) -> Result<(), NoMemory>
         ensures ok { OnOk result (self.new ≡ fin.insert self.old path file) }
         ensures err { OnErr result (self.new ≡ self.old) }
+        ensures absent { OnErr result (fin.get self.old path ≡ None) }
     {
-        put(&mut self.entries, path, file)?;
+        if self.most < MOST {
+            put_in(&mut self.blocks, path, file)?;
+            self.most += 1;
+            return Ok(());
+        }
+        let Some(_) = told_in(self.blocks.as_slice(), path.as_bytes()) else {
+            return Err(NoMemory);
+        };
+        put_in(&mut self.blocks, path, file)?;
         Ok(())
     }
 
@@ -71,7 +98,7 @@ impl Overlay {
     pub(crate) fn forget(&mut self, path: &[u8])
         ensures { self.new ≡ fin.remove self.old path.now }
     {
-        take_out(&mut self.entries, path);
+        take_out_of(&mut self.blocks, path);
     }
 
     /// Says that no file stands at one path, and what stands at another. `NoMemory` changes nothing.
@@ -79,17 +106,33 @@ impl Overlay {
         ensures ok { OnOk result (self.new ≡ fin.insert (fin.insert self.old from None) to (Some content)) }
         ensures err { OnErr result (self.new ≡ self.old) }
     {
-        self.entries.reserve(2)?;
-        put(&mut self.entries, from, None)?;
-        put(&mut self.entries, to, Some(content))?;
-        Ok(())
+        if from == to {
+            return self.set(to, Some(content));
+        }
+        if self.get(from.as_bytes()).is_some() {
+            self.set(to, Some(content))?;
+            // Of this path something was said.
+            return self.set(from, None);
+        }
+        let marked = from.copy()?;
+        self.set(from, None)?;
+        match self.set(to, Some(content)) {
+            Ok(()) => Ok(()),
+            Err(NoMemory) => {
+                self.forget(marked.as_bytes());
+                Err(NoMemory)
+            }
+        }
     }
 
     /// An overlay that is equal to this one. `NoMemory` comes where a growth was refused.
     pub(crate) fn copy(&self) -> Result<Overlay, NoMemory>
         ensures { IfOk result (λ overlay. overlay ≡ self.now) }
     {
-        let entries = self.entries.clone()?;
-        Ok(Overlay { entries })
+        let blocks = copy_all(&self.blocks)?;
+        Ok(Overlay {
+            blocks,
+            most: self.most,
+        })
     }
 }

@@ -1,17 +1,14 @@
-ghost use Rattle.std.specs.Prelude.{◌≡◌, ◌≢◌, ℕ, true, List, Some, None, T, map, take, drop, IfOk, IfErr, OnOk};
+ghost use Rattle.std.specs.Prelude.{◌≡◌, ◌≢◌, ℕ, true, List, Some, None, IfOk, IfErr, OnOk};
 ghost use Rattle.std.specs.FinMap as fin;
-ghost use Rattle.std.specs.FinMap.{is_sorted};
 ghost use Rattle.eden_ids.specs.FileMaps.{differ, has};
 ghost use Rattle.eden_objects.specs.Commits.{commit_map};
 ghost use Rattle.eden_objects.specs.Files.{commit_files};
 ghost use Rattle.eden_workcopy.specs.Agreements.{Agrees, AllAgree, IsNearer, StaysLean};
-ghost use Rattle.eden_workcopy.specs.Layers.{Entry, by_bytes, place};
 ghost use Rattle.eden_workcopy.specs.Meanings.{means, touched_set, FitsIn};
 
-use crate::entries::place;
 use crate::overlay::Overlay;
 use crate::work::WorkCopy;
-use eden_ids::{Content, Id, Naming, NoMemory, Path, is_same_file};
+use eden_ids::{Id, Naming, NoMemory, Path, is_same_file};
 use eden_objects::{CommitFault, Store};
 use eden_treediff::diff;
 
@@ -38,46 +35,21 @@ impl WorkCopy {
         Ok(())
     }
 
-    /// The same at the path of each of these entries.
-    fn keep_all<N: Naming + Drop>(
+    /// The same at each path that a change touched.
+    fn keep_touched<N: Naming + Drop>(
         &self,
         store: &Store<N>,
         next: &mut WorkCopy,
-        entries: &[(Path, Option<Content>)],
     ) -> Result<(), NoMemory>
         ensures root { next.new.root ≡ next.old.root }
-        ensures here { OnOk result (AllAgree (means store.now self.now) (means store.now next.new) (map (λ (e : Entry). e.0) entries.now)) }
+        ensures here { OnOk result (AllAgree (means store.now self.now) (means store.now next.new) (fin.keys self.now.overlay)) }
         ensures there { OnOk result (IsNearer (means store.now self.now) (means store.now next.old) (means store.now next.new)) }
         ensures lean { OnOk result (StaysLean store.now (means store.now self.now) next.old next.new) }
     {
-        for entry in entries {
+        for entry in self.overlay.entries() {
             self.keep(store, next, &entry.0)?;
         }
         Ok(())
-    }
-
-    /// The same at the path of each of these entries that comes before another path, and at that one. Gives the entries that are left.
-    #[tactic(auto, using(crate::proofs::Placing::place_within))]
-    fn keep_through<'a, N: Naming + Drop>(
-        &self,
-        store: &Store<N>,
-        next: &mut WorkCopy,
-        entries: &'a [(Path, Option<Content>)],
-        path: &Path,
-    ) -> Result<&'a [(Path, Option<Content>)], NoMemory>
-        requires { T (is_sorted by_bytes entries.now) }
-        ensures root { next.new.root ≡ next.old.root }
-        ensures entries { OnOk result (AllAgree (means store.now self.now) (means store.now next.new)
-            (map (λ (e : Entry). e.0) (take (place path.now entries.now) entries.now))) }
-        ensures here { OnOk result (Agrees (means store.now self.now) (means store.now next.new) path.now) }
-        ensures there { OnOk result (IsNearer (means store.now self.now) (means store.now next.old) (means store.now next.new)) }
-        ensures lean { OnOk result (StaysLean store.now (means store.now self.now) next.old next.new) }
-        ensures left { IfOk result (λ left. left.now ≡ drop (place path.now entries.now) entries.now) }
-    {
-        let at = place(entries, path.as_bytes());
-        self.keep_all(store, next, &entries[..at])?;
-        self.keep(store, next, path)?;
-        Ok(&entries[at..])
     }
 
     /// The same at each path that a change touched, and at each of these.
@@ -93,11 +65,10 @@ impl WorkCopy {
         ensures there { OnOk result (IsNearer (means store.now self.now) (means store.now next.old) (means store.now next.new)) }
         ensures lean { OnOk result (StaysLean store.now (means store.now self.now) next.old next.new) }
     {
-        let mut entries = self.overlay.entries();
+        self.keep_touched(store, next)?;
         for path in paths {
-            entries = self.keep_through(store, next, entries, path)?;
+            self.keep(store, next, path)?;
         }
-        self.keep_all(store, next, entries)?;
         Ok(())
     }
 

@@ -26,8 +26,7 @@ impl WorkCopy {
         ensures { IfOk result (λ touched. touched.items ≡ touched_of self.now) }
     {
         let mut touched = Vec::new(self.overlay.allocator());
-        let entries = self.overlay.entries();
-        for entry in entries {
+        for entry in self.overlay.entries() {
             add(&mut touched, entry)?;
         }
         Ok(touched)

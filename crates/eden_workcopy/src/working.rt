@@ -1,12 +1,15 @@
-ghost use Rattle.std.specs.Prelude.{◌≡◌, ◌≤◌, filter, length, is_some};
+ghost use Rattle.std.specs.Prelude.{◌≡◌, ◌+◌, ◌^◌, ◌<◌, ◌∷◌, ◌++◌, [], filter, length, is_some};
 ghost use Rattle.std.specs.List.{list_any};
 ghost use Rattle.eden_ids.specs.FileMaps.{file_at, has_file_below, lent};
 ghost use Rattle.eden_workcopy.specs.Layers.{over};
+ghost use Rattle.eden_workcopy.specs.internal.Blocks.{before};
 ghost use Rattle.eden_workcopy.specs.Meanings.{means};
 
 use crate::overlay::Overlay;
+use crate::walk::Walk;
 use crate::work::WorkCopy;
-use eden_ids::{Content, FileTree, Kind, Naming, Path, has_file, paths_below};
+use arrayvec::ArrayVec;
+use eden_ids::{Content, FileTree, Kind, Naming, Path, has_file};
 use eden_objects::{Commit, Store};
 use std::marker::Model;
 
@@ -43,20 +46,39 @@ pub(crate) fn seen(file: &Option<Content>) -> Option<(Kind, &[u8])>
     }
 }
 
-/// Whether a file stands at the path of some entry.
-fn has_present(entries: &[(Path, Option<Content>)]) -> bool
-    ensures { result ≡ list_any (λ e. is_some e.1) entries.now }
+/// A path with a byte behind it. In byte order the paths below a path begin with the slash behind it, and end with the next byte.
+fn edge(path: &Path, byte: u8) -> ArrayVec<u8, 1025>
+    ensures { result.items ≡ path.now ++ byte ∷ [] }
 {
-    entries.iter().any(|entry| entry.1.is_some())
+    let mut edge = ArrayVec::new();
+    if edge.try_extend_from_slice(path.as_bytes()).is_err() {
+        // A path has 1,024 bytes at the most.
+        unreachable!()
+    }
+    edge.push(byte);
+    edge
 }
 
-/// How many files of a tree these entries hide.
-fn count_hidden<T: FileTree>(base: &T, entries: &[(Path, Option<Content>)]) -> usize
-    ensures within { result ≤ length entries.now }
-    ensures count { result ≡ length (filter (λ e. is_some (file_at (T.files base.now) e.0)) entries.now) }
+/// Whether a file stands at the path of some entry before another path.
+fn has_present(mut entries: Walk<'_>, end: &[u8]) -> bool
+    ensures { result ≡ list_any (λ e. is_some e.1) (before end.now entries.entry) }
+{
+    while let Some(entry) = entries.next_before(end) {
+        if entry.1.is_some() {
+            return true;
+        }
+    }
+    false
+}
+
+/// How many files of a tree the entries before a path hide.
+fn count_hidden<T: FileTree>(base: &T, mut entries: Walk<'_>, end: &[u8]) -> usize
+    requires { length entries + 1 < 2 ^ 64 }
+    ensures count { result ≡ length (filter (λ e. is_some (file_at (T.files base.now) e.0)) (before end.now entries.entry)) }
+    ensures within { result + 1 < 2 ^ 64 }
 {
     let mut hidden = 0;
-    for entry in entries {
+    while let Some(entry) = entries.next_before(end) {
         hidden += usize::from(has_file(base, entry.0.as_bytes()));
     }
     hidden
@@ -84,11 +106,12 @@ fn file_over<'a, N: Naming + Drop>(
 fn has_below_over<N: Naming + Drop>(base: &Commit<'_, N>, overlay: &Overlay, path: &Path) -> bool
     ensures { result ≡ has_file_below (over base.now overlay.now) path.now }
 {
-    let entries = paths_below(overlay.entries(), path.as_bytes());
-    if has_present(entries) {
+    let entries = overlay.entries_from(edge(path, b'/').as_slice());
+    let end = edge(path, b'/' + 1);
+    if has_present(entries.again(), end.as_slice()) {
         return true;
     }
-    let hidden = count_hidden(base, entries);
+    let hidden = count_hidden(base, entries, end.as_slice());
     base.has_below(path.as_bytes(), hidden + 1)
 }
 

@@ -1,10 +1,13 @@
-use Rattle.std.proofs.Common.{ap, arith, ◌∙◌}
+use Rattle.std.proofs.Common.{◌++◌, ap, sym, ◌∙◌}
+use Rattle.std.proofs.lemmas.List.{append-nil}
 use Rattle.eden_objects.specs.Files.{commit_files}
-use Rattle.eden_workcopy.proofs.Touched.{kept, is_other, dirty_listed, take_whole}
+use Rattle.eden_workcopy.proofs.Touched.{kept, is_other, dirty_listed}
 use Rattle.eden_workcopy.proofs.work.WorkCopy.dirty.Goals as goal
 
 pub returns : goal.returns
 returns g c =
-    c.loop-entry.invariant
-    ∙ ap (kept (is_other (commit_files c.args.store.now c.args.self.now.root))) (take_whole c.entries-entries.result.now c.loop-entry.entry-index (omega arith) ∙ c.entries-entries.ensures)
-    ∙ dirty_listed (commit_files c.args.store.now c.args.self.now.root) c.args.self.now.overlay
+    let base = commit_files c.args.store.now c.args.self.now.root in
+    sym (append-nil c.loop-entry.dirty.items)
+    ∙ ap (λ es. c.loop-entry.dirty.items ++ kept (is_other base) es) (sym c.in-None.ensures.steps.0)
+    ∙ c.loop-entry.invariant
+    ∙ dirty_listed base c.args.self.now.overlay

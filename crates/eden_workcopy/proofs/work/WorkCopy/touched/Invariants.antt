@@ -1,6 +1,7 @@
-use Rattle.std.proofs.Common.{◌≡◌, take}
+use Rattle.std.proofs.Common.{◌≡◌, ◌++◌}
+use Rattle.std.specs.FinMap as fin
 use Rattle.eden_workcopy.specs.Layers.{marks}
 use Rattle.eden_workcopy.proofs.work.WorkCopy.touched.Given as goal
 
 abbrev pub invariant-loop-entry : goal.invariant-loop-entry
-invariant-loop-entry l = l.touched.items ≡ marks (take l.entry-index l.entries)
+invariant-loop-entry l = l.touched.items ++ marks l.entry-iterator ≡ marks (fin.entries l.self.overlay)

@@ -1,12 +1,14 @@
-use Rattle.std.proofs.Common.{T, drop}
+use Rattle.std.proofs.Common.{◌≡◌, ◌++◌, T, drop}
 use Rattle.std.specs.FinMap as fin
-use Rattle.eden_workcopy.specs.Layers.{by_bytes}
+use Rattle.eden_workcopy.proofs.Touched.{kept}
 use Rattle.eden_workcopy.proofs.Woven.{Weaves, woven, untouched, is_shown}
 use Rattle.eden_workcopy.proofs.work.WorkCopy.weave.Given as goal
 
 abbrev pub invariant-loop-row : goal.invariant-loop-row
-invariant-loop-row l = record {
-  rising : T (fin.is_sorted by_bytes l.entries);
-  weaves : Weaves (untouched l.self.overlay) (is_shown l.wanted) l.paths.items (drop l.row-index l.rows) l.entries
-      (woven (untouched l.self.overlay) (is_shown l.wanted) l.rows (fin.entries l.self.overlay));
-}
+invariant-loop-row l =
+    Weaves (untouched l.self.overlay) (is_shown l.wanted) l.paths.items (drop l.row-index l.rows) l.entries
+    (woven (untouched l.self.overlay) (is_shown l.wanted) l.rows (fin.entries l.self.overlay))
+
+abbrev pub invariant-loop-entry : goal.invariant-loop-entry
+invariant-loop-entry l =
+    l.paths.items ++ kept (is_shown l.wanted) l.entry-iterator ≡ woven (untouched l.self.overlay) (is_shown l.wanted) l.rows (fin.entries l.self.overlay)

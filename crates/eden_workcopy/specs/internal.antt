@@ -1,0 +1,2 @@
+-- What only this crate's functions speak of.
+pub mod Blocks

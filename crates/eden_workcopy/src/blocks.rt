@@ -1,0 +1,166 @@
+//! Entries in byte order of their paths, cut into blocks: what is put in moves the entries of one block alone.
+
+ghost use Rattle.std.specs.Prelude.{◌≡◌, ◌∷◌, ◌<◌, ◌≤◌, [], T, None, Some, filter, not, drop, length, IfOk, OnOk, OnErr};
+ghost use Rattle.std.specs.FinMap.{is_sorted, put, find};
+ghost use Rattle.std.specs.Option.{option_copied};
+ghost use Rattle.eden_ids.specs.FileMaps.{same_path};
+ghost use Rattle.eden_workcopy.specs.Layers.{by_bytes, place};
+ghost use Rattle.eden_workcopy.specs.internal.Blocks.{flat, spot, begins_by, AllFilled};
+
+use crate::entries::{place, put, take_out, told};
+use crate::walk::Walk;
+use eden_ids::{Content, NoMemory, Path};
+
+/// Entries that stand together. No block is empty.
+pub(crate) type Block = Vec<(Path, Option<Content>)>;
+
+/// A block with so many entries is cut in two.
+const FULL: usize = 512;
+
+/// Whether a block begins with a path or with one before it.
+fn begins_by(block: &Block, path: &[u8]) -> bool
+    ensures { result ≡ begins_by path.now block.now.items }
+{
+    match block.as_slice().first() {
+        Some(entry) => entry.0.as_bytes().cmp(path).is_le(),
+        None => false,
+    }
+}
+
+/// Which block has the entry of a path, or would have it: the last one that begins by it, or the first block.
+fn spot(blocks: &[Block], path: &[u8]) -> usize
+    requires sorted { T (is_sorted by_bytes (flat blocks.now)) }
+    requires filled { AllFilled blocks.now }
+    ensures is { result ≡ spot path.now blocks.now }
+    ensures within { result ≤ length blocks.now }
+    ensures there { 0 < length blocks.now → result < length blocks.now }
+{
+    match blocks.split_first() {
+        Some((_, later)) => later.partition_point(|block| begins_by(block, path)),
+        None => 0,
+    }
+}
+
+/// What the entries say of a path, if one of them is its. It takes no memory.
+pub(crate) fn told_in<'a>(blocks: &'a [Block], path: &[u8]) -> Option<&'a Option<Content>>
+    requires sorted { T (is_sorted by_bytes (flat blocks.now)) }
+    requires filled { AllFilled blocks.now }
+    ensures { option_copied result ≡ find by_bytes path.now (flat blocks.now) }
+{
+    let at = spot(blocks, path);
+    if at < blocks.len() {
+        told(&blocks[at], path)
+    } else {
+        None
+    }
+}
+
+/// The entries from a path on. It takes no memory.
+#[tactic(auto, using(crate::proofs::Placing::place_within))]
+pub(crate) fn walk_from<'a>(blocks: &'a [Block], path: &[u8]) -> Walk<'a>
+    requires sorted { T (is_sorted by_bytes (flat blocks.now)) }
+    requires filled { AllFilled blocks.now }
+    ensures { result ≡ drop (place path.now (flat blocks.now)) (flat blocks.now) }
+{
+    let at = spot(blocks, path);
+    match blocks[at..].split_first() {
+        Some((block, later)) => Walk::of(&block[place(block, path)..], later),
+        None => Walk::of(&[], &[]),
+    }
+}
+
+/// Cuts a full block in two. Where a growth is refused, it stays whole.
+fn cut(blocks: &mut Vec<Block>, at: usize)
+    requires at { at < length blocks.old.items }
+    requires filled { AllFilled blocks.old.items }
+    ensures same { flat blocks.new.items ≡ flat blocks.old.items }
+    ensures filled { AllFilled blocks.new.items }
+{
+    if blocks[at].len() < FULL {
+        return;
+    }
+    let Ok(_) = blocks.reserve(1) else {
+        return;
+    };
+    let Ok(upper) = blocks[at].split_off(FULL / 2) else {
+        return;
+    };
+    let Ok(_) = blocks.insert(at + 1, upper) else {
+        // There is room.
+        unreachable!();
+    };
+}
+
+/// Begins the first block with an entry. `NoMemory` changes nothing.
+fn begin(blocks: &mut Vec<Block>, path: Path, file: Option<Content>) -> Result<(), NoMemory>
+    requires { blocks.old.items ≡ [] }
+    ensures ok { OnOk result (flat blocks.new.items ≡ (path, file) ∷ []) }
+    ensures filled { AllFilled blocks.new.items }
+    ensures err { OnErr result (flat blocks.new.items ≡ []) }
+{
+    let mut block = Vec::new(*blocks.allocator());
+    block.push((path, file))?;
+    blocks.push(block)?;
+    Ok(())
+}
+
+/// Puts an entry in its place, in that of the path's earlier entry if there is one. `NoMemory` changes nothing, and comes only where there
+/// is no earlier one.
+pub(crate) fn put_in(
+    blocks: &mut Vec<Block>,
+    path: Path,
+    file: Option<Content>,
+) -> Result<(), NoMemory>
+    requires sorted { T (is_sorted by_bytes (flat blocks.old.items)) }
+    requires filled { AllFilled blocks.old.items }
+    ensures ok { OnOk result (flat blocks.new.items ≡ put by_bytes path file (flat blocks.old.items)) }
+    ensures err { OnErr result (flat blocks.new.items ≡ flat blocks.old.items) }
+    ensures filled { AllFilled blocks.new.items }
+    ensures absent { OnErr result (find by_bytes path (flat blocks.old.items) ≡ None) }
+{
+    if blocks.is_empty() {
+        return begin(blocks, path, file);
+    }
+    let at = spot(blocks, path.as_bytes());
+    put(&mut blocks[at], path, file)?;
+    cut(blocks, at);
+    Ok(())
+}
+
+/// Takes the entry of a path out, if there is one. It takes no memory.
+pub(crate) fn take_out_of(blocks: &mut Vec<Block>, path: &[u8])
+    requires sorted { T (is_sorted by_bytes (flat blocks.old.items)) }
+    requires filled { AllFilled blocks.old.items }
+    ensures left { flat blocks.new.items ≡ filter (λ e. not (same_path path.now e.0)) (flat blocks.old.items) }
+    ensures filled { AllFilled blocks.new.items }
+{
+    let at = spot(blocks, path);
+    if at >= blocks.len() {
+        return;
+    }
+    let block = &mut blocks[at];
+    take_out(block, path);
+    if block.is_empty() {
+        blocks.remove(at);
+    }
+}
+
+/// A block with the same entries.
+fn copy_of(block: &Block) -> Result<Block, NoMemory>
+    ensures { IfOk result (λ copy. copy.items ≡ block.now.items) }
+{
+    Ok(block.clone()?)
+}
+
+/// Blocks with the same entries.
+pub(crate) fn copy_all(blocks: &Vec<Block>) -> Result<Vec<Block>, NoMemory>
+    requires { AllFilled blocks.now.items }
+    ensures same { IfOk result (λ copies. flat copies.items ≡ flat blocks.now.items) }
+    ensures filled { IfOk result (λ copies. AllFilled copies.items) }
+{
+    let mut copies = Vec::with_capacity(*blocks.allocator(), blocks.len())?;
+    for block in blocks {
+        copies.push(copy_of(block)?)?;
+    }
+    Ok(copies)
+}

@@ -1,0 +1,83 @@
+ghost use Rattle.std.specs.Prelude.{◌≡◌, ◌∷◌, ◌++◌, T, IfSome, IfNone};
+ghost use Rattle.std.specs.Iterator.{item_count, YieldsFirstRef};
+ghost use Rattle.std.specs.Ordering.{is_lt};
+ghost use Rattle.eden_workcopy.specs.Layers.{by_bytes, place};
+ghost use Rattle.eden_workcopy.specs.internal.Blocks.{flat, AllFilled};
+
+use crate::blocks::Block;
+use crate::entries::is_before;
+use eden_ids::{Content, Path};
+use std::marker::Model;
+
+/// Entries, from one of a block to the end of the last block. Its value is the list of those that are left. It takes no memory.
+#[derive(Drop)]
+pub(crate) struct Walk<'a> {
+    block: &'a [(Path, Option<Content>)],
+    later: &'a [Block],
+}
+
+impl<'a> Model for Walk<'a> {
+    ghost use Rattle.std.specs.Prelude.{◌≡◌, ◌++◌, [], List};
+    ghost use Rattle.eden_workcopy.specs.Layers.{Entry};
+    ghost use Rattle.eden_workcopy.specs.internal.Blocks.{flat, AllFilled};
+
+    ghost Value = { List Entry };
+
+    ghost view = { λ w. w.block.now ++ flat w.later.now };
+
+    // An empty block stands at the end alone.
+    ghost invariant = { λ w. (w.block.now ≡ [] → flat w.later.now ≡ []) × AllFilled w.later.now };
+}
+
+impl<'a> Walk<'a> {
+    /// The entries of a part of a block, and those of the blocks behind it.
+    pub(crate) fn of(block: &'a [(Path, Option<Content>)], later: &'a [Block]) -> Walk<'a>
+        requires { AllFilled later.now }
+        ensures { result ≡ block.now ++ flat later.now }
+    {
+        if !block.is_empty() {
+            return Walk { block, later };
+        }
+        match later.split_first() {
+            Some((block, later)) => Walk { block, later },
+            None => Walk { block, later },
+        }
+    }
+
+    /// The next entry, if its path comes before another one.
+    pub(crate) fn next_before(&mut self, path: &[u8]) -> Option<&'a (Path, Option<Content>)>
+        ensures stays { IfNone result ((place path.now self.old ≡ 0) × (self.new ≡ self.old)) }
+        ensures before { IfSome result (λ entry. T (is_lt (by_bytes entry.now.0 path.now))) }
+        ensures steps { IfSome result (λ entry. self.old ≡ entry.now ∷ self.new) }
+    {
+        if is_before(self.block.first()?, path) {
+            self.next()
+        } else {
+            None
+        }
+    }
+
+    /// A walk over the same entries.
+    pub(crate) fn again(&self) -> Walk<'a>
+        ensures { result ≡ self.now }
+    {
+        Walk {
+            block: self.block,
+            later: self.later,
+        }
+    }
+}
+
+impl<'a> Iterator for Walk<'a> {
+    type Item = &'a (Path, Option<Content>);
+
+    ghost next_gives = { YieldsFirstRef (λ w. w) };
+
+    ghost remaining = { item_count (λ w. w) };
+
+    fn next(&mut self) -> Option<&'a (Path, Option<Content>)> {
+        let (entry, left) = self.block.split_first()?;
+        *self = Walk::of(left, self.later);
+        Some(entry)
+    }
+}

@@ -1,0 +1,140 @@
+//! How long a working copy takes for changes of new files, by their number and the order in which they come. See bench/README.md.
+//!
+//! So many files are written over the empty commit, each is renamed to a new path, and each is removed there. Standard output tells how
+//! many paths a change touched in the end, and standard error how long each took.
+#![tactic(auto)]
+
+use anyhow::Result;
+use eden_ids::{GitNaming, Id, Kind, Path};
+use eden_objects::Store;
+use eden_workcopy::WorkCopy;
+use std::alloc::Global;
+use std::time::{CpuClock, Duration};
+
+/// In which order the paths come.
+#[derive(Clone, Copy)]
+enum Order {
+    Ascending,
+    Descending,
+    /// Neighbours far from each other.
+    Scattered,
+}
+
+impl Order {
+    fn name(self) -> &'static str {
+        match self {
+            Order::Ascending => "ascending",
+            Order::Descending => "descending",
+            Order::Scattered => "scattered",
+        }
+    }
+
+    /// The number of the path that comes at a turn, where there are so many.
+    fn number(self, turn: usize, count: usize) -> usize {
+        match self {
+            Order::Ascending => turn,
+            Order::Descending => count.saturating_sub(turn).saturating_sub(1),
+            // 61,803 and a power of ten times eight have no common divisor, so each comes once.
+            Order::Scattered => turn.wrapping_mul(61_803).checked_rem(count).unwrap_or(0),
+        }
+    }
+}
+
+/// A hundred files stand in a directory.
+fn paths(alloc: Global, name: &str, count: usize, order: Order) -> Result<Vec<Path>> {
+    let mut paths = Vec::new(alloc);
+    for turn in 0..count {
+        let number = order.number(turn, count);
+        let text = format!(in alloc; "dir{:05}/{name}{:02}", number / 100, number % 100)?;
+        paths.push(Path::parse(alloc, text.as_bytes())?)?;
+    }
+    Ok(paths)
+}
+
+/// A working copy over a store of no commit.
+#[derive(Drop)]
+struct Mounted {
+    store: Store<GitNaming>,
+    work: WorkCopy,
+}
+
+impl Mounted {
+    fn write_all(&mut self, paths: &[Path]) -> Result<()> {
+        for path in paths {
+            if self
+                .work
+                .write_fault(&self.store, path, b"text".as_slice())
+                .is_none()
+            {
+                self.work.put_file(path, Kind::Plain, b"text".as_slice())?;
+            }
+        }
+        Ok(())
+    }
+
+    fn rename_all(&mut self, old: &[Path], new: &[Path]) -> Result<()> {
+        for (old, new) in old.iter().zip(new) {
+            if self.work.rename_fault(&self.store, old, new).is_none() {
+                self.work.move_file(&self.store, old, new)?;
+            }
+        }
+        Ok(())
+    }
+
+    fn remove_all(&mut self, paths: &[Path]) -> Result<()> {
+        for path in paths {
+            if self.work.absent_fault(&self.store, path).is_none() {
+                self.work.take_file(path)?;
+            }
+        }
+        Ok(())
+    }
+}
+
+/// The nanoseconds from then to now, one of so many.
+fn each(from: Duration, to: Duration, count: usize) -> u64 {
+    let time = to.saturating_sub(from);
+    time.as_secs()
+        .saturating_mul(1_000_000_000)
+        .saturating_add(u64::from(time.subsec_nanos()))
+        .checked_div(count as u64)
+        .unwrap_or(0)
+}
+
+/// Measures so many files in this order.
+fn measure(rt: &HostRuntime, count: usize, order: Order) -> Result<()> {
+    let old = paths(rt.alloc(), "file", count, order)?;
+    let new = paths(rt.alloc(), "moved", count, order)?;
+    let store = Store::new(rt.alloc(), GitNaming);
+    let work = WorkCopy::new(rt.alloc(), &store, Id::ZERO)?;
+    let mut mounted = Mounted { store, work };
+    let start = rt.thread_cpu_time()?;
+    mounted.write_all(old.as_slice())?;
+    let written = rt.thread_cpu_time()?;
+    mounted.rename_all(old.as_slice(), new.as_slice())?;
+    let renamed = rt.thread_cpu_time()?;
+    mounted.remove_all(new.as_slice())?;
+    let removed = rt.thread_cpu_time()?;
+    println!(rt;
+        "{count} files {}: {} touched",
+        order.name(),
+        mounted.work.touched()?.len()
+    )?;
+    eprintln!(rt;
+        "{count} files {}: {} ns a write, {} ns a rename, {} ns a removal",
+        order.name(),
+        each(start, written, count),
+        each(written, renamed, count),
+        each(renamed, removed, count)
+    )?;
+    Ok(())
+}
+
+fn main(rt: HostRuntime) -> Result<()> {
+    for count in [1_000, 10_000, 80_000] {
+        for order in [Order::Ascending, Order::Descending, Order::Scattered] {
+            measure(&rt, count, order)?;
+        }
+    }
+    Ok(())
+}
