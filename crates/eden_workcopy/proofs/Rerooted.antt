@@ -12,7 +12,7 @@ use Rattle.eden_objects.specs.Files.{files_of}
 use Rattle.eden_objects.specs.declared.fault.CommitFault.{CommitFault}
 use Rattle.eden_objects.specs.declared.fault.CommitFault.TheVariants.{NoCommit, NoMemory}
 use Rattle.eden_treediff.specs.Merges.{differences}
-use Rattle.eden_workcopy.specs.Agreements.{Agrees, AllAgree, IsLean, IsNearer}
+use Rattle.eden_workcopy.specs.internal.Agreements.{Agrees, AllAgree, IsLean, IsNearer}
 use Rattle.eden_workcopy.specs.Layers.{Layer, Entry, over}
 use Rattle.eden_workcopy.proofs.Overs.{over-nothing}
 use Rattle.eden_workcopy.proofs.Touched.{has-touched}

@@ -1,4 +1,3 @@
-pub mod Agreements
 pub mod Layers
 pub mod Listings
 pub mod Meanings

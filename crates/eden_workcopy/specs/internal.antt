@@ -1,2 +1,3 @@
 -- What only this crate's functions speak of.
+pub mod Agreements
 pub mod Blocks

@@ -3,7 +3,7 @@ ghost use Rattle.std.specs.FinMap as fin;
 ghost use Rattle.eden_ids.specs.FileMaps.{differ, has};
 ghost use Rattle.eden_objects.specs.Commits.{commit_map};
 ghost use Rattle.eden_objects.specs.Files.{commit_files};
-ghost use Rattle.eden_workcopy.specs.Agreements.{Agrees, AllAgree, IsNearer, StaysLean};
+ghost use Rattle.eden_workcopy.specs.internal.Agreements.{Agrees, AllAgree, IsNearer, StaysLean};
 ghost use Rattle.eden_workcopy.specs.Meanings.{means, touched_set, FitsIn};
 
 use crate::overlay::Overlay;

@@ -1,6 +1,6 @@
 use Rattle.std.proofs.Common.{◌≡◌, drop}
 use Rattle.std.specs.FinMap as fin
-use Rattle.eden_workcopy.specs.Agreements.{AllAgree, IsNearer, StaysLean}
+use Rattle.eden_workcopy.specs.internal.Agreements.{AllAgree, IsNearer, StaysLean}
 use Rattle.eden_workcopy.specs.Meanings.{means}
 use Rattle.eden_workcopy.proofs.Rerooted.{Leaves}
 use Rattle.eden_workcopy.proofs.work.WorkCopy.keep_at.Given as goal

@@ -1,6 +1,6 @@
 use Rattle.std.proofs.Common.{map, refl, subst, ◌∙◌}
 use Rattle.std.specs.FinMap as fin
-use Rattle.eden_workcopy.specs.Agreements.{AllAgree}
+use Rattle.eden_workcopy.specs.internal.Agreements.{AllAgree}
 use Rattle.eden_workcopy.specs.Layers.{Entry}
 use Rattle.eden_workcopy.specs.Meanings.{means}
 use Rattle.eden_workcopy.proofs.Rerooted.{leaves_rest, none_leave, nearer_still}

@@ -1,6 +1,6 @@
 use Rattle.std.proofs.Common.{◌≡◌, map}
 use Rattle.std.specs.FinMap as fin
-use Rattle.eden_workcopy.specs.Agreements.{IsNearer, StaysLean}
+use Rattle.eden_workcopy.specs.internal.Agreements.{IsNearer, StaysLean}
 use Rattle.eden_workcopy.specs.Layers.{Entry}
 use Rattle.eden_workcopy.specs.Meanings.{means}
 use Rattle.eden_workcopy.proofs.Rerooted.{Leaves}

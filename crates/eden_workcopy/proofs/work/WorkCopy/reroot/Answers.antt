@@ -2,7 +2,7 @@ use Rattle.std.proofs.Common.{IsSome, sym, subst}
 use Rattle.eden_ids.specs.FileMaps.{IsFileMap}
 use Rattle.eden_objects.specs.Commits.{commit_map}
 use Rattle.eden_objects.specs.Files.{commit_files}
-use Rattle.eden_workcopy.specs.Agreements.{AllAgree, IsLean}
+use Rattle.eden_workcopy.specs.internal.Agreements.{AllAgree, IsLean}
 use Rattle.eden_workcopy.specs.Meanings.{means}
 use Rattle.eden_workcopy.proofs.Rerooted.{lean_differs, none_lean, listed_differ, no_memory_else, no_second, same_files}
 use Rattle.eden_workcopy.proofs.work.WorkCopy.reroot.Goals as goal
