@@ -15,7 +15,7 @@ use eden_ids::{Content, NoMemory, Path};
 pub(crate) type Block = Vec<(Path, Option<Content>)>;
 
 /// A block with so many entries is cut in two.
-const FULL: usize = 512;
+const FULL: usize = 256;
 
 /// Whether a block begins with a path or with one before it.
 fn begins_by(block: &Block, path: &[u8]) -> bool

@@ -20,8 +20,8 @@ returns-clause-same c =
     ∙ ap (λ n. flat (insert (slice_set blocks at lower) n upper)) (add-one at)
     ∙ flat_cut blocks at block lower upper within
     (ap (λ es. es ++ upper.items) c.in-Ok-split_off.ensures.items
-    ∙ ap (λ es. take 256 block.items ++ es) c.in-Ok-split_off.ensures.tail
-    ∙ take-append-drop 256 block.items
+    ∙ ap (λ es. take 128 block.items ++ es) c.in-Ok-split_off.ensures.tail
+    ∙ take-append-drop 128 block.items
     ∙ ap (λ b. b.items) c.index_mut.ensures.value)
     ∙ ap flat c.reserve.ensures.items
 
