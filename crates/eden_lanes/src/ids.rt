@@ -57,7 +57,18 @@ fn push_eight(
         return Ok(());
     }
     if same == 0 {
-        found.extend_from_slice(&[row, row + 1, row + 2, row + 3, row + 4, row + 5, row + 6, row + 7])?;
+        // Where eight rows differ, many may: there is room for all of them at once.
+        found.reserve(a.len() - row)?;
+        found.extend_from_slice(&[
+            row,
+            row + 1,
+            row + 2,
+            row + 3,
+            row + 4,
+            row + 5,
+            row + 6,
+            row + 7,
+        ])?;
         return Ok(());
     }
     for place in 0..8_usize {
