@@ -351,10 +351,10 @@ fn paths_told_in_any_order(rt: HostRuntime) -> Result<(), Fail> {
         let mut beside = Beside::told(alloc, step)?;
         assert!(rt; beside.is_alike());
         let copy = beside.overlay.copy()?;
-        assert!(rt; copy.entries().count() == PATHS);
         beside.forget(alloc, 100, 1_100)?;
         assert!(rt; beside.is_alike());
         assert!(rt; beside.overlay.get(b"0500".as_slice()).is_none());
+        assert!(rt; copy.get(b"0500".as_slice()).is_some());
         let next = beside.overlay.entries_from(b"0100/".as_slice()).next();
         assert!(rt; matches!(next, Some(entry) if entry.0.as_bytes() == b"1100".as_slice()));
     }
