@@ -1,17 +1,14 @@
 -- Entries before a path, taken one after the other.
-use Rattle.std.proofs.Common.{◌≡◌, ℕ, suc, ◌+◌, ◌≤◌, Bool, true, false, cond, not, T, ◌&&◌, ◌||◌, List, [], ◌∷◌, ◌++◌, map, take, drop, length, is_some, refl, sym, ap, subst, ◌∙◌, arith, append_assoc}
+use Rattle.std.proofs.Common.{◌≡◌, ℕ, suc, Bool, true, false, cond, not, T, ◌&&◌, List, [], ◌∷◌, ◌++◌, map, take, drop, refl, sym, ap, subst, ◌∙◌, append_assoc}
 use Rattle.std.specs.Prelude.{filter}
-use Rattle.std.specs.declared.cmp.Ordering.TheVariants.{Less}
 use Rattle.std.specs.Ordering.{is_lt}
-use Rattle.std.specs.List.{list_any}
 use Rattle.std.specs.FinMap as fin
 use Rattle.std.specs.FinMap.Entries.{below_all}
-use Rattle.std.specs.Cmp.Lexicographic.{nat_list_cmp_total}
 use Rattle.eden_ids.specs.Paths.{lies_below}
 use Rattle.eden_ids.proofs.ByteOrder.{from, upto, below_between}
 use Rattle.eden_workcopy.specs.Layers.{Entry, by_bytes, place}
 use Rattle.eden_workcopy.specs.internal.Blocks.{before}
-use Rattle.eden_workcopy.proofs.Placing.{first, second, less, trans, below_later}
+use Rattle.eden_workcopy.proofs.Placing.{first, second, less, trans}
 use Rattle.eden_workcopy.proofs.Touched.{kept}
 
 before_first : (k : List ℕ) (e : Entry) (fs : List Entry) → T (is_lt (by_bytes e.0 k)) → before k (e ∷ fs) ≡ e ∷ before k fs

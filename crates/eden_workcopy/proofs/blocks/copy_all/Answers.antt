@@ -1,4 +1,4 @@
-use Rattle.std.proofs.Common.{◌≡◌, ◌<◌, ◌++◌, ◌+◌, take, length, sym, ap, subst, ◌∙◌, arith}
+use Rattle.std.proofs.Common.{◌<◌, ◌++◌, length, sym, ap, subst, ◌∙◌, arith}
 use Rattle.std.specs.List.{slice_index_or}
 use Rattle.eden_workcopy.specs.internal.Blocks.{flat, AllFilled}
 use Rattle.eden_workcopy.proofs.Flattened.{flat_pushed, filled_pushed, flat_taken, filled_at}

@@ -2,7 +2,7 @@ use Rattle.std.proofs.Common.{◌≡◌, ◌<◌, T, length, vec_len, sym, ap, s
 use Rattle.std.proofs.lemmas.Bool.Decides.{nat_tests}
 use Rattle.std.specs.FinMap.{is_sorted, put, find}
 use Rattle.eden_workcopy.specs.Layers.{by_bytes}
-use Rattle.eden_workcopy.specs.internal.Blocks.{flat, spot}
+use Rattle.eden_workcopy.specs.internal.Blocks.{spot}
 use Rattle.eden_workcopy.proofs.Placing.{on_err}
 use Rattle.eden_workcopy.proofs.Flattened.{rising_block, put_flat, find_flat, flat_kept, filled_set, filled_at, put_some}
 use Rattle.eden_workcopy.proofs.blocks.put_in.Goals as goal

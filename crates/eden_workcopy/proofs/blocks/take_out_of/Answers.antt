@@ -1,7 +1,7 @@
-use Rattle.std.proofs.Common.{◌≡◌, ◌<◌, [], T, length, vec_len, sym, ap, subst, ◌∙◌, arith}
+use Rattle.std.proofs.Common.{◌≡◌, ◌<◌, [], T, vec_len, sym, ap, subst, ◌∙◌, arith}
 use Rattle.std.proofs.lemmas.Bool.Decides.{nat_tests}
 use Rattle.std.specs.FinMap.{is_sorted}
-use Rattle.eden_workcopy.specs.Layers.{Entry, by_bytes}
+use Rattle.eden_workcopy.specs.Layers.{by_bytes}
 use Rattle.eden_workcopy.specs.internal.Blocks.{flat, spot, AllFilled}
 use Rattle.eden_workcopy.proofs.Placing.{without}
 use Rattle.eden_workcopy.proofs.Flattened.{rising_block, without_flat, flat_emptied, filled_set, filled_removed, nothing_flat, no_items}

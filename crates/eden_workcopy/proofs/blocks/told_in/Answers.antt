@@ -1,7 +1,7 @@
-use Rattle.std.proofs.Common.{◌≡◌, [], None, T, sym, ap, subst, ◌∙◌, arith, length}
+use Rattle.std.proofs.Common.{◌≡◌, T, sym, ap, subst, ◌∙◌, arith}
 use Rattle.std.specs.FinMap.{is_sorted, find}
-use Rattle.eden_workcopy.specs.Layers.{Entry, by_bytes}
-use Rattle.eden_workcopy.specs.internal.Blocks.{flat, spot}
+use Rattle.eden_workcopy.specs.Layers.{by_bytes}
+use Rattle.eden_workcopy.specs.internal.Blocks.{spot}
 use Rattle.eden_workcopy.proofs.Flattened.{rising_block, find_flat, nothing_flat}
 use Rattle.eden_workcopy.proofs.blocks.told_in.Goals as goal
 

@@ -1,7 +1,6 @@
 use Rattle.std.proofs.Common.{◌≤◌, T, length, ap, sym, subst, ◌∙◌}
 use Rattle.std.specs.FinMap as fin
 use Rattle.eden_workcopy.specs.Layers.{by_bytes}
-use Rattle.eden_workcopy.specs.internal.Blocks.{flat}
 use Rattle.eden_workcopy.proofs.overlay.Overlay.copy.Goals as goal
 
 pub invariant_of-result : goal.invariant_of-result

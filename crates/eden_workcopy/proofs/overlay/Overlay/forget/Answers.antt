@@ -1,4 +1,4 @@
-use Rattle.std.proofs.Common.{◌≤◌, length, ap, ◌∙◌, arith}
+use Rattle.std.proofs.Common.{length, ap, ◌∙◌, arith}
 use Rattle.std.specs.FinMap as fin
 use Rattle.eden_workcopy.specs.internal.Blocks.{flat}
 use Rattle.eden_workcopy.proofs.Placing.{seen_without, sorted_without}

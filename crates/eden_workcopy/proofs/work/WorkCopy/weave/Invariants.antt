@@ -1,4 +1,4 @@
-use Rattle.std.proofs.Common.{◌≡◌, ◌++◌, T, drop}
+use Rattle.std.proofs.Common.{◌≡◌, ◌++◌, drop}
 use Rattle.std.specs.FinMap as fin
 use Rattle.eden_workcopy.proofs.Touched.{kept}
 use Rattle.eden_workcopy.proofs.Woven.{Weaves, woven, untouched, is_shown}
