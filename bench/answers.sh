@@ -50,12 +50,12 @@ measure_polls() {
     local count
     for count in 100 1000 10000 100000; do
         writes ordered "$count" > "$work/before"
-        row "poll over $count changed files" - "$(of_line empty "$work/before" 'since 1 1' $((count < 10000 ? 100 : 10)))"
+        row "poll over $count changed files" - "$(objects_file=/dev/null of_line empty "$work/before" 'since 1 1' $((2000000 / count > 1000 ? 1000 : 2000000 / count)))"
     done
     echo 'checkout one normal' > "$work/before"
     row "poll over a change of the root, no file to 100,000" "$(least git_all)" "$(of_line empty "$work/before" 'since 1 1' 10)"
     echo 'checkout two normal' > "$work/before"
-    row "poll over a change of the root, 100 of 100,000 files" "$(least git_some)" "$(of_line one "$work/before" 'since 1 1' 100)"
+    row "poll over a change of the root, 100 of 100,000 files" "$(least git_some)" "$(of_line one "$work/before" 'since 1 1' 1000)"
 }
 
 measure_trees() {
@@ -66,11 +66,11 @@ measure_trees() {
 
 measure_writes() {
     local order count taken none
-    none=$(script empty < /dev/null)
+    none=$(objects_file=/dev/null script empty < /dev/null)
     for order in ordered scattered; do
         for count in 1000 20000 80000 1000000; do
             [ "$count" -le "${LARGEST:-1000000}" ] || continue
-            taken=$(writes "$order" "$count" | script empty)
+            taken=$(writes "$order" "$count" | objects_file=/dev/null script empty)
             row "$count new files, $order" - "$(awk -v a="$taken" -v b="$none" 'BEGIN { printf "%.0f", a - b }')"
         done
     done
@@ -79,7 +79,7 @@ measure_writes() {
 # What a changed file costs in memory, beside a path of 15 bytes and a content of 3.
 measure_memory() {
     local held none
-    { cat "$work/objects"; echo 'mount empty 1 1000000000'; } > "$work/script"
+    echo 'mount empty 1 1000000000' > "$work/script"
     none=$(command time -f %M "$edend" run < "$work/script" 2>&1 > /dev/null)
     { cat "$work/script"; writes ordered 80000; } > "$work/more"
     held=$(command time -f %M "$edend" run < "$work/more" 2>&1 > /dev/null)

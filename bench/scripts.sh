@@ -66,9 +66,9 @@ least() {
 from_script() {
     "$edend" run < "$work/script"
 }
-# What a script takes that puts the objects, mounts a commit and has the lines of standard input.
+# What a script takes that puts the objects, or those of `objects_file`, mounts a commit and has the lines of standard input.
 script() {
-    { cat "$work/objects"; echo "mount $1 1 1000000000"; cat; } > "$work/script"
+    { cat "${objects_file:-$work/objects}"; echo "mount $1 1 1000000000"; cat; } > "$work/script"
     least from_script
 }
 # Microseconds of one of N, from milliseconds of all and of none.

@@ -1,5 +1,5 @@
-use Rattle.std.proofs.Common.{rules, ◌≡◌, sym, subst, refl, ap, ◌∙◌, ◌∷◌, ◌++◌, [], Ok, Err, length, ◌-◌}
-use Rattle.eden_git.specs.Columns.{ids_of, kind_byte, kinds_of, text_of}
+use Rattle.std.proofs.Common.{rules, ◌≡◌, sym, subst, refl, Ok, Err, length, ◌-◌}
+use Rattle.eden_git.specs.Columns.{kind_byte}
 use Rattle.eden_git.specs.Entries.{plain}
 use Rattle.eden_git.specs.Trees.{read_entry}
 use Rattle.eden_git.proofs.Noting.{Noting, all_filled, all_text_filled, ends, filled, goes_on, text_filled}

@@ -1,5 +1,4 @@
-use Rattle.std.proofs.Common.{rules, ◌≡◌, ◌∙◌}
-use Rattle.eden_ids.specs.Sameness.{same_bytes}
+use Rattle.std.proofs.Common.{rules, ◌∙◌}
 use Rattle.eden_git.proofs.Naming.{has_names}
 use Rattle.eden_git.proofs.rows.Rows.has_names_of.Goals as goal
 

@@ -1,4 +1,4 @@
-use Rattle.std.proofs.Common.{rules, ap, ◌∙◌}
+use Rattle.std.proofs.Common.{ap, ◌∙◌}
 use Rattle.eden_git.specs.Directories.{file_named}
 use Rattle.eden_objects.proofs.WalkSteps.{none_lent, order_here, rows_lent}
 use Rattle.eden_objects.proofs.store.Store.file_in.Goals as goal
