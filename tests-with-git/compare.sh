@@ -1,4 +1,4 @@
-#!/bin/sh
+#!/bin/bash
 # Makes 600 blobs, 300 trees and 300 commits at random with git, and compares with Git what Railburnet says of them: the ids that
 # `edend run` prints for a script with the same objects, and the files that the store lists of each commit. Then makes 300 pairs of
 # commits, and compares what `edend run` lists on a mount of the first of each pair, and the paths that are dirty there after a reset
@@ -8,7 +8,7 @@
 #
 # It needs git, and the programs edend and beside_git, which `rt run` builds where they are not built yet. With HOW=try, `rt try` runs
 # edend, without a proof of it. What it makes lies in a folder of its own, which it takes away again.
-set -eu
+set -euo pipefail
 
 how=${HOW:-run}
 seed=${1:-1}
@@ -36,44 +36,50 @@ awk -v seed="$seed" 'BEGIN {
     }
 }' > "$work/plan"
 
-# The objects in Git, and the same as lines of a script. `git mktree` puts the entries into Git's order.
-: > "$work/ids"
-: > "$work/script"
-: > "$work/labels"
+# The objects in Git: the blobs and the commits by one process each, and the trees by one that takes them one after another, since a tree
+# names ids of earlier ones. `git mktree` puts the entries into Git's order.
+mkdir "$work/blobs" "$work/commits"
+awk -v folder="$work/blobs" '$1 == "blob" { file = folder "/" $2; print "text " $3 > file; close(file); print file }' "$work/plan" |
+    git hash-object -w --stdin-paths > "$work/blob-ids"
+mapfile -t blobs < "$work/blob-ids"
+trees=()
+coproc mktree { exec git mktree --batch; }
 while read -r word number rest; do
-    if [ "$word" = blob ]; then
-        id=$(printf 'text %s\n' "$rest" | git hash-object -w --stdin)
-        printf 'blob b%s text\\s%s\\n\n' "$number" "$rest" >> "$work/script"
-        echo "$id b$number" >> "$work/labels"
-        echo "$id" >> "$work/ids"
-        echo "id b$number" >> "$work/script"
-        continue
-    fi
+    [ "$word" = tree ] || continue
     for entry in $rest; do
-        mode=${entry%%:*}
-        named=${entry#*:}
-        label=b${named#*:}
-        kind=blob
+        IFS=: read -r mode name child <<< "$entry"
         if [ "$mode" = 040000 ]; then
-            label=t${named#*:}
-            kind=tree
+            printf '%s tree %s\t%s\n' "$mode" "${trees[child]}" "$name"
+        else
+            printf '%s blob %s\t%s\n' "$mode" "${blobs[child]}" "$name"
         fi
-        child=$(awk -v label="$label" '$2 == label { print $1 }' "$work/labels")
-        printf '%s %s %s\t%s\n' "$mode" "$kind" "$child" "${named%%:*}"
-    done > "$work/entries"
-    id=$(git mktree < "$work/entries")
-    commit=$(printf 'tree %s\n' "$id" | git hash-object -t commit --literally -w --stdin)
-    echo "$id t$number" >> "$work/labels"
-    git ls-tree "$id" | awk -v line="tree t$number" -v labels="$work/labels" '
-        BEGIN { while ((getline known < labels) > 0) { split(known, part, " "); label[part[1]] = part[2] } }
-        { sub(/^0/, "", $1); line = line " " $1 " " $4 " " label[$3] }
-        END { print line }' >> "$work/script"
-    echo "id t$number" >> "$work/script"
-    echo "commit c$number t$number" >> "$work/script"
-    echo "id c$number" >> "$work/script"
-    echo "$id" >> "$work/ids"
-    echo "$commit" >> "$work/ids"
+    done >&"${mktree[1]}"
+    echo >&"${mktree[1]}"
+    read -r "trees[number]" <&"${mktree[0]}"
+    echo "tree ${trees[number]}" > "$work/commits/$number"
 done < "$work/plan"
+seq -f "$work/commits/%.0f" 0 $((${#trees[@]} - 1)) | git hash-object -t commit --literally -w --stdin-paths > "$work/commit-ids"
+mapfile -t commits < "$work/commit-ids"
+
+# The same as lines of a script, and the ids that it is to print.
+declare -A label
+for number in "${!blobs[@]}"; do
+    label[${blobs[number]}]=b$number
+    read -r text < "$work/blobs/$number"
+    printf 'blob b%s %s\\n\nid b%s\n' "$number" "${text/ /\\s}" "$number"
+done > "$work/script"
+for number in "${!trees[@]}"; do
+    printf 'tree t%s' "$number"
+    while read -r mode word child name; do
+        printf ' %s %s %s' "${mode#0}" "$name" "${label[$child]}"
+    done < <(git ls-tree "${trees[number]}")
+    printf '\nid t%s\ncommit c%s t%s\nid c%s\n' "$number" "$number" "$number" "$number"
+    label[${trees[number]}]=t$number
+done >> "$work/script"
+{
+    printf '%s\n' "${blobs[@]}"
+    for number in "${!trees[@]}"; do printf '%s\n' "${trees[number]}" "${commits[number]}"; done
+} > "$work/ids"
 
 # The ids of a script.
 (cd "$root/crates/edend" && rt "$how" -- run < "$work/script") > "$work/printed"
@@ -82,16 +88,14 @@ cmp "$work/ids" "$work/printed-ids"
 refused=$(grep -c '^refused' "$work/printed" || true)
 [ "$refused" = 0 ] || { echo "$refused lines were refused"; exit 1; }
 
-# The files of each commit, whose tree stands before it.
-while read -r id; do
-    word=$(git cat-file -t "$id")
-    echo "$word $id"
-    if [ "$word" = tree ]; then
-        tree=$id
-    elif [ "$word" = commit ]; then
-        git ls-tree -r "$tree"
-    fi
-done < "$work/ids" > "$work/listed-by-git"
+# The files of each commit.
+{
+    printf 'blob %s\n' "${blobs[@]}"
+    for number in "${!trees[@]}"; do
+        printf 'tree %s\ncommit %s\n' "${trees[number]}" "${commits[number]}"
+        git ls-tree -r "${trees[number]}"
+    done
+} > "$work/listed-by-git"
 git cat-file --batch < "$work/ids" > "$work/batch"
 (cd "$root/crates/beside_git" && rt run < "$work/batch") > "$work/listed"
 cmp "$work/listed-by-git" "$work/listed"

@@ -8,7 +8,7 @@
 //! use eden_ranges::{accumulate, expand};
 //!
 //! let mut journal = Journal::new(alloc, 7, Id::ZERO, 1000);
-//! let delta = FileDelta::created(alloc, Path::parse(alloc, b"notes".as_slice())?)?;
+//! let delta = FileDelta::created(Path::parse(alloc, b"notes".as_slice())?);
 //! assert_eq!(rt; journal.add_file(&delta), Ok(2));
 //! let mounted = Position { generation: 7, sequence: 1, root: Id::ZERO };
 //! let range = accumulate(alloc, &journal, &mounted)?;

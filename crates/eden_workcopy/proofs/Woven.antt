@@ -61,46 +61,35 @@ own_is : (b : Bool) (u : List ℕ) (done ws : List (List ℕ)) → (done ++ cond
 own_is true u done ws = append_assoc done (u ∷ []) ws
 own_is false u done ws = append_assoc done [] ws
 
-cut : (rs : List Row) (i : ℕ) (r : Row) → i < length rs → r ≡ slice_index_or rs i r → drop i rs ≡ r ∷ drop (suc i) rs
-cut [] i r within is = absurd (omega arith)
-cut (x ∷ xs) zero r within is = ap (λ y. y ∷ xs) (sym is)
-cut (x ∷ xs) (suc i) r within is = cut xs i r (omega arith) is
-
 -- the paths so far, and what is woven of what is left
 abbrev pub Weaves : (List ℕ → Bool) → (Entry → Bool) → List (List ℕ) → List Row → List Entry → List (List ℕ) → Type 0
 Weaves mine shown done rs es whole = done ++ woven mine shown rs es ≡ whole
 
-pub begins : (mine : List ℕ → Bool) (shown : Entry → Bool) (rs : List Row) (es fs : List Entry) (done : List (List ℕ)) → done ≡ [] → es ≡ fs → Weaves mine shown done rs es (woven mine shown rs fs)
-begins mine shown rs es fs done none is = ap (λ ws. ws ++ woven mine shown rs es) none ∙ ap (woven mine shown rs) is
+pub begins : (mine : List ℕ → Bool) (shown : Entry → Bool) (rs rest : List Row) (es fs : List Entry) (done : List (List ℕ))
+    → rest ≡ rs → done ≡ [] → es ≡ fs → Weaves mine shown done rest es (woven mine shown rs fs)
+begins mine shown rs rest es fs done same none is =
+    ap (λ ws. ws ++ woven mine shown rest es) none ∙ ap (λ xs. woven mine shown xs es) same ∙ ap (woven mine shown rs) is
 
-pub goes_on : (mine : List ℕ → Bool) (shown : Entry → Bool) (rs : List Row) (i : ℕ) (r : Row) (es left : List Entry) (done more after whole : List (List ℕ)) (is_mine : Bool)
-    → i < length rs → r ≡ slice_index_or rs i r → Weaves mine shown done (drop i rs) es whole
+pub goes_on : (mine : List ℕ → Bool) (shown : Entry → Bool) (r : Row) (rs : List Row) (es left : List Entry) (done more after whole : List (List ℕ)) (is_mine : Bool)
+    → Weaves mine shown done (r ∷ rs) es whole
     → more ≡ done ++ kept shown (take (place r.0 es) es) → left ≡ drop (place r.0 es) es → is_mine ≡ mine r.0 → after ≡ more ++ cond is_mine (r.0 ∷ []) []
-    → Weaves mine shown after (drop (i + 1) rs) left whole
+    → Weaves mine shown after rs left whole
 unfolding woven
-goes_on mine shown rs i r es left done more after whole is_mine within is so_far more_is left_is mine_is after_is =
-    let rest = woven mine shown (drop (suc i) rs) in
-    ap (λ n. after ++ woven mine shown (drop n rs) left) (add-one i)
-    ∙ ap (λ fs. after ++ rest fs) left_is
+goes_on mine shown r rs es left done more after whole is_mine so_far more_is left_is mine_is after_is =
+    let rest = woven mine shown rs in
+    ap (λ fs. after ++ rest fs) left_is
     ∙ ap (λ ws. ws ++ rest (drop (place r.0 es) es)) (after_is ∙ ap (λ b. more ++ cond b (r.0 ∷ []) []) mine_is)
     ∙ own_is (mine r.0) r.0 more (rest (drop (place r.0 es) es))
     ∙ ap (λ ws. ws ++ own mine r.0 (rest (drop (place r.0 es) es))) more_is
     ∙ append_assoc done (kept shown (take (place r.0 es) es)) (own mine r.0 (rest (drop (place r.0 es) es)))
     ∙ ap (λ ws. done ++ ws) (sym (ahead_is mine shown r.0 rest es))
-    ∙ ap (λ xs. done ++ woven mine shown xs es) (sym (cut rs i r within is))
     ∙ so_far
 
-past : (rs : List Row) (n : ℕ) → length rs ≤ n → drop n rs ≡ []
-past [] zero h = refl
-past [] (suc n) h = refl
-past (r ∷ rs) zero h = absurd (omega arith)
-past (r ∷ rs) (suc n) h = past rs n (omega arith)
-
-pub ends : (mine : List ℕ → Bool) (shown : Entry → Bool) (rs : List Row) (n : ℕ) (es : List Entry) (done after whole : List (List ℕ))
-    → length rs ≤ n → Weaves mine shown done (drop n rs) es whole → after ≡ done ++ kept shown es → after ≡ whole
+pub ends : (mine : List ℕ → Bool) (shown : Entry → Bool) (rs : List Row) (es : List Entry) (done after whole : List (List ℕ))
+    → length rs ≡ 0 → Weaves mine shown done rs es whole → after ≡ done ++ kept shown es → after ≡ whole
 unfolding woven
-ends mine shown rs n es done after whole within so_far after_is =
-    after_is ∙ ap (λ xs. done ++ woven mine shown xs es) (sym (past rs n within)) ∙ so_far
+ends mine shown [] es done after whole none so_far after_is = after_is ∙ so_far
+ends mine shown (r ∷ rs) es done after whole none so_far after_is = absurd (omega (arith, none))
 
 pub still_rising : (n : ℕ) (es left : List Entry) → T (fin.is_sorted by_bytes es) → left ≡ drop n es → T (fin.is_sorted by_bytes left)
 still_rising n es left h is = subst (λ fs. T (fin.is_sorted by_bytes fs)) (sym is) (by n es h)

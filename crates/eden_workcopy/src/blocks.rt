@@ -69,6 +69,20 @@ pub(crate) fn walk_from<'a>(blocks: &'a [Block], path: &[u8]) -> Walk<'a>
     }
 }
 
+/// How many entries a full block keeps when it is cut in two: half, but the last block all but one. So paths that come in byte order fill
+/// each block, and no room is left unused.
+fn kept_of(blocks: &[Block], at: usize) -> usize
+    requires { at < length blocks.now }
+    ensures some { 0 < result }
+    ensures fewer { result < 256 }
+{
+    if at == blocks.len() - 1 {
+        FULL - 1
+    } else {
+        FULL / 2
+    }
+}
+
 /// Cuts a full block in two. Where a growth is refused, it stays whole.
 fn cut(blocks: &mut Vec<Block>, at: usize)
     requires at { at < length blocks.old.items }
@@ -82,7 +96,8 @@ fn cut(blocks: &mut Vec<Block>, at: usize)
     let Ok(_) = blocks.reserve(1) else {
         return;
     };
-    let Ok(upper) = blocks[at].split_off(FULL / 2) else {
+    let kept = kept_of(blocks, at);
+    let Ok(upper) = blocks[at].split_off(kept) else {
         return;
     };
     let Ok(_) = blocks.insert(at + 1, upper) else {

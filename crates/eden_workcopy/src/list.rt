@@ -1,4 +1,4 @@
-ghost use Rattle.std.specs.Prelude.{◌≡◌, ◌++◌, ◌&&◌, not, map, filter, drop, is_some, IsSome, IfOk, OnOk};
+ghost use Rattle.std.specs.Prelude.{◌≡◌, ◌++◌, ◌∷◌, [], ◌&&◌, if◌then◌else◌, not, map, filter, drop, is_some, IsSome, IfOk, OnOk};
 ghost use Rattle.std.specs.FinMap as fin;
 ghost use Rattle.eden_globs.specs.Filters.{admits};
 ghost use Rattle.eden_ids.specs.FileMaps.{FileMap};
@@ -39,6 +39,17 @@ fn add_before(
     Ok(())
 }
 
+/// Adds a path that is given away, if it is wanted.
+fn push_if(paths: &mut Vec<Path>, path: Path, wanted: bool) -> Result<(), NoMemory>
+    ensures { OnOk result (paths.new.items ≡ paths.old.items ++ (if wanted then path ∷ [] else [])) }
+{
+    if !wanted {
+        return Ok(());
+    }
+    paths.push(path)?;
+    Ok(())
+}
+
 impl WorkCopy {
     /// Whether no change touched a path.
     fn is_untouched(&self, path: &[u8]) -> bool
@@ -47,16 +58,18 @@ impl WorkCopy {
         self.overlay.get(path).is_none()
     }
 
-    /// The paths that a filter admits, where these rows are those of the files below the overlay that it admits.
-    fn weave(&self, rows: &[(Path, Kind, Id)], wanted: &Filter) -> Result<Vec<Path>, NoMemory>
-        ensures { (base : FileMap) → map (λ row. row.0) rows.now ≡ admitted wanted.now base
+    /// The paths that a filter admits, where these rows are those of the files below the overlay that it admits. No path of a row is copied.
+    fn weave(&self, rows: Vec<(Path, Kind, Id)>, wanted: &Filter) -> Result<Vec<Path>, NoMemory>
+        ensures { (base : FileMap) → map (λ row. row.0) rows.items ≡ admitted wanted.now base
             → IfOk result (λ paths. paths.items ≡ admitted wanted.now (over base self.now.overlay)) }
     {
-        let mut paths = Vec::new(self.overlay.allocator());
+        let mut paths = Vec::with_capacity(self.overlay.allocator(), rows.len())?;
         let mut entries = self.overlay.entries();
         for row in rows {
-            add_before(&mut paths, &mut entries, &row.0, wanted)?;
-            add_if(&mut paths, &row.0, self.is_untouched(row.0.as_bytes()))?;
+            let (path, _, _) = row;
+            add_before(&mut paths, &mut entries, &path, wanted)?;
+            let untouched = self.is_untouched(path.as_bytes());
+            push_if(&mut paths, path, untouched)?;
         }
         for entry in entries {
             add_if(&mut paths, &entry.0, is_shown(entry, wanted))?;
@@ -83,6 +96,6 @@ impl WorkCopy {
             Err(CommitFault::NoCommit) => unreachable!(),
             Err(CommitFault::NoMemory) => return Err(NoMemory),
         };
-        self.weave(&rows, wanted)
+        self.weave(rows, wanted)
     }
 }

@@ -20,8 +20,8 @@ returns-clause-same c =
     ∙ ap (λ n. flat (insert (slice_set blocks at lower) n upper)) (add-one at)
     ∙ flat_cut blocks at block lower upper within
     (ap (λ es. es ++ upper.items) c.in-Ok-split_off.ensures.items
-    ∙ ap (λ es. take 128 block.items ++ es) c.in-Ok-split_off.ensures.tail
-    ∙ take-append-drop 128 block.items
+    ∙ ap (λ es. take c.kept_of-kept.result block.items ++ es) c.in-Ok-split_off.ensures.tail
+    ∙ take-append-drop c.kept_of-kept.result block.items
     ∙ ap (λ b. b.items) c.index_mut.ensures.value)
     ∙ ap flat c.reserve.ensures.items
 
@@ -41,5 +41,5 @@ returns-clause-filled c =
     let as_long : vec_len c.index.result.now ≡ vec_len block = ap vec_len one in
     subst AllFilled (sym (c.in-Ok-insert.ensures.items ∙ ap (λ n. insert (slice_set blocks at lower) n upper) (add-one at)))
     (cut_filled blocks at lower upper (subst AllFilled (sym c.reserve.ensures.items) c.requires.filled)
-    (omega (arith, lower.ok.0, c.in-Ok-split_off.ensures.len))
-    (omega (arith, upper.ok.0, c.in-Ok-split_off.ensures.tail_len, as_long, c.len.ensures, c.if-len-lt-FULL.false)))
+    (omega (arith, lower.ok.0, c.in-Ok-split_off.ensures.len, c.kept_of-kept.ensures.some, as_long, c.len.ensures, c.if-len-lt-FULL.false))
+    (omega (arith, upper.ok.0, c.in-Ok-split_off.ensures.tail_len, c.kept_of-kept.ensures.fewer, as_long, c.len.ensures, c.if-len-lt-FULL.false)))

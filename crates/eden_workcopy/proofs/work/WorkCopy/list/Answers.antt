@@ -1,7 +1,6 @@
-use Rattle.std.proofs.Common.{Err, ap, subst, ◌∙◌}
-use Rattle.std.specs.Prelude.{map}
+use Rattle.std.proofs.Common.{Err, subst}
 use Rattle.eden_globs.specs.Filters.{admits}
-use Rattle.eden_objects.specs.Commits.{Row, commit_rows, rows_where}
+use Rattle.eden_objects.specs.Commits.{commit_rows, rows_where}
 use Rattle.eden_objects.specs.Listings.{Lists}
 use Rattle.eden_objects.specs.Files.{commit_files}
 use Rattle.eden_workcopy.proofs.Works.{listed_there}
@@ -11,8 +10,7 @@ use Rattle.eden_workcopy.proofs.work.WorkCopy.list.Goals as goal
 pub returns : goal.returns
 returns g c =
     c.weave.ensures (commit_files c.args.store.now c.args.self.now.root)
-    (ap (map {A = Row} (λ r. r.0)) c.deref.ensures.value
-    ∙ row_paths c.args.store.now c.closed_law.ensures.closed c.args.self.now.root c.args.wanted.now c.in-Ok.rows.items c.in-Ok.ensures)
+    (row_paths c.args.store.now c.closed_law.ensures.closed c.args.self.now.root c.args.wanted.now c.in-Ok.rows.items c.in-Ok.ensures)
 
 pub unreachable-requires : goal.unreachable-requires
 unreachable-requires g c =
