@@ -6,3 +6,4 @@ mod Keys
 mod Noting
 mod Searching
 mod Naming
+mod Placing

@@ -1,17 +1,15 @@
 -- The names of entries in one text: it tells them, since no name has a slash.
-use Rattle.std.proofs.Common.{◌≡◌, ◌≢◌, ◌∙◌, sym, refl, ap, ℕ, zero, suc, Bool, true, false, ◌&&◌, List, [], ◌∷◌, ◌++◌, map, Option, Some, Result, Ok, Err, length, subst, append_assoc}
+use Rattle.std.proofs.Common.{◌≡◌, ◌≢◌, ◌∙◌, sym, refl, ap, ℕ, zero, suc, Bool, true, false, ◌&&◌, List, [], ◌∷◌, ◌++◌, Result, Ok, Err, length, subst, append_assoc}
 use Rattle.std.proofs.lemmas.Bool.{and_parts}
 use Rattle.std.proofs.lemmas.Slice.Eq.{bytes_eq-Decides}
 use Rattle.std.specs.Cmp.Lexicographic.{told_text}
-use Rattle.std.specs.List.{AllByRecursion, flat_map, slice_get}
+use Rattle.std.specs.List.{AllByRecursion, flat_map}
 use Rattle.std.specs.Prelude.{MatchBool}
 use Rattle.eden_ids.specs.Sameness.{same_bytes}
 use Rattle.eden_git.specs.declared.fault.EntryFault.{EntryFault}
 use Rattle.eden_git.specs.Columns.{names_of, text_of}
-use Rattle.eden_git.specs.Starts.{AreStarts, entry_at}
 use Rattle.eden_git.specs.Trees.{Entry, entries, entries_after, entries_of, is_name, read_entry}
 use Rattle.eden_git.proofs.Reading.{name_read}
-use Rattle.eden_git.proofs.Searching.{first_of, others_of, then_at}
 use Rattle.eden_git.proofs.Slashes.{name_has_none, same_under}
 
 abbrev pub AreNamed : List Entry → Type 0
@@ -60,14 +58,3 @@ has_names r payload other a b es fs is first second left right = by r (told_text
       names_told es fs (subst AreNamed left (all_named (length payload) payload)) (subst AreNamed right (all_named (length other) other))
       (ap text_of (sym left) ∙ sym first ∙ same ∙ second ∙ ap text_of right)
   by false other = λ same. other (first ∙ ap text_of left ∙ text_told es fs same ∙ ap text_of (sym right) ∙ sym second)
-
--- what stands at a row
-at_place : (f : ℕ → Option Entry) (xs : List ℕ) (es : List Entry) (row : ℕ) → map f xs ≡ map Some es → then_at f (slice_get xs row) ≡ slice_get es row
-at_place f [] [] row same = refl
-at_place f [] (e ∷ es) row same = cc same
-at_place f (x ∷ xs) [] row same = cc same
-at_place f (x ∷ xs) (e ∷ es) zero same = ap first_of same
-at_place f (x ∷ xs) (e ∷ es) (suc row) same = at_place f xs es row (ap others_of same)
-
-pub at_row : (payload starts : List ℕ) (row : ℕ) → AreStarts payload starts → then_at (entry_at payload) (slice_get starts row) ≡ slice_get (entries_of payload) row
-at_row payload starts row same = at_place (entry_at payload) starts (entries_of payload) row same

@@ -1,49 +1,40 @@
 -- The columns of a payload's entries, filled entry by entry.
-use Rattle.std.proofs.Common.{◌≡◌, ◌∙◌, sym, refl, ap, ℕ, ◌-◌, ◌+◌, List, [], ◌∷◌, ◌++◌, map, drop, length, Some, Ok, Err, arith, append_assoc, length-append}
-use Rattle.std.proofs.lemmas.List.{append-nil, map-append}
-use Rattle.std.proofs.Math.Seq.{drop-append_seam}
+use Rattle.std.proofs.Common.{◌≡◌, ◌≤◌, ◌∙◌, sym, ap, ℕ, ◌-◌, ◌+◌, List, [], ◌∷◌, ◌++◌, map, length, Ok, Err, arith, append_assoc}
+use Rattle.std.proofs.lemmas.List.{append-nil}
 use Rattle.eden_git.specs.declared.fault.EntryFault.{EntryFault}
 use Rattle.eden_git.specs.Trees.{Entry, entries_of, read_entry}
-use Rattle.eden_git.specs.Starts.{AreStarts, entry_at, entry_read}
+use Rattle.eden_git.specs.Starts.{AreStarts, breadth, places}
 use Rattle.eden_git.specs.Columns.{text_of}
 use Rattle.eden_git.proofs.Fuel.{after_read, none_left}
-use Rattle.eden_git.proofs.Reading.{read_behind}
+use Rattle.eden_git.proofs.Reading.{read_breadth}
 
--- so far those of the entries before the rest are noted
+-- so far the places of the entries before the rest are noted
 abbrev pub Noting : List ℕ → List ℕ → List ℕ → Type 0
-Noting payload starts rest = (front : List ℕ) × (payload ≡ front ++ rest)
-    × (map (entry_at payload) starts ++ map Some (entries_of rest) ≡ map Some (entries_of payload))
+Noting payload starts rest = (length rest ≤ length payload) × (places 0 (entries_of payload) ≡ starts ++ places (length payload - length rest) (entries_of rest))
 
 pub begins : (payload : List ℕ) → Noting payload [] payload
-begins payload = ([], refl, refl)
+begins payload =
+    let none : length payload - length payload ≡ 0 = omega arith in
+    (omega arith, sym (ap (λ start. places start (entries_of payload)) none))
 
-here : (payload front rest : List ℕ) (start : ℕ) (e : Entry) (behind : List ℕ) → payload ≡ front ++ rest → start ≡ length payload - length rest
-    → read_entry rest ≡ Ok (e, behind) → entry_at payload start ≡ Some e
-here payload front rest start e behind parts at read =
-    let whole : length payload ≡ length front + length rest = ap length parts ∙ length-append front rest in
-    let place : start ≡ length front = omega (arith, at, whole) in
-    let left : drop start payload ≡ rest = ap (λ n. drop n payload) place ∙ ap (drop (length front)) parts ∙ drop-append_seam front rest in
-    ap (λ bytes. entry_read (read_entry bytes)) left ∙ ap entry_read read
-
-pub goes_on : (payload starts rest : List ℕ) (start : ℕ) (e : Entry) (behind : List ℕ) → Noting payload starts rest
-    → start ≡ length payload - length rest → read_entry rest ≡ Ok (e, behind) → Noting payload (starts ++ start ∷ []) behind
-goes_on payload starts rest start e behind noting at read =
-    let cut = read_behind rest (e, behind) read in
-    let found = here payload noting.0 rest start e behind noting.1 at read in (
-      noting.0 ++ cut.0,
-      noting.1 ∙ ap (λ bytes. noting.0 ++ bytes) cut.1 ∙ sym (append_assoc noting.0 cut.0 behind),
-      ap (λ found. found ++ map Some (entries_of behind)) (map-append (entry_at payload) starts (start ∷ []))
-          ∙ append_assoc (map (entry_at payload) starts) (entry_at payload start ∷ []) (map Some (entries_of behind))
-          ∙ ap (λ o. map (entry_at payload) starts ++ o ∷ map Some (entries_of behind)) found
-          ∙ ap (λ es. map (entry_at payload) starts ++ map Some es) (sym (after_read rest e behind read))
-          ∙ noting.2,
+pub goes_on : (payload starts rest : List ℕ) (e : Entry) (behind : List ℕ) → Noting payload starts rest → read_entry rest ≡ Ok (e, behind)
+    → Noting payload (starts ++ (length payload - length rest) ∷ []) behind
+goes_on payload starts rest e behind noting read =
+    let start : ℕ = length payload - length rest in
+    let fits : length rest ≤ length payload = noting.0 in
+    let long : length rest ≡ breadth e + length behind = read_breadth rest (e, behind) read in
+    let next : length payload - length rest + breadth e ≡ length payload - length behind = omega (arith, fits, long) in (
+      omega (arith, fits, long),
+      noting.1
+          ∙ ap (λ es. starts ++ places start es) (after_read rest e behind read)
+          ∙ ap (λ place. starts ++ start ∷ places place (entries_of behind)) next
+          ∙ sym (append_assoc starts (start ∷ []) (places (length payload - length behind) (entries_of behind))),
     )
 
-pub ends : (payload starts rest : List ℕ) (fault : EntryFault) → Noting payload starts rest → read_entry rest ≡ Err fault → AreStarts payload starts
+pub ends : (payload starts rest : List ℕ) (fault : EntryFault) → Noting payload starts rest → read_entry rest ≡ Err fault
+    → AreStarts payload (starts ++ (length payload - length rest) ∷ [])
 ends payload starts rest fault noting read =
-    sym (append-nil (map (entry_at payload) starts))
-    ∙ ap (λ es. map (entry_at payload) starts ++ map Some es) (sym (none_left rest fault read))
-    ∙ noting.2
+    sym (noting.1 ∙ ap (λ es. starts ++ places (length payload - length rest) es) (none_left rest fault read))
 
 -- a column that has what the entries before the rest give
 

@@ -1,18 +1,17 @@
--- A search among the entries of a payload, whose keys ascend, by the places at which they begin.
-use Rattle.std.proofs.Common.{◌≡◌, ◌∙◌, sym, refl, ap, ℕ, zero, suc, ◌<◌, ◌≤◌, Bool, true, false, cond, List, [], ◌∷◌, ◌++◌, map, length, Option, Some, None, Ordering, arith}
+-- A search among the entries of a tree, whose keys ascend.
+use Rattle.std.proofs.Common.{◌≡◌, ◌∙◌, sym, refl, ap, ℕ, zero, suc, Bool, true, false, cond, List, [], ◌∷◌, ◌++◌, map, drop, length, Option, Some, None, Ordering}
 use Rattle.std.proofs.lemmas.Cmp.{nat_list_cmp_total}
 use Rattle.std.proofs.lemmas.Map.Keys.{sorted_head, sorted_tail}
 use Rattle.std.proofs.lemmas.Slice.Eq.{bytes_eq-Decides}
 use Rattle.std.specs.Cmp.Lexicographic.{slice_cmp}
-use Rattle.std.specs.List.{AllByRecursion, slice_get, slice_index_or}
-use Rattle.std.specs.List.Sorted.{IsPartitionedBy, IsPartitionPoint}
+use Rattle.std.specs.List.{AllByRecursion, slice_get}
 use Rattle.std.specs.Ordering.{is_lt, nat_cmp, ordering_reverse}
 use Rattle.std.specs.declared.cmp.Ordering.TheVariants.{Less, Equal, Greater}
 use Rattle.eden_ids.specs.declared.id.Id.{Id}
 use Rattle.eden_ids.specs.declared.content.Kind.{Kind}
 use Rattle.eden_ids.specs.Sameness.{same_bytes}
-use Rattle.eden_git.specs.Trees.{Entry, entries_of, key, key_of}
-use Rattle.eden_git.specs.Starts.{AreInOrder, AreStarts, entry_at, first_from, is_before}
+use Rattle.eden_git.specs.Trees.{Entry, key, key_of}
+use Rattle.eden_git.specs.Starts.{AreInOrder, first_from, is_before}
 use Rattle.eden_git.specs.Directories.{dir_if, dir_named, file_if, file_named, or_later}
 
 less_is : (o : Ordering) → is_lt o ≡ true → o ≡ Less
@@ -28,69 +27,34 @@ not_less Greater h = refl
 irreflexive : (k : List ℕ) → is_lt (slice_cmp nat_cmp k k) ≡ false
 irreflexive k = not_less (slice_cmp nat_cmp k k) (nat_list_cmp_total.antisymm k k)
 
-abbrev pub first_of : List (Option Entry) → Option Entry
-first_of [] = None
-first_of (o ∷ os) = o
-
-abbrev pub others_of : List (Option Entry) → List (Option Entry)
-others_of [] = []
-others_of (o ∷ os) = os
-
--- the entries that stand before a key come first
+-- the entries before one that stands before a key do so too
 
 before_too : (w k : List ℕ) (e : Entry) → slice_cmp nat_cmp k (key e) ≡ Less → is_before w (Some e) ≡ true → is_lt (slice_cmp nat_cmp k w) ≡ true
 before_too w k e lower before = ap is_lt (nat_list_cmp_total.trans k (key e) w lower (less_is (slice_cmp nat_cmp (key e) w) before))
 
-later_before : (w k : List ℕ) (f : ℕ → Option Entry) (xs : List ℕ) (es : List Entry) → map f xs ≡ map Some es
-    → AllByRecursion (λ y. slice_cmp nat_cmp k y ≡ Less) (map key es) → (j d : ℕ) → j < length xs
-    → is_before w (f (slice_index_or xs j d)) ≡ true → is_lt (slice_cmp nat_cmp k w) ≡ true
-later_before w k f [] es same lower j d less before = absurd (omega (arith, less))
-later_before w k f (x ∷ xs) [] same lower j d less before = cc same
-later_before w k f (x ∷ xs) (e ∷ es) same lower zero d less before =
-    before_too w k e lower.0 (ap (is_before w) (sym (ap first_of same)) ∙ before)
-later_before w k f (x ∷ xs) (e ∷ es) same lower (suc j) d less before =
-    later_before w k f xs es (ap others_of same) lower.1 j d (omega (arith, less)) before
+later_before : (w k : List ℕ) (es : List Entry) (row : ℕ) → AllByRecursion (λ y. slice_cmp nat_cmp k y ≡ Less) (map key es)
+    → is_before w (slice_get es row) ≡ true → is_lt (slice_cmp nat_cmp k w) ≡ true
+later_before w k [] row lower before = cc before
+later_before w k (e ∷ es) zero lower before = before_too w k e lower.0 before
+later_before w k (e ∷ es) (suc row) lower before = later_before w k es row lower.1 before
 
-parted : (w : List ℕ) (f : ℕ → Option Entry) (xs : List ℕ) (es : List Entry) → map f xs ≡ map Some es → AreInOrder es → IsPartitionedBy (λ x. is_before w (f x)) xs
-parted w f [] es same sorted i j d low less before = absurd (omega (arith, less))
-parted w f (x ∷ xs) [] same sorted i j d low less before = cc same
-parted w f (x ∷ xs) (e ∷ es) same sorted zero zero d low less before = before
-parted w f (x ∷ xs) (e ∷ es) same sorted zero (suc j) d low less before =
-    ap (is_before w) (ap first_of same)
-    ∙ later_before w (key e) f xs es (ap others_of same) (sorted_head (slice_cmp nat_cmp) (key e) (map key es) sorted) j d (omega (arith, less)) before
-parted w f (x ∷ xs) (e ∷ es) same sorted (suc i) zero d low less before = absurd (omega (arith, low))
-parted w f (x ∷ xs) (e ∷ es) same sorted (suc i) (suc j) d low less before =
-    parted w f xs es (ap others_of same) (sorted_tail (slice_cmp nat_cmp) (key e) (map key es) sorted) i j d (omega (arith, low)) (omega (arith, less)) before
+pub passed : (w : List ℕ) (es : List Entry) (row : ℕ) → AreInOrder es → is_before w (slice_get es row) ≡ true → first_from w es ≡ first_from w (drop (suc row) es)
+passed w [] row sorted before = refl
+passed w (e ∷ es) zero sorted before = ap (λ b. cond b (first_from w es) (Some e)) before
+passed w (e ∷ es) (suc row) sorted before =
+    ap (λ b. cond b (first_from w es) (Some e)) (later_before w (key e) es row (sorted_head (slice_cmp nat_cmp) (key e) (map key es) sorted) before)
+    ∙ passed w es row (sorted_tail (slice_cmp nat_cmp) (key e) (map key es) sorted) before
 
-pub starts_parted : (w payload starts : List ℕ) → AreStarts payload starts → AreInOrder (entries_of payload) → IsPartitionedBy (λ start. is_before w (entry_at payload start)) starts
-starts_parted w payload starts same sorted = parted w (entry_at payload) starts (entries_of payload) same sorted
+-- one that doesn't is the first of those from its row on
+pub stays : (w : List ℕ) (es : List Entry) (row : ℕ) → is_before w (slice_get es row) ≡ false → slice_get es row ≡ first_from w (drop row es)
+stays w [] zero later = refl
+stays w [] (suc row) later = refl
+stays w (e ∷ es) zero later = sym (ap (λ b. cond b (first_from w es) (Some e)) later)
+stays w (e ∷ es) (suc row) later = stays w es row later
 
--- what stands at the place behind them is the first entry that doesn't
-
-abbrev pub then_at : (ℕ → Option Entry) → Option ℕ → Option Entry
-then_at f None = None
-then_at f (Some x) = f x
-
-at_point : (w : List ℕ) (f : ℕ → Option Entry) (xs : List ℕ) (es : List Entry) → map f xs ≡ map Some es → (i : ℕ) → i ≤ length xs
-    → IsPartitionPoint (λ x. is_before w (f x) ≡ true) (λ x. is_before w (f x) ≡ false) xs i → then_at f (slice_get xs i) ≡ first_from w es
-at_point w f [] [] same i fits point = refl
-at_point w f [] (e ∷ es) same i fits point = cc same
-at_point w f (x ∷ xs) [] same i fits point = cc same
-at_point w f (x ∷ xs) (e ∷ es) same zero fits point =
-    let here : f x ≡ Some e = ap first_of same in
-    let stays : is_before w (Some e) ≡ false = ap (is_before w) (sym here) ∙ point.1 0 x (omega arith) (omega arith) in
-    here ∙ sym (ap (λ b. cond b (first_from w es) (Some e)) stays)
-at_point w f (x ∷ xs) (e ∷ es) same (suc i) fits point =
-    let here : f x ≡ Some e = ap first_of same in
-    let goes : is_before w (Some e) ≡ true = ap (is_before w) (sym here) ∙ point.0 0 x (omega arith) (omega arith) in
-    at_point w f xs es (ap others_of same) i (omega (arith, fits))
-    (λ k d low less. point.0 (suc k) d (omega arith) (omega (arith, less)), λ k d low less. point.1 (suc k) d (omega (arith, low)) (omega (arith, less)))
-    ∙ sym (ap (λ b. cond b (first_from w es) (Some e)) goes)
-
-pub found_at : (w payload starts : List ℕ) (i : ℕ) → AreStarts payload starts → i ≤ length starts
-    → IsPartitionPoint (λ start. is_before w (entry_at payload start) ≡ true) (λ start. is_before w (entry_at payload start) ≡ false) starts i
-    → then_at (entry_at payload) (slice_get starts i) ≡ first_from w (entries_of payload)
-found_at w payload starts i same fits point = at_point w (entry_at payload) starts (entries_of payload) same i fits point
+pub none_at_end : (w : List ℕ) (es : List Entry) → slice_get es (length es) ≡ first_from w (drop (length es) es)
+none_at_end w [] = refl
+none_at_end w (e ∷ es) = none_at_end w es
 
 -- only the first entry that doesn't stand before a key may have it
 

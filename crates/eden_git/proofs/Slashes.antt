@@ -1,4 +1,4 @@
--- Paths that are cut at their first slash, against names that have none.
+-- Bytes that are cut at the first one of some kind; paths that are cut at their first slash, against names that have none.
 use Rattle.std.proofs.Common.{◌≡◌, ℕ, ◌++◌, inl, inr, Bool, true, false, cond, ◌&&◌, ◌||◌, nat_eq, List, [], ◌∷◌, Option, Some, None, refl, sym, ap, ◌∙◌}
 use Rattle.std.proofs.lemmas.Bool.{cases_Bool, eqb-true, and_parts, or_parts, not-true}
 use Rattle.std.specs.Cmp.{nat_eq_equiv}
@@ -31,34 +31,39 @@ more_some x (Some parts) c r h =
     let is = pair_parts (x ∷ parts.0, parts.1) c r h in
     (parts.0, ap (λ (s : List ℕ). Some (parts.0, s)) is.1, is.0)
 
-cut_here : (x : ℕ) (rest : List ℕ) → nat_eq x 47 ≡ true → cut 47 (x ∷ rest) ≡ Some ([], rest)
-cut_here x rest t = ap (λ b. cond b (Some ([], rest)) (before_more x (cut 47 rest))) t
+cut_here : (byte x : ℕ) (rest : List ℕ) → nat_eq x byte ≡ true → cut byte (x ∷ rest) ≡ Some ([], rest)
+cut_here byte x rest t = ap (λ b. cond b (Some ([], rest)) (before_more x (cut byte rest))) t
 
-cut_later : (x : ℕ) (rest : List ℕ) → nat_eq x 47 ≡ false → cut 47 (x ∷ rest) ≡ before_more x (cut 47 rest)
-cut_later x rest f = ap (λ b. cond b (Some ([], rest)) (before_more x (cut 47 rest))) f
+cut_later : (byte x : ℕ) (rest : List ℕ) → nat_eq x byte ≡ false → cut byte (x ∷ rest) ≡ before_more x (cut byte rest)
+cut_later byte x rest f = ap (λ b. cond b (Some ([], rest)) (before_more x (cut byte rest))) f
 
 pub cut_none : (p : List ℕ) → cut 47 p ≡ None → has_slash p ≡ false
 cut_none [] h = refl
 cut_none (x ∷ rest) h = elim (cases_Bool (nat_eq x 47)) [
-  | inl t ↦ let e = cut_here x rest t in absurd (cc)
-  | inr f ↦ let more : has_slash rest ≡ false = cut_none rest (more_none x (cut 47 rest) (sym (cut_later x rest f) ∙ h)) in rw (f, more) refl
+  | inl t ↦ let e = cut_here 47 x rest t in absurd (cc)
+  | inr f ↦ let more : has_slash rest ≡ false = cut_none rest (more_none x (cut 47 rest) (sym (cut_later 47 x rest f) ∙ h)) in rw (f, more) refl
 ]
 
-no_slash_more : (x : ℕ) (rest : List ℕ) → nat_eq x 47 ≡ false → has_slash rest ≡ false → has_slash (x ∷ rest) ≡ false
-no_slash_more x rest f free = λ i. f i || free i
+none_more : (byte x : ℕ) (rest : List ℕ) → nat_eq x byte ≡ false → list_any (λ b. nat_eq b byte) rest ≡ false → list_any (λ b. nat_eq b byte) (x ∷ rest) ≡ false
+none_more byte x rest f free = λ i. f i || free i
+
+pub cut_first : (byte : ℕ) (p c r : List ℕ) → cut byte p ≡ Some (c, r) → (p ≡ c ++ byte ∷ r) × (list_any (λ b. nat_eq b byte) c ≡ false)
+cut_first byte [] c r h = absurd (cc)
+cut_first byte (x ∷ rest) c r h = elim (cases_Bool (nat_eq x byte)) [
+  | inl t ↦
+      let is : ([] ≡ c) × (rest ≡ r) = pair_parts ([], rest) c r (sym (cut_here byte x rest t) ∙ h) in
+      let same : x ≡ byte = eqb-true x byte t in
+      ((λ i. same i ∷ is.1 i) ∙ ap (λ (front : List ℕ). front ++ byte ∷ r) is.0, ap (list_any (λ b. nat_eq b byte)) (sym is.0))
+  | inr f ↦
+      let more = more_some x (cut byte rest) c r (sym (cut_later byte x rest f) ∙ h) in
+      let is = cut_first byte rest more.0 r more.1 in (
+        ap (λ (tail : List ℕ). x ∷ tail) is.0 ∙ ap (λ (front : List ℕ). front ++ byte ∷ r) more.2,
+        ap (list_any (λ b. nat_eq b byte)) (sym more.2) ∙ none_more byte x more.0 f is.1,
+      )
+]
 
 pub cut_some : (p c r : List ℕ) → cut 47 p ≡ Some (c, r) → (p ≡ c ++ 47 ∷ r) × (has_slash c ≡ false)
-cut_some [] c r h = absurd (cc)
-cut_some (x ∷ rest) c r h = elim (cases_Bool (nat_eq x 47)) [
-  | inl t ↦
-      let is : ([] ≡ c) × (rest ≡ r) = pair_parts ([], rest) c r (sym (cut_here x rest t) ∙ h) in
-      let slash : x ≡ 47 = eqb-true x 47 t in
-      ((λ i. slash i ∷ is.1 i) ∙ ap (λ (front : List ℕ). front ++ 47 ∷ r) is.0, ap has_slash (sym is.0))
-  | inr f ↦
-      let more = more_some x (cut 47 rest) c r (sym (cut_later x rest f) ∙ h) in
-      let is = cut_some rest more.0 r more.1 in
-      (ap (λ (tail : List ℕ). x ∷ tail) is.0 ∙ ap (λ (front : List ℕ). front ++ 47 ∷ r) more.2, ap has_slash (sym more.2) ∙ no_slash_more x more.0 f is.1)
-]
+cut_some p c r h = cut_first 47 p c r h
 
 and_false : (a : Bool) → (a && false) ≡ false
 and_false true = refl

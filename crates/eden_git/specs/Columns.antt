@@ -1,5 +1,5 @@
--- The entries of a tree by columns: in the order in which they stand, the place where each begins, its id, its kind as a byte, and its
--- name. In bytes 47 is the slash, which no name has.
+-- The entries of a tree by columns: in the order in which they stand, the place where each begins (and where the last one ends), its id,
+-- its kind as a byte, and its name. In bytes 47 is the slash, which no name has.
 use Rattle.std.specs.Prelude.{◌≡◌, ℕ, List, [], ◌∷◌, ◌++◌, map, Option, Some, None}
 use Rattle.std.specs.List.{flat_map}
 use Rattle.eden_ids.specs.declared.id.Id.{Id}

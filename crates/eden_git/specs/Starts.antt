@@ -1,22 +1,35 @@
--- Where the entries of a tree's payload begin, and a search among them. Entries stand in the order of their keys.
-use Rattle.std.specs.Prelude.{◌≡◌, ℕ, Bool, false, if◌then◌else◌, List, [], ◌∷◌, map, drop, Option, Some, None, Result, Ok, Err}
+-- Where the entries of a tree's payload begin and end, and a search among them. Entries stand in the order of their keys.
+use Rattle.std.specs.Prelude.{◌≡◌, ◌+◌, ℕ, Bool, false, if◌then◌else◌, List, [], ◌∷◌, ◌++◌, map, length, codes, Option, Some, None}
 use Rattle.std.specs.Ordering.{nat_cmp, is_lt}
 use Rattle.std.specs.Cmp.Lexicographic.{slice_cmp}
 use Rattle.std.specs.List.Sorted.{IsStrictlySortedBy}
-use Rattle.eden_git.specs.declared.fault.EntryFault.{EntryFault}
-use Rattle.eden_git.specs.Trees.{Entry, entries_of, key, read_entry}
+use Rattle.eden_ids.specs.declared.content.Kind.{Kind}
+use Rattle.eden_ids.specs.declared.content.Kind.TheVariants.{Plain, Exec, Link}
+use Rattle.eden_git.specs.Trees.{Entry, entries_of, key}
 
--- the entry that begins at a place of a payload
-abbrev pub entry_read : Result (Entry × List ℕ) EntryFault → Option Entry
-entry_read (Err fault) = None
-entry_read (Ok read) = Some read.0
+-- the mode of a kind of entry
+abbrev pub mode_of : Option Kind → List ℕ
+mode_of None = codes "40000"
+mode_of (Some Plain) = codes "100644"
+mode_of (Some Exec) = codes "100755"
+mode_of (Some Link) = codes "120000"
 
-abbrev pub entry_at : List ℕ → ℕ → Option Entry
-entry_at payload start = entry_read (read_entry (drop start payload))
+-- the bytes of an entry
+abbrev pub written : Entry → List ℕ
+written e = mode_of e.kind ++ 32 ∷ (e.name ++ 0 ∷ e.id.0)
 
--- the entries of a payload begin at these places
+-- how many they are: an id is 20 bytes
+abbrev pub breadth : Entry → ℕ
+breadth e = length (mode_of e.kind) + length e.name + 22
+
+-- the places at which entries begin, of which the first is given, and behind them the place at which the last one ends
+abbrev pub places : ℕ → List Entry → List ℕ
+places start [] = start ∷ []
+places start (e ∷ es) = start ∷ places (start + breadth e) es
+
+-- these are the places of a payload's entries
 abbrev pub AreStarts : List ℕ → List ℕ → Type 0
-AreStarts payload starts = map (entry_at payload) starts ≡ map Some (entries_of payload)
+AreStarts payload starts = starts ≡ places 0 (entries_of payload)
 
 -- the keys of entries ascend
 abbrev pub AreInOrder : List Entry → Type 0

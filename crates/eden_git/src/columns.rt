@@ -1,5 +1,6 @@
 //! The entries of a tree as columns, so that those of two trees are compared column by column.
-ghost use Rattle.std.specs.Prelude.{◌≡◌, ◌≤◌, ◌++◌, ◌∷◌, [], length, IfOk, OnOk};
+ghost use Rattle.std.specs.Prelude.{◌≡◌, ◌≤◌, ◌++◌, ◌∷◌, [], length, IfOk, OnOk, Option};
+ghost use Rattle.eden_ids.specs.declared.content.Kind.{Kind};
 ghost use Rattle.eden_git.specs.Columns.{AreColumns, kind_byte};
 
 use crate::entry::{RawEntry, read_entry};
@@ -11,7 +12,7 @@ use std::alloc::Global;
 /// Beside the payload this takes some 26 bytes for each entry and the bytes of its name, up to twice that as the columns grow.
 #[derive(Drop)]
 pub struct Columns {
-    /// The place in the payload at which each entry begins.
+    /// The place in the payload at which each entry begins, and the place at which the last one ends.
     pub(crate) starts: Vec<u32>,
     pub(crate) ids: IdColumn,
     /// The kinds as bytes, 0 for a directory.
@@ -29,6 +30,18 @@ fn kind_byte(kind: Option<Kind>) -> u8
         Some(Kind::Plain) => 1,
         Some(Kind::Exec) => 2,
         Some(Kind::Link) => 3,
+    }
+}
+
+/// The kind for which a byte stands.
+pub(crate) fn kind_of(byte: u8) -> Option<Kind>
+    ensures { (kind : Option Kind) → byte ≡ kind_byte kind → result ≡ kind }
+{
+    match byte {
+        0 => None,
+        1 => Some(Kind::Plain),
+        2 => Some(Kind::Exec),
+        _ => Some(Kind::Link),
     }
 }
 
@@ -76,6 +89,8 @@ impl Columns {
             columns.push(start, &entry)?;
             rest = behind;
         }
+        let end = (payload.len() - rest.len()) as u32;
+        columns.starts.push(end)?;
         Ok(columns)
     }
 }

@@ -4,9 +4,9 @@ ghost use Rattle.eden_git.specs.Trees.{entries_of};
 ghost use Rattle.eden_git.specs.Entries.{option_plain};
 ghost use Rattle.eden_git.specs.Columns.{AreColumns, ids_of, kinds_of, names_of};
 
-use crate::columns::Columns;
+use crate::columns::{Columns, kind_of};
 use crate::entry::RawEntry;
-use crate::starts::entry_at;
+use crate::starts::entry_in;
 use eden_ids::IdColumn;
 use std::marker::Model;
 
@@ -45,15 +45,19 @@ impl<'a> Rows<'a> {
     pub fn len(&self) -> usize
         ensures { result ≡ length self.now }
     {
-        self.columns.starts.len()
+        self.columns.kinds.len()
     }
 
     /// The entry at a row, or `None` where there are no more.
     pub fn entry(&self, row: usize) -> Option<RawEntry<'a>>
         ensures { option_plain result ≡ slice_get self.now row }
     {
-        match self.columns.starts.get(row) {
-            Some(start) => entry_at(self.payload, *start),
+        let starts = self.columns.starts.as_slice();
+        match self.columns.kinds.get(row) {
+            Some(kind) => {
+                let bytes = &self.payload[starts[row] as usize..starts[row + 1] as usize];
+                Some(entry_in(bytes, kind_of(*kind)))
+            }
             None => None,
         }
     }

@@ -1,54 +1,67 @@
-//! A search among the entries of a tree, by the places at which they begin.
-ghost use Rattle.std.specs.Prelude.{◌≡◌};
-ghost use Rattle.eden_git.specs.Trees.{key};
+//! An entry that is read between two places that are kept, and a search among the entries of a tree.
+ghost use Rattle.std.specs.Prelude.{◌≡◌, ◌≤◌, ◌+◌, length, slice_get};
 ghost use Rattle.eden_git.specs.Entries.{option_plain, plain};
-ghost use Rattle.eden_git.specs.Starts.{AreInOrder, entry_at, first_from, is_before};
+ghost use Rattle.eden_git.specs.Starts.{AreInOrder, first_from, is_before, mode_of, written};
+ghost use Rattle.eden_git.specs.Trees.{Entry, key};
 
-use crate::entry::{RawEntry, read_entry};
+use crate::entry::RawEntry;
 use crate::order::key_order;
 use crate::rows::Rows;
+use eden_ids::{Id, Kind};
 use std::cmp::Ordering;
 
-/// The entry that begins at a place of a payload.
-pub(crate) fn entry_at(payload: &[u8], start: u32) -> Option<RawEntry<'_>>
-    ensures { option_plain result ≡ entry_at payload.now start }
+/// The number of digits in the mode of a kind.
+fn digits(kind: Option<Kind>) -> usize
+    ensures { result ≡ length (mode_of kind) }
 {
-    let start = start as usize;
-    if start > payload.len() {
-        return None;
-    }
-    match read_entry(&payload[start..]) {
-        Ok((entry, _)) => Some(entry),
-        Err(_) => None,
+    match kind {
+        None => 5,
+        Some(_) => 6,
     }
 }
 
-/// Whether the entry that begins at a place stands before another.
-fn is_before(payload: &[u8], start: u32, wanted: &RawEntry<'_>) -> bool
-    ensures { result ≡ is_before (key (plain wanted.now)) (entry_at payload.now start) }
+/// The entry of a kind that is written as these bytes. Nothing is sought in them.
+pub(crate) fn entry_in(bytes: &[u8], kind: Option<Kind>) -> RawEntry<'_>
+    requires { length (mode_of kind) + 22 ≤ length bytes.now }
+    ensures { (e : Entry) → bytes.now ≡ written e → kind ≡ e.kind → length e.id.0 ≡ 20 → plain result ≡ e }
 {
-    match entry_at(payload, start) {
-        Some(entry) => key_order(&entry, wanted) == Ordering::Less,
-        None => false,
+    match bytes.split_last_chunk::<20>() {
+        Some((front, id)) => RawEntry {
+            name: &front[digits(kind) + 1..front.len() - 1],
+            kind,
+            id: Id(*id),
+        },
+        // An id is there.
+        None => unreachable!(),
     }
 }
 
 impl<'a> Rows<'a> {
+    /// Whether the entry at a row stands before another.
+    fn is_before(&self, row: usize, wanted: &RawEntry<'_>) -> bool
+        ensures { result ≡ is_before (key (plain wanted.now)) (slice_get self.now row) }
+    {
+        match self.entry(row) {
+            Some(entry) => key_order(&entry, wanted) == Ordering::Less,
+            None => false,
+        }
+    }
+
     /// The first entry that doesn't stand before another one, by a search.
     pub(crate) fn first_from(&self, wanted: &RawEntry<'_>) -> Option<RawEntry<'a>>
         requires { AreInOrder self.now }
         ensures { option_plain result ≡ first_from (key (plain wanted.now)) self.now }
     {
-        let payload = self.payload;
-        let starts = self.columns.starts.as_slice();
-        let place = starts.partition_point(
-            |start: &u32| -> bool
-                ensures { result ≡ is_before (key (plain wanted.entry.now)) (entry_at payload.entry.now start.now) }
-            { is_before(payload, *start, wanted) },
-        );
-        match starts.get(place) {
-            Some(start) => entry_at(payload, *start),
-            None => None,
+        let mut low = 0;
+        let mut high = self.len();
+        'probes: while low < high {
+            let middle = low + (high - low) / 2;
+            if self.is_before(middle, wanted) {
+                low = middle + 1;
+            } else {
+                high = middle;
+            }
         }
+        self.entry(low)
     }
 }

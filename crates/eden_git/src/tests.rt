@@ -49,9 +49,33 @@ fn entries_by_rows(rt: HostRuntime) -> Result<(), Fail> {
         Some(b"a".as_slice())
     );
     assert!(rt; rows.entry(2).is_none());
+    assert_eq!(rt;
+        rows.entry(0).map(|entry| entry.kind),
+        Some(Some(Kind::Exec))
+    );
+    assert_eq!(rt; rows.entry(1).map(|entry| entry.kind), Some(None));
+    assert_eq!(rt; rows.entry(0).map(|entry| entry.id), Some(Id([1; 20])));
+    assert_eq!(rt; rows.entry(1).map(|entry| entry.id), Some(Id([2; 20])));
     assert_eq!(rt; rows.ids().len(), 2);
     assert_eq!(rt; rows.ids().get(1), Some(Id([2; 20])));
     assert_eq!(rt; rows.kinds(), [2, 0].as_slice());
+    Ok(())
+}
+
+#[test]
+fn rows_before_bytes_that_are_no_entry(rt: HostRuntime) -> Result<(), Fail> {
+    let mut payload = two_entries(rt.alloc())?;
+    payload.extend_from_slice(b"120000 a link\0".as_slice())?;
+    payload.extend_from_slice([3; 20].as_slice())?;
+    payload.extend_from_slice(b"100644 cut".as_slice())?;
+    let payload = &payload[..payload.len().min(200)];
+    let columns = Columns::of(rt.alloc(), payload)?;
+    let rows = Rows::new(payload, &columns);
+    assert_eq!(rt; rows.len(), 3);
+    let last = rows.entry(2);
+    assert_eq!(rt; last.map(|entry| entry.name), Some(b"a link".as_slice()));
+    assert_eq!(rt; last.map(|entry| entry.kind), Some(Some(Kind::Link)));
+    assert_eq!(rt; last.map(|entry| entry.id), Some(Id([3; 20])));
     Ok(())
 }
 

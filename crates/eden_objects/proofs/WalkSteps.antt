@@ -1,6 +1,8 @@
 -- One step of a walk down a path, from a directory to what its entries say of the path's first name.
-use Rattle.std.proofs.Common.{◌≡◌, ℕ, ◌+◌, ◌<◌, ◌++◌, Bool, true, false, cond, List, [], ◌∷◌, length, Option, Some, None, sym, ap, subst, ◌∙◌, arith, length-append}
-use Rattle.std.specs.List.{AllByRecursion}
+use Rattle.std.proofs.Common.{◌≡◌, ℕ, zero, suc, ◌+◌, ◌<◌, ◌++◌, Bool, true, false, cond, List, [], ◌∷◌, drop, length, Option, Some, None, sym, ap, subst, ◌∙◌, arith, length-append}
+use Rattle.std.proofs.Math.Seq.{drop-cons}
+use Rattle.std.proofs.lemmas.Option.{get_or_from_slice_get, slice_get_within}
+use Rattle.std.specs.List.{AllByRecursion, slice_get}
 use Rattle.eden_ids.specs.declared.id.Id.{Id}
 use Rattle.eden_ids.specs.declared.content.Kind.{Kind}
 use Rattle.eden_objects.specs.Objects.{Held, find, payload_of}
@@ -80,3 +82,16 @@ none_lent held id has is = let bad : Some (entries_in held id) ≡ None = tree_l
 
 pub order_here : (held : List Held) (id : Id) (es : List Entry) → IsClosed held → HasTree held id → Some es ≡ tree_entries held id → AreInOrder es
 order_here held id es closed has is = subst AreInOrder (sym (rows_lent held id es has is)) (tree_here held closed id has).1
+
+-- from a row on, the entry at the row comes first
+
+pub next_row : (es : List Entry) (row : ℕ) (e : Entry) → Some e ≡ slice_get es row → drop row es ≡ e ∷ drop (row + 1) es
+next_row es row e at =
+    let next : suc row ≡ row + 1 = omega arith in
+    drop-cons es row e (slice_get_within es row e (sym at))
+    ∙ ap (λ (f : Entry). f ∷ drop (suc row) es) (get_or_from_slice_get es row e e (sym at)) ∙ ap (λ n. e ∷ drop n es) next
+
+pub some_row : (es : List Entry) (row : ℕ) → row < length es → slice_get es row ≡ None → ⊥
+some_row [] row within none = absurd (omega (arith, within))
+some_row (e ∷ es) zero within none = cc none
+some_row (e ∷ es) (suc row) within none = some_row es row (omega (arith, within)) none

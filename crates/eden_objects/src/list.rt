@@ -8,7 +8,7 @@ ghost use Rattle.eden_objects.specs.Listings.{ArePaths, IsBelow, Lists, behind, 
 use crate::fault::{CommitFault, NoCommit};
 use crate::front::{enter, is_entered, is_wanted};
 use crate::store::Store;
-use eden_git::{cut, next_entry};
+use eden_git::cut;
 use eden_globs::Filter;
 use eden_ids::{Id, Kind, Naming, NoMemory, Path};
 use std::alloc::Global;
@@ -171,9 +171,15 @@ impl<N: Naming + Drop> Store<N> {
         if self.files(tree) == 0 {
             return Ok(());
         }
-        let mut rest = self.payload(tree);
-        'entries: while let Some((entry, after)) = next_entry(rest) {
-            rest = after;
+        let Some(rows) = self.rows(tree) else {
+            // The tree is there.
+            unreachable!()
+        };
+        'entries: for row in 0..rows.len() {
+            let Some(entry) = rows.entry(row) else {
+                // The row is one of them.
+                unreachable!()
+            };
             let Some(kind) = entry.kind else {
                 let entered = is_entered(&mut listing.front, filter, entry.name)?;
                 if !entered {

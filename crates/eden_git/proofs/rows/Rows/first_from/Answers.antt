@@ -1,39 +1,43 @@
-use Rattle.std.proofs.Common.{rules, of_calls, ◌≡◌, ◌∙◌, sym, subst, ap, Some, None}
-use Rattle.std.proofs.lemmas.Fn.{always_returns_same}
-use Rattle.std.proofs.lemmas.Option.{slice_get-get_or, slice_get_past}
+use Rattle.std.proofs.Common.{◌≡◌, ◌∙◌, ◌+◌, ◌/◌, ◌-◌, suc, ℕ, true, false, sym, ap, refl, arith, drop, length}
 use Rattle.std.specs.List.{slice_get}
 use Rattle.eden_git.specs.Entries.{plain}
-use Rattle.eden_git.specs.Starts.{AreInOrder, AreStarts, entry_at, first_from, is_before}
-use Rattle.eden_git.specs.Trees.{entries_of, key}
-use Rattle.eden_git.proofs.Searching.{found_at, starts_parted, then_at}
+use Rattle.eden_git.specs.Starts.{first_from, is_before}
+use Rattle.eden_git.specs.Trees.{key}
+use Rattle.eden_git.proofs.Searching.{none_at_end, passed, stays}
 use Rattle.eden_git.proofs.rows.Rows.first_from.Goals as goal
 
-pub returns-in-Some : goal.returns-in-Some
-returns-in-Some c =
+pub probes-init : goal.probes-init
+probes-init c =
     let wanted = key (plain c.args.wanted.now) in
-    let payload = c.self.inside.payload.now in
-    let starts = c.as_slice-starts.result.now in
-    let place = c.partition_point-place.result in
-    let are : AreStarts payload starts = subst (AreStarts payload) (sym c.as_slice-starts.ensures.value) c.self.invariant.0 in
-    let in_order : AreInOrder (entries_of payload) = subst AreInOrder (sym c.self.view_is) c.requires in
-    let point = c.partition_point-place.ensures.partitioned (λ start. is_before wanted (entry_at payload start)) (always_returns_same _ _ _ (λ a r f k. search (rules, of_calls)))
-    (starts_parted wanted payload starts are in_order) in
-    let at : slice_get starts place ≡ Some c.in-Some.start.now = slice_get-get_or starts place 0 (search rules) ∙ ap Some (search rules) in
-    c.entry_at.ensures ∙ sym (ap (then_at (entry_at payload)) at)
-    ∙ found_at wanted payload starts place are c.partition_point-place.ensures.bound point
-    ∙ ap (first_from wanted) c.self.view_is
+    let all : c.len-high.result ≡ length c.args.self.now = c.len-high.ensures in
+    record {
+      order = omega arith;
+      within = omega arith;
+      passed = refl;
+      stays = ap (λ row. slice_get c.args.self.now row) all ∙ none_at_end wanted c.args.self.now ∙ ap (λ row. first_from wanted (drop row c.args.self.now)) (sym all);
+    }
 
-pub returns-in-None : goal.returns-in-None
-returns-in-None c =
+pub probes-preserved-then-is_before : goal.probes-preserved-then-is_before
+probes-preserved-then-is_before c =
     let wanted = key (plain c.args.wanted.now) in
-    let payload = c.self.inside.payload.now in
-    let starts = c.as_slice-starts.result.now in
-    let place = c.partition_point-place.result in
-    let are : AreStarts payload starts = subst (AreStarts payload) (sym c.as_slice-starts.ensures.value) c.self.invariant.0 in
-    let in_order : AreInOrder (entries_of payload) = subst AreInOrder (sym c.self.view_is) c.requires in
-    let point = c.partition_point-place.ensures.partitioned (λ start. is_before wanted (entry_at payload start)) (always_returns_same _ _ _ (λ a r f k. search (rules, of_calls)))
-    (starts_parted wanted payload starts are in_order) in
-    let at : slice_get starts place ≡ None = slice_get_past starts place (search rules) in
-    sym (ap (then_at (entry_at payload)) at)
-    ∙ found_at wanted payload starts place are c.partition_point-place.ensures.bound point
-    ∙ ap (first_from wanted) c.self.view_is
+    let middle : ℕ = c.probes.low + (c.probes.high - c.probes.low) / 2 in
+    let before : is_before wanted (slice_get c.args.self.now middle) ≡ true = sym c.is_before.ensures ∙ c.if-is_before.true in
+    let next : suc middle ≡ middle + 1 = omega arith in
+    record {
+      order = omega arith;
+      within = omega arith;
+      passed = passed wanted c.args.self.now middle c.requires before ∙ ap (λ row. first_from wanted (drop row c.args.self.now)) next;
+      stays = c.probes.invariant.stays;
+    }
+
+pub probes-preserved : goal.probes-preserved
+probes-preserved c =
+    let wanted = key (plain c.args.wanted.now) in
+    let middle : ℕ = c.probes.low + (c.probes.high - c.probes.low) / 2 in
+    let later : is_before wanted (slice_get c.args.self.now middle) ≡ false = sym c.is_before.ensures ∙ c.if-is_before.false in
+    record {
+      order = omega arith;
+      within = omega arith;
+      passed = c.probes.invariant.passed;
+      stays = stays wanted c.args.self.now middle later;
+    }

@@ -1,12 +1,12 @@
-use Rattle.std.proofs.Common.{◌≡◌, ◌≤◌, ◌++◌, length}
+use Rattle.std.proofs.Common.{◌≡◌, ◌≤◌, ◌++◌, drop}
 use Rattle.std.specs.List.{AllByRecursion}
 use Rattle.eden_globs.specs.Filters.{admits}
-use Rattle.eden_git.specs.Trees.{entries_of}
 use Rattle.eden_objects.specs.Trees.{entries_depth, tree_depth}
 use Rattle.eden_objects.specs.Commits.{entries_rows, tree_rows}
 use Rattle.eden_objects.specs.Puts.{word_wanted}
 use Rattle.eden_objects.specs.Closed.{IsHeld}
 use Rattle.eden_objects.specs.Listings.{ArePaths, rows_behind}
+use Rattle.eden_objects.proofs.WalkSteps.{entries_in}
 use Rattle.eden_objects.proofs.store.Store.+gather.Given as goal
 
 abbrev pub decreases-gather : goal.decreases-gather
@@ -15,12 +15,9 @@ decreases-gather g l = tree_depth l.self.now l.tree
 abbrev pub invariant-entries : goal.invariant-entries
 invariant-entries g l = record {
   listed : l.fn.listing.rows.items ++ rows_behind (admits l.filter) l.fn.listing.front.items (tree_rows l.self l.fn.tree)
-      ≡ l.listing.rows.items ++ rows_behind (admits l.filter) l.fn.listing.front.items (entries_rows (tree_rows l.self) (entries_of l.rest));
+      ≡ l.listing.rows.items ++ rows_behind (admits l.filter) l.fn.listing.front.items (entries_rows (tree_rows l.self) (drop l.row (entries_in l.self l.fn.tree)));
   front : l.listing.front.items ≡ l.fn.listing.front.items;
-  held : AllByRecursion (λ e. IsHeld l.self (word_wanted e.kind) e.id) (entries_of l.rest);
-  paths : ArePaths l.fn.listing.front.items (entries_rows (tree_rows l.self) (entries_of l.rest));
-  below : entries_depth (tree_depth l.self) (entries_of l.rest) ≤ tree_depth l.self l.fn.tree;
+  held : AllByRecursion (λ e. IsHeld l.self (word_wanted e.kind) e.id) (drop l.row (entries_in l.self l.fn.tree));
+  paths : ArePaths l.fn.listing.front.items (entries_rows (tree_rows l.self) (drop l.row (entries_in l.self l.fn.tree)));
+  below : entries_depth (tree_depth l.self) (drop l.row (entries_in l.self l.fn.tree)) ≤ tree_depth l.self l.fn.tree;
 }
-
-abbrev pub decreases-entries : goal.decreases-entries
-decreases-entries g l = length l.rest
