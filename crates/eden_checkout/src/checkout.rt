@@ -39,7 +39,8 @@ fn present<T: FileTree>(alloc: Global, files: &T, paths: &[Path]) -> Result<Vec<
     Ok(present)
 }
 
-/// Those of some paths that are conflicts.
+/// Those of some paths that are conflicts. Each is searched for among the dirty paths, and only one of these, or one that clashes with
+/// one of them, is looked up in the trees.
 fn conflicts_among<W: FileTree, R: FileTree, T: FileTree, D: FileTree>(
     alloc: Global,
     sides: &Sides<'_, W, R, T, D>,
@@ -121,7 +122,7 @@ fn judge<'x, N: Naming + Drop, W: FileTree, R: FileTree, T: FileTree, D: FileTre
     root: &'x R,
     target: &'x T,
     dirty: &'x D,
-    changed: &[Path],
+    changed: &'x [Path],
     differing: &[Path],
 ) -> Result<Judged, NoMemory>
     requires files { IsFileMap (W.files work.now) }
@@ -142,6 +143,7 @@ fn judge<'x, N: Naming + Drop, W: FileTree, R: FileTree, T: FileTree, D: FileTre
         root,
         target,
         dirty,
+        changed,
     };
     let conflicts = conflicts_among(alloc, &sides, differing)?;
     match mode {

@@ -256,6 +256,26 @@ fn file_over_directory(rt: HostRuntime) -> Result<(), Fail> {
     Ok(())
 }
 
+/// A removed file of which the commit has another one is a conflict, where no dirty path has a file.
+#[test]
+fn removed_file(rt: HostRuntime) -> Result<(), Fail> {
+    let alloc = rt.alloc();
+    let commits = commits_of(alloc, b"axbxcx".as_slice(), b"aybycxdx".as_slice(), 0)?;
+    let commit = commits.second;
+    let paths = ["a", "b", "c", "d"];
+    let mut made = over_commit(alloc, commits.store, commits.first)?;
+    made.remove(alloc, "b")?;
+    assert_eq!(rt;
+        made.checkout(alloc, commit, Mode::Normal)?.as_slice(),
+        b"b \nb \n".as_slice()
+    );
+    assert_eq!(rt;
+        made.shown(alloc, paths.as_slice())?.as_slice(),
+        b"a=y c=x d=x ".as_slice()
+    );
+    Ok(())
+}
+
 #[test]
 fn no_commit(rt: HostRuntime) -> Result<(), Fail> {
     let alloc = rt.alloc();

@@ -1,14 +1,14 @@
 -- The files of a working copy that its root does not hold.
-use Rattle.std.proofs.Common.{◌≡◌, ℕ, Bool, true, false, cond, not, ◌&&◌, List, [], ◌∷◌, map, Option, Some, None, is_some, refl, sym, ap, subst, ◌∙◌}
+use Rattle.std.proofs.Common.{◌≡◌, ℕ, Bool, true, false, cond, not, ◌&&◌, List, [], ◌∷◌, length, Option, Some, None, is_some, refl, sym, ap, subst, ◌∙◌, arith}
 use Rattle.std.specs.List.{list_any}
 use Rattle.std.specs.List.Sorted.{IsStrictlySortedBy}
 use Rattle.std.specs.Prelude.{filter}
 use Rattle.std.specs.FinMap as fin
 use Rattle.eden_ids.specs.declared.content.Content.{Content}
 use Rattle.eden_ids.specs.Paths.{clashes}
-use Rattle.eden_ids.specs.FileMaps.{FileMap, clashes_any, file_at, paths, has, listing, differ, path_set}
+use Rattle.eden_ids.specs.FileMaps.{FileMap, clashes_any, file_at, paths, has, listing, differ, path_set, same_path}
 use Rattle.eden_ids.proofs.ByteOrder.{fin_keys_rise, order}
-use Rattle.eden_ids.proofs.FileMapLemmas.{has-differ, has-path_set}
+use Rattle.eden_ids.proofs.FileMapLemmas.{has-differ, has-listing, has-path_set}
 use Rattle.eden_ids.proofs.Sifted.{listing_of}
 use Rattle.eden_ids.proofs.TreeMaps.{listing-same}
 use Rattle.eden_history.specs.Checkouts.{is_clean, clashes_dirty}
@@ -29,11 +29,29 @@ is_dirty_file work root p = ap is_some (file_at-dirty work root p) ∙ turned (n
     turned false None = refl
     turned false (Some f) = refl
 
-pub clean_is_absent : (work root : FileMap) (p : List ℕ) → is_clean work root p ≡ true → file_at (dirty_files work root) p ≡ None
-clean_is_absent work root p clean = file_at-dirty work root p ∙ ap (λ b. cond (not b) (file_at work p) None) clean
+-- the paths of the dirty files are those at which the map of them has one
+listed_is : (work root : FileMap) (ps : List (List ℕ)) (p : List ℕ) → ps ≡ paths (dirty_files work root)
+    → is_some (file_at (dirty_files work root) p) ≡ list_any (λ q. same_path p q) ps
+listed_is work root ps p is = fin.contains_key-keys (dirty_files work root) p ∙ ap (list_any (λ q. same_path p q)) (sym is)
 
-pub dirty_is_there : (work root : FileMap) (p : List ℕ) → is_clean work root p ≡ false → file_at (dirty_files work root) p ≡ file_at work p
-dirty_is_there work root p dirty = file_at-dirty work root p ∙ ap (λ b. cond (not b) (file_at work p) None) dirty
+-- so at one of them the working copy's file is dirty, and at any other path none is
+pub listed_is_there : (work root : FileMap) (ps : List (List ℕ)) (p : List ℕ) → ps ≡ paths (dirty_files work root) → list_any (λ q. same_path p q) ps ≡ true
+    → file_at (dirty_files work root) p ≡ file_at work p
+listed_is_there work root ps p is listed =
+    by (is_clean work root p) (file_at work p) (file_at-dirty work root p) (listed_is work root ps p is ∙ listed)
+  where
+    by : (clean : Bool) (f : Option Content) → file_at (dirty_files work root) p ≡ cond (not clean) f None → is_some (file_at (dirty_files work root) p) ≡ true
+        → file_at (dirty_files work root) p ≡ f
+    by true f e some = absurd (let bad : false ≡ true = sym (ap is_some e) ∙ some in cc)
+    by false f e some = e
+
+pub unlisted_is_absent : (work root : FileMap) (ps : List (List ℕ)) (p : List ℕ) → ps ≡ paths (dirty_files work root) → list_any (λ q. same_path p q) ps ≡ false
+    → file_at (dirty_files work root) p ≡ None
+unlisted_is_absent work root ps p is unlisted = by (file_at (dirty_files work root) p) (listed_is work root ps p is ∙ unlisted)
+  where
+    by : (f : Option Content) → is_some f ≡ false → f ≡ None
+    by None none = refl
+    by (Some f) none = absurd (cc)
 
 -- ---- as a list
 
@@ -46,7 +64,25 @@ dirty_listed work root =
     members : (p : List ℕ) → has (path_set (paths (dirty_files work root))) p ≡ is_some (file_at (dirty_files work root) p)
     members p = has-path_set (paths (dirty_files work root)) p ∙ sym (fin.contains_key-keys (dirty_files work root) p)
 
+-- a path is clean unless it is one of those on which working copy and root differ
+pub clean_unless_listed : (work root : FileMap) (ps : List (List ℕ)) (p : List ℕ) → ps ≡ listing (differ work root) → is_clean work root p ≡ not (list_any (λ q. same_path p q) ps)
+clean_unless_listed work root ps p is =
+    twice (is_clean work root p)
+    ∙ ap not (sym (has-differ work root p) ∙ has-listing (differ work root) p ∙ ap (list_any (λ q. same_path p q)) (sym is))
+  where
+    twice : (b : Bool) → b ≡ not (not b)
+    twice true = refl
+    twice false = refl
+
+-- and these stand in byte order
+pub changed_rise : (work root : FileMap) (ps : List (List ℕ)) → ps ≡ listing (differ work root) → IsStrictlySortedBy order ps
+changed_rise work root ps is = subst (IsStrictlySortedBy order) (sym is) (fin_keys_rise (differ work root))
+
 -- ---- clashes
+
+no_length : (ps : List (List ℕ)) → length ps ≡ 0 → ps ≡ []
+no_length [] none = refl
+no_length (p ∷ ps) none = absurd (omega arith)
 
 by_both : (a b : Bool) → (a ≡ true → b ≡ true) → (b ≡ true → a ≡ true) → a ≡ b
 by_both true b f g = sym (f refl)
@@ -85,10 +121,17 @@ clashes-dirty_files work root p = by_both _ _ there back
 pub dirty_clashes : (work root dirty : FileMap) (p : List ℕ) → paths dirty ≡ paths (dirty_files work root) → clashes_any dirty p ≡ clashes_dirty work root p
 dirty_clashes work root dirty p is = ap (list_any (λ q. clashes p q)) is ∙ sym (clashes-dirty_files work root p)
 
--- the paths of the dirty files stand in byte order
-pub dirty_rise : (work root : FileMap) (ps : List (List ℕ)) → ps ≡ paths (dirty_files work root) → IsStrictlySortedBy order (map (λ p. p) ps)
-dirty_rise work root ps is = subst (IsStrictlySortedBy order) (sym (itself ps ∙ is)) (fin_keys_rise (dirty_files work root))
+-- where each path is clean, no path clashes with a dirty one
+pub none_clashes : (work root : FileMap) (ps : List (List ℕ)) (p : List ℕ) → ps ≡ listing (differ work root) → length ps ≡ 0 → clashes_dirty work root p ≡ false
+none_clashes work root ps p is none = by (clashes_dirty work root p) refl
   where
-    itself : (qs : List (List ℕ)) → map (λ p. p) qs ≡ qs
-    itself [] = refl
-    itself (q ∷ qs) = ap (λ rest. q ∷ rest) (itself qs)
+    by : (b : Bool) → clashes_dirty work root p ≡ b → b ≡ false
+    by false e = refl
+    by true e =
+        let found = any_found (λ q. clashes p q && not (is_clean work root q)) (paths work) e in
+        let dirty = (split (clashes p found.0) (not (is_clean work root found.0)) found.2).1 in
+        absurd (let bad : true ≡ false = sym dirty ∙ ap not (clean_unless_listed work root ps found.0 is ∙ ap (λ qs. not (list_any (λ q. same_path found.0 q) qs)) (no_length ps none)) in cc)
+
+-- the paths of the dirty files stand in byte order
+pub dirty_rise : (work root : FileMap) (ps : List (List ℕ)) → ps ≡ paths (dirty_files work root) → IsStrictlySortedBy order ps
+dirty_rise work root ps is = subst (IsStrictlySortedBy order) (sym is) (fin_keys_rise (dirty_files work root))

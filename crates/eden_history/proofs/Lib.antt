@@ -1,5 +1,6 @@
 pub mod CheckoutLaws
 pub mod DirtyFiles
+mod SortedPaths
 pub mod RenameLaws
 pub mod Committed
 pub mod Steps

@@ -2,7 +2,8 @@ ghost use Rattle.std.specs.Prelude.{◌≡◌};
 ghost use Rattle.eden_ids.specs.FileMaps.{paths};
 ghost use Rattle.eden_history.specs.DirtyFiles.{dirty_files};
 
-use eden_ids::{FileTree, Kind, Path, has_path_below, is_same_at};
+use crate::listed::is_listed;
+use eden_ids::{FileTree, Kind, Path, has_path_below};
 
 /// The dirty files: those of a working copy at the paths at which it holds something else than the commit below it.
 #[derive(Drop)]
@@ -21,12 +22,11 @@ impl<'a, W: FileTree, R: FileTree> FileTree for Dirty<'a, W, R> {
 
     ghost files = { λ d. dirty_files (W.files d.work.now) (R.files d.root.now) };
 
-    #[tactic(auto, using(crate::proofs::DirtyFiles::clean_is_absent, crate::proofs::DirtyFiles::dirty_is_there))]
     fn file(&self, path: &[u8]) -> Option<(Kind, &[u8])> {
-        if is_same_at(self.work, self.root, path) {
-            None
-        } else {
+        if is_listed(self.listed, path) {
             self.work.file(path)
+        } else {
+            None
         }
     }
 

@@ -36,6 +36,7 @@ mod files;
 #[cfg(test)]
 mod files_tests;
 mod lengths;
+mod listed;
 mod mark;
 mod message;
 mod mount_fault;

@@ -1,13 +1,14 @@
 ghost use Rattle.std.specs.Prelude.{◌≡◌, ◌&&◌, ◌||◌, if◌then◌else◌, is_some, not};
-ghost use Rattle.eden_ids.specs.FileMaps.{file_at, lent, paths, same_file};
+ghost use Rattle.eden_ids.specs.FileMaps.{differ, file_at, lent, listing, paths, same_file};
 ghost use Rattle.eden_history.specs.Checkouts.{clashes_dirty, force_rule, is_blocked, is_clean, is_conflict, normal_rule, rule_of};
 ghost use Rattle.eden_history.specs.DirtyFiles.{dirty_files};
 
 use crate::change::Mode;
+use crate::listed::is_listed;
 use eden_ids::{FileTree, Kind, Path, clashes_any, has_file, is_same_at};
 
-/// What a checkout is judged by: what a working copy holds, the commit below it, the commit that is checked out, and those files of the
-/// working copy that the commit below it does not hold.
+/// What a checkout is judged by: what a working copy holds, the commit below it, the commit that is checked out, the paths that are not
+/// clean, and the files that the working copy holds at these.
 ///
 /// Each question is answered without memory.
 #[derive(Drop)]
@@ -20,30 +21,35 @@ pub struct Sides<'a, W: FileTree, R: FileTree, T: FileTree, D: FileTree> {
     pub target: &'a T,
     /// The files of the working copy at the paths that are not clean.
     pub dirty: &'a D,
+    /// The paths that are not clean, in byte order.
+    pub changed: &'a [Path],
     ghost differs: { paths (D.files dirty.now) ≡ paths (dirty_files (W.files work.now) (R.files root.now)) },
+    ghost each: { changed.now ≡ listing (differ (W.files work.now) (R.files root.now)) },
 }
 
 impl<'a, W: FileTree, R: FileTree, T: FileTree, D: FileTree> Sides<'a, W, R, T, D> {
     /// Whether the working copy holds at a path what the commit below it does.
+    #[tactic(auto, using(crate::proofs::DirtyFiles::clean_unless_listed))]
     pub fn is_clean(&self, path: &[u8]) -> bool
         ensures { result ≡ is_clean (W.files self.now.work.now) (R.files self.now.root.now) path.now }
     {
-        is_same_at(self.work, self.root, path)
+        !is_listed(self.changed, path)
     }
 
     /// Whether a path clashes with a dirty path at which the working copy holds a file.
-    #[tactic(auto, using(crate::proofs::DirtyFiles::dirty_clashes))]
+    #[tactic(auto, using(crate::proofs::DirtyFiles::dirty_clashes, crate::proofs::DirtyFiles::none_clashes))]
     pub fn clashes_dirty(&self, path: &Path) -> bool
         ensures { result ≡ clashes_dirty (W.files self.now.work.now) (R.files self.now.root.now) path.now }
     {
-        clashes_any(self.dirty, path)
+        // Where every path is clean, the path's slashes are not looked for.
+        !self.changed.is_empty() && clashes_any(self.dirty, path)
     }
 
     /// Whether a path is the target's and clashes with a dirty path at which the working copy holds a file.
     pub fn is_blocked(&self, path: &Path) -> bool
         ensures { result ≡ is_blocked (W.files self.now.work.now) (R.files self.now.root.now) (T.files self.now.target.now) path.now }
     {
-        has_file(self.target, path.as_bytes()) && self.clashes_dirty(path)
+        self.clashes_dirty(path) && has_file(self.target, path.as_bytes())
     }
 
     /// Whether the target has another file at a path than the root, and another than the working copy.
@@ -54,7 +60,7 @@ impl<'a, W: FileTree, R: FileTree, T: FileTree, D: FileTree> Sides<'a, W, R, T, 
         !is_same_at(self.root, self.target, path) && !is_same_at(self.work, self.target, path)
     }
 
-    /// Whether a path is a conflict.
+    /// Whether a path is a conflict. It is looked up in the trees only where it is not clean, or clashes with a dirty file.
     pub fn is_conflict(&self, path: &Path) -> bool
         ensures { result ≡ is_conflict (W.files self.now.work.now) (R.files self.now.root.now) (T.files self.now.target.now) path.now }
     {

@@ -1,5 +1,4 @@
 use Rattle.std.proofs.Common.{sym, ap, ◌∙◌}
-use Rattle.std.specs.FinMap as fin
 use Rattle.eden_ids.specs.FileMaps.{path_set, union}
 use Rattle.eden_ids.proofs.Tables.{union-more, union-none}
 use Rattle.eden_history.proofs.files.Files.add_paths.Goals as goal
