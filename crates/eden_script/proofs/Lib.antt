@@ -1,4 +1,5 @@
 mod EntryLemmas
 pub mod EscapeLemmas
+pub mod Growing
 pub mod NumberLemmas
 pub mod WordLemmas

@@ -1,4 +1,5 @@
 pub mod Escapes
+pub mod Fronts
 pub mod LabelWords
 pub mod Labels
 pub mod Laws
@@ -6,3 +7,4 @@ pub mod Numbers
 pub mod ScriptLines
 pub mod ScriptText
 pub mod Words
+pub mod internal

@@ -1,14 +1,19 @@
-ghost use Rattle.std.specs.Prelude.{◌≡◌, ◌++◌, length, take, map, OnOk, OnErr, IfOk};
+ghost use Rattle.std.specs.Prelude.{◌≡◌, ◌++◌, length, take, map, MatchOption, OnOk, OnErr, IfOk};
 ghost use Rattle.std.specs.List.{flat_map};
 ghost use Rattle.std.specs.Option.{option_map, option_copied};
 ghost use Rattle.eden_script.specs.Escapes.{meaning_of, unescaped, escaped_byte, escaped};
+ghost use Rattle.eden_script.specs.Fronts.{KeepsFront};
+ghost use Rattle.eden_script.specs.internal.Runs.{IsPlain, EndsPlain, HasNoBackslash, HasBackslashAt};
 
+use bstr::ByteSlice;
 use std::alloc::{AllocError, Global};
 
 /// Appends the bytes as they are. Where memory runs out the text stays as it was.
+#[tactic(auto, using(crate::proofs::Growing::grown_keeps))]
 pub fn push_bytes(text: &mut Vec<u8>, bytes: &[u8]) -> Result<(), AllocError>
     ensures ok { OnOk result (text.new.items ≡ text.old.items ++ bytes.now) }
     ensures err { OnErr result (text.new.items ≡ text.old.items) }
+    ensures front { KeepsFront text.old.items text.new.items }
 {
     text.extend_from_slice(bytes)
 }
@@ -16,10 +21,11 @@ pub fn push_bytes(text: &mut Vec<u8>, bytes: &[u8]) -> Result<(), AllocError>
 /// Appends the bytes escaped, as one word: a backslash as `\\`, a line feed as `\n`, a space as
 /// `\s`, any other byte as it is, and `\e` where there are no bytes. Where memory runs out the text
 /// stays as it was.
-#[tactic(auto, unfolding(crate::specs::Escapes::escaped))]
+#[tactic(auto, unfolding(crate::specs::Escapes::escaped), using(crate::proofs::Growing::grown_keeps))]
 pub fn push_escaped(text: &mut Vec<u8>, bytes: &[u8]) -> Result<(), AllocError>
     ensures ok { OnOk result (text.new.items ≡ text.old.items ++ escaped bytes.now) }
     ensures err { OnErr result (text.new.items ≡ text.old.items) }
+    ensures front { KeepsFront text.old.items text.new.items }
 {
     if bytes.is_empty() {
         return text.extend_from_slice(br"\e");
@@ -32,15 +38,28 @@ pub fn push_escaped(text: &mut Vec<u8>, bytes: &[u8]) -> Result<(), AllocError>
     pushed
 }
 
-// Where memory runs out some of the bytes may have been appended.
+// The place of the first byte that is not written as it is.
+#[tactic(auto, unfolding(bstr::specs::Bytes::is_in))]
+fn first_escaped(bytes: &[u8]) -> Option<usize>
+    ensures { MatchOption result (IsPlain bytes.now) (EndsPlain bytes.now) }
+{
+    bytes.find_byteset(b"\\\n ".as_slice())
+}
+
+// Bytes that are written as they are go in together. Where memory runs out some of the bytes may
+// have been appended.
 fn push_each_escaped(text: &mut Vec<u8>, bytes: &[u8]) -> Result<(), AllocError>
     ensures ok { OnOk result (text.new.items ≡ text.old.items ++ flat_map escaped_byte bytes.now) }
     ensures err { OnErr result (take (length text.old.items) text.new.items ≡ text.old.items) }
 {
-    for byte in bytes {
-        push_escaped_byte(text, *byte)?;
+    let mut start = 0;
+    while let Some(size) = first_escaped(&bytes[start..]) {
+        let place = start + size;
+        push_bytes(text, &bytes[start..place])?;
+        push_escaped_byte(text, bytes[place])?;
+        start = place + 1;
     }
-    Ok(())
+    push_bytes(text, &bytes[start..])
 }
 
 fn push_escaped_byte(text: &mut Vec<u8>, byte: u8) -> Result<(), AllocError>
@@ -71,19 +90,24 @@ fn meaning(code: u8) -> Option<&'static [u8]>
     }
 }
 
-// The bytes that `text` stands for, or `None` where one of its backslashes has no meaning.
+// The place of the first backslash.
+fn first_backslash(bytes: &[u8]) -> Option<usize>
+    ensures { MatchOption result (HasNoBackslash bytes.now) (HasBackslashAt bytes.now) }
+{
+    bytes.find_byte(b'\\')
+}
+
+// The bytes that `text` stands for, or `None` where one of its backslashes has no meaning. Those up
+// to a backslash are read together.
 pub(crate) fn unescape(alloc: Global, text: &[u8]) -> Result<Option<Vec<u8>>, AllocError>
     ensures { IfOk result (λ bytes. option_map (λ v. v.items) bytes ≡ unescaped text.now) }
 {
     let mut bytes = Vec::new(alloc);
     let mut rest = text;
-    while let [first, tail @ ..] = rest {
-        rest = tail;
-        if *first != b'\\' {
-            bytes.push(*first)?;
-            continue;
-        }
-        let [code, tail @ ..] = rest else {
+    while let Some(place) = first_backslash(rest) {
+        let (plain, escape) = rest.split_at(place);
+        bytes.extend_from_slice(plain)?;
+        let [_, code, tail @ ..] = escape else {
             return Ok(None);
         };
         let Some(meant) = meaning(*code) else {
@@ -92,5 +116,6 @@ pub(crate) fn unescape(alloc: Global, text: &[u8]) -> Result<Option<Vec<u8>>, Al
         bytes.extend_from_slice(meant)?;
         rest = tail;
     }
+    bytes.extend_from_slice(rest)?;
     Ok(Some(bytes))
 }

@@ -1,4 +1,5 @@
 ghost use Rattle.std.specs.Prelude.{◌≡◌, ◌++◌, OnOk, OnErr, decimal};
+ghost use Rattle.eden_script.specs.Fronts.{KeepsFront};
 ghost use Rattle.eden_script.specs.Numbers.{number_of};
 
 use itoa::Buffer;
@@ -26,9 +27,11 @@ pub fn number(word: &[u8]) -> Option<u64>
 }
 
 /// Appends the decimal text of `n`. Where memory runs out the text stays as it was.
+#[tactic(auto, using(crate::proofs::Growing::grown_keeps))]
 pub fn push_number(text: &mut Vec<u8>, n: u64) -> Result<(), AllocError>
     ensures ok { OnOk result (text.new.items ≡ text.old.items ++ decimal n) }
     ensures err { OnErr result (text.new.items ≡ text.old.items) }
+    ensures front { KeepsFront text.old.items text.new.items }
 {
     text.extend_from_slice(Buffer::new().format(n).as_bytes())
 }

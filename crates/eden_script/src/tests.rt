@@ -27,6 +27,8 @@ fn lines_with_words(rt: HostRuntime) -> Result<(), Fail> {
         (br"a\eb", b"ab|"),
         (br"\\n", br"\n|"),
         (br"a\sb c\nd \e", b"a b|c\nd||"),
+        (br"\s\slib/x.rs\s", b"  lib/x.rs |"),
+        (br"no\\ne no_escape_in_here", br"no\ne|no_escape_in_here|"),
         (b"\xff\t", b"\xff\t|"),
     ];
     for (line, wanted) in lines {
@@ -100,6 +102,8 @@ fn escaped_texts(rt: HostRuntime) -> Result<(), Fail> {
         (b"\xff", b">\xff"),
         (b"e", b">e"),
         (b"a b\nc\\", br">a\sb\nc\\"),
+        (b"  lib/x.rs \n\n", br">\s\slib/x.rs\s\n\n"),
+        (b"no_escape_in_here", b">no_escape_in_here"),
     ];
     for (bytes, wanted) in texts {
         let mut text = Vec::from_slice(rt.alloc(), b">")?;
