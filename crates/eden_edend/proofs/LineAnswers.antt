@@ -1,5 +1,5 @@
 -- What a session answers to a line, by what the line is.
-use Rattle.std.proofs.Common.{◌≡◌, ℕ, List, [], ◌∷◌, ◌++◌, Option, Some, None, refl, sym, ap, ◌∙◌}
+use Rattle.std.proofs.Common.{◌≡◌, ℕ, List, ◌∷◌, Option, Some, None, refl, sym, ap, ◌∙◌}
 use Rattle.std.specs.Prelude.{option_and_then, option_map}
 use Rattle.eden_script.specs.Words.{words_of}
 use Rattle.eden_stream.specs.Scripts.{in_front}
@@ -22,16 +22,16 @@ refuses_unread mount objects script line stands spoken unread = λ more.
     stands.4 (line ∷ more) ∙ spoken-text (session_of stands.0 stands.1 objects.labels) line more spoken
     ∙ ap (λ command. continued (option_map (told (session_of stands.0 stands.1 objects.labels)) command) (λ next. script_text next more)) (sym unread)
 
-pub takes_command : (mount next : Option State) (objects after : Objects) (script : List (List ℕ) → Option (List ℕ)) (line old new printed : List ℕ) (command : Command)
+pub takes_command : (mount next : Option State) (objects after : Objects) (script : List (List ℕ) → Option (List ℕ)) (line old new : List ℕ) (command : Command)
     → (stands : SessionStands mount objects script) → IsSpoken line
     → Some command ≡ option_and_then command_of (words_of line)
-    → Tells (told (session_of stands.0 stands.1 objects.labels) command) next after [] printed → new ≡ old ++ printed
+    → Tells (told (session_of stands.0 stands.1 objects.labels) command) next after old new
     → TakesLine (SessionStands next after) script line old new
-takes_command mount next objects after script line old new printed command stands spoken read tells grown = record {
+takes_command mount next objects after script line old new command stands spoken read tells = record {
   printed = step.1;
   next = script_text step.0;
   stands = (step.0.mounted, step.0.held, tells.0, tells.1, λ lines. ap (λ bindings. script_text (session_of step.0.mounted step.0.held bindings) lines) (sym tells.2));
-  appended = grown ∙ ap (λ text. old ++ text) tells.3;
+  appended = tells.3;
   goes_on = λ more.
       stands.4 (line ∷ more) ∙ spoken-text (session_of stands.0 stands.1 objects.labels) line more spoken
       ∙ ap (λ o. continued (option_map (told (session_of stands.0 stands.1 objects.labels)) o) (λ at. script_text at more)) (sym read)

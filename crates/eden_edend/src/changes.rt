@@ -5,6 +5,7 @@ ghost use Rattle.eden_ids.specs.Paths.{path_fault};
 ghost use Rattle.eden_history.specs.declared.change.Change.TheVariants as change;
 ghost use Rattle.eden_history.specs.Worlds.{WorldState};
 ghost use Rattle.eden_accumulate.specs.Mounts.{StandsFor};
+ghost use Rattle.eden_script.specs.Fronts.{KeepsFront};
 ghost use Rattle.eden_script.specs.Labels.{bound};
 ghost use Rattle.eden_script.specs.ScriptText as script;
 ghost use Rattle.eden_edend.specs.internal.Told.{MountTells, PathOrRefusal};
@@ -22,7 +23,8 @@ fn path_or_refusal(
     word: &Word,
     text: &mut Vec<u8>,
 ) -> Result<Option<Path>, AllocError>
-    ensures { IfOk result (λ path. PathOrRefusal word.now path text.old.items text.new.items) }
+    ensures told { IfOk result (λ path. PathOrRefusal word.now path text.old.items text.new.items) }
+    ensures front { KeepsFront text.old.items text.new.items }
 {
     match Path::parse(alloc, word.as_bytes()) {
         Ok(path) => Ok(Some(path)),
@@ -44,7 +46,8 @@ pub(crate) fn tell_write(
     bytes: &Word,
     text: &mut Vec<u8>,
 ) -> Result<(), AllocError>
-    ensures { (world : WorldState) → StandsFor mount.old world → OnOk result (MountTells (script.changed labels.now world (path_fault path.now) (change.Write path.now kind bytes.now)) mount.new text.old.items text.new.items) }
+    ensures told { (world : WorldState) → StandsFor mount.old world → OnOk result (MountTells (script.changed labels.now world (path_fault path.now) (change.Write path.now kind bytes.now)) mount.new text.old.items text.new.items) }
+    ensures front { KeepsFront text.old.items text.new.items }
 {
     let Some(path) = path_or_refusal(alloc, path, text)? else {
         return Ok(());
@@ -61,7 +64,8 @@ pub(crate) fn tell_remove(
     path: &Word,
     text: &mut Vec<u8>,
 ) -> Result<(), AllocError>
-    ensures { (world : WorldState) → StandsFor mount.old world → OnOk result (MountTells (script.changed labels.now world (path_fault path.now) (change.Remove path.now)) mount.new text.old.items text.new.items) }
+    ensures told { (world : WorldState) → StandsFor mount.old world → OnOk result (MountTells (script.changed labels.now world (path_fault path.now) (change.Remove path.now)) mount.new text.old.items text.new.items) }
+    ensures front { KeepsFront text.old.items text.new.items }
 {
     let Some(path) = path_or_refusal(alloc, path, text)? else {
         return Ok(());
@@ -79,7 +83,8 @@ pub(crate) fn tell_rename(
     new: &Word,
     text: &mut Vec<u8>,
 ) -> Result<(), AllocError>
-    ensures { (world : WorldState) → StandsFor mount.old world → OnOk result (MountTells (script.changed labels.now world (script.first_path_fault (path_fault old.now) (path_fault new.now)) (change.Rename old.now new.now)) mount.new text.old.items text.new.items) }
+    ensures told { (world : WorldState) → StandsFor mount.old world → OnOk result (MountTells (script.changed labels.now world (script.first_path_fault (path_fault old.now) (path_fault new.now)) (change.Rename old.now new.now)) mount.new text.old.items text.new.items) }
+    ensures front { KeepsFront text.old.items text.new.items }
 {
     let Some(old) = path_or_refusal(alloc, old, text)? else {
         return Ok(());
@@ -97,7 +102,8 @@ pub(crate) fn tell_flush(
     labels: &Labels,
     text: &mut Vec<u8>,
 ) -> Result<(), AllocError>
-    ensures { (world : WorldState) → StandsFor mount.old world → OnOk result (MountTells (script.made labels.now world change.Flush) mount.new text.old.items text.new.items) }
+    ensures told { (world : WorldState) → StandsFor mount.old world → OnOk result (MountTells (script.made labels.now world change.Flush) mount.new text.old.items text.new.items) }
+    ensures front { KeepsFront text.old.items text.new.items }
 {
     let made = mount.flush();
     push_made(text, labels, &made)
@@ -110,7 +116,8 @@ pub(crate) fn tell_remount(
     generation: u64,
     text: &mut Vec<u8>,
 ) -> Result<(), AllocError>
-    ensures { (world : WorldState) → StandsFor mount.old world → OnOk result (MountTells (script.made labels.now world (change.Remount generation)) mount.new text.old.items text.new.items) }
+    ensures told { (world : WorldState) → StandsFor mount.old world → OnOk result (MountTells (script.made labels.now world (change.Remount generation)) mount.new text.old.items text.new.items) }
+    ensures front { KeepsFront text.old.items text.new.items }
 {
     let made = mount.remount(generation);
     push_made(text, labels, &made)
@@ -122,7 +129,8 @@ fn reset(
     commit: Id,
     text: &mut Vec<u8>,
 ) -> Result<(), AllocError>
-    ensures { (world : WorldState) → StandsFor mount.old world → OnOk result (MountTells (script.made labels.now world (change.Reset commit)) mount.new text.old.items text.new.items) }
+    ensures told { (world : WorldState) → StandsFor mount.old world → OnOk result (MountTells (script.made labels.now world (change.Reset commit)) mount.new text.old.items text.new.items) }
+    ensures front { KeepsFront text.old.items text.new.items }
 {
     let made = mount.reset(commit);
     push_made(text, labels, &made)
@@ -135,7 +143,8 @@ pub(crate) fn tell_reset(
     label: &Label,
     text: &mut Vec<u8>,
 ) -> Result<(), AllocError>
-    ensures { (world : WorldState) → StandsFor mount.old world → OnOk result (MountTells (script.moved labels.now world (bound labels.now label.now) (λ commit. change.Reset commit)) mount.new text.old.items text.new.items) }
+    ensures told { (world : WorldState) → StandsFor mount.old world → OnOk result (MountTells (script.moved labels.now world (bound labels.now label.now) (λ commit. change.Reset commit)) mount.new text.old.items text.new.items) }
+    ensures front { KeepsFront text.old.items text.new.items }
 {
     match labels.get(label) {
         Some(commit) => reset(mount, labels, commit, text),
@@ -151,7 +160,8 @@ fn checkout(
     mode: Mode,
     text: &mut Vec<u8>,
 ) -> Result<(), AllocError>
-    ensures { (world : WorldState) → StandsFor mount.old world → OnOk result (MountTells (script.made labels.now world (change.Checkout commit mode)) mount.new text.old.items text.new.items) }
+    ensures told { (world : WorldState) → StandsFor mount.old world → OnOk result (MountTells (script.made labels.now world (change.Checkout commit mode)) mount.new text.old.items text.new.items) }
+    ensures front { KeepsFront text.old.items text.new.items }
 {
     let checked = mount.checkout(commit, mode);
     push_checked(text, labels, &checked)
@@ -165,7 +175,8 @@ pub(crate) fn tell_checkout(
     mode: Mode,
     text: &mut Vec<u8>,
 ) -> Result<(), AllocError>
-    ensures { (world : WorldState) → StandsFor mount.old world → OnOk result (MountTells (script.moved labels.now world (bound labels.now label.now) (λ commit. change.Checkout commit mode)) mount.new text.old.items text.new.items) }
+    ensures told { (world : WorldState) → StandsFor mount.old world → OnOk result (MountTells (script.moved labels.now world (bound labels.now label.now) (λ commit. change.Checkout commit mode)) mount.new text.old.items text.new.items) }
+    ensures front { KeepsFront text.old.items text.new.items }
 {
     match labels.get(label) {
         Some(commit) => checkout(mount, labels, commit, mode, text),

@@ -5,6 +5,7 @@ ghost use Rattle.eden_objects.specs.Commits.{commit_map};
 ghost use Rattle.eden_objects.specs.Files.{commit_files};
 ghost use Rattle.eden_history.specs.Worlds.{WorldState, opened};
 ghost use Rattle.eden_accumulate.specs.Mounts.{StandsFor};
+ghost use Rattle.eden_script.specs.Fronts.{KeepsFront};
 ghost use Rattle.eden_script.specs.ScriptText as script;
 ghost use Rattle.eden_edend.specs.internal.Told.{Tells, session_at};
 
@@ -48,7 +49,8 @@ pub(crate) fn tell_mount(
     text: &mut Vec<u8>,
 ) -> Result<(), AllocError>
     requires { mount.old ≡ None }
-    ensures { OnOk result (Tells (script.with_mount (session_at None objects.old) (script.mount_told objects.old.store objects.old.labels None label.now generation limit)) mount.new objects.new text.old.items text.new.items) }
+    ensures told { OnOk result (Tells (script.with_mount (session_at None objects.old) (script.mount_told objects.old.store objects.old.labels None label.now generation limit)) mount.new objects.new text.old.items text.new.items) }
+    ensures front { KeepsFront text.old.items text.new.items }
 {
     let Some(root) = objects.labels.get(label) else {
         return push_refused(text, b"NoLabel".as_slice());

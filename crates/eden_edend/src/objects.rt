@@ -4,6 +4,7 @@ ghost use Rattle.std.specs.Prelude.{◌≡◌, ◌++◌, ◌∷◌, [], IfOk, On
 ghost use Rattle.std.specs.Option.{option_map};
 ghost use Rattle.eden_objects.specs.Objects.{Held};
 ghost use Rattle.eden_objects.specs.Puts.{Outcome, blob_outcome, tree_outcome, commit_outcome};
+ghost use Rattle.eden_script.specs.Fronts.{KeepsFront};
 ghost use Rattle.eden_script.specs.Labels.{bound};
 ghost use Rattle.eden_history.specs.Worlds.{WorldState};
 ghost use Rattle.eden_ids.specs.Naming.{git_name};
@@ -77,8 +78,9 @@ fn tell_put(
     put: Result<Id, PutFault>,
     text: &mut Vec<u8>,
 ) -> Result<(), AllocError>
-    ensures { (mounted : Option WorldState) (held more : List Held) (outcome : Outcome) → Gave put held more outcome
+    ensures told { (mounted : Option WorldState) (held more : List Held) (outcome : Outcome) → Gave put held more outcome
         → OnOk result (ObjectTells (put_told (record { mounted = mounted; held = held; bindings = labels.old }) label outcome) mounted more labels.new text.old.items text.new.items) }
+    ensures front { KeepsFront text.old.items text.new.items }
 {
     match put {
         Ok(id) => {
@@ -97,8 +99,9 @@ pub(crate) fn tell_blob(
     bytes: &Word,
     text: &mut Vec<u8>,
 ) -> Result<(), AllocError>
-    ensures { (mounted : Option WorldState)
+    ensures told { (mounted : Option WorldState)
         → OnOk result (ObjectTells (put_told (session_at mounted objects.old) label (blob_outcome git_name bytes.now objects.old.store)) mounted objects.new.store objects.new.labels text.old.items text.new.items) }
+    ensures front { KeepsFront text.old.items text.new.items }
 {
     let put = put_blob(&mut objects.store, bytes.as_bytes());
     tell_put(&mut objects.labels, label, put, text)
@@ -142,8 +145,9 @@ pub(crate) fn tell_tree(
     entries: &[TreeEntry],
     text: &mut Vec<u8>,
 ) -> Result<(), AllocError>
-    ensures { (mounted : Option WorldState)
+    ensures told { (mounted : Option WorldState)
         → OnOk result (ObjectTells (tried (session_at mounted objects.old) label (λ payload. tree_outcome git_name payload objects.old.store) (tree_payload objects.old.labels entries.now)) mounted objects.new.store objects.new.labels text.old.items text.new.items) }
+    ensures front { KeepsFront text.old.items text.new.items }
 {
     match tree_payload(alloc, &objects.labels, entries)? {
         Some(payload) => {
@@ -176,8 +180,9 @@ pub(crate) fn tell_commit(
     tree: &Label,
     text: &mut Vec<u8>,
 ) -> Result<(), AllocError>
-    ensures { (mounted : Option WorldState)
+    ensures told { (mounted : Option WorldState)
         → OnOk result (ObjectTells (tried (session_at mounted objects.old) label (λ payload. commit_outcome git_name payload objects.old.store) (commit_payload (bound objects.old.labels tree.now))) mounted objects.new.store objects.new.labels text.old.items text.new.items) }
+    ensures front { KeepsFront text.old.items text.new.items }
 {
     match commit_payload(alloc, objects.labels.get(tree))? {
         Some(payload) => {
@@ -190,7 +195,8 @@ pub(crate) fn tell_commit(
 
 /// Tells the id that a label is bound to.
 pub(crate) fn tell_id(labels: &Labels, label: &Label, text: &mut Vec<u8>) -> Result<(), AllocError>
-    ensures { OnOk result (text.new.items ≡ text.old.items ++ id_told (bound labels.now label.now)) }
+    ensures told { OnOk result (text.new.items ≡ text.old.items ++ id_told (bound labels.now label.now)) }
+    ensures front { KeepsFront text.old.items text.new.items }
 {
     match labels.get(label) {
         Some(id) => push_id_line(text, &id),

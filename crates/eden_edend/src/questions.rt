@@ -7,6 +7,7 @@ ghost use Rattle.eden_ids.specs.Paths.{path_fault};
 ghost use Rattle.eden_history.specs.Worlds.{WorldState, now};
 ghost use Rattle.eden_history.specs.Renames.{absent_fault};
 ghost use Rattle.eden_accumulate.specs.Mounts.{StandsFor};
+ghost use Rattle.eden_script.specs.Fronts.{KeepsFront};
 ghost use Rattle.eden_script.specs.ScriptText as script;
 ghost use Rattle.eden_edend.specs.internal.Told.{MountTells};
 
@@ -29,7 +30,8 @@ pub(crate) fn tell_position(
     labels: &Labels,
     text: &mut Vec<u8>,
 ) -> Result<(), AllocError>
-    ensures { (world : WorldState) → StandsFor mount.now world → OnOk result (MountTells (script.position_told labels.now world) mount.now text.old.items text.new.items) }
+    ensures told { (world : WorldState) → StandsFor mount.now world → OnOk result (MountTells (script.position_told labels.now world) mount.now text.old.items text.new.items) }
+    ensures front { KeepsFront text.old.items text.new.items }
 {
     push_at(text, labels, &mount.position())
 }
@@ -63,7 +65,8 @@ fn listed(mount: &Mount<GitNaming>, wanted: &Filter) -> Result<Vec<Path>, AllocE
 }
 
 fn list(mount: &Mount<GitNaming>, wanted: &Filter, text: &mut Vec<u8>) -> Result<(), AllocError>
-    ensures { (world : WorldState) → StandsFor mount.now world → OnOk result (text.new.items ≡ text.old.items ++ script.paths_text (codes "files ") (filter (globs.admits wanted.now) (paths (now world).files))) }
+    ensures told { (world : WorldState) → StandsFor mount.now world → OnOk result (text.new.items ≡ text.old.items ++ script.paths_text (codes "files ") (filter (globs.admits wanted.now) (paths (now world).files))) }
+    ensures front { KeepsFront text.old.items text.new.items }
 {
     let paths = listed(mount, wanted)?;
     push_listed(text, b"files ".as_slice(), paths.as_slice())
@@ -76,7 +79,8 @@ pub(crate) fn tell_list(
     patterns: &[Word],
     text: &mut Vec<u8>,
 ) -> Result<(), AllocError>
-    ensures { (world : WorldState) → StandsFor mount.now world → OnOk result (MountTells (script.list_told patterns.now world) mount.now text.old.items text.new.items) }
+    ensures told { (world : WorldState) → StandsFor mount.now world → OnOk result (MountTells (script.list_told patterns.now world) mount.now text.old.items text.new.items) }
+    ensures front { KeepsFront text.old.items text.new.items }
 {
     let bytes = bytes_of(alloc, patterns)?;
     match Filter::parse(alloc, bytes.as_slice()) {
@@ -88,7 +92,8 @@ pub(crate) fn tell_list(
 
 /// Tells the paths at which the files differ from those of the commit.
 pub(crate) fn tell_dirty(mount: &Mount<GitNaming>, text: &mut Vec<u8>) -> Result<(), AllocError>
-    ensures { (world : WorldState) → StandsFor mount.now world → OnOk result (MountTells (script.dirty_told world) mount.now text.old.items text.new.items) }
+    ensures told { (world : WorldState) → StandsFor mount.now world → OnOk result (MountTells (script.dirty_told world) mount.now text.old.items text.new.items) }
+    ensures front { KeepsFront text.old.items text.new.items }
 {
     let Ok(paths) = mount.work().dirty(mount.store()) else {
         return Err(AllocError);
@@ -98,7 +103,8 @@ pub(crate) fn tell_dirty(mount: &Mount<GitNaming>, text: &mut Vec<u8>) -> Result
 
 #[tactic(auto, using(crate::proofs::Asking::file_told, crate::proofs::Asking::fault_told))]
 fn read(mount: &Mount<GitNaming>, path: &Path, text: &mut Vec<u8>) -> Result<(), AllocError>
-    ensures { (world : WorldState) → StandsFor mount.now world → OnOk result (text.new.items ≡ text.old.items ++ script.content_at (now world).files path.now (absent_fault (now world).files path.now)) }
+    ensures told { (world : WorldState) → StandsFor mount.now world → OnOk result (text.new.items ≡ text.old.items ++ script.content_at (now world).files path.now (absent_fault (now world).files path.now)) }
+    ensures front { KeepsFront text.old.items text.new.items }
 {
     match mount.read(path) {
         Ok((kind, bytes)) => push_content(text, kind, bytes),
@@ -113,7 +119,8 @@ pub(crate) fn tell_read(
     path: &Word,
     text: &mut Vec<u8>,
 ) -> Result<(), AllocError>
-    ensures { (world : WorldState) → StandsFor mount.now world → OnOk result (MountTells (script.read_told path.now world) mount.now text.old.items text.new.items) }
+    ensures told { (world : WorldState) → StandsFor mount.now world → OnOk result (MountTells (script.read_told path.now world) mount.now text.old.items text.new.items) }
+    ensures front { KeepsFront text.old.items text.new.items }
 {
     match Path::parse(alloc, path.as_bytes()) {
         Ok(path) => read(mount, &path, text),
@@ -123,7 +130,8 @@ pub(crate) fn tell_read(
 }
 
 fn tell_since_fault(fault: SinceFault, text: &mut Vec<u8>) -> Result<(), AllocError>
-    ensures { OnOk result ((fault ≢ SinceFault.NoMemory) × (text.new.items ≡ text.old.items ++ script.refused_text (script.since_fault_text fault))) }
+    ensures told { OnOk result ((fault ≢ SinceFault.NoMemory) × (text.new.items ≡ text.old.items ++ script.refused_text (script.since_fault_text fault))) }
+    ensures front { KeepsFront text.old.items text.new.items }
 {
     match fault {
         SinceFault::NoMemory => Err(AllocError),
@@ -139,7 +147,8 @@ pub(crate) fn tell_since(
     sequence: u64,
     text: &mut Vec<u8>,
 ) -> Result<(), AllocError>
-    ensures { (world : WorldState) → StandsFor mount.now world → OnOk result (MountTells (script.since_told labels.now world generation sequence) mount.now text.old.items text.new.items) }
+    ensures told { (world : WorldState) → StandsFor mount.now world → OnOk result (MountTells (script.since_told labels.now world generation sequence) mount.now text.old.items text.new.items) }
+    ensures front { KeepsFront text.old.items text.new.items }
 {
     let asked = Position {
         generation,

@@ -1,6 +1,7 @@
 //! A session of a script: the objects, the mount once there is one, and what each line makes of them.
 
 ghost use Rattle.std.specs.Prelude.{◌≡◌, List, Option, None, Some, OnOk, IfOk, option_and_then};
+ghost use Rattle.eden_script.specs.Fronts.{KeepsFront};
 ghost use Rattle.eden_script.specs.Words.{words_of};
 ghost use Rattle.eden_objects.specs.Objects.{Held};
 ghost use Rattle.eden_history.specs.Worlds.{WorldState};
@@ -19,7 +20,7 @@ use crate::questions::{tell_dirty, tell_list, tell_position, tell_read, tell_sin
 use crate::texts::push_refused;
 use eden_accumulate::Mount;
 use eden_ids::GitNaming;
-use eden_script::{Command, push_bytes, words};
+use eden_script::{Command, words};
 use eden_stream::{Answered, LineMachine};
 use std::alloc::{AllocError, Global};
 
@@ -36,7 +37,8 @@ impl Session {
     #[tactic(auto, unfolding(eden_script::specs::ScriptText::told))]
     fn tell_unmounted(&mut self, command: Command, text: &mut Vec<u8>) -> Result<(), AllocError>
         requires { self.old.mount ≡ None }
-        ensures { OnOk result (Tells (script.told (session_at None self.old.objects) command) self.new.mount self.new.objects text.old.items text.new.items) }
+        ensures told { OnOk result (Tells (script.told (session_at None self.old.objects) command) self.new.mount self.new.objects text.old.items text.new.items) }
+        ensures front { KeepsFront text.old.items text.new.items }
     {
         let alloc = self.alloc;
         let objects = &mut self.objects;
@@ -75,10 +77,11 @@ impl Session {
         }
     }
 
-    /// Does what a line asks for, and adds what it prints to the text.
+    /// Does what a line asks for, and adds what it prints to the text. Where memory runs out some of that may stand there.
     fn tell(&mut self, command: Command, text: &mut Vec<u8>) -> Result<(), AllocError>
-        ensures { (mounted : Option WorldState) (held : List Held) → MountStands self.old.mount mounted → Holds self.old.mount self.old.objects.store held
+        ensures told { (mounted : Option WorldState) (held : List Held) → MountStands self.old.mount mounted → Holds self.old.mount self.old.objects.store held
             → OnOk result (Tells (script.told (session_of mounted held self.old.objects.labels) command) self.new.mount self.new.objects text.old.items text.new.items) }
+        ensures front { KeepsFront text.old.items text.new.items }
     {
         match &mut self.mount {
             Some(mount) => tell_mounted(self.alloc, mount, &self.objects.labels, command, text),
@@ -96,8 +99,9 @@ fn tell_mounted(
     command: Command,
     text: &mut Vec<u8>,
 ) -> Result<(), AllocError>
-    ensures { (world : WorldState) (held : List Held) → StandsFor mount.old world
+    ensures told { (world : WorldState) (held : List Held) → StandsFor mount.old world
         → OnOk result (MountedTells (script.told (session_of (Some world) held labels.now) command) mount.new labels.now text.old.items text.new.items) }
+    ensures front { KeepsFront text.old.items text.new.items }
 {
     match command {
         Command::Blob { .. }
@@ -147,12 +151,7 @@ impl LineMachine for Session {
             Ok(None) => return Answered::BadLine,
             Err(_) => return Answered::NoMemory,
         };
-        let mut printed = Vec::new(self.alloc);
-        match self.tell(command, &mut printed) {
-            Ok(()) => {}
-            Err(_) => return Answered::NoMemory,
-        }
-        match push_bytes(text, printed.as_slice()) {
+        match self.tell(command, text) {
             Ok(()) => Answered::Done,
             Err(_) => Answered::NoMemory,
         }

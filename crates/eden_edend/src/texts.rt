@@ -4,6 +4,7 @@ ghost use Rattle.std.specs.Prelude.{◌≡◌, ◌≢◌, ◌++◌, ◌∷◌, [
 ghost use Rattle.std.specs.Fmt.{decimal};
 ghost use Rattle.std.specs.List.{flat_map};
 ghost use Rattle.hex.specs.Hex.{encode_lower};
+ghost use Rattle.eden_script.specs.Fronts.{KeepsFront};
 ghost use Rattle.eden_script.specs.ScriptText.{root_text, position_text, at_text, ok_text, id_text, refused_text, put_fault_text, path_fault_text, change_fault_text, since_fault_text, filter_fault_text, mark_text, marked_text, changes_text, path_text, paths_text, conflicts_text, answer_text, kind_text, content_text};
 ghost use Rattle.eden_edend.specs.internal.Told.{answer_made, answer_checked};
 
@@ -18,13 +19,15 @@ use std::alloc::AllocError;
 
 /// An id in hexadecimal.
 pub(crate) fn push_id(text: &mut Vec<u8>, id: &Id) -> Result<(), AllocError>
-    ensures { OnOk result (text.new.items ≡ text.old.items ++ encode_lower id.now.0) }
+    ensures told { OnOk result (text.new.items ≡ text.old.items ++ encode_lower id.now.0) }
+    ensures front { KeepsFront text.old.items text.new.items }
 {
     push_bytes(text, id.to_hex().as_slice())
 }
 
 fn push_root(text: &mut Vec<u8>, labels: &Labels, root: &Id) -> Result<(), AllocError>
-    ensures { OnOk result (text.new.items ≡ text.old.items ++ root_text labels.now root.now) }
+    ensures told { OnOk result (text.new.items ≡ text.old.items ++ root_text labels.now root.now) }
+    ensures front { KeepsFront text.old.items text.new.items }
 {
     if *root == Id::ZERO {
         return push_bytes(text, b"empty".as_slice());
@@ -36,7 +39,8 @@ fn push_root(text: &mut Vec<u8>, labels: &Labels, root: &Id) -> Result<(), Alloc
 }
 
 fn push_position(text: &mut Vec<u8>, labels: &Labels, position: &Position) -> Result<(), AllocError>
-    ensures { OnOk result (text.new.items ≡ text.old.items ++ position_text labels.now position.now) }
+    ensures told { OnOk result (text.new.items ≡ text.old.items ++ position_text labels.now position.now) }
+    ensures front { KeepsFront text.old.items text.new.items }
 {
     push_number(text, position.generation)?;
     push_bytes(text, b" ".as_slice())?;
@@ -51,7 +55,8 @@ pub(crate) fn push_at(
     labels: &Labels,
     position: &Position,
 ) -> Result<(), AllocError>
-    ensures { OnOk result (text.new.items ≡ text.old.items ++ at_text labels.now position.now) }
+    ensures told { OnOk result (text.new.items ≡ text.old.items ++ at_text labels.now position.now) }
+    ensures front { KeepsFront text.old.items text.new.items }
 {
     push_bytes(text, b"at ".as_slice())?;
     push_position(text, labels, position)?;
@@ -60,14 +65,16 @@ pub(crate) fn push_at(
 
 /// The line of an object that was put.
 pub(crate) fn push_ok(text: &mut Vec<u8>) -> Result<(), AllocError>
-    ensures { OnOk result (text.new.items ≡ text.old.items ++ ok_text) }
+    ensures told { OnOk result (text.new.items ≡ text.old.items ++ ok_text) }
+    ensures front { KeepsFront text.old.items text.new.items }
 {
     push_bytes(text, b"ok\n".as_slice())
 }
 
 /// The line of an id that was asked for.
 pub(crate) fn push_id_line(text: &mut Vec<u8>, id: &Id) -> Result<(), AllocError>
-    ensures { OnOk result (text.new.items ≡ text.old.items ++ id_text id.now) }
+    ensures told { OnOk result (text.new.items ≡ text.old.items ++ id_text id.now) }
+    ensures front { KeepsFront text.old.items text.new.items }
 {
     push_bytes(text, b"id ".as_slice())?;
     push_id(text, id)?;
@@ -76,7 +83,8 @@ pub(crate) fn push_id_line(text: &mut Vec<u8>, id: &Id) -> Result<(), AllocError
 
 /// The line of a refusal.
 pub(crate) fn push_refused(text: &mut Vec<u8>, name: &[u8]) -> Result<(), AllocError>
-    ensures { OnOk result (text.new.items ≡ text.old.items ++ refused_text name.now) }
+    ensures told { OnOk result (text.new.items ≡ text.old.items ++ refused_text name.now) }
+    ensures front { KeepsFront text.old.items text.new.items }
 {
     push_bytes(text, b"refused ".as_slice())?;
     push_bytes(text, name)?;
@@ -136,14 +144,16 @@ pub(crate) fn change_fault_name(fault: ChangeFault) -> &'static [u8]
 
 /// A path on a line of its own.
 fn push_path(text: &mut Vec<u8>, path: &Path) -> Result<(), AllocError>
-    ensures { OnOk result (text.new.items ≡ text.old.items ++ path_text path.now) }
+    ensures told { OnOk result (text.new.items ≡ text.old.items ++ path_text path.now) }
+    ensures front { KeepsFront text.old.items text.new.items }
 {
     push_escaped(text, path.as_bytes())?;
     push_bytes(text, b"\n".as_slice())
 }
 
 fn push_paths(text: &mut Vec<u8>, paths: &[Path]) -> Result<(), AllocError>
-    ensures { OnOk result (text.new.items ≡ text.old.items ++ flat_map path_text paths.now) }
+    ensures told { OnOk result (text.new.items ≡ text.old.items ++ flat_map path_text paths.now) }
+    ensures front { KeepsFront text.old.items text.new.items }
 {
     for path in paths {
         push_path(text, path)?;
@@ -153,7 +163,8 @@ fn push_paths(text: &mut Vec<u8>, paths: &[Path]) -> Result<(), AllocError>
 
 /// What some paths are, how many there are, and then each of them.
 pub(crate) fn push_listed(text: &mut Vec<u8>, name: &[u8], paths: &[Path]) -> Result<(), AllocError>
-    ensures { OnOk result (text.new.items ≡ text.old.items ++ paths_text name.now paths.now) }
+    ensures told { OnOk result (text.new.items ≡ text.old.items ++ paths_text name.now paths.now) }
+    ensures front { KeepsFront text.old.items text.new.items }
 {
     push_bytes(text, name)?;
     push_number(text, paths.len() as u64)?;
@@ -163,7 +174,8 @@ pub(crate) fn push_listed(text: &mut Vec<u8>, name: &[u8], paths: &[Path]) -> Re
 
 /// The line of a change that is refused. Where memory ran out there is none.
 fn push_unmade(text: &mut Vec<u8>, fault: ChangeFault) -> Result<(), AllocError>
-    ensures { OnOk result ((fault ≢ ChangeFault.NoMemory) × (text.new.items ≡ text.old.items ++ refused_text (change_fault_text fault))) }
+    ensures told { OnOk result ((fault ≢ ChangeFault.NoMemory) × (text.new.items ≡ text.old.items ++ refused_text (change_fault_text fault))) }
+    ensures front { KeepsFront text.old.items text.new.items }
 {
     match fault {
         ChangeFault::NoMemory => Err(AllocError),
@@ -178,7 +190,8 @@ pub(crate) fn push_made(
     labels: &Labels,
     made: &Result<Position, ChangeFault>,
 ) -> Result<(), AllocError>
-    ensures { OnOk result ((made.now ≢ Err ChangeFault.NoMemory) × (text.new.items ≡ text.old.items ++ answer_text labels.now (answer_made made.now))) }
+    ensures told { OnOk result ((made.now ≢ Err ChangeFault.NoMemory) × (text.new.items ≡ text.old.items ++ answer_text labels.now (answer_made made.now))) }
+    ensures front { KeepsFront text.old.items text.new.items }
 {
     match made {
         Ok(position) => push_at(text, labels, position),
@@ -191,7 +204,8 @@ fn push_position_and_conflicts(
     labels: &Labels,
     checked: &Checked,
 ) -> Result<(), AllocError>
-    ensures { OnOk result (text.new.items ≡ text.old.items ++ (at_text labels.now checked.now.position ++ conflicts_text checked.now.conflicts)) }
+    ensures told { OnOk result (text.new.items ≡ text.old.items ++ (at_text labels.now checked.now.position ++ conflicts_text checked.now.conflicts)) }
+    ensures front { KeepsFront text.old.items text.new.items }
 {
     push_at(text, labels, &checked.position)?;
     push_listed(text, b"conflicts ".as_slice(), checked.conflicts.as_slice())
@@ -204,7 +218,8 @@ pub(crate) fn push_checked(
     labels: &Labels,
     checked: &Result<Checked, ChangeFault>,
 ) -> Result<(), AllocError>
-    ensures { OnOk result ((checked.now ≢ Err ChangeFault.NoMemory) × (text.new.items ≡ text.old.items ++ answer_text labels.now (answer_checked checked.now))) }
+    ensures told { OnOk result ((checked.now ≢ Err ChangeFault.NoMemory) × (text.new.items ≡ text.old.items ++ answer_text labels.now (answer_checked checked.now))) }
+    ensures front { KeepsFront text.old.items text.new.items }
 {
     match checked {
         Ok(checked) => push_position_and_conflicts(text, labels, checked),
@@ -214,14 +229,16 @@ pub(crate) fn push_checked(
 
 /// The bytes at this place of a list of patterns are no pattern.
 fn push_bad_pattern(text: &mut Vec<u8>, place: usize) -> Result<(), AllocError>
-    ensures { OnOk result (text.new.items ≡ text.old.items ++ (codes "BadPattern " ++ decimal place)) }
+    ensures told { OnOk result (text.new.items ≡ text.old.items ++ (codes "BadPattern " ++ decimal place)) }
+    ensures front { KeepsFront text.old.items text.new.items }
 {
     push_bytes(text, b"BadPattern ".as_slice())?;
     push_number(text, place as u64)
 }
 
 fn push_filter_fault(text: &mut Vec<u8>, fault: &FilterFault) -> Result<(), AllocError>
-    ensures { OnOk result (text.new.items ≡ text.old.items ++ filter_fault_text fault.now) }
+    ensures told { OnOk result (text.new.items ≡ text.old.items ++ filter_fault_text fault.now) }
+    ensures front { KeepsFront text.old.items text.new.items }
 {
     match fault {
         FilterFault::TooMany => push_bytes(text, b"TooMany".as_slice()),
@@ -233,7 +250,8 @@ fn push_filter_fault(text: &mut Vec<u8>, fault: &FilterFault) -> Result<(), Allo
 
 /// The line of patterns that are refused.
 pub(crate) fn push_refused_filter(text: &mut Vec<u8>, fault: &FilterFault) -> Result<(), AllocError>
-    ensures { OnOk result (text.new.items ≡ text.old.items ++ refused_text (filter_fault_text fault.now)) }
+    ensures told { OnOk result (text.new.items ≡ text.old.items ++ refused_text (filter_fault_text fault.now)) }
+    ensures front { KeepsFront text.old.items text.new.items }
 {
     push_bytes(text, b"refused ".as_slice())?;
     push_filter_fault(text, fault)?;
@@ -252,7 +270,8 @@ fn kind_name(kind: Kind) -> &'static [u8]
 
 /// The line of a file: its kind, and what it holds.
 pub(crate) fn push_content(text: &mut Vec<u8>, kind: Kind, bytes: &[u8]) -> Result<(), AllocError>
-    ensures { OnOk result (text.new.items ≡ text.old.items ++ content_text (record { kind = kind; bytes = bytes.now })) }
+    ensures told { OnOk result (text.new.items ≡ text.old.items ++ content_text (record { kind = kind; bytes = bytes.now })) }
+    ensures front { KeepsFront text.old.items text.new.items }
 {
     push_bytes(text, kind_name(kind))?;
     push_bytes(text, b" ".as_slice())?;
@@ -261,7 +280,8 @@ pub(crate) fn push_content(text: &mut Vec<u8>, kind: Kind, bytes: &[u8]) -> Resu
 }
 
 fn push_since_fault(text: &mut Vec<u8>, fault: &SinceFault) -> Result<(), AllocError>
-    ensures { OnOk result (text.new.items ≡ text.old.items ++ since_fault_text fault.now) }
+    ensures told { OnOk result (text.new.items ≡ text.old.items ++ since_fault_text fault.now) }
+    ensures front { KeepsFront text.old.items text.new.items }
 {
     match fault {
         SinceFault::Stale(generation) => {
@@ -282,7 +302,8 @@ fn push_since_fault(text: &mut Vec<u8>, fault: &SinceFault) -> Result<(), AllocE
 
 /// The line of a position that is refused.
 pub(crate) fn push_refused_since(text: &mut Vec<u8>, fault: &SinceFault) -> Result<(), AllocError>
-    ensures { OnOk result (text.new.items ≡ text.old.items ++ refused_text (since_fault_text fault.now)) }
+    ensures told { OnOk result (text.new.items ≡ text.old.items ++ refused_text (since_fault_text fault.now)) }
+    ensures front { KeepsFront text.old.items text.new.items }
 {
     push_bytes(text, b"refused ".as_slice())?;
     push_since_fault(text, fault)?;
@@ -301,7 +322,8 @@ fn mark_name(mark: Mark) -> &'static [u8]
 }
 
 fn push_marked(text: &mut Vec<u8>, marked: &Marked) -> Result<(), AllocError>
-    ensures { OnOk result (text.new.items ≡ text.old.items ++ marked_text marked.now) }
+    ensures told { OnOk result (text.new.items ≡ text.old.items ++ marked_text marked.now) }
+    ensures front { KeepsFront text.old.items text.new.items }
 {
     push_bytes(text, mark_name(marked.mark))?;
     push_bytes(text, b" ".as_slice())?;
@@ -310,7 +332,8 @@ fn push_marked(text: &mut Vec<u8>, marked: &Marked) -> Result<(), AllocError>
 }
 
 fn push_all_marked(text: &mut Vec<u8>, marked: &[Marked]) -> Result<(), AllocError>
-    ensures { OnOk result (text.new.items ≡ text.old.items ++ flat_map marked_text marked.now) }
+    ensures told { OnOk result (text.new.items ≡ text.old.items ++ flat_map marked_text marked.now) }
+    ensures front { KeepsFront text.old.items text.new.items }
 {
     for one in marked {
         push_marked(text, one)?;
@@ -325,7 +348,8 @@ pub(crate) fn push_changes(
     marked: &[Marked],
     position: &Position,
 ) -> Result<(), AllocError>
-    ensures { OnOk result (text.new.items ≡ text.old.items ++ changes_text labels.now marked.now position.now) }
+    ensures told { OnOk result (text.new.items ≡ text.old.items ++ changes_text labels.now marked.now position.now) }
+    ensures front { KeepsFront text.old.items text.new.items }
 {
     push_bytes(text, b"changes ".as_slice())?;
     push_number(text, marked.len() as u64)?;
