@@ -1,5 +1,5 @@
 -- The files of a commit, counted by its rows.
-use Rattle.std.proofs.Common.{◌≡◌, ℕ, ◌+◌, ◌^◌, ◌<◌, Bool, true, false, cond, ◌||◌, nat_le, List, [], ◌∷◌, map, length, Option, Some, None, refl, sym, ap, ◌∙◌, arith}
+use Rattle.std.proofs.Common.{◌≡◌, ℕ, ◌+◌, ◌^◌, ◌<◌, Bool, true, false, cond, ◌||◌, nat_le, List, [], ◌∷◌, map, length, Option, Some, None, refl, sym, ap, ◌∙◌, arith, length-append}
 use Rattle.std.specs.Prelude.{filter}
 use Rattle.std.specs.Ordering.{nat_cmp}
 use Rattle.std.specs.Cmp.Lexicographic.{slice_cmp}
@@ -11,7 +11,7 @@ use Rattle.eden_ids.specs.FileMaps.{FileMap, file_at, paths}
 use Rattle.eden_ids.specs.Paths.{lies_below}
 use Rattle.eden_objects.specs.Objects.{Held}
 use Rattle.eden_git.specs.Trees.{Entry}
-use Rattle.eden_objects.specs.Commits.{Row, entries_rows, find_row, tree_rows}
+use Rattle.eden_objects.specs.Commits.{Row, entries_rows, entry_rows, find_row, tree_rows}
 use Rattle.eden_objects.specs.Closed.{IsClosed}
 use Rattle.eden_objects.specs.Counts.{capped}
 use Rattle.eden_objects.specs.Walks.{content_found}
@@ -65,10 +65,11 @@ any_counted test (k ∷ ks) = elim (test k) as (λ b. nat_le 1 (length (cond b (
   | false ↦ any_counted test ks
 ]
 
--- a count that is done
-pub all_counted : (rows : Id → List Row) (files target : ℕ) (es : List Entry) → files < 2 ^ 64 → es ≡ []
-    → capped (files + length (entries_rows rows es)) ≡ target → files ≡ target
-all_counted rows files target es fits none counted =
-    let done : capped (files + 0) ≡ target = ap (λ rest. capped (files + length (entries_rows rows rest))) (sym none) ∙ counted in
-    let same : files ≡ capped (files + 0) = grind (arith, fits) in
-    same ∙ done
+-- one entry more is counted
+pub one_counted : (rows : Id → List Row) (files more new target : ℕ) (e : Entry) (es all : List Entry) → all ≡ e ∷ es → more ≡ capped (length (entries_rows rows (e ∷ [])))
+    → new ≡ capped (files + more) → capped (files + length (entries_rows rows all)) ≡ target → capped (new + length (entries_rows rows es)) ≡ target
+one_counted rows files more new target e es all is here now counted =
+    let own : length (entries_rows rows (e ∷ [])) ≡ length (entry_rows rows e) + 0 = length-append (entry_rows rows e) [] in
+    let whole : length (entries_rows rows all) ≡ length (entry_rows rows e) + length (entries_rows rows es) =
+    ap (λ fs. length (entries_rows rows fs)) is ∙ length-append (entry_rows rows e) (entries_rows rows es) in
+    omega (arith, own, whole, here, now, counted)

@@ -11,7 +11,7 @@ ghost use Rattle.eden_objects.specs.Copies.{copied, copied_all};
 
 use crate::outline::Outline;
 use crate::store::{Object, Store};
-use eden_git::{RawEntry, Rows, Word, next_entry, same_word};
+use eden_git::{RawEntry, Rows, Word, same_word};
 use eden_ids::{Id, Kind, Naming, NoMemory};
 use std::alloc::Global;
 
@@ -51,15 +51,17 @@ fn push_copy(alloc: Global, found: &mut Vec<Entry>, entry: &RawEntry<'_>) -> Res
     }
 }
 
-/// The entries of a payload.
-fn copies_of(alloc: Global, payload: &[u8]) -> Result<Vec<Entry>, NoMemory>
-    ensures { IfOk result (λ found. map copied found.items ≡ entries_of payload.now) }
+/// The entries that are lent.
+fn copies_of(alloc: Global, rows: &Rows<'_>) -> Result<Vec<Entry>, NoMemory>
+    ensures { IfOk result (λ found. map copied found.items ≡ rows.now) }
 {
     let mut found = Vec::new(alloc);
-    let mut rest = payload;
-    'entries: while let Some((entry, after)) = next_entry(rest) {
+    'entries: for row in 0..rows.len() {
+        let Some(entry) = rows.entry(row) else {
+            // The row is one of them.
+            unreachable!()
+        };
         push_copy(alloc, &mut found, &entry)?;
-        rest = after;
     }
     Ok(found)
 }
@@ -143,10 +145,10 @@ impl<N: Naming + Drop> Store<N> {
     pub fn entries(&self, tree: Id) -> Result<Option<Vec<Entry>>, NoMemory>
         ensures { IfOk result (λ found. copied_all found ≡ tree_entries self.now tree) }
     {
-        let Some(payload) = self.tree(tree) else {
+        let Some(rows) = self.rows(tree) else {
             return Ok(None);
         };
-        match copies_of(self.allocator(), payload) {
+        match copies_of(self.allocator(), &rows) {
             Ok(found) => Ok(Some(found)),
             Err(NoMemory) => Err(NoMemory),
         }

@@ -18,7 +18,7 @@ use crate::outline::Outline;
 use crate::seen::Seen;
 use crate::size::Size;
 use crate::store::{PAYLOAD_LIMIT, Store};
-use eden_git::{Columns, RawEntry, Word, next_entry, read_entry, same_word, tree_named};
+use eden_git::{Columns, RawEntry, Rows, Word, read_entry, same_word, tree_named};
 use eden_ids::{Id, Kind, Naming};
 
 /// What a directory, or else a file, has to be.
@@ -159,15 +159,17 @@ impl<N: Naming + Drop> Store<N> {
     }
 
     /// How many files a tree of these entries comes to.
-    fn files_in(&self, payload: &[u8]) -> usize
-        requires { AllByRecursion (λ e. IsHeld self.now (word_wanted e.kind) e.id) (entries_of payload.now) }
-        ensures { result ≡ files_of_entries self.now (entries_of payload.now) }
+    fn files_in(&self, rows: &Rows<'_>) -> usize
+        requires { AllByRecursion (λ e. IsHeld self.now (word_wanted e.kind) e.id) rows.now }
+        ensures { result ≡ files_of_entries self.now rows.now }
     {
         let mut files: usize = 0;
-        let mut rest = payload;
-        'entries: while let Some((entry, after)) = next_entry(rest) {
+        'entries: for row in 0..rows.len() {
+            let Some(entry) = rows.entry(row) else {
+                // The row is one of them.
+                unreachable!()
+            };
             files = files.saturating_add(self.files_of(&entry));
-            rest = after;
         }
         files
     }
@@ -190,7 +192,7 @@ impl<N: Naming + Drop> Store<N> {
         };
         let outline = Outline {
             size,
-            files: self.files_in(payload),
+            files: self.files_in(&Rows::new(payload, &columns)),
             columns,
         };
         match Box::new(self.allocator(), outline) {

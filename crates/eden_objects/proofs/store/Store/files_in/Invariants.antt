@@ -1,18 +1,14 @@
-use Rattle.std.proofs.Common.{◌≡◌, ◌+◌, ◌<◌, ◌^◌, length}
+use Rattle.std.proofs.Common.{◌≡◌, ◌+◌, ◌<◌, ◌^◌, drop, length}
 use Rattle.std.specs.List.{AllByRecursion}
 use Rattle.eden_objects.specs.Commits.{entries_rows, tree_rows}
 use Rattle.eden_objects.specs.Counts.{capped, files_of_entries}
-use Rattle.eden_git.specs.Trees.{entries_of}
 use Rattle.eden_objects.specs.Puts.{word_wanted}
 use Rattle.eden_objects.specs.Closed.{IsHeld}
 use Rattle.eden_objects.proofs.store.Store.files_in.Given as goal
 
 abbrev pub invariant-entries : goal.invariant-entries
 invariant-entries g l = record {
-  counted : capped (l.files + length (entries_rows (tree_rows l.self) (entries_of l.rest))) ≡ files_of_entries l.self (entries_of l.payload);
+  counted : capped (l.files + length (entries_rows (tree_rows l.self) (drop l.row l.rows))) ≡ files_of_entries l.self l.rows;
   small : l.files < 2 ^ 64;
-  held : AllByRecursion (λ e. IsHeld l.self (word_wanted e.kind) e.id) (entries_of l.rest);
+  held : AllByRecursion (λ e. IsHeld l.self (word_wanted e.kind) e.id) (drop l.row l.rows);
 }
-
-abbrev pub decreases-entries : goal.decreases-entries
-decreases-entries g l = length l.rest
