@@ -11,4 +11,5 @@ pub mod Bridge
 pub mod Settled
 pub mod Noting
 pub mod Telling
+pub mod Pairs
 mod Only

@@ -2,3 +2,4 @@
 pub mod Wanted
 pub mod Names
 pub mod Mentions
+pub mod Pairs

@@ -1,10 +1,12 @@
-ghost use Rattle.std.specs.Prelude.{◌≡◌, ◌≢◌, ◌&&◌, true, false, IfOk, IfErr, OnOk, if◌then◌else◌};
+ghost use Rattle.std.specs.Prelude.{◌≡◌, ◌≢◌, ◌&&◌, ◌||◌, ◌++◌, ◌∷◌, [], true, false, IfOk, IfErr, OnOk, if◌then◌else◌};
 ghost use Rattle.eden_globs.specs.Filters.{admits};
 ghost use Rattle.eden_ids.specs.FileMaps.{path_set, union};
+ghost use Rattle.eden_ids.specs.Sameness.{same_id};
 ghost use Rattle.eden_objects.specs.Commits.{commit_map};
 ghost use Rattle.eden_history.specs.Named.{commits_differ};
 ghost use Rattle.eden_history.specs.Replies.{admitted};
 ghost use Rattle.eden_ranges.specs.Expanded.{are_comparable, differing, expanded, is_comparable, only};
+ghost use Rattle.eden_ranges.specs.internal.Pairs.{AreCovered, has_pair};
 ghost use Rattle.eden_ranges.specs.internal.Names.{with_path, with_paths, with_touch, with_touches};
 ghost use Rattle.eden_ranges.specs.internal.Wanted.{wanted_paths, wanted_touches};
 
@@ -16,6 +18,7 @@ use eden_history::Marked;
 use eden_ids::{Id, IdColumn, Naming, NoMemory, Path};
 use eden_objects::{CommitFault, Store};
 use eden_treediff::diff_admitted;
+use indexmap::IndexSet;
 use std::alloc::Global;
 
 /// Makes room for more paths. Where it has to grow, paths that stand twice go first: so the room is but a few times that of
@@ -31,7 +34,18 @@ fn make_room(paths: &mut Vec<Path>, more: usize) -> Result<(), NoMemory>
     Ok(paths.reserve(more.max(paths.len()))?)
 }
 
-/// Adds the admitted paths on which two roots differ. Roots that are one are not looked at.
+/// Whether two roots are not noted yet, in either order. Then they are.
+fn note_pair(pairs: &mut IndexSet<(Id, Id)>, left: Id, reached: Id) -> Result<bool, NoMemory>
+    ensures again { IfOk result (λ first. first ≡ false → ((has_pair pairs.old.keys left reached || has_pair pairs.old.keys reached left) ≡ true) × (pairs.new.keys ≡ pairs.old.keys)) }
+    ensures first { IfOk result (λ first. first ≡ true → pairs.new.keys ≡ pairs.old.keys ++ (left, reached) ∷ []) }
+{
+    if pairs.contains(&(reached, left)) {
+        return Ok(false);
+    }
+    Ok(pairs.insert((left, reached))?)
+}
+
+/// Adds the admitted paths on which two roots differ.
 fn add_differing<N: Naming + Drop>(
     alloc: Global,
     store: &Store<N>,
@@ -40,13 +54,11 @@ fn add_differing<N: Naming + Drop>(
     reached: Id,
     wanted: &Filter,
 ) -> Result<(), CommitFault>
+    requires { same_id left reached ≡ false }
     ensures paths { OnOk result (path_set paths.new.items ≡ union (only wanted.now (commits_differ (commit_map store.now) left reached)) (path_set paths.old.items)) }
     ensures compared { OnOk result (is_comparable (commit_map store.now) left reached ≡ true) }
     ensures fault { IfErr result (λ fault. fault ≢ CommitFault.NoMemory → is_comparable (commit_map store.now) left reached ≡ false) }
 {
-    if left == reached {
-        return Ok(());
-    }
     let mut more = match diff_admitted(alloc, store, left, reached, wanted) {
         Ok(more) => more,
         Err(fault) => return Err(fault),
@@ -55,7 +67,36 @@ fn add_differing<N: Naming + Drop>(
     Ok(paths.append(&mut more)?)
 }
 
-/// The admitted paths on which neighbouring roots differ: those of each two ascend, and one may stand again among the next.
+/// Adds the admitted paths on which two roots differ. Roots that are one are not looked at, nor are two that were compared before, in
+/// either order.
+fn add_once<N: Naming + Drop>(
+    alloc: Global,
+    store: &Store<N>,
+    paths: &mut Vec<Path>,
+    compared: &mut IndexSet<(Id, Id)>,
+    left: Id,
+    reached: Id,
+    wanted: &Filter,
+) -> Result<(), CommitFault>
+    ensures covered { AreCovered wanted.now (commit_map store.now) compared.old.keys (path_set paths.old.items)
+        → OnOk result (AreCovered wanted.now (commit_map store.now) compared.new.keys (path_set paths.new.items)) }
+    ensures paths { AreCovered wanted.now (commit_map store.now) compared.old.keys (path_set paths.old.items)
+        → OnOk result (path_set paths.new.items ≡ union (only wanted.now (commits_differ (commit_map store.now) left reached)) (path_set paths.old.items)) }
+    ensures compared { AreCovered wanted.now (commit_map store.now) compared.old.keys (path_set paths.old.items)
+        → OnOk result (is_comparable (commit_map store.now) left reached ≡ true) }
+    ensures fault { IfErr result (λ fault. fault ≢ CommitFault.NoMemory → is_comparable (commit_map store.now) left reached ≡ false) }
+{
+    if left == reached {
+        return Ok(());
+    }
+    if !note_pair(compared, left, reached)? {
+        return Ok(());
+    }
+    add_differing(alloc, store, paths, left, reached, wanted)
+}
+
+/// The admitted paths on which neighbouring roots differ: those of each two ascend, and one may stand again among the next. Each two
+/// are compared once, however often they are neighbours.
 fn differing_paths<N: Naming + Drop>(
     alloc: Global,
     store: &Store<N>,
@@ -67,6 +108,7 @@ fn differing_paths<N: Naming + Drop>(
     ensures fault { IfErr result (λ fault. fault ≢ CommitFault.NoMemory → are_comparable (commit_map store.now) roots.now ≡ false) }
 {
     let mut paths = Vec::new(alloc);
+    let mut pairs = IndexSet::new(alloc);
     let mut place = roots.len();
     if place == 0 {
         return Ok(paths);
@@ -80,7 +122,7 @@ fn differing_paths<N: Naming + Drop>(
         let Some(reached) = roots.get(place + 1) else {
             break;
         };
-        match add_differing(alloc, store, &mut paths, left, reached, wanted) {
+        match add_once(alloc, store, &mut paths, &mut pairs, left, reached, wanted) {
             Ok(()) => {}
             Err(fault) => return Err(fault),
         }
@@ -140,8 +182,9 @@ fn add_touches<'a>(
 ///
 /// A range names the paths at which files were changed, the unclean ones, and those on which two neighbouring roots differ. `NoCommit`
 /// comes just where two neighbouring roots are not one and one of them is no commit of the store; `NoMemory` may stand in place of any
-/// answer where a growth was refused. Neighbouring roots that are one cost nothing. No directory is read below which the filter admits
-/// nothing (`Filter::admits_below`), and no path is made that it does not admit.
+/// answer where a growth was refused. Neighbouring roots that are one cost nothing, and each two are compared once, however often the
+/// range goes to and fro between them. No directory is read below which the filter admits nothing (`Filter::admits_below`), and no
+/// path is made that it does not admit.
 pub fn expand_admitted<N: Naming + Drop>(
     alloc: Global,
     store: &Store<N>,
@@ -164,7 +207,8 @@ pub fn expand_admitted<N: Naming + Drop>(
 ///
 /// They are those at which files were changed, the unclean ones, and those on which two neighbouring roots differ. `NoCommit` comes
 /// just where two neighbouring roots are not one and one of them is no commit of the store; `NoMemory` may stand in place of any
-/// answer where a growth was refused. Neighbouring roots that are one cost nothing.
+/// answer where a growth was refused. Neighbouring roots that are one cost nothing, and each two are compared once, however often the
+/// range goes to and fro between them.
 pub fn expand<N: Naming + Drop>(
     alloc: Global,
     store: &Store<N>,

@@ -1,21 +1,14 @@
-use Rattle.std.proofs.Common.{◌≡◌, rules, true, false, ap, ◌∙◌}
-use Rattle.eden_ids.specs.Sameness.{same_id}
+use Rattle.std.proofs.Common.{ap, ◌∙◌}
 use Rattle.eden_objects.specs.Commits.{commit_map}
 use Rattle.eden_ids.specs.FileMaps.{path_set, union}
-use Rattle.eden_ranges.proofs.Columns.{same_root, told_comparable, refused_incomparable}
+use Rattle.eden_ranges.proofs.Columns.{told_comparable, refused_incomparable}
 use Rattle.eden_ranges.proofs.Noting.{path_set-append}
 use Rattle.eden_ranges.proofs.Only.{told_differ}
 use Rattle.eden_ranges.proofs.expanding.add_differing.Goals as goal
 
-pub returns-then-eq-clause-paths : goal.returns-then-eq-clause-paths
-returns-then-eq-clause-paths g c =
-    let e : same_id c.args.left c.args.reached ≡ true = search rules in
-    same_root c.args.wanted.now (commit_map c.args.store.now) c.args.left c.args.reached (path_set c.args.paths.now.items) e
-
 pub returns-in-Err-clause-fault : goal.returns-in-Err-clause-fault
 returns-in-Err-clause-fault g c other =
-    let apart : same_id c.args.left c.args.reached ≡ false = search rules in
-    refused_incomparable (commit_map c.args.store.now) c.args.left c.args.reached apart (c.in-Err.ensures.fault other)
+    refused_incomparable (commit_map c.args.store.now) c.args.left c.args.reached c.requires (c.in-Err.ensures.fault other)
 
 pub returns-clause-paths : goal.returns-clause-paths
 returns-clause-paths g c =
