@@ -60,8 +60,8 @@ measure_polls() {
 
 measure_trees() {
     : > "$work/before"
-    row "checkout, no file to 100,000" - "$(of_line empty "$work/before" 'checkout one normal' 1)"
-    row "list of 100,000 files" "$(least git_list)" "$(of_line one "$work/before" 'list' 10)"
+    row "checkout, no file to 100,000 and back" - "$(of_line empty "$work/before" 'checkout one normal\ncheckout empty normal' 10)"
+    row "list of 100,000 files" "$(least git_list)" "$(of_line one "$work/before" 'list' 60)"
 }
 
 measure_writes() {
