@@ -13,24 +13,19 @@ ghost use Rattle.eden_edend.specs.internal.Told.{MountTells, PathOrRefusal};
 use crate::labels::Labels;
 use crate::texts::{path_fault_name, push_checked, push_made, push_refused};
 use eden_accumulate::{Mode, Mount};
-use eden_ids::{GitNaming, Id, Kind, Path, PathFault};
+use eden_ids::{GitNaming, Id, Kind, Path};
 use eden_script::{Label, Word};
-use std::alloc::{AllocError, Global};
+use std::alloc::AllocError;
 
 /// The path that a word is. Where it is none, that is told, and there is nothing to change.
-fn path_or_refusal(
-    alloc: Global,
-    word: &Word,
-    text: &mut Vec<u8>,
-) -> Result<Option<Path>, AllocError>
-    ensures told { IfOk result (λ path. PathOrRefusal word.now path text.old.items text.new.items) }
+fn path_or_refusal(word: Word, text: &mut Vec<u8>) -> Result<Option<Path>, AllocError>
+    ensures told { IfOk result (λ path. PathOrRefusal word path text.old.items text.new.items) }
     ensures front { KeepsFront text.old.items text.new.items }
 {
-    match Path::parse(alloc, word.as_bytes()) {
+    match Path::from_vec(word.into_bytes()) {
         Ok(path) => Ok(Some(path)),
-        Err(PathFault::NoMemory) => Err(AllocError),
-        Err(fault) => {
-            push_refused(text, path_fault_name(fault))?;
+        Err(refused) => {
+            push_refused(text, path_fault_name(refused.cause))?;
             Ok(None)
         }
     }
@@ -38,18 +33,17 @@ fn path_or_refusal(
 
 /// Sets the file at a path.
 pub(crate) fn tell_write(
-    alloc: Global,
     mount: &mut Mount<GitNaming>,
     labels: &Labels,
-    path: &Word,
+    path: Word,
     kind: Kind,
     bytes: &Word,
     text: &mut Vec<u8>,
 ) -> Result<(), AllocError>
-    ensures told { (world : WorldState) → StandsFor mount.old world → OnOk result (MountTells (script.changed labels.now world (path_fault path.now) (change.Write path.now kind bytes.now)) mount.new text.old.items text.new.items) }
+    ensures told { (world : WorldState) → StandsFor mount.old world → OnOk result (MountTells (script.changed labels.now world (path_fault path) (change.Write path kind bytes.now)) mount.new text.old.items text.new.items) }
     ensures front { KeepsFront text.old.items text.new.items }
 {
-    let Some(path) = path_or_refusal(alloc, path, text)? else {
+    let Some(path) = path_or_refusal(path, text)? else {
         return Ok(());
     };
     let made = mount.write(&path, kind, bytes.as_bytes());
@@ -58,16 +52,15 @@ pub(crate) fn tell_write(
 
 /// Takes the file at a path away.
 pub(crate) fn tell_remove(
-    alloc: Global,
     mount: &mut Mount<GitNaming>,
     labels: &Labels,
-    path: &Word,
+    path: Word,
     text: &mut Vec<u8>,
 ) -> Result<(), AllocError>
-    ensures told { (world : WorldState) → StandsFor mount.old world → OnOk result (MountTells (script.changed labels.now world (path_fault path.now) (change.Remove path.now)) mount.new text.old.items text.new.items) }
+    ensures told { (world : WorldState) → StandsFor mount.old world → OnOk result (MountTells (script.changed labels.now world (path_fault path) (change.Remove path)) mount.new text.old.items text.new.items) }
     ensures front { KeepsFront text.old.items text.new.items }
 {
-    let Some(path) = path_or_refusal(alloc, path, text)? else {
+    let Some(path) = path_or_refusal(path, text)? else {
         return Ok(());
     };
     let made = mount.remove(&path);
@@ -76,20 +69,19 @@ pub(crate) fn tell_remove(
 
 /// Takes the file at one path away and puts it at another. Of two paths the first that is none is told.
 pub(crate) fn tell_rename(
-    alloc: Global,
     mount: &mut Mount<GitNaming>,
     labels: &Labels,
-    old: &Word,
-    new: &Word,
+    old: Word,
+    new: Word,
     text: &mut Vec<u8>,
 ) -> Result<(), AllocError>
-    ensures told { (world : WorldState) → StandsFor mount.old world → OnOk result (MountTells (script.changed labels.now world (script.first_path_fault (path_fault old.now) (path_fault new.now)) (change.Rename old.now new.now)) mount.new text.old.items text.new.items) }
+    ensures told { (world : WorldState) → StandsFor mount.old world → OnOk result (MountTells (script.changed labels.now world (script.first_path_fault (path_fault old) (path_fault new)) (change.Rename old new)) mount.new text.old.items text.new.items) }
     ensures front { KeepsFront text.old.items text.new.items }
 {
-    let Some(old) = path_or_refusal(alloc, old, text)? else {
+    let Some(old) = path_or_refusal(old, text)? else {
         return Ok(());
     };
-    let Some(new) = path_or_refusal(alloc, new, text)? else {
+    let Some(new) = path_or_refusal(new, text)? else {
         return Ok(());
     };
     let made = mount.rename(&old, &new);

@@ -19,7 +19,7 @@ use crate::texts::{
 use eden_accumulate::{Mount, Position};
 use eden_globs::{Filter, FilterFault};
 use eden_history::SinceFault;
-use eden_ids::{GitNaming, Id, Path, PathFault};
+use eden_ids::{GitNaming, Id, Path};
 use eden_objects::CommitFault;
 use eden_script::Word;
 use std::alloc::{AllocError, Global};
@@ -114,18 +114,16 @@ fn read(mount: &Mount<GitNaming>, path: &Path, text: &mut Vec<u8>) -> Result<(),
 
 /// Tells the file at a path.
 pub(crate) fn tell_read(
-    alloc: Global,
     mount: &Mount<GitNaming>,
-    path: &Word,
+    path: Word,
     text: &mut Vec<u8>,
 ) -> Result<(), AllocError>
-    ensures told { (world : WorldState) → StandsFor mount.now world → OnOk result (MountTells (script.read_told path.now world) mount.now text.old.items text.new.items) }
+    ensures told { (world : WorldState) → StandsFor mount.now world → OnOk result (MountTells (script.read_told path world) mount.now text.old.items text.new.items) }
     ensures front { KeepsFront text.old.items text.new.items }
 {
-    match Path::parse(alloc, path.as_bytes()) {
+    match Path::from_vec(path.into_bytes()) {
         Ok(path) => read(mount, &path, text),
-        Err(PathFault::NoMemory) => Err(AllocError),
-        Err(fault) => push_refused(text, path_fault_name(fault)),
+        Err(refused) => push_refused(text, path_fault_name(refused.cause)),
     }
 }
 

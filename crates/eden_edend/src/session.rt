@@ -110,10 +110,10 @@ fn tell_mounted(
         | Command::Mount { .. } => push_refused(text, b"Mounted".as_slice()),
         Command::Id { label } => tell_id(labels, &label, text),
         Command::Write { path, kind, bytes } => {
-            tell_write(alloc, mount, labels, &path, kind, &bytes, text)
+            tell_write(mount, labels, path, kind, &bytes, text)
         }
-        Command::Remove { path } => tell_remove(alloc, mount, labels, &path, text),
-        Command::Rename { old, new } => tell_rename(alloc, mount, labels, &old, &new, text),
+        Command::Remove { path } => tell_remove(mount, labels, path, text),
+        Command::Rename { old, new } => tell_rename(mount, labels, old, new, text),
         Command::Reset { label } => tell_reset(mount, labels, &label, text),
         Command::Flush => tell_flush(mount, labels, text),
         Command::Remount { generation } => tell_remount(mount, labels, generation, text),
@@ -121,7 +121,7 @@ fn tell_mounted(
         Command::Position => tell_position(mount, labels, text),
         Command::ListFiles { patterns } => tell_list(alloc, mount, patterns.as_slice(), text),
         Command::Dirty => tell_dirty(mount, text),
-        Command::Read { path } => tell_read(alloc, mount, &path, text),
+        Command::Read { path } => tell_read(mount, path, text),
         Command::Since {
             generation,
             sequence,

@@ -24,7 +24,7 @@ pub use crate::id::Id;
 pub use crate::laws::{file_map_law, path_set_law};
 pub use crate::memory::NoMemory;
 pub use crate::naming::{GitNaming, Naming};
-pub use crate::path::{Path, PathFault, is_component};
+pub use crate::path::{NoPath, Path, PathFault, is_component};
 pub use crate::path_table::PathTable;
 pub use crate::sequence::Sequence;
 

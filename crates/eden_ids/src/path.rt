@@ -46,6 +46,15 @@ impl From<AllocError> for PathFault {
     }
 }
 
+/// Bytes that are no path: they are given back as they were.
+#[derive(Drop, Debug)]
+pub struct NoPath {
+    /// The first cause that stands; it is never `NoMemory`.
+    pub cause: PathFault,
+    /// The bytes.
+    pub bytes: Vec<u8>,
+}
+
 /// A path in a working copy: 1 to 64 components, joined by `/`, of 1,024 bytes at the most.
 ///
 /// A component has 1 to 255 bytes, is neither `.` nor `..`, and holds no NUL byte. Any other byte may stand in a path: it
@@ -122,6 +131,20 @@ impl Path {
         }
         let bytes = bytes.to_vec(alloc)?;
         Ok(Path { bytes })
+    }
+
+    /// The path that a vector of bytes is: the vector is kept, so no byte is copied.
+    ///
+    /// Refused as by `parse`, with the bytes given back. This takes no memory.
+    pub fn from_vec(bytes: Vec<u8>) -> Result<Path, NoPath>
+        ensures accepts { IfOk result (λ path. (path ≡ bytes.items) × (path_fault bytes.items ≡ None)) }
+        ensures refuses { IfErr result (λ fault. path_fault bytes.items ≡ Some fault.cause) }
+        ensures back { IfErr result (λ fault. fault.bytes ≡ bytes) }
+    {
+        match fault_of(bytes.as_slice()) {
+            Some(cause) => Err(NoPath { cause, bytes }),
+            None => Ok(Path { bytes }),
+        }
     }
 
     /// The path of two parts that stand one behind the other, such as a directory's, which ends with a slash, and a name.

@@ -71,6 +71,19 @@ fn paths_keep_their_bytes(rt: HostRuntime) -> Result<(), Fail> {
 }
 
 #[test]
+fn vectors_become_paths_or_come_back(rt: HostRuntime) -> Result<(), Fail> {
+    let alloc = rt.alloc();
+    let path = Path::from_vec(b"src/a".as_slice().to_vec(alloc)?);
+    assert!(rt; path.is_ok_and(|p| p.as_bytes() == b"src/a".as_slice()));
+    let Err(refused) = Path::from_vec(b"src//a".as_slice().to_vec(alloc)?) else {
+        return Err(Fail::new("an empty component stands in a path"));
+    };
+    assert_eq!(rt; refused.cause, PathFault::BadComponent);
+    assert!(rt; refused.bytes.as_slice() == b"src//a".as_slice());
+    Ok(())
+}
+
+#[test]
 fn two_parts_are_one_path(rt: HostRuntime) -> Result<(), Fail> {
     let alloc = rt.alloc();
     let path = Path::joined(alloc, b"src/".as_slice(), b"a".as_slice())?;
