@@ -15,7 +15,7 @@ use eden_ids::{Content, NoMemory, Path};
 pub(crate) type Block = Vec<(Path, Option<Content>)>;
 
 /// A block with so many entries is cut in two.
-const FULL: usize = 256;
+const FULL: usize = 128;
 
 /// Whether a block begins with a path or with one before it.
 fn begins_by(block: &Block, path: &[u8]) -> bool
@@ -74,7 +74,7 @@ pub(crate) fn walk_from<'a>(blocks: &'a [Block], path: &[u8]) -> Walk<'a>
 fn kept_of(blocks: &[Block], at: usize) -> usize
     requires { at < length blocks.now }
     ensures some { 0 < result }
-    ensures fewer { result < 256 }
+    ensures fewer { result < 128 }
 {
     if at == blocks.len() - 1 {
         FULL - 1
