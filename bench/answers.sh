@@ -3,8 +3,8 @@
 # answer, and how they grow. README.md says what is measured, and how. It needs git, GNU time and the kit.
 #
 # usage: bench/answers.sh [TRIES]
-# EDEND names the program that is measured, if it is another than this one, as one of an earlier commit; LARGEST the most files that are
-# written, 1,000,000 if it is not set.
+# EDEND names the program that is measured, if it is another than this one; BEFORE a second one, as of an earlier commit, which takes turns
+# with it row by row; LARGEST the most files that are written, 1,000,000 if it is not set.
 set -euo pipefail
 
 tries=${1:-5}
@@ -31,9 +31,17 @@ of_line() {
     awk -v all="$with" -v none="$without" -v count="$4" 'BEGIN { printf "%.3f", (all - none) / count }'
 }
 
-# A row of the table: the work, what Git takes, or a dash, and what edend takes, in milliseconds.
+# A row of the table, in milliseconds: the work, what Git takes, or a dash, and what a measure gives of edend and of the program of before.
 row() {
-    if [ "$2" = - ]; then echo "| $1 | - | $3 ms | - |"; else echo "| $1 | $2 ms | $3 ms | $(ratio "$2" "$3") |"; fi
+    local label=$1 peer=$2 now earlier
+    shift 2
+    now=$("$@")
+    earlier=$([ -n "${BEFORE:-}" ] && edend=$BEFORE "$@" || echo -)
+    echo "| $label | $peer | $earlier | $now | $(times "$peer" "$now") | $(times "$earlier" "$now") |"
+}
+# How many times as fast, where there is something beside it.
+times() {
+    if [ "$1" = - ]; then echo -; else ratio "$1" "$2"; fi
 }
 
 git_all() {
@@ -46,52 +54,69 @@ git_list() {
     git ls-tree -r --name-only one
 }
 
+# The milliseconds that so many writes take, in the order of the paths or in none.
+of_writes() {
+    local without with
+    without=$(script empty < /dev/null)
+    with=$(writes "$1" "$2" | script empty)
+    awk -v all="$with" -v none="$without" 'BEGIN { printf "%.0f", all - none }'
+}
+
+# The bytes that each of 80,000 changed files takes, a path of 15 bytes and a content of 3 within.
+bytes_a_file() {
+    local held none
+    echo 'mount empty 1 1000000000' > "$work/script"
+    none=$(command time -f %M "$edend" run < "$work/script" 2>&1 > /dev/null)
+    { cat "$work/script"; writes "$1" 80000; } > "$work/more"
+    held=$(command time -f %M "$edend" run < "$work/more" 2>&1 > /dev/null)
+    echo $(((held - none) * 1024 / 80000))
+}
+
 measure_polls() {
     local count
     for count in 100 1000 10000 100000; do
         writes ordered "$count" > "$work/before"
-        row "poll over $count changed files" - "$(objects_file=/dev/null of_line empty "$work/before" 'since 1 1' $((2000000 / count > 1000 ? 1000 : 2000000 / count)))"
+        objects_file=/dev/null row "poll over $count changed files" - \
+            of_line empty "$work/before" 'since 1 1' $((2000000 / count > 1000 ? 1000 : 2000000 / count))
     done
     echo 'checkout one normal' > "$work/before"
-    row "poll over a change of the root, no file to 100,000" "$(least git_all)" "$(of_line empty "$work/before" 'since 1 1' 10)"
+    row "poll over a change of the root, no file to 100,000" "$(least git_all)" of_line empty "$work/before" 'since 1 1' 10
     echo 'checkout two normal' > "$work/before"
-    row "poll over a change of the root, 100 of 100,000 files" "$(least git_some)" "$(of_line one "$work/before" 'since 1 1' 1000)"
+    row "poll over a change of the root, 100 of 100,000 files" "$(least git_some)" of_line one "$work/before" 'since 1 1' 1000
 }
 
 measure_trees() {
     : > "$work/before"
-    row "checkout, no file to 100,000 and back" - "$(of_line empty "$work/before" 'checkout one normal\ncheckout empty normal' 10)"
-    row "list of 100,000 files" "$(least git_list)" "$(of_line one "$work/before" 'list' 60)"
+    row "two checkouts, no file to 100,000 and back" - of_line empty "$work/before" 'checkout one normal\ncheckout empty normal' 10
+    row "list of 100,000 files" "$(least git_list)" of_line one "$work/before" 'list' 60
 }
 
+# A million writes take a program of before minutes, so it is not asked for them.
 measure_writes() {
-    local order count taken none
-    none=$(objects_file=/dev/null script empty < /dev/null)
+    local order count
     for order in ordered scattered; do
         for count in 1000 20000 80000 1000000; do
             [ "$count" -le "${LARGEST:-1000000}" ] || continue
-            taken=$(writes "$order" "$count" | objects_file=/dev/null script empty)
-            row "$count new files, $order" - "$(awk -v a="$taken" -v b="$none" 'BEGIN { printf "%.0f", a - b }')"
+            BEFORE=$([ "$count" -eq 1000000 ] || echo "${BEFORE:-}") objects_file=/dev/null row "$count new files, $order" - of_writes "$order" "$count"
         done
     done
 }
 
-# What a changed file costs in memory, beside a path of 15 bytes and a content of 3.
 measure_memory() {
-    local held none
-    echo 'mount empty 1 1000000000' > "$work/script"
-    none=$(command time -f %M "$edend" run < "$work/script" 2>&1 > /dev/null)
-    { cat "$work/script"; writes ordered 80000; } > "$work/more"
-    held=$(command time -f %M "$edend" run < "$work/more" 2>&1 > /dev/null)
+    local order
     echo
-    echo "80,000 changed files: $(((held - none) / 1024)) MiB, $(((held - none) * 1024 / 80000)) bytes a file"
+    echo "| bytes for each of 80,000 changed files | - | before | edend | - | before takes, times |"
+    echo "|---|---|---|---|---|---|"
+    for order in ordered scattered; do
+        row "$order" - bytes_a_file "$order"
+    done
 }
 
 export GIT_DIR="$work/deep"
 git init -q --bare "$GIT_DIR"
 make_commits deep
-echo "| work | git | edend | edend is as fast, times |"
-echo "|---|---|---|---|"
+echo "| work, in ms | Git | before | edend | as fast as Git, times | as fast as before, times |"
+echo "|---|---|---|---|---|---|"
 measure_polls
 measure_trees
 measure_writes
