@@ -1,5 +1,5 @@
 -- The lines of a stream as items, what a machine tells of them, and what the steps say that find them.
-use Rattle.std.specs.Prelude.{◌≡◌, Bool, true, ℕ, ◌+◌, ◌<◌, ◌≤◌, ◌⊎◌, ⊤, List, [], ◌∷◌, ◌++◌, length, take, drop, Option, None, Some, Result, Ok, Err}
+use Rattle.std.specs.Prelude.{◌≡◌, Bool, true, ℕ, ◌<◌, ◌≤◌, ◌⊎◌, ⊤, List, [], ◌∷◌, ◌++◌, length, take, drop, Option, None, Some, Result, Ok, Err}
 use Rattle.std.specs.Str.Lines.{lines, strip_carriage_return}
 use Rattle.eden_stream.specs.Grammars.{Grammar}
 use Rattle.eden_stream.specs.Lines.{HasNoBreak, IsComment, IsSkipped, IsSpoken, IsTooLong, IsWholeLines}
