@@ -8,8 +8,8 @@
 use anyhow::Result;
 use eden_accumulate::Mount;
 use eden_globs::Filter;
-use eden_history::{Query, Request};
 use eden_ids::{GitNaming, Id};
+use eden_messages::{Query, Request};
 use eden_objects::Store;
 use eden_query::{encode_request, serve};
 use eden_stream::Counted;

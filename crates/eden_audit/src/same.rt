@@ -4,10 +4,9 @@ ghost use Rattle.std.specs.Prelude.{◌≡◌, ◌↔◌, IsTrue};
 
 use crate::call::{Answer, Call};
 use eden_globs::Filter;
-use eden_history::{
-    Answer as Made, Cause, Change, ChangeFault, Marked, Mode, Position, Query, Reply, Request,
-};
+use eden_history::{Answer as Made, Change, ChangeFault, Marked, Mode, Position};
 use eden_ids::{Content, Id, Kind, Path, Sequence};
+use eden_messages::{Cause, Query, Reply, Request};
 
 /// Whether two lists of bytes are equal.
 #[tactic(auto, using(crate::proofs::Alike::bytes_same, crate::proofs::Alike::bytes_itself))]

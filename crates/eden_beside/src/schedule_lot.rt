@@ -3,8 +3,8 @@
 use crate::lot::Lot;
 use crate::scene::{Scene, Step};
 use eden_globs::Filter;
-use eden_history::{Query, Request};
 use eden_ids::Id;
+use eden_messages::{Query, Request};
 use std::alloc::Global;
 use std::test::Fail;
 

@@ -8,7 +8,4 @@ pub mod LegalFiles
 pub mod Touched
 pub mod Ranges
 pub mod Floors
-pub mod Spelling
-pub mod BodyLengths
-pub mod Filters
 pub mod Following

@@ -6,13 +6,8 @@ pub mod Named
 pub mod Outcome
 pub mod Legal
 pub mod Changes
-pub mod Spells
 pub mod Status
 pub mod Marks
 pub mod Recorded
 pub mod Touches
-pub mod Replies
-pub mod Mirrors
 pub mod Rows
-pub mod Schedules
-pub mod Headline

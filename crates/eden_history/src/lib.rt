@@ -1,4 +1,4 @@
-//! What a mount means: its rows and events, what each change does, what has changed since a position, and how a client asks.
+//! What a mount means: its rows and events, what each change does, and what has changed since a position.
 //!
 //! The definitions stand in `specs/`, one to a file, and every other crate proves its code against them.
 //!
@@ -16,15 +16,10 @@ pub use crate::answer::{Answer, SinceFault};
 pub use crate::change::{Change, ChangeFault, Mode};
 pub use crate::checkout_laws::checkout_law;
 pub use crate::dirty::Dirty;
-pub use crate::files::Files;
 pub use crate::mark::{Mark, Marked};
-pub use crate::message::{Cause, Query, Reply, Request};
 pub use crate::mount_fault::MountFault;
-pub use crate::outcome::Outcome;
 pub use crate::position::Position;
-pub use crate::replies::admitted;
 pub use crate::sides::Sides;
-pub use crate::spelling_law::{one_message_law, one_spelling_law};
 pub use crate::touches::{Touch, Touches};
 pub use crate::tree_faults::{absent_fault, place_fault, rename_fault, write_fault};
 
@@ -32,19 +27,11 @@ mod answer;
 mod change;
 mod checkout_laws;
 mod dirty;
-mod files;
-#[cfg(test)]
-mod files_tests;
-mod lengths;
 mod listed;
 mod mark;
-mod message;
 mod mount_fault;
-mod outcome;
 mod position;
-mod replies;
 mod sides;
-mod spelling_law;
 #[cfg(test)]
 mod tests;
 mod touches;

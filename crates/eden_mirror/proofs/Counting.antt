@@ -3,13 +3,13 @@ use Rattle.std.proofs.Common.{◌≡◌, ℕ, suc, ◌+◌, ◌==◌, Bool, true
 use Rattle.eden_ids.specs.FileMaps.{put_option}
 use Rattle.eden_ids.specs.declared.content.Content.{Content}
 use Rattle.eden_history.specs.declared.position.Position.{Position}
-use Rattle.eden_history.specs.declared.message.Query.{Query}
-use Rattle.eden_history.specs.declared.message.Reply.{Reply}
-use Rattle.eden_history.specs.declared.message.Reply.TheVariants.{BasisIs, ChangesAre, ContentIs, Refused}
-use Rattle.eden_history.specs.declared.outcome.Outcome.{Outcome}
-use Rattle.eden_history.specs.declared.outcome.Outcome.TheVariants.{Taken, Placed, Ignored}
-use Rattle.eden_history.specs.Mirrors.{MirrorState, Round, counts, delivered, delivered_in, fetched, gathers, is_among, same_query, taken_if, without}
-use Rattle.eden_history.specs.Mirrors.Round.{Idle, Asked, Gathering}
+use Rattle.eden_messages.specs.declared.message.Query.{Query}
+use Rattle.eden_messages.specs.declared.message.Reply.{Reply}
+use Rattle.eden_messages.specs.declared.message.Reply.TheVariants.{BasisIs, ChangesAre, ContentIs, Refused}
+use Rattle.eden_messages.specs.declared.outcome.Outcome.{Outcome}
+use Rattle.eden_messages.specs.declared.outcome.Outcome.TheVariants.{Taken, Placed, Ignored}
+use Rattle.eden_messages.specs.Mirrors.{MirrorState, Round, counts, delivered, delivered_in, fetched, gathers, is_among, same_query, taken_if, without}
+use Rattle.eden_messages.specs.Mirrors.Round.{Idle, Asked, Gathering}
 use Rattle.eden_mirror.specs.Counting.{after, awaited_in, counted, counts_in, is_gathering, outcome_at, CountsDown, IgnoresOthers}
 use Rattle.eden_mirror.specs.internal.Pending.{AreDistinct}
 use Rattle.eden_mirror.proofs.Pending.{distinct_without, length-without}

@@ -9,8 +9,8 @@ use Rattle.eden_ids.specs.Sameness.{same_bytes}
 use Rattle.eden_ids.specs.FileMaps.{same_path}
 use Rattle.eden_ids.proofs.FileMapLemmas.{same_path-is, same_path-bytes, same_path-turned}
 use Rattle.eden_history.specs.declared.mark.Marked.{Marked}
-use Rattle.eden_history.specs.Mirrors.{distinct, is_among, without}
-use Rattle.eden_history.specs.Spells.{paths_of}
+use Rattle.eden_messages.specs.Mirrors.{distinct, is_among, without}
+use Rattle.eden_messages.specs.Spells.{paths_of}
 use Rattle.eden_mirror.specs.internal.Pending.{AreDistinct, pending}
 
 abbrev pub Entries : Type 0

@@ -1,11 +1,11 @@
 -- How the contents of a round are counted, up to the one that places the mirror.
 use Rattle.std.specs.Prelude.{◌≡◌, ℕ, ◌+◌, ◌==◌, Bool, true, false, if◌then◌else◌, List, [], ◌∷◌, length}
-use Rattle.eden_history.specs.declared.message.Reply.{Reply}
-use Rattle.eden_history.specs.declared.message.Reply.TheVariants.{ContentIs}
-use Rattle.eden_history.specs.declared.outcome.Outcome.{Outcome}
-use Rattle.eden_history.specs.declared.outcome.Outcome.TheVariants.{Taken, Placed, Ignored}
-use Rattle.eden_history.specs.Mirrors.{MirrorState, Round, counts, delivered}
-use Rattle.eden_history.specs.Mirrors.Round.{Idle, Asked, Gathering}
+use Rattle.eden_messages.specs.declared.message.Reply.{Reply}
+use Rattle.eden_messages.specs.declared.message.Reply.TheVariants.{ContentIs}
+use Rattle.eden_messages.specs.declared.outcome.Outcome.{Outcome}
+use Rattle.eden_messages.specs.declared.outcome.Outcome.TheVariants.{Taken, Placed, Ignored}
+use Rattle.eden_messages.specs.Mirrors.{MirrorState, Round, counts, delivered}
+use Rattle.eden_messages.specs.Mirrors.Round.{Idle, Asked, Gathering}
 
 abbrev pub is_gathering : Round → Bool
 is_gathering Idle = false

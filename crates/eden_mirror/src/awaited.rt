@@ -4,12 +4,13 @@ ghost use Rattle.std.specs.Prelude.{◌≡◌, false, length, map, nat_eq, IfOk,
 ghost use Rattle.indexmap.specs.IndexMap.{insert_entry};
 ghost use Rattle.eden_ids.specs.Sameness.{same_bytes};
 ghost use Rattle.eden_mirror.specs.internal.Pending.{AreDistinct};
-ghost use Rattle.eden_history.specs.declared.message.Request.TheVariants.{Fetch};
-ghost use Rattle.eden_history.specs.Mirrors.{distinct, is_among, without};
-ghost use Rattle.eden_history.specs.Spells.{paths_of};
+ghost use Rattle.eden_messages.specs.declared.message.Request.TheVariants.{Fetch};
+ghost use Rattle.eden_messages.specs.Mirrors.{distinct, is_among, without};
+ghost use Rattle.eden_messages.specs.Spells.{paths_of};
 
-use eden_history::{Marked, Query, Request};
+use eden_history::Marked;
 use eden_ids::{NoMemory, Path};
+use eden_messages::{Query, Request};
 use indexmap::IndexMap;
 use std::alloc::Global;
 use std::marker::Model;

@@ -1,14 +1,16 @@
 //! What a mirror makes of a reply.
 
 ghost use Rattle.std.specs.Prelude.{◌≡◌, Some, IfOk, OnErr};
-ghost use Rattle.eden_history.specs.declared.message.Reply.TheVariants.{BasisIs, ChangesAre, ContentIs, Refused};
-ghost use Rattle.eden_history.specs.Mirrors.{delivered, gathers, query_numbered};
-ghost use Rattle.eden_history.specs.Mirrors.Round.{Idle};
+ghost use Rattle.eden_messages.specs.declared.message.Reply.TheVariants.{BasisIs, ChangesAre, ContentIs, Refused};
+ghost use Rattle.eden_messages.specs.Mirrors.{delivered, gathers, query_numbered};
+ghost use Rattle.eden_messages.specs.Mirrors.Round.{Idle};
 
 use crate::awaited::Awaited;
 use crate::mirror::{Mirror, Round};
-use eden_history::{Cause, Files, Marked, Outcome, Position, Query, Reply};
+use eden_files::Files;
+use eden_history::{Marked, Position};
 use eden_ids::{Content, NoMemory, Path};
+use eden_messages::{Cause, Outcome, Query, Reply};
 
 impl Mirror {
     /// Ends the round at its target.
@@ -33,7 +35,7 @@ impl Mirror {
     }
 
     /// Takes the list of all paths.
-    #[tactic(auto, unfolding(eden_history::specs::Mirrors::delivered))]
+    #[tactic(auto, unfolding(eden_messages::specs::Mirrors::delivered))]
     fn take_basis(
         &mut self,
         query: Query,
@@ -55,7 +57,7 @@ impl Mirror {
     }
 
     /// Takes the list of the paths that changed.
-    #[tactic(auto, unfolding(eden_history::specs::Mirrors::delivered))]
+    #[tactic(auto, unfolding(eden_messages::specs::Mirrors::delivered))]
     fn take_changes(
         &mut self,
         query: Query,
@@ -76,7 +78,7 @@ impl Mirror {
     }
 
     /// Takes the content of a path.
-    #[tactic(auto, unfolding(eden_history::specs::Mirrors::delivered))]
+    #[tactic(auto, unfolding(eden_messages::specs::Mirrors::delivered))]
     fn take_content(
         &mut self,
         query: Query,
@@ -107,7 +109,7 @@ impl Mirror {
     }
 
     /// Takes a refusal of the list. It takes no memory.
-    #[tactic(auto, unfolding(eden_history::specs::Mirrors::delivered))]
+    #[tactic(auto, unfolding(eden_messages::specs::Mirrors::delivered))]
     fn take_refusal(&mut self, query: Query, cause: Cause) -> Outcome
         ensures { (self.new, result) ≡ delivered self.old (Refused query cause) }
     {

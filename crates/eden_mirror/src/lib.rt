@@ -1,10 +1,10 @@
 //! Mirrors: a client's copy of the files of a mount that its filter admits, over a network that loses, repeats and reorders.
 //!
-//! What a mirror does is defined in eden_history's `specs/Mirrors.antt`, as functions of its state; `Mirror` is that state.
+//! What a mirror does is defined in eden_messages' `specs/Mirrors.antt`, as functions of its state; `Mirror` is that state.
 //!
 //! ```rust
 //! use eden_globs::Filter;
-//! use eden_history::Request;
+//! use eden_messages::Request;
 //! use eden_mirror::Mirror;
 //!
 //! let mut mirror = Mirror::new(alloc, 1, 1, Filter::all(alloc));
@@ -15,7 +15,7 @@
 #![tactic(auto)]
 
 pub use crate::mirror::{Mirror, NumbersExhausted};
-pub use eden_history::Outcome;
+pub use eden_messages::Outcome;
 
 mod awaited;
 mod deliver;

@@ -3,12 +3,14 @@
 ghost use Rattle.std.specs.Prelude.{◌≡◌, [], ◌∷◌, false, true, IfOk, OnErr, OnOk};
 ghost use Rattle.std.specs.Option.{option_copied};
 ghost use Rattle.eden_ids.specs.FileMaps.{file_at, paths};
-ghost use Rattle.eden_history.specs.Mirrors.{begun, has_number, is_idle, list_request, new_mirror, next_requests, outstanding_of, query_numbered, refiltered};
+ghost use Rattle.eden_messages.specs.Mirrors.{begun, has_number, is_idle, list_request, new_mirror, next_requests, outstanding_of, query_numbered, refiltered};
 
 use crate::awaited::Awaited;
+use eden_files::Files;
 use eden_globs::Filter;
-use eden_history::{Files, Position, Query, Request};
+use eden_history::Position;
 use eden_ids::{Content, NoMemory, Path};
+use eden_messages::{Query, Request};
 use std::alloc::Global;
 use std::marker::Model;
 use thiserror::Error;
@@ -57,8 +59,8 @@ pub struct Mirror {
 
 impl Model for Mirror {
     ghost use Rattle.std.specs.Coded.{codes};
-    ghost use Rattle.eden_history.specs.contracts.files.Files as held;
-    ghost use Rattle.eden_history.specs.Mirrors.{MirrorState};
+    ghost use Rattle.eden_files.specs.contracts.files.Files as held;
+    ghost use Rattle.eden_messages.specs.Mirrors.{MirrorState};
     ghost use Rattle.eden_mirror.specs.internal.Rounds.{round_of};
 
     ghost Value = { MirrorState };
@@ -190,7 +192,7 @@ impl Mirror {
     /// all paths where there is none. This takes no memory.
     ///
     /// `NumbersExhausted` comes where the last number was 2^64 - 1, and changes nothing.
-    #[tactic(auto, unfolding(eden_history::specs::Mirrors::begun))]
+    #[tactic(auto, unfolding(eden_messages::specs::Mirrors::begun))]
     pub fn begin(&mut self) -> Result<(), NumbersExhausted>
         ensures begun { self.new ≡ begun self.old }
         ensures numbered { OnOk result (has_number self.old ≡ true) }
@@ -207,7 +209,7 @@ impl Mirror {
     /// What is still to be answered in the round that is under way: the request for its list; or one for the content of each path that is
     /// awaited, in the order in which they became so; or nothing where there is no round. It costs what it lists. `NoMemory` comes where
     /// a growth was refused.
-    #[tactic(auto, unfolding(eden_history::specs::Mirrors::outstanding_of))]
+    #[tactic(auto, unfolding(eden_messages::specs::Mirrors::outstanding_of))]
     pub fn outstanding(&self) -> Result<Vec<Request>, NoMemory>
         ensures { IfOk result (λ requests. requests.items ≡ outstanding_of self.now) }
     {
@@ -220,7 +222,7 @@ impl Mirror {
 
     /// What will be outstanding once a round is under way: what is so now, or what the next round begins with, of which there is none
     /// where numbers are exhausted. So who sends can find room for that before a round begins. `NoMemory` comes where a growth was refused.
-    #[tactic(auto, unfolding(eden_history::specs::Mirrors::begun, eden_history::specs::Mirrors::stepped, eden_history::specs::Mirrors::outstanding_of))]
+    #[tactic(auto, unfolding(eden_messages::specs::Mirrors::begun, eden_messages::specs::Mirrors::stepped, eden_messages::specs::Mirrors::outstanding_of))]
     pub fn next_requests(&self) -> Result<Vec<Request>, NoMemory>
         ensures { IfOk result (λ requests. requests.items ≡ next_requests self.now) }
     {
@@ -235,7 +237,7 @@ impl Mirror {
 
     /// Wants other paths from now on: all that is held, the position and the round are given up. The number stays, so that no later round
     /// takes a reply to an earlier one. This takes no memory.
-    #[tactic(auto, unfolding(eden_history::specs::Mirrors::refiltered))]
+    #[tactic(auto, unfolding(eden_messages::specs::Mirrors::refiltered))]
     pub fn refilter(&mut self, filter: Filter)
         ensures { self.new ≡ refiltered self.old filter }
     {

@@ -3,11 +3,11 @@ use Rattle.std.proofs.Common.{◌≡◌, ℕ, ◌≤◌, true, false, cond, ltb,
 use Rattle.std.specs.Prelude.{IfOk}
 use Rattle.std.proofs.lemmas.Bool.{ltb-false, le-ltb, eqb-true}
 use Rattle.std.proofs.lemmas.List.{append-nil}
-use Rattle.eden_history.specs.declared.message.Request.{Request}
-use Rattle.eden_history.specs.declared.message.Request.TheVariants.{Basis, Poll, Fetch}
-use Rattle.eden_history.specs.declared.message.Reply.{Reply}
-use Rattle.eden_history.specs.declared.message.Reply.TheVariants.{BasisIs, ChangesAre, ContentIs, Refused}
-use Rattle.eden_history.specs.Spells.{query_bytes, position_bytes, text_bytes, filter_bytes, paths_bytes, list_bytes, content_bytes, cause_bytes, request_bytes, IsRequest, SpellsRequest, reply_bytes, IsReply, SpellsReply}
+use Rattle.eden_messages.specs.declared.message.Request.{Request}
+use Rattle.eden_messages.specs.declared.message.Request.TheVariants.{Basis, Poll, Fetch}
+use Rattle.eden_messages.specs.declared.message.Reply.{Reply}
+use Rattle.eden_messages.specs.declared.message.Reply.TheVariants.{BasisIs, ChangesAre, ContentIs, Refused}
+use Rattle.eden_messages.specs.Spells.{query_bytes, position_bytes, text_bytes, filter_bytes, paths_bytes, list_bytes, content_bytes, cause_bytes, request_bytes, IsRequest, SpellsRequest, reply_bytes, IsReply, SpellsReply}
 use Rattle.eden_query.specs.declared.fault.DecodeFault.{DecodeFault}
 use Rattle.eden_query.specs.declared.fault.DecodeFault.TheVariants.{TooLarge, Version, BadTag}
 use Rattle.eden_query.specs.Reading.{◌>>=◌, Gives, byte_at, query_at, position_at, path_at, filter_at, path_listing_at, listing_at, content_at, cause_at, tag_at, ended, basis_at, poll_at, fetch_at, read_request, based_at, changes_at, held_at, refused_at, read_reply}

@@ -20,11 +20,11 @@ use Rattle.eden_history.specs.declared.mark.Mark.{Mark}
 use Rattle.eden_history.specs.declared.mark.Mark.TheVariants.{Created, Removed, Changed, Root}
 use Rattle.eden_history.specs.declared.mark.Marked.{Marked}
 use Rattle.eden_history.specs.declared.position.Position.{Position}
-use Rattle.eden_history.specs.declared.message.Query.{Query}
-use Rattle.eden_history.specs.declared.message.Cause.{Cause}
-use Rattle.eden_history.specs.declared.message.Cause.TheVariants as causes
-use Rattle.eden_history.specs.Spells.{AreBytes, query_bytes, IsQuery, position_bytes, IsPosition, text_bytes, IsPathText, filter_bytes, IsFilterText, IsBelowFirst, Ascends, IsListing, paths_bytes, mark_byte, marked_bytes, list_bytes, paths_of, kind_byte, content_bytes, IsValue, cause_bytes, IsCause}
-use Rattle.eden_history.proofs.Spelling.{IsText, path_text, filter_fits}
+use Rattle.eden_messages.specs.declared.message.Query.{Query}
+use Rattle.eden_messages.specs.declared.message.Cause.{Cause}
+use Rattle.eden_messages.specs.declared.message.Cause.TheVariants as causes
+use Rattle.eden_messages.specs.Spells.{AreBytes, query_bytes, IsQuery, position_bytes, IsPosition, text_bytes, IsPathText, filter_bytes, IsFilterText, IsBelowFirst, Ascends, IsListing, paths_bytes, mark_byte, marked_bytes, list_bytes, paths_of, kind_byte, content_bytes, IsValue, cause_bytes, IsCause}
+use Rattle.eden_messages.proofs.Spelling.{IsText, path_text, filter_fits}
 use Rattle.eden_query.specs.declared.fault.DecodeFault.{DecodeFault}
 use Rattle.eden_query.specs.declared.fault.DecodeFault.TheVariants.{CutShort, BadField}
 use Rattle.eden_query.specs.Reading.{◌>>=◌, byte_at, number_at, text_at, query_at, root_at, position_at, path_of, path_at, patterns_at, filter_of, filter_at, mark_of_byte, mark_at, is_above, next_at, items_at, path_listing_at, marked_at, listing_at, kind_of_byte, bytes_at, content_at, cause_of, cause_at}

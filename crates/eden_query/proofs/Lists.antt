@@ -6,10 +6,10 @@ use Rattle.std.proofs.lemmas.List.Concat.{flat_map-cons}
 use Rattle.eden_ids.specs.declared.content.Content.{Content}
 use Rattle.eden_history.specs.declared.mark.Marked.{Marked}
 use Rattle.eden_history.specs.declared.position.Position.{Position}
-use Rattle.eden_history.specs.declared.message.Query.{Query}
-use Rattle.eden_history.specs.declared.message.Reply.TheVariants.{BasisIs, ChangesAre, ContentIs}
-use Rattle.eden_history.specs.Spells.{text_bytes, marked_bytes, content_bytes, reply_bytes}
-use Rattle.eden_history.proofs.BodyLengths.{basis_len, changes_len, content_len}
+use Rattle.eden_messages.specs.declared.message.Query.{Query}
+use Rattle.eden_messages.specs.declared.message.Reply.TheVariants.{BasisIs, ChangesAre, ContentIs}
+use Rattle.eden_messages.specs.Spells.{text_bytes, marked_bytes, content_bytes, reply_bytes}
+use Rattle.eden_messages.proofs.BodyLengths.{basis_len, changes_len, content_len}
 
 -- each marked path takes a byte at least
 list_len : (list : List Marked) → length list ≤ length (flat_map marked_bytes list)

@@ -4,8 +4,8 @@ use Rattle.std.specs.Int.{Width, w16, w32, w64, byte_len, from_be_bytes, to_be_b
 use Rattle.std.proofs.lemmas.Bool.{cases_lt, ltb-false, le-ltb, eqb-false, eqb-true, ne_eqb, or_from}
 use Rattle.std.proofs.lemmas.List.{take_at, drop_at, take-append-drop, length-append, length-take, get_or-drop, get_or-take, get_or_past, nil_from_length}
 use Rattle.std.proofs.lemmas.Nat.{be_bytes_2, be_bytes_4, be_bytes_8, from_be_bytes-to_be_bytes_2, from_be_bytes-to_be_bytes_4, from_be_bytes-to_be_bytes_8}
-use Rattle.eden_history.specs.Spells.{AreBytes, text_bytes}
-use Rattle.eden_history.proofs.Spelling.{IsText}
+use Rattle.eden_messages.specs.Spells.{AreBytes, text_bytes}
+use Rattle.eden_messages.proofs.Spelling.{IsText}
 use Rattle.eden_query.specs.declared.fault.DecodeFault.{DecodeFault}
 use Rattle.eden_query.specs.declared.fault.DecodeFault.TheVariants.{CutShort, BadField, Trailing}
 use Rattle.eden_query.specs.Reading.{◌>>=◌, byte_at, number_at, text_at, ended}

@@ -2,13 +2,13 @@
 use Rattle.std.proofs.Common.{◌≡◌, ◌≤◌, true, false, nat_lt, length, refl, arith}
 use Rattle.std.specs.Prelude.{if◌then◌else◌}
 use Rattle.std.proofs.lemmas.Bool.{ltb-false}
-use Rattle.eden_history.specs.declared.message.Cause.{Cause}
-use Rattle.eden_history.specs.declared.message.Cause.TheVariants.{Stale, Ahead, Truncated, TooLarge}
-use Rattle.eden_history.specs.declared.message.Query.{Query}
-use Rattle.eden_history.specs.declared.message.Reply.{Reply}
-use Rattle.eden_history.specs.declared.message.Reply.TheVariants.{Refused}
-use Rattle.eden_history.specs.Replies.{bounded}
-use Rattle.eden_history.specs.Spells.{reply_bytes}
+use Rattle.eden_messages.specs.declared.message.Cause.{Cause}
+use Rattle.eden_messages.specs.declared.message.Cause.TheVariants.{Stale, Ahead, Truncated, TooLarge}
+use Rattle.eden_messages.specs.declared.message.Query.{Query}
+use Rattle.eden_messages.specs.declared.message.Reply.{Reply}
+use Rattle.eden_messages.specs.declared.message.Reply.TheVariants.{Refused}
+use Rattle.eden_messages.specs.Replies.{bounded}
+use Rattle.eden_messages.specs.Spells.{reply_bytes}
 use Rattle.eden_stream.specs.Frames.{body_limit}
 
 refusal-length : (query : Query) (cause : Cause) → length (reply_bytes (Refused query cause)) ≡ 35

@@ -11,14 +11,15 @@ use Rattle.eden_accumulate.specs.Snapshots.{shown_to}
 use Rattle.eden_accumulate.specs.declared.snapshot.Snapshot.{Snapshot}
 use Rattle.eden_accumulate.specs.Ranges.{EndsNow, IsStatus, Tells}
 use Rattle.eden_history.specs.declared.answer.SinceFault.{SinceFault}
-use Rattle.eden_history.specs.declared.message.Cause.{Cause}
-use Rattle.eden_history.specs.declared.message.Query.{Query}
-use Rattle.eden_history.specs.declared.message.Reply.TheVariants.{BasisIs, ChangesAre, ContentIs, Refused}
-use Rattle.eden_history.specs.declared.message.Request.TheVariants.{Basis, Poll, Fetch}
+use Rattle.eden_messages.specs.declared.message.Cause.{Cause}
+use Rattle.eden_messages.specs.declared.message.Query.{Query}
+use Rattle.eden_messages.specs.declared.message.Reply.TheVariants.{BasisIs, ChangesAre, ContentIs, Refused}
+use Rattle.eden_messages.specs.declared.message.Request.TheVariants.{Basis, Poll, Fetch}
 use Rattle.eden_history.specs.declared.position.Position.{Position}
 use Rattle.eden_history.specs.Worlds.{WorldState, now, position_of}
 use Rattle.eden_history.specs.Status.{status_of}
-use Rattle.eden_history.specs.Replies.{admitted, admitted_paths, bounded, cause_of, polled, reply_of}
+use Rattle.eden_history.specs.Marks.{admitted}
+use Rattle.eden_messages.specs.Replies.{admitted_paths, bounded, cause_of, polled, reply_of}
 use Rattle.eden_query.specs.declared.raw.Raw.TheVariants as raw
 use Rattle.eden_query.specs.Raws.{is_answerable, told}
 use Rattle.eden_query.specs.Settled.{settled, settled_by, settled_of}

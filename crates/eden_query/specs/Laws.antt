@@ -1,9 +1,9 @@
 -- Reading and spelling undo each other.
 use Rattle.std.specs.Prelude.{◌≡◌, ℕ, ◌<◌, List, slice_index, Ok}
 use Rattle.eden_query.specs.Reading.{read_request, read_reply}
-use Rattle.eden_history.specs.declared.message.Reply.{Reply}
-use Rattle.eden_history.specs.declared.message.Request.{Request}
-use Rattle.eden_history.specs.Spells.{SpellsRequest, SpellsReply}
+use Rattle.eden_messages.specs.declared.message.Reply.{Reply}
+use Rattle.eden_messages.specs.declared.message.Request.{Request}
+use Rattle.eden_messages.specs.Spells.{SpellsRequest, SpellsReply}
 
 -- numbers below 256, as a slice of bytes has them
 abbrev pub AreBytes : List ℕ → Type 0

@@ -2,12 +2,13 @@
 use Rattle.std.specs.Prelude.{Bool, true, is_some, List, [], ℕ}
 use Rattle.eden_objects.specs.Objects.{Held}
 use Rattle.eden_ranges.specs.Expanded.{are_comparable, expanded}
-use Rattle.eden_history.specs.declared.message.Reply.{Reply}
-use Rattle.eden_history.specs.declared.message.Reply.TheVariants.{BasisIs, ChangesAre, ContentIs, Refused}
-use Rattle.eden_history.specs.declared.message.Request.{Request}
-use Rattle.eden_history.specs.declared.message.Request.TheVariants.{Basis, Poll, Fetch}
+use Rattle.eden_messages.specs.declared.message.Reply.{Reply}
+use Rattle.eden_messages.specs.declared.message.Reply.TheVariants.{BasisIs, ChangesAre, ContentIs, Refused}
+use Rattle.eden_messages.specs.declared.message.Request.{Request}
+use Rattle.eden_messages.specs.declared.message.Request.TheVariants.{Basis, Poll, Fetch}
 use Rattle.eden_history.specs.Worlds.{Commits}
-use Rattle.eden_history.specs.Replies.{admitted, bounded}
+use Rattle.eden_history.specs.Marks.{admitted}
+use Rattle.eden_messages.specs.Replies.{bounded}
 use Rattle.eden_accumulate.specs.Snapshots.{shown_to}
 use Rattle.eden_query.specs.declared.raw.Raw.{Raw}
 use Rattle.eden_query.specs.declared.raw.Raw.TheVariants as raw

@@ -1,11 +1,11 @@
 -- Where a request is answered, or why it is refused: what is known of its reply as soon as it was held.
 use Rattle.std.specs.Prelude.{Option, Some, None, Result, Ok, Err}
 use Rattle.eden_history.specs.declared.answer.SinceFault.{SinceFault}
-use Rattle.eden_history.specs.declared.message.Cause.{Cause}
-use Rattle.eden_history.specs.declared.message.Request.{Request}
-use Rattle.eden_history.specs.declared.message.Request.TheVariants.{Basis, Poll, Fetch}
+use Rattle.eden_messages.specs.declared.message.Cause.{Cause}
+use Rattle.eden_messages.specs.declared.message.Request.{Request}
+use Rattle.eden_messages.specs.declared.message.Request.TheVariants.{Basis, Poll, Fetch}
 use Rattle.eden_history.specs.declared.position.Position.{Position}
-use Rattle.eden_history.specs.Replies.{cause_of}
+use Rattle.eden_messages.specs.Replies.{cause_of}
 use Rattle.eden_history.specs.Status.{status_of}
 use Rattle.eden_history.specs.Worlds.{WorldState, now, position_of}
 use Rattle.eden_query.specs.declared.raw.Raw.{Raw}

@@ -3,14 +3,14 @@
 ghost use Rattle.std.specs.Prelude.{◌≡◌, ◌≢◌, ◌≤◌, length, true, false, is_some, IfOk, IfErr, OnOk};
 ghost use Rattle.eden_objects.specs.Commits.{commit_map};
 ghost use Rattle.eden_accumulate.specs.Snapshots.{shown_to};
-ghost use Rattle.eden_history.specs.Spells.{reply_bytes};
+ghost use Rattle.eden_messages.specs.Spells.{reply_bytes};
 ghost use Rattle.eden_query.specs.Raws.{is_answerable, told};
 
 use crate::raw::Raw;
 use eden_accumulate::Snapshot;
 use eden_globs::Filter;
-use eden_history::Reply;
 use eden_ids::{Content, Naming, NoMemory, Path, Sequence};
+use eden_messages::Reply;
 use eden_objects::{CommitFault, Store};
 use eden_ranges::expand_admitted;
 use std::alloc::Global;

@@ -1,7 +1,7 @@
 ghost use Rattle.std.specs.Prelude.{◌≡◌, None, Ok, IfOk};
-ghost use Rattle.eden_history.specs.declared.message.Request.{Request};
-ghost use Rattle.eden_history.specs.declared.message.Reply.{Reply};
-ghost use Rattle.eden_history.specs.Spells.{SpellsRequest, SpellsReply};
+ghost use Rattle.eden_messages.specs.declared.message.Request.{Request};
+ghost use Rattle.eden_messages.specs.declared.message.Reply.{Reply};
+ghost use Rattle.eden_messages.specs.Spells.{SpellsRequest, SpellsReply};
 ghost use Rattle.eden_query.specs.Reading.{Gives, tag_at, is_above, next_at, paths_at, path_listing_at, marked_at, list_at, listing_at, basis_at, poll_at, fetch_at, based_at, changes_at, held_at, refused_at, read_request, read_reply};
 ghost use Rattle.eden_query.specs.internal.Listing.{last_marked, last_path};
 
@@ -9,8 +9,9 @@ use crate::fault::DecodeFault;
 use crate::fields::{
     byte_of, cause_of, content_of, filter_of, mark_of, path_of, position_of, query_of, u32_of,
 };
-use eden_history::{Marked, Reply, Request};
+use eden_history::Marked;
 use eden_ids::{Path, Sequence};
+use eden_messages::{Reply, Request};
 use eden_stream::BODY_LIMIT;
 use std::alloc::Global;
 

@@ -1,13 +1,14 @@
 ghost use Rattle.std.specs.Prelude.{◌≡◌, ◌≢◌, ◌<◌, ◌≤◌, ◌^◌, ◌↔◌, ◌++◌, ◌∷◌, List, ℕ, length, Err, OnOk, IfOk};
 ghost use Rattle.std.specs.Int.{w32, to_be_bytes};
-ghost use Rattle.eden_history.specs.Spells.{query_bytes, position_bytes, text_bytes, filter_bytes, paths_bytes, mark_byte, marked_bytes, list_bytes, kind_byte, content_bytes, cause_bytes, request_bytes, reply_bytes, SpellsRequest, SpellsReply};
+ghost use Rattle.eden_messages.specs.Spells.{query_bytes, position_bytes, text_bytes, filter_bytes, paths_bytes, mark_byte, marked_bytes, list_bytes, kind_byte, content_bytes, cause_bytes, request_bytes, reply_bytes, SpellsRequest, SpellsReply};
 ghost use Rattle.eden_stream.specs.Frames.{frame};
 
 use crate::fault::EncodeFault;
 use bytes::BufMut;
 use eden_globs::Filter;
-use eden_history::{Cause, Mark, Marked, Position, Query, Reply, Request};
+use eden_history::{Mark, Marked, Position};
 use eden_ids::{Content, Kind, Path};
+use eden_messages::{Cause, Query, Reply, Request};
 use std::alloc::{AllocError, Global};
 
 fn put_query(out: &mut Vec<u8>, query: &Query) -> Result<(), AllocError>
@@ -34,7 +35,7 @@ fn put_text(out: &mut Vec<u8>, text: &[u8]) -> Result<(), AllocError>
     out.put_slice(text)
 }
 
-#[tactic(auto, using(eden_history::proofs::Filters::patterns_few, eden_history::proofs::Filters::patterns_short))]
+#[tactic(auto, using(eden_messages::proofs::Filters::patterns_few, eden_messages::proofs::Filters::patterns_short))]
 fn put_filter(out: &mut Vec<u8>, filter: &Filter) -> Result<(), AllocError>
     ensures { OnOk result (out.new.items ≡ out.old.items ++ filter_bytes filter.now) }
 {
@@ -64,7 +65,7 @@ fn put_marked(out: &mut Vec<u8>, marked: &Marked) -> Result<(), AllocError>
     put_path(out, &marked.path)
 }
 
-#[tactic(auto, using(eden_history::proofs::Spelling::path_few))]
+#[tactic(auto, using(eden_messages::proofs::Spelling::path_few))]
 fn put_path(out: &mut Vec<u8>, path: &Path) -> Result<(), AllocError>
     ensures { OnOk result (out.new.items ≡ out.old.items ++ text_bytes path.now) }
 {

@@ -5,8 +5,9 @@ ghost use Rattle.eden_query.specs.Reading.{Gives, byte_at, number_at, text_at, q
 use crate::fault::DecodeFault;
 use bytes::Buf;
 use eden_globs::{Filter, FilterFault};
-use eden_history::{Cause, Mark, Position, Query};
+use eden_history::{Mark, Position};
 use eden_ids::{Content, Id, Kind, Path, PathFault, Sequence};
+use eden_messages::{Cause, Query};
 use std::alloc::Global;
 
 /// A byte, and the bytes after it. Each reader below gives a field in this way, or the first fault in it.

@@ -3,7 +3,7 @@
 //!
 //! ```rust
 //! use eden_accumulate::Mount;
-//! use eden_history::{Query, Request};
+//! use eden_messages::{Query, Request};
 //! use eden_ids::{GitNaming, Id, Path};
 //! use eden_objects::Store;
 //! use eden_query::{encode_request, serve};

@@ -6,15 +6,16 @@ ghost use Rattle.eden_objects.specs.Commits.{commit_map};
 ghost use Rattle.eden_accumulate.specs.Mounts.{StandsFor, files_of};
 ghost use Rattle.eden_history.specs.Worlds.{WorldState, now, position_of};
 ghost use Rattle.eden_history.specs.Status.{status_of};
-ghost use Rattle.eden_history.specs.Replies.{reply_of};
+ghost use Rattle.eden_messages.specs.Replies.{reply_of};
 ghost use Rattle.eden_query.specs.Raws.{is_answerable, patterns_of, told};
 ghost use Rattle.eden_query.specs.Settled.{settled, settled_by, settled_of};
 
 use crate::raw::Raw;
 use crate::served::Served;
 use eden_accumulate::Mount;
-use eden_history::{Answer, Change, Position, Query, Request};
+use eden_history::{Answer, Change, Position};
 use eden_ids::{Content, Naming, NoMemory, Path, Sequence};
+use eden_messages::{Cause, Query, Request};
 use eden_objects::Store;
 use std::sync::Arc;
 
@@ -46,7 +47,7 @@ fn ranged<N: Naming + Drop>(
 {
     match mount.range_since(since) {
         Ok(range) => Ok(Raw::Ranged(query, range)),
-        Err(fault) => Ok(Raw::Refused(query, fault.cause()?)),
+        Err(fault) => Ok(Raw::Refused(query, Cause::of(fault)?)),
     }
 }
 

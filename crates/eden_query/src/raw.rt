@@ -1,6 +1,7 @@
 use eden_accumulate::Snapshot;
-use eden_history::{Cause, Position, Query};
+use eden_history::Position;
 use eden_ids::{Content, Path};
+use eden_messages::{Cause, Query};
 use eden_ranges::Range;
 
 /// What a mount was asked for, as it stood when it was asked: what is left of the work needs the mount no more, only its objects.

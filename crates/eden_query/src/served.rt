@@ -6,18 +6,19 @@ ghost use Rattle.eden_objects.specs.Objects.{Held};
 ghost use Rattle.eden_objects.specs.Commits.{commit_map};
 ghost use Rattle.eden_history.specs.declared.answer.Answer.{Answer};
 ghost use Rattle.eden_history.specs.declared.change.Change.{Change};
-ghost use Rattle.eden_history.specs.declared.message.Request.{Request};
+ghost use Rattle.eden_messages.specs.declared.message.Request.{Request};
 ghost use Rattle.eden_history.specs.Worlds.{WorldState};
 ghost use Rattle.eden_query.specs.declared.raw.Raw.{Raw};
-ghost use Rattle.eden_history.specs.Replies.{reply_of};
+ghost use Rattle.eden_messages.specs.Replies.{reply_of};
 ghost use Rattle.eden_history.specs.Outcome.{answer_of, world_after};
 ghost use Rattle.eden_query.specs.Raws.{is_answerable, patterns_of, told};
 ghost use Rattle.eden_query.specs.Servers.{raised};
 ghost use Rattle.eden_query.specs.Settled.{settled, settled_of};
 
 use crate::raw::Raw;
-use eden_history::{Answer, Change, Request};
+use eden_history::{Answer, Change};
 use eden_ids::{Naming, NoMemory};
+use eden_messages::Request;
 use eden_objects::Store;
 use std::sync::Arc;
 

@@ -5,8 +5,8 @@ ghost use Rattle.eden_stream.specs.FrameAnswers.{AnswersBody};
 ghost use Rattle.eden_stream.specs.Counts.{Rose, RoseBy};
 ghost use Rattle.eden_stream.specs.FrameEnds.{Serves};
 ghost use Rattle.eden_history.specs.Worlds.{WorldState};
-ghost use Rattle.eden_history.specs.Replies.{reply_of};
-ghost use Rattle.eden_history.specs.Spells.{reply_bytes};
+ghost use Rattle.eden_messages.specs.Replies.{reply_of};
+ghost use Rattle.eden_messages.specs.Spells.{reply_bytes};
 ghost use Rattle.eden_query.specs.Answers.{answer_to, frame_fault};
 ghost use Rattle.eden_query.specs.Raws.{patterns_of};
 
@@ -16,8 +16,8 @@ use crate::encoding::encode_reply;
 use crate::fault::{DecodeFault, EncodeFault};
 use crate::served::Served;
 use eden_globs::Filter;
-use eden_history::{Reply, Request};
 use eden_ids::{Naming, NoMemory};
+use eden_messages::{Reply, Request};
 use eden_objects::CommitFault;
 use eden_stream::{
     CountedRead, CountedWrite, FrameFault, FrameServer, ServeFault, Served as Told, serve_frames,

@@ -4,7 +4,7 @@ ghost use Rattle.eden_ids.specs.FileMaps.{path_set, union};
 ghost use Rattle.eden_ids.specs.Sameness.{same_id};
 ghost use Rattle.eden_objects.specs.Commits.{commit_map};
 ghost use Rattle.eden_history.specs.Named.{commits_differ};
-ghost use Rattle.eden_history.specs.Replies.{admitted};
+ghost use Rattle.eden_history.specs.Marks.{admitted};
 ghost use Rattle.eden_ranges.specs.Expanded.{are_comparable, differing, expanded, is_comparable, only};
 ghost use Rattle.eden_ranges.specs.internal.Pairs.{AreCovered, has_pair};
 ghost use Rattle.eden_ranges.specs.internal.Names.{with_path, with_paths, with_touch, with_touches};

@@ -2,8 +2,9 @@
 
 use eden_accumulate::Mount;
 use eden_globs::Filter;
-use eden_history::{Change, Outcome, Reply, Request};
+use eden_history::Change;
 use eden_ids::{Content, GitNaming, Id, Kind, Path, Sequence};
+use eden_messages::{Outcome, Reply, Request};
 use eden_mirror::Mirror;
 use eden_objects::Store;
 use eden_query::{decode_reply, encode_request, serve};

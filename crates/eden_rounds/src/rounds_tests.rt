@@ -2,7 +2,8 @@
 
 use crate::daemon::{Daemon, Pair, opened_mount, opened_world, write};
 use eden_globs::Filter;
-use eden_history::{Cause, Change, Outcome, Query, Reply, Request};
+use eden_history::Change;
+use eden_messages::{Cause, Outcome, Query, Reply, Request};
 use std::alloc::Global;
 use std::test::Fail;
 

@@ -2,8 +2,9 @@
 
 use crate::daemon::{Pair, opened_world, path, plain, write};
 use eden_globs::Filter;
-use eden_history::{Cause, Mark, Marked, Outcome, Position, Query, Reply};
+use eden_history::{Mark, Marked, Position};
 use eden_ids::{GitNaming, Id, Sequence};
+use eden_messages::{Cause, Outcome, Query, Reply};
 use eden_mirror::Mirror;
 use eden_world::World;
 use std::alloc::Global;

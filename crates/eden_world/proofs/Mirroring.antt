@@ -10,20 +10,20 @@ use Rattle.eden_ids.specs.declared.content.Content.{Content}
 use Rattle.eden_ids.specs.FileMaps.{file_at, put_option, same_path}
 use Rattle.eden_ids.proofs.FileMapLemmas.{file_at-none, put_option-at, same_path-is}
 use Rattle.eden_globs.specs.Filters.{admits}
-use Rattle.eden_history.specs.declared.message.Cause.{Cause}
-use Rattle.eden_history.specs.declared.message.Cause.TheVariants.{Stale, Ahead, Truncated, TooLarge}
-use Rattle.eden_history.specs.declared.message.Query.{Query}
-use Rattle.eden_history.specs.declared.message.Reply.{Reply}
-use Rattle.eden_history.specs.declared.message.Reply.TheVariants.{BasisIs, ChangesAre, ContentIs, Refused}
-use Rattle.eden_history.specs.declared.message.Request.{Request}
-use Rattle.eden_history.specs.declared.message.Request.TheVariants.{Basis, Poll, Fetch}
-use Rattle.eden_history.specs.declared.outcome.Outcome.{Outcome}
+use Rattle.eden_messages.specs.declared.message.Cause.{Cause}
+use Rattle.eden_messages.specs.declared.message.Cause.TheVariants.{Stale, Ahead, Truncated, TooLarge}
+use Rattle.eden_messages.specs.declared.message.Query.{Query}
+use Rattle.eden_messages.specs.declared.message.Reply.{Reply}
+use Rattle.eden_messages.specs.declared.message.Reply.TheVariants.{BasisIs, ChangesAre, ContentIs, Refused}
+use Rattle.eden_messages.specs.declared.message.Request.{Request}
+use Rattle.eden_messages.specs.declared.message.Request.TheVariants.{Basis, Poll, Fetch}
+use Rattle.eden_messages.specs.declared.outcome.Outcome.{Outcome}
 use Rattle.eden_history.specs.declared.position.Position.{Position}
 use Rattle.eden_history.specs.Worlds.{WorldState}
-use Rattle.eden_history.specs.Mirrors.{MirrorState, Round, new_mirror, begun, counts, delivered, delivered_in, distinct, emptied, fetched, gathers, has_number, is_among, list_request, next_round, query_numbered, query_of, refiltered, refused, requests_in, same_query, taken_if, without}
-use Rattle.eden_history.specs.Mirrors.Round.{Idle, Asked, Gathering}
+use Rattle.eden_messages.specs.Mirrors.{MirrorState, Round, new_mirror, begun, counts, delivered, delivered_in, distinct, emptied, fetched, gathers, has_number, is_among, list_request, next_round, query_numbered, query_of, refiltered, refused, requests_in, same_query, taken_if, without}
+use Rattle.eden_messages.specs.Mirrors.Round.{Idle, Asked, Gathering}
 use Rattle.eden_history.specs.Rows.{IsPlace, Stands}
-use Rattle.eden_history.specs.Spells.{paths_of}
+use Rattle.eden_messages.specs.Spells.{paths_of}
 use Rattle.eden_world.proofs.Telling.{BasisTells, IsTrueOf, PollTells}
 
 -- ---- what a mirror keeps

@@ -10,26 +10,27 @@ use Rattle.eden_ids.specs.FileMaps.{file_at, has}
 use Rattle.eden_ids.proofs.FileMapLemmas.{has-none}
 use Rattle.eden_globs.specs.Filters.{admits}
 use Rattle.eden_history.specs.declared.change.Change.{Change}
-use Rattle.eden_history.specs.declared.message.Cause.TheVariants.{TooLarge}
-use Rattle.eden_history.specs.declared.message.Query.{Query}
-use Rattle.eden_history.specs.declared.message.Reply.{Reply}
-use Rattle.eden_history.specs.declared.message.Reply.TheVariants.{ChangesAre, Refused}
-use Rattle.eden_history.specs.declared.message.Request.{Request}
+use Rattle.eden_messages.specs.declared.message.Cause.TheVariants.{TooLarge}
+use Rattle.eden_messages.specs.declared.message.Query.{Query}
+use Rattle.eden_messages.specs.declared.message.Reply.{Reply}
+use Rattle.eden_messages.specs.declared.message.Reply.TheVariants.{ChangesAre, Refused}
+use Rattle.eden_messages.specs.declared.message.Request.{Request}
 use Rattle.eden_history.specs.declared.position.Position.{Position}
 use Rattle.eden_history.specs.Worlds.{WorldState, commits_of, now, position_of}
 use Rattle.eden_history.specs.Changes.{changes}
-use Rattle.eden_history.specs.Headline.{AgreeTogether, AgreesAtHead, Differs, HasPlace, HasValues, IsCovered, IsRefused, IsTold, OfMirrors, OfPairs, Tells, changes_after}
+use Rattle.eden_messages.specs.Headline.{AgreeTogether, AgreesAtHead, Differs, HasPlace, HasValues, IsCovered, IsRefused, IsTold, OfMirrors, OfPairs, Tells, changes_after}
 use Rattle.eden_history.specs.Legal.{IsLegal}
 use Rattle.eden_history.specs.Marks.{marked_since}
-use Rattle.eden_history.specs.Mirrors.{MirrorState, Round, begun, delivered, new_mirror, outstanding_of, query_of, refiltered, requests_in}
-use Rattle.eden_history.specs.Mirrors.Round.{Idle, Asked, Gathering}
+use Rattle.eden_messages.specs.Mirrors.{MirrorState, Round, begun, delivered, new_mirror, outstanding_of, query_of, refiltered, requests_in}
+use Rattle.eden_messages.specs.Mirrors.Round.{Idle, Asked, Gathering}
 use Rattle.eden_history.specs.Outcome.{world_after}
 use Rattle.eden_history.specs.Recorded.{floor_of}
-use Rattle.eden_history.specs.Replies.{admitted, bounded, polled, reply_of}
+use Rattle.eden_history.specs.Marks.{admitted}
+use Rattle.eden_messages.specs.Replies.{bounded, polled, reply_of}
 use Rattle.eden_history.specs.Rows.{Stands}
-use Rattle.eden_history.specs.Schedules.{IsFresh, IsSchedule, IsStrange, MayHappen, Mirrors, OnFreshRuns, Scene, Step, asked_by, happens, moved, run_schedule}
-use Rattle.eden_history.specs.Schedules.Step.{Begins, Changes, Comes, Nothing, Refilters, Restarts, Sends, Serves, Strange}
-use Rattle.eden_history.specs.Spells.{reply_bytes}
+use Rattle.eden_messages.specs.Schedules.{IsFresh, IsSchedule, IsStrange, MayHappen, Mirrors, OnFreshRuns, Scene, Step, asked_by, happens, moved, run_schedule}
+use Rattle.eden_messages.specs.Schedules.Step.{Begins, Changes, Comes, Nothing, Refilters, Restarts, Sends, Serves, Strange}
+use Rattle.eden_messages.specs.Spells.{reply_bytes}
 use Rattle.eden_stream.specs.Frames.{body_limit}
 use Rattle.eden_history.specs.Status.{status_of}
 use Rattle.eden_history.proofs.Following.{none_named}

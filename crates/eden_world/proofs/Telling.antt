@@ -13,24 +13,25 @@ use Rattle.eden_history.specs.declared.answer.SinceFault.{SinceFault}
 use Rattle.eden_history.specs.declared.answer.SinceFault.TheVariants as since_fault
 use Rattle.eden_history.specs.declared.change.Change.{Change}
 use Rattle.eden_history.specs.declared.mark.Marked.{Marked}
-use Rattle.eden_history.specs.declared.message.Cause.TheVariants.{TooLarge}
-use Rattle.eden_history.specs.declared.message.Query.{Query}
-use Rattle.eden_history.specs.declared.message.Reply.{Reply}
-use Rattle.eden_history.specs.declared.message.Reply.TheVariants.{BasisIs, ChangesAre, ContentIs, Refused}
-use Rattle.eden_history.specs.declared.message.Request.{Request}
-use Rattle.eden_history.specs.declared.message.Request.TheVariants.{Basis, Poll, Fetch}
+use Rattle.eden_messages.specs.declared.message.Cause.TheVariants.{TooLarge}
+use Rattle.eden_messages.specs.declared.message.Query.{Query}
+use Rattle.eden_messages.specs.declared.message.Reply.{Reply}
+use Rattle.eden_messages.specs.declared.message.Reply.TheVariants.{BasisIs, ChangesAre, ContentIs, Refused}
+use Rattle.eden_messages.specs.declared.message.Request.{Request}
+use Rattle.eden_messages.specs.declared.message.Request.TheVariants.{Basis, Poll, Fetch}
 use Rattle.eden_history.specs.declared.position.Position.{Position}
 use Rattle.eden_history.specs.Worlds.{Event, WorldState, commits_of, now, position_of}
 use Rattle.eden_history.specs.Changes.{changes}
 use Rattle.eden_history.specs.Legal.{IsLegal}
 use Rattle.eden_history.specs.Marks.{mark_of, marked_since}
-use Rattle.eden_history.specs.Mirrors.{is_among}
+use Rattle.eden_messages.specs.Mirrors.{is_among}
 use Rattle.eden_history.specs.Outcome.{outcome, world_after}
 use Rattle.eden_history.specs.Outcome.Outcome.{Next}
 use Rattle.eden_history.specs.Recorded.{floor_of}
-use Rattle.eden_history.specs.Replies.{admitted, admitted_paths, bounded, polled, reply_of}
+use Rattle.eden_history.specs.Marks.{admitted}
+use Rattle.eden_messages.specs.Replies.{admitted_paths, bounded, polled, reply_of}
 use Rattle.eden_history.specs.Rows.{IsPlace, IsRow, Stands}
-use Rattle.eden_history.specs.Spells.{paths_of, reply_bytes}
+use Rattle.eden_messages.specs.Spells.{paths_of, reply_bytes}
 use Rattle.eden_stream.specs.Frames.{body_limit}
 use Rattle.eden_history.specs.Status.{status, status_of}
 use Rattle.eden_history.proofs.Following.{Follows, event_follows}

@@ -21,10 +21,11 @@
 pub use crate::row::{Event, Row};
 pub use crate::schedule_laws::schedule_law;
 pub use crate::world::World;
+pub use eden_files::Files;
 pub use eden_history::{
-    Answer, Cause, Change, ChangeFault, Files, Mark, Marked, Mode, MountFault, Position, Query,
-    Reply, Request, SinceFault,
+    Answer, Change, ChangeFault, Mark, Marked, Mode, MountFault, Position, SinceFault,
 };
+pub use eden_messages::{Cause, Query, Reply, Request};
 pub use eden_stream::{Counted, Faults};
 
 #[cfg(test)]

@@ -1,7 +1,8 @@
 use crate::tests::{QUERY, empty, path, poll, refused, remove, told, write};
 use eden_globs::Filter;
-use eden_history::{Cause, Position, Reply, Request};
+use eden_history::Position;
 use eden_ids::{Content, Kind, Sequence};
+use eden_messages::{Cause, Reply, Request};
 use std::alloc::Global;
 use std::test::Fail;
 

@@ -1,7 +1,7 @@
 //! What holds of every mirror after every schedule, as the contract of a function with no work to do.
 
-ghost use Rattle.eden_history.specs.Headline.{AgreeTogether, AgreesAtHead, HasPlace, HasValues, IsCovered, IsTold, OfMirrors, OfPairs};
-ghost use Rattle.eden_history.specs.Schedules.{OnFreshRuns};
+ghost use Rattle.eden_messages.specs.Headline.{AgreeTogether, AgreesAtHead, HasPlace, HasValues, IsCovered, IsTold, OfMirrors, OfPairs};
+ghost use Rattle.eden_messages.specs.Schedules.{OnFreshRuns};
 
 /// Over every schedule of changes, checkouts, resets, flushes, remounts, restarts of mirrors, and of requests and replies that are
 /// served, delivered, lost, repeated or reordered: each path on which a placed mirror and the working copy differ is told since the

@@ -1,9 +1,8 @@
 use crate::World;
 use eden_globs::Filter;
-use eden_history::{
-    Answer, Cause, Change, ChangeFault, Mark, Marked, Position, Query, Reply, Request,
-};
+use eden_history::{Answer, Change, ChangeFault, Mark, Marked, Position};
 use eden_ids::{GitNaming, Id, Kind, Path, Sequence};
+use eden_messages::{Cause, Query, Reply, Request};
 use eden_objects::{CommitFault, Store};
 use std::alloc::Global;
 use std::sync::Arc;

@@ -6,8 +6,9 @@
 
 use anyhow::Result;
 use eden_globs::Filter;
-use eden_history::{Outcome, Position, Query, Reply};
+use eden_history::Position;
 use eden_ids::{Content, Id, Kind, NoMemory, Path, Sequence};
+use eden_messages::{Outcome, Query, Reply};
 use eden_mirror::Mirror;
 use std::alloc::Global;
 use std::time::{CpuClock, Duration};

@@ -1,9 +1,9 @@
 -- What the code keeps of a round: its question and its request follow from the rest of the mirror.
 use Rattle.std.specs.Prelude.{ℕ, List, Option}
 use Rattle.eden_history.specs.declared.position.Position.{Position}
-use Rattle.eden_history.specs.declared.message.Query.{Query}
-use Rattle.eden_history.specs.Mirrors as defined
-use Rattle.eden_history.specs.Mirrors.{list_request}
+use Rattle.eden_messages.specs.declared.message.Query.{Query}
+use Rattle.eden_messages.specs.Mirrors as defined
+use Rattle.eden_messages.specs.Mirrors.{list_request}
 use Rattle.eden_mirror.specs.declared.mirror.Round.{Round}
 use Rattle.eden_mirror.specs.declared.mirror.Round.TheVariants.{Idle, Asked, Gathering}
 

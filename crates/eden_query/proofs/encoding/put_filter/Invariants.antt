@@ -1,7 +1,7 @@
 use Rattle.std.proofs.Common.{◌≡◌, ◌++◌, ◌∷◌, length, take}
 use Rattle.std.specs.List.{flat_map}
 use Rattle.eden_globs.specs.Filters.{lists}
-use Rattle.eden_history.specs.Spells.{text_bytes}
+use Rattle.eden_messages.specs.Spells.{text_bytes}
 use Rattle.eden_query.proofs.encoding.put_filter.Given as goal
 
 abbrev pub invariant-loop-pattern : goal.invariant-loop-pattern

@@ -1,7 +1,7 @@
 use Rattle.std.proofs.Common.{◌≡◌, ◌++◌, length, take}
 use Rattle.std.specs.List.{flat_map}
 use Rattle.std.specs.Int.{w32, to_be_bytes}
-use Rattle.eden_history.specs.Spells.{text_bytes}
+use Rattle.eden_messages.specs.Spells.{text_bytes}
 use Rattle.eden_query.proofs.encoding.put_paths.Given as goal
 
 abbrev pub invariant-loop-path : goal.invariant-loop-path

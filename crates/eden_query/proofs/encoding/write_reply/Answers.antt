@@ -1,5 +1,5 @@
 use Rattle.std.proofs.Common.{arith, ap, length}
-use Rattle.eden_history.specs.Spells.{reply_bytes}
+use Rattle.eden_messages.specs.Spells.{reply_bytes}
 use Rattle.eden_query.proofs.Lists.{list_few, paths_few, content_few}
 use Rattle.eden_query.proofs.encoding.write_reply.Goals as goal
 

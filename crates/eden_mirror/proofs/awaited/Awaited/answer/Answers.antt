@@ -1,6 +1,6 @@
 use Rattle.std.proofs.Common.{◌≡◌, true, false, length, sym, ap, ◌∙◌, rules, arith}
 use Rattle.std.specs.Option.{option_copied_mut}
-use Rattle.eden_history.specs.Mirrors.{is_among, without}
+use Rattle.eden_messages.specs.Mirrors.{is_among, without}
 use Rattle.eden_mirror.specs.internal.Pending.{pending}
 use Rattle.eden_mirror.proofs.Pending.{is_among-pending, length-without, pending-set_value, pending_distinct, waits, without-not_among}
 use Rattle.eden_mirror.proofs.awaited.Awaited.answer.Goals as goal

@@ -1,5 +1,5 @@
 use Rattle.std.proofs.Common.{◌≡◌, ◌++◌, map}
-use Rattle.eden_history.specs.declared.message.Request.TheVariants.{Fetch}
+use Rattle.eden_messages.specs.declared.message.Request.TheVariants.{Fetch}
 use Rattle.eden_mirror.specs.internal.Pending.{pending}
 use Rattle.eden_mirror.proofs.awaited.Awaited.fetches.Given as goal
 

@@ -1,5 +1,5 @@
 use Rattle.std.proofs.Common.{sym, ap, ◌∙◌}
-use Rattle.eden_history.specs.Mirrors.{is_among}
+use Rattle.eden_messages.specs.Mirrors.{is_among}
 use Rattle.eden_mirror.proofs.Pending.{is_among-pending, waits}
 use Rattle.eden_mirror.proofs.awaited.Awaited.has.Goals as goal
 

@@ -2,8 +2,8 @@ use Rattle.std.proofs.Common.{[], ◌∷◌, ◌++◌, false, length, take, sym,
 use Rattle.std.proofs.lemmas.List.{take_all, take_more}
 use Rattle.indexmap.specs.IndexMap.{insert_entry}
 use Rattle.eden_ids.specs.Sameness.{same_bytes}
-use Rattle.eden_history.specs.Mirrors.{distinct}
-use Rattle.eden_history.specs.Spells.{paths_of}
+use Rattle.eden_messages.specs.Mirrors.{distinct}
+use Rattle.eden_messages.specs.Spells.{paths_of}
 use Rattle.eden_mirror.specs.internal.Pending.{pending}
 use Rattle.eden_mirror.proofs.Pending.{fresh, fresh-more, length-pending-fresh, pending-fresh, paths_of-more}
 use Rattle.eden_mirror.proofs.awaited.Awaited.of_marked.Goals as goal

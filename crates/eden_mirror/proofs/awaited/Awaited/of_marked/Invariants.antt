@@ -1,6 +1,6 @@
 use Rattle.std.proofs.Common.{◌≡◌, take}
-use Rattle.eden_history.specs.Mirrors.{distinct}
-use Rattle.eden_history.specs.Spells.{paths_of}
+use Rattle.eden_messages.specs.Mirrors.{distinct}
+use Rattle.eden_messages.specs.Spells.{paths_of}
 use Rattle.eden_mirror.proofs.Pending.{fresh}
 use Rattle.eden_mirror.proofs.awaited.Awaited.of_marked.Given as goal
 

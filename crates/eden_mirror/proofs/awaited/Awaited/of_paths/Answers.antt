@@ -2,7 +2,7 @@ use Rattle.std.proofs.Common.{[], ◌∷◌, ◌++◌, false, length, take, sym,
 use Rattle.std.proofs.lemmas.List.{take_all, take_more}
 use Rattle.indexmap.specs.IndexMap.{insert_entry}
 use Rattle.eden_ids.specs.Sameness.{same_bytes}
-use Rattle.eden_history.specs.Mirrors.{distinct}
+use Rattle.eden_messages.specs.Mirrors.{distinct}
 use Rattle.eden_mirror.specs.internal.Pending.{pending}
 use Rattle.eden_mirror.proofs.Pending.{fresh, fresh-more, length-pending-fresh, pending-fresh}
 use Rattle.eden_mirror.proofs.awaited.Awaited.of_paths.Goals as goal

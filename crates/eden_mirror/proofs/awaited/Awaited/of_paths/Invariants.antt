@@ -1,5 +1,5 @@
 use Rattle.std.proofs.Common.{◌≡◌, take}
-use Rattle.eden_history.specs.Mirrors.{distinct}
+use Rattle.eden_messages.specs.Mirrors.{distinct}
 use Rattle.eden_mirror.proofs.Pending.{fresh}
 use Rattle.eden_mirror.proofs.awaited.Awaited.of_paths.Given as goal
 

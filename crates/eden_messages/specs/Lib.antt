@@ -1,0 +1,5 @@
+pub mod Spells
+pub mod Replies
+pub mod Mirrors
+pub mod Schedules
+pub mod Headline

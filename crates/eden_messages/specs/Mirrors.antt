@@ -1,0 +1,165 @@
+-- A mirror: a client's copy of the files that its filter admits. It follows a mount by rounds: it asks what changed since its place, and
+-- then for the content of each path that was named. Requests and replies may be lost, come twice or in any order; so a reply counts only
+-- where it answers the round that is under way, and the place moves with the last content alone.
+use Rattle.std.specs.Prelude.{ℕ, ◌+◌, ◌-◌, ◌^◌, ◌==◌, Bool, true, false, not, ◌&&◌, nat_lt, nat_le, if◌then◌else◌, List, [], ◌∷◌, map, filter, Option, Some, None}
+use Rattle.std.specs.List.{list_any}
+use Rattle.eden_ids.specs.declared.content.Content.{Content}
+use Rattle.eden_ids.specs.FileMaps.{FileMap, no_files, put_option, same_path}
+use Rattle.eden_history.specs.declared.position.Position.{Position}
+use Rattle.eden_messages.specs.declared.message.Query.{Query}
+use Rattle.eden_messages.specs.declared.message.Request.{Request}
+use Rattle.eden_messages.specs.declared.message.Request.TheVariants.{Basis, Poll, Fetch}
+use Rattle.eden_messages.specs.declared.message.Cause.{Cause}
+use Rattle.eden_messages.specs.declared.message.Cause.TheVariants.{Stale, Ahead, Truncated, TooLarge}
+use Rattle.eden_messages.specs.declared.message.Reply.{Reply}
+use Rattle.eden_messages.specs.declared.message.Reply.TheVariants.{BasisIs, ChangesAre, ContentIs, Refused}
+use Rattle.eden_messages.specs.declared.outcome.Outcome.{Outcome}
+use Rattle.eden_messages.specs.declared.outcome.Outcome.TheVariants.{Taken, Placed, Unplaced, Ended, Ignored}
+use Rattle.eden_messages.specs.Spells.{paths_of}
+
+-- where a round is: there is none; its list was asked for; or the list has come, and the contents of these paths are awaited, in the
+-- order in which they became so. The mirror will be placed at the target, the position that the list was told at
+pub data Round : Type 0 where
+  Idle : Round
+  Asked : (request : Request) → Round
+  Gathering : (query : Query) (target : Position) (awaited : List (List ℕ)) → Round
+
+-- who it is, which paths it wants, the number of its last round, the files that it holds, the position that they are of, and its round
+pub record MirrorState : Type 0 where
+  pub id : ℕ
+  pub life : ℕ
+  pub patterns : List (List ℕ)
+  pub last : ℕ
+  pub files : FileMap
+  pub place : Option Position
+  pub round : Round
+
+abbrev pub new_mirror : ℕ → ℕ → List (List ℕ) → MirrorState
+new_mirror id life patterns = record { id = id; life = life; patterns = patterns; last = 0; files = no_files; place = None; round = Idle }
+
+-- ---- a round begins
+
+-- numbers of rounds end at 2 ^ 64 - 1
+abbrev pub has_number : MirrorState → Bool
+has_number m = nat_lt m.last (2 ^ 64 - 1)
+
+-- the list that is asked for: what changed since a place, or all paths without one
+abbrev pub list_request : Query → Option Position → List (List ℕ) → Request
+list_request query None patterns = Basis query patterns
+list_request query (Some place) patterns = Poll query place patterns
+
+abbrev pub query_numbered : MirrorState → ℕ → Query
+query_numbered m number = record { mirror = m.id; life = m.life; number = number }
+
+-- the next round, which gives up the one under way
+abbrev pub next_round : MirrorState → MirrorState
+next_round m = record m { last = m.last + 1; round = Asked (list_request (query_numbered m (m.last + 1)) m.place m.patterns) }
+
+-- a mirror whose numbers are spent stays as it is
+unfoldable pub begun : MirrorState → MirrorState
+begun m = if has_number m then next_round m else m
+
+-- ---- what it asks
+
+-- what is still to be answered in a round: its list, or a content for each path that is awaited
+abbrev pub requests_in : Round → List Request
+requests_in Idle = []
+requests_in (Asked request) = request ∷ []
+requests_in (Gathering query target awaited) = map (λ path. Fetch query path) awaited
+
+unfoldable pub outstanding_of : MirrorState → List Request
+outstanding_of m = requests_in m.round
+
+abbrev pub is_idle : Round → Bool
+is_idle Idle = true
+is_idle (Asked request) = false
+is_idle (Gathering query target awaited) = false
+
+-- with a round under way: the one there is, or the next
+unfoldable pub stepped : MirrorState → MirrorState
+stepped m = if is_idle m.round then begun m else m
+
+-- what will be asked once a round is under way
+abbrev pub next_requests : MirrorState → List Request
+next_requests m = outstanding_of (stepped m)
+
+-- ---- a reply comes
+
+abbrev pub same_query : Query → Query → Bool
+same_query q r = q.mirror == r.mirror && q.life == r.life && q.number == r.number
+
+-- the paths but this one
+abbrev pub without : List ℕ → List (List ℕ) → List (List ℕ)
+without path paths = filter (λ p. not (same_path p path)) paths
+
+-- each path once, where it stands first
+abbrev pub distinct : List (List ℕ) → List (List ℕ)
+distinct [] = []
+distinct (path ∷ paths) = path ∷ without path (distinct paths)
+
+abbrev pub is_among : List ℕ → List (List ℕ) → Bool
+is_among path paths = list_any (λ p. same_path path p) paths
+
+-- a reply that does not count changes nothing
+abbrev pub taken_if : Bool → MirrorState → MirrorState × Outcome → MirrorState × Outcome
+taken_if true m taken = taken
+taken_if false m taken = (m, Ignored)
+
+-- these paths are awaited; where there is none the mirror is placed, and the round is over
+abbrev pub gathers : MirrorState → Query → Position → List (List ℕ) → MirrorState × Outcome
+gathers m query target [] = (record m { place = Some target; round = Idle }, Placed)
+gathers m query target (path ∷ paths) = (record m { round = Gathering query target (path ∷ paths) }, Taken)
+
+-- a whole list takes the place of all that was held
+abbrev pub emptied : MirrorState → MirrorState
+emptied m = record m { files = no_files; place = None }
+
+abbrev pub listed : MirrorState → Request → Query → Position → List (List ℕ) → MirrorState × Outcome
+listed m (Basis asked patterns) query target paths = taken_if (same_query query asked) m (gathers (emptied m) asked target (distinct paths))
+listed m (Poll asked since patterns) query target paths = (m, Ignored)
+listed m (Fetch asked path) query target paths = (m, Ignored)
+
+abbrev pub changed : MirrorState → Request → Query → Position → List (List ℕ) → MirrorState × Outcome
+changed m (Basis asked patterns) query target paths = (m, Ignored)
+changed m (Poll asked since patterns) query target paths = taken_if (same_query query asked) m (gathers m asked target (distinct paths))
+changed m (Fetch asked path) query target paths = (m, Ignored)
+
+-- a position from which changes can't be told is given up, with what is held left as it is; a list that is too long leaves it
+abbrev pub refused : MirrorState → Cause → MirrorState × Outcome
+refused m (Stale generation) = (record m { place = None; round = Idle }, Unplaced)
+refused m (Ahead head) = (record m { place = None; round = Idle }, Unplaced)
+refused m (Truncated floor) = (record m { place = None; round = Idle }, Unplaced)
+refused m TooLarge = (record m { round = Idle }, Ended)
+
+abbrev pub query_of : Request → Query
+query_of (Basis query patterns) = query
+query_of (Poll query since patterns) = query
+query_of (Fetch query path) = query
+
+-- whether a content counts: of the round's query, of the target's generation and no older than the target, and at a path that is awaited
+abbrev pub counts : Query → Position → List (List ℕ) → Query → Position → List ℕ → Bool
+counts asked target awaited query position path =
+    same_query query asked && position.generation == target.generation && nat_le target.sequence position.sequence && is_among path awaited
+
+-- the content stands at its path, which is no longer awaited
+abbrev pub fetched : MirrorState → Query → Position → List (List ℕ) → List ℕ → Option Content → MirrorState × Outcome
+fetched m asked target awaited path content =
+    gathers (record m { files = put_option m.files path content }) asked target (without path awaited)
+
+-- by the reply and the round
+abbrev pub delivered_in : MirrorState → Round → Reply → MirrorState × Outcome
+delivered_in m (Asked request) (BasisIs query position paths) = listed m request query position paths
+delivered_in m (Asked request) (ChangesAre query target marked) = changed m request query target (paths_of marked)
+delivered_in m (Asked request) (Refused query cause) = taken_if (same_query query (query_of request)) m (refused m cause)
+delivered_in m (Gathering asked target awaited) (ContentIs query position path content) =
+    taken_if (counts asked target awaited query position path) m (fetched m asked target awaited path content)
+delivered_in m round reply = (m, Ignored)
+
+unfoldable pub delivered : MirrorState → Reply → MirrorState × Outcome
+delivered m reply = delivered_in m m.round reply
+
+-- ---- another filter
+
+-- what is held was of the old filter; the number stays, so that no later round is taken for an earlier one
+unfoldable pub refiltered : MirrorState → List (List ℕ) → MirrorState
+refiltered m patterns = record m { patterns = patterns; files = no_files; place = None; round = Idle }

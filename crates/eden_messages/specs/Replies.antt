@@ -1,0 +1,57 @@
+-- What a mount replies to a request.
+use Rattle.std.specs.Prelude.{ℕ, nat_lt, if◌then◌else◌, List, length, Option, Some, None, filter}
+use Rattle.eden_ids.specs.FileMaps.{FileMap, file_at, paths}
+use Rattle.eden_globs.specs.Filters.{admits}
+use Rattle.eden_history.specs.declared.answer.SinceFault.{SinceFault}
+use Rattle.eden_history.specs.declared.answer.SinceFault.TheVariants as since
+use Rattle.eden_messages.specs.declared.message.Cause.{Cause}
+use Rattle.eden_messages.specs.declared.message.Cause.TheVariants.{Stale, Ahead, Truncated, TooLarge}
+use Rattle.eden_messages.specs.declared.message.Query.{Query}
+use Rattle.eden_messages.specs.declared.message.Reply.{Reply}
+use Rattle.eden_messages.specs.declared.message.Reply.TheVariants.{BasisIs, ChangesAre, ContentIs, Refused}
+use Rattle.eden_messages.specs.declared.message.Request.{Request}
+use Rattle.eden_messages.specs.declared.message.Request.TheVariants.{Basis, Poll, Fetch}
+use Rattle.eden_history.specs.Worlds.{WorldState, now, position_of}
+use Rattle.eden_history.specs.Status.{status_of}
+use Rattle.eden_history.specs.Marks.{admitted, marked_since}
+use Rattle.eden_stream.specs.Frames.{body_limit}
+use Rattle.eden_messages.specs.Spells.{reply_bytes}
+
+-- the cause with its number; no status is a want of memory
+abbrev pub cause_of : SinceFault → Cause
+cause_of (since.Stale generation) = Stale generation
+cause_of (since.Ahead head) = Ahead head
+cause_of (since.Truncated floor) = Truncated floor
+cause_of since.NoMemory = TooLarge
+
+-- the paths that hold a file and that the patterns admit, ascending
+abbrev pub admitted_paths : List (List ℕ) → FileMap → List (List ℕ)
+admitted_paths patterns files = filter (admits patterns) (paths files)
+
+-- a reply whose body would be longer than a frame's may be is a refusal
+unfoldable pub bounded : Query → Reply → Reply
+bounded query reply = if nat_lt body_limit (length (reply_bytes reply)) then Refused query TooLarge else reply
+
+-- the paths that hold a file now
+abbrev pub basis_reply : WorldState → Query → List (List ℕ) → Reply
+basis_reply world query patterns =
+    bounded query (BasisIs query (position_of (now world)) (admitted_paths patterns (now world).files))
+
+-- what stands at the path now
+abbrev pub content_reply : WorldState → Query → List ℕ → Reply
+content_reply world query path =
+    bounded query (ContentIs query (position_of (now world)) path (file_at (now world).files path))
+
+abbrev pub changes_reply : WorldState → Query → ℕ → List (List ℕ) → Reply
+changes_reply world query since patterns =
+    bounded query (ChangesAre query (position_of (now world)) (admitted patterns (marked_since world since)))
+
+abbrev pub polled : WorldState → Query → ℕ → List (List ℕ) → Option SinceFault → Reply
+polled world query since patterns (Some fault) = Refused query (cause_of fault)
+polled world query since patterns None = changes_reply world query since patterns
+
+abbrev pub reply_of : WorldState → Request → Reply
+reply_of world (Basis query patterns) = basis_reply world query patterns
+reply_of world (Fetch query path) = content_reply world query path
+reply_of world (Poll query since patterns) =
+    polled world query since.sequence patterns (status_of world since)

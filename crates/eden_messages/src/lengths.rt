@@ -1,0 +1,164 @@
+//! How long the bodies of messages are, before a byte of them is written.
+
+ghost use Rattle.std.specs.Prelude.{◌≡◌, ◌≤◌, length};
+ghost use Rattle.std.specs.List.{flat_map};
+ghost use Rattle.eden_messages.specs.Spells.{position_bytes, text_bytes, filter_bytes, marked_bytes, content_bytes, request_bytes, reply_bytes, if_small};
+
+use crate::message::{Reply, Request};
+use eden_globs::Filter;
+use eden_history::{Marked, Position};
+use eden_ids::{Content, Path};
+
+/// The most bytes of a body: 16 MiB.
+const BODY_LIMIT: usize = 16_777_216;
+
+/// The bytes of a root.
+fn len_of_root(root: &[u8; 20]) -> usize
+    ensures len { result ≡ length root.now }
+    ensures fixed { result ≡ 20 }
+{
+    root.len()
+}
+
+/// The bytes of a position.
+fn len_of_position(position: &Position) -> usize
+    ensures len { result ≡ length (position_bytes position.now) }
+    ensures fixed { result ≡ 36 }
+{
+    16 + len_of_root(&position.root.0)
+}
+
+/// The bytes of a path and its length.
+#[tactic(auto, using(crate::proofs::Spelling::path_few))]
+fn len_of_path(path: &Path) -> usize
+    ensures len { result ≡ length (text_bytes path.now) }
+    ensures few { result ≤ 1026 }
+{
+    2 + path.as_bytes().len()
+}
+
+/// The bytes of a marked path.
+fn len_of_marked(marked: &Marked) -> usize
+    ensures len { result ≡ length (marked_bytes marked.now) }
+    ensures few { result ≤ 1027 }
+{
+    1 + len_of_path(&marked.path)
+}
+
+/// How many bytes the paths take, without their count, where they are no more than a body may have.
+#[tactic(auto, using(crate::proofs::BodyLengths::paths_front_small))]
+fn len_of_paths(paths: &[Path]) -> Option<usize>
+    ensures { result ≡ if_small (length (flat_map text_bytes paths.now)) }
+{
+    let mut len = 0;
+    for path in paths {
+        len += len_of_path(path);
+        if len > BODY_LIMIT {
+            return None;
+        }
+    }
+    Some(len)
+}
+
+/// How many bytes the marked paths take, without their count, where they are no more than a body may have.
+#[tactic(auto, using(crate::proofs::BodyLengths::list_front_small))]
+fn len_of_list(list: &[Marked]) -> Option<usize>
+    ensures { result ≡ if_small (length (flat_map marked_bytes list.now)) }
+{
+    let mut len = 0;
+    for marked in list {
+        len += len_of_marked(marked);
+        if len > BODY_LIMIT {
+            return None;
+        }
+    }
+    Some(len)
+}
+
+/// How many bytes a file takes, or the lack of one, where they are no more than a body may have.
+fn len_of_content(content: &Option<Content>) -> Option<usize>
+    ensures { result ≡ if_small (length (content_bytes content.now)) }
+{
+    let Some(content) = content else {
+        return Some(1);
+    };
+    let len = content.bytes.len();
+    if len > BODY_LIMIT - 5 {
+        return None;
+    }
+    Some(5 + len)
+}
+
+/// The bytes of a filter: its count, and each pattern with its length.
+#[tactic(auto, using(crate::proofs::Filters::patterns_few, crate::proofs::Filters::patterns_short))]
+fn len_of_filter(filter: &Filter) -> usize
+    ensures len { result ≡ length (filter_bytes filter.now) }
+    ensures few { result ≤ 8257 }
+{
+    let patterns = filter.patterns();
+    let mut len = 1;
+    for pattern in patterns {
+        len += 2 + pattern.len();
+    }
+    len
+}
+
+impl Request {
+    /// How many bytes the body that spells the request has: 9,344 at the most. This takes no memory.
+    #[tactic(auto, using(crate::proofs::BodyLengths::basis_request_len, crate::proofs::BodyLengths::poll_len, crate::proofs::BodyLengths::fetch_len))]
+    pub fn body_len(&self) -> u32
+        ensures len { result ≡ length (request_bytes self.now) }
+        ensures few { result ≤ 9344 }
+    {
+        match self {
+            Request::Basis { filter, .. } => (26 + len_of_filter(filter)) as u32,
+            Request::Poll { since, filter, .. } => {
+                (26 + len_of_position(since) + len_of_filter(filter)) as u32
+            }
+            Request::Fetch { path, .. } => (26 + len_of_path(path)) as u32,
+        }
+    }
+}
+
+impl Reply {
+    /// How many bytes the body that spells the reply has, or `None` where that is more than the 16,777,216 of a body. It is known
+    /// before any byte of the body is written, and takes no memory.
+    #[tactic(auto, using(crate::proofs::BodyLengths::basis_len, crate::proofs::BodyLengths::changes_len, crate::proofs::BodyLengths::content_len))]
+    pub fn body_len(&self) -> Option<u32>
+        ensures { result ≡ if_small (length (reply_bytes self.now)) }
+    {
+        match self {
+            Reply::BasisIs {
+                position,
+                paths,
+                ..
+            } => {
+                let front = 30 + len_of_position(position);
+                match len_of_paths(paths.as_slice()) {
+                    Some(len) if front + len <= BODY_LIMIT => Some((front + len) as u32),
+                    _ => None,
+                }
+            }
+            Reply::ChangesAre { target, marked, .. } => {
+                let front = 30 + len_of_position(target);
+                match len_of_list(marked.as_slice()) {
+                    Some(len) if front + len <= BODY_LIMIT => Some((front + len) as u32),
+                    _ => None,
+                }
+            }
+            Reply::ContentIs {
+                position,
+                path,
+                content,
+                ..
+            } => {
+                let front = 26 + len_of_position(position) + len_of_path(path);
+                match len_of_content(content) {
+                    Some(len) if front + len <= BODY_LIMIT => Some((front + len) as u32),
+                    _ => None,
+                }
+            }
+            Reply::Refused { .. } => Some(35),
+        }
+    }
+}
