@@ -1,6 +1,6 @@
 //! What a mount's reply to a request is made of.
 
-ghost use Rattle.std.specs.Prelude.{◌≡◌, ◌≢◌, IfOk, OnOk};
+ghost use Rattle.std.specs.Prelude.{◌≡◌, ◌≢◌, IfOk, OnOk, OnErr};
 ghost use Rattle.eden_history.specs.Marks.{admitted};
 ghost use Rattle.eden_messages.specs.Replies.{bounded, cause_of};
 
@@ -11,10 +11,12 @@ use eden_ids::{NoMemory, Sequence};
 use std::alloc::Global;
 
 impl Cause {
-    /// The cause that a client is told of a fault, with its number. Of a want of memory there is none: that stays `NoMemory`.
+    /// The cause that a client is told of a fault, with its number. Of a want of memory there is none: that alone stays `NoMemory`. This
+    /// takes no memory.
     pub fn of(fault: SinceFault) -> Result<Cause, NoMemory>
         ensures cause { IfOk result (λ cause. cause ≡ cause_of fault) }
         ensures known { OnOk result (fault ≢ SinceFault.NoMemory) }
+        ensures refuses { OnErr result (fault ≡ SinceFault.NoMemory) }
     {
         match fault {
             SinceFault::Stale(generation) => Ok(Cause::Stale(generation)),

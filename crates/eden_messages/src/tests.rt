@@ -5,17 +5,22 @@ use eden_ids::{Id, Path, Sequence};
 use std::alloc::Global;
 use std::test::Fail;
 
-const QUERY: Query = Query {
-    mirror: 1,
-    life: 1,
-    number: 1,
-};
-
-const PLACE: Position = Position {
-    generation: 7,
-    sequence: 1,
-    root: Id([0; 20]),
-};
+/// The query and the position of the known frames in docs/formats.md.
+fn known() -> (Query, Position) {
+    let (mirror, life, number) = (1, 1, 1);
+    let (generation, sequence, root) = (7, 1, Id::ZERO);
+    let query = Query {
+        mirror,
+        life,
+        number,
+    };
+    let place = Position {
+        generation,
+        sequence,
+        root,
+    };
+    (query, place)
+}
 
 fn path(alloc: Global, text: &str) -> Result<Path, Fail> {
     Ok(Path::parse(alloc, text.as_bytes())?)
@@ -25,17 +30,18 @@ fn path(alloc: Global, text: &str) -> Result<Path, Fail> {
 #[test]
 fn requests_have_their_lengths(rt: HostRuntime) -> Result<(), Fail> {
     let alloc = rt.alloc();
+    let (query, since) = known();
     let basis = Request::Basis {
-        query: QUERY,
+        query,
         filter: Filter::all(alloc),
     };
     let poll = Request::Poll {
-        query: QUERY,
-        since: PLACE,
+        query,
+        since,
         filter: Filter::all(alloc),
     };
     let fetch = Request::Fetch {
-        query: QUERY,
+        query,
         path: path(alloc, "a")?,
     };
     assert_eq!(rt; basis.copy()?.body_len(), 0x1b);
@@ -47,34 +53,35 @@ fn requests_have_their_lengths(rt: HostRuntime) -> Result<(), Fail> {
 #[test]
 fn replies_have_their_lengths(rt: HostRuntime) -> Result<(), Fail> {
     let alloc = rt.alloc();
+    let (query, position) = known();
     let mut replies = Vec::new(alloc);
     let basis = Reply::BasisIs {
-        query: QUERY,
-        position: PLACE,
+        query,
+        position,
         paths: Sequence::new(alloc),
     };
     replies.push((basis, 0x42))?;
     let changes = Reply::ChangesAre {
-        query: QUERY,
-        target: PLACE,
+        query,
+        target: position,
         marked: Sequence::new(alloc),
     };
     replies.push((changes, 0x42))?;
     let content = Reply::ContentIs {
-        query: QUERY,
-        position: PLACE,
+        query,
+        position,
         path: path(alloc, "a")?,
         content: None,
     };
     replies.push((content, 0x42))?;
     let ahead = Reply::Refused {
-        query: QUERY,
+        query,
         cause: Cause::of(SinceFault::Ahead(1))?,
     };
     replies.push((ahead, 0x23))?;
     for (reply, len) in replies.iter() {
         assert_eq!(rt; reply.body_len(), Some(*len));
-        assert!(rt; reply.copy()?.bounded(QUERY) == *reply);
+        assert!(rt; reply.copy()?.bounded(query) == *reply);
     }
     Ok(())
 }

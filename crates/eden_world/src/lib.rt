@@ -1,8 +1,8 @@
 //! The plain, slow program that computes what a mount's definitions say: a mount with its whole history.
 //!
-//! It keeps whole file maps and looks at every path, so that it can be read beside the definitions in eden_history. The programs that keep
-//! less are measured by it, and none of them stands on it. The plain types of which the definitions speak are handed on from here, and
-//! so are the counting devices.
+//! It keeps whole file maps and looks at every path, so that it can be read beside the definitions in eden_history and eden_messages. The
+//! programs that keep less are measured by it, and none of them stands on it. The plain types of which the definitions speak are handed on
+//! from here, and so are the counting devices.
 //!
 //! ```rust
 //! use eden_history::{Answer, Change};
