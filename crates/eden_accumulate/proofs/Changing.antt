@@ -6,9 +6,9 @@ use Rattle.eden_ids.specs.declared.content.Content.{Content}
 use Rattle.eden_ids.specs.declared.content.Kind.{Kind}
 use Rattle.eden_ids.specs.FileMaps.{FileMap, file_at}
 use Rattle.eden_ids.proofs.FileMapLemmas.{file_at-insert_here, file_at-insert_other, file_at-remove_here}
-use Rattle.eden_deltas.specs.FilesChanged.{FilesChanged}
-use Rattle.eden_deltas.specs.declared.delta.Delta.TheVariants.{File}
-use Rattle.eden_deltas.specs.Deltas.{touch, touched_at, moved_over}
+use Rattle.eden_journal.specs.FilesChanged.{FilesChanged}
+use Rattle.eden_journal.specs.declared.delta.Delta.TheVariants.{File}
+use Rattle.eden_journal.specs.Deltas.{touch, touched_at, moved_over}
 use Rattle.eden_objects.specs.Objects.{Held}
 use Rattle.eden_journal.specs.Histories as journal
 use Rattle.eden_journal.specs.Histories.{History, flushed, recorded}

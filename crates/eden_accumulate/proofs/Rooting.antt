@@ -3,7 +3,7 @@ use Rattle.std.proofs.Common.{◌≡◌, ℕ, true, false, not, List, [], Option
 use Rattle.std.specs.Prelude.{if◌then◌else◌}
 use Rattle.eden_ids.specs.declared.id.Id.{Id}
 use Rattle.eden_ids.specs.FileMaps.{FileMap, listing}
-use Rattle.eden_deltas.specs.declared.delta.Delta.TheVariants.{Root}
+use Rattle.eden_journal.specs.declared.delta.Delta.TheVariants.{Root}
 use Rattle.eden_objects.specs.Objects.{Held}
 use Rattle.eden_objects.specs.Commits.{commit_map}
 use Rattle.eden_objects.specs.Files.{commit_files}

@@ -4,7 +4,7 @@ use Rattle.std.specs.Prelude.{if◌then◌else◌}
 use Rattle.std.specs.Option.{option_or}
 use Rattle.std.proofs.lemmas.Bool.{lt-ltb}
 use Rattle.eden_ids.specs.declared.id.Id.{Id}
-use Rattle.eden_deltas.specs.declared.delta.Delta.{Delta}
+use Rattle.eden_journal.specs.declared.delta.Delta.{Delta}
 use Rattle.eden_objects.specs.Objects.{Held}
 use Rattle.eden_objects.specs.Closed.{AllNamed, IsClosed}
 use Rattle.eden_objects.specs.Commits.{commit_map}

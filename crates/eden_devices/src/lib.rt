@@ -1,6 +1,7 @@
 //! Devices for tests: they give and take a few bytes at a time, break off at a chosen place, or never end.
 //!
-//! What they give and take is for the test to compare: they promise no more than std's `Read` and `Write` do.
+//! What they give and take is for the test to compare: they promise no more than std's `Read` and `Write` do. The pump of
+//! `eden_stream` is tested over them here.
 //!
 //! ```rust
 //! use eden_devices::{Sink, Source};
@@ -16,6 +17,10 @@
 //! ```
 #![tactic(auto)]
 
+#[cfg(test)]
+mod frame_tests;
+#[cfg(test)]
+mod line_tests;
 mod sink;
 mod source;
 #[cfg(test)]

@@ -11,10 +11,10 @@ ghost use Rattle.eden_script.specs.ScriptText as script;
 ghost use Rattle.eden_edend.specs.internal.Told.{MountTells, PathOrRefusal};
 
 use crate::labels::Labels;
-use crate::texts::{path_fault_name, push_checked, push_made, push_refused};
+use crate::texts::{push_checked, push_made};
 use eden_accumulate::{Mode, Mount};
 use eden_ids::{GitNaming, Id, Kind, Path};
-use eden_script::{Label, Word};
+use eden_script::{Label, Word, path_fault_name, push_refused};
 use std::alloc::AllocError;
 
 /// The path that a word is. Where it is none, that is told, and there is nothing to change.

@@ -19,8 +19,6 @@ mod labels;
 mod mount_tests;
 mod mounting;
 #[cfg(test)]
-mod name_tests;
-#[cfg(test)]
 mod object_tests;
 mod objects;
 mod questions;

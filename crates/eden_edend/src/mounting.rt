@@ -10,11 +10,11 @@ ghost use Rattle.eden_script.specs.ScriptText as script;
 ghost use Rattle.eden_edend.specs.internal.Told.{Tells, session_at};
 
 use crate::objects::Objects;
-use crate::texts::{push_at, push_refused};
+use crate::texts::push_at;
 use eden_accumulate::Mount;
 use eden_ids::{GitNaming, Id};
 use eden_objects::Store;
-use eden_script::Label;
+use eden_script::{Label, push_refused};
 use std::alloc::{AllocError, Global};
 use std::sync::Arc;
 

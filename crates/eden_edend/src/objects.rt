@@ -12,10 +12,12 @@ ghost use Rattle.eden_script.specs.ScriptText.{put_told, tried, entry_bytes, tre
 ghost use Rattle.eden_edend.specs.internal.Told.{session_at, ObjectTells, Gave};
 
 use crate::labels::Labels;
-use crate::texts::{push_id, push_id_line, push_ok, push_refused, put_fault_name};
 use eden_ids::{GitNaming, Id};
 use eden_objects::{PutFault, Store};
-use eden_script::{Label, TreeEntry, Word, push_bytes};
+use eden_script::{
+    Label, TreeEntry, Word, push_bytes, push_id, push_id_line, push_ok, push_refused,
+    put_fault_name,
+};
 use std::alloc::{AllocError, Global};
 use std::mem;
 

@@ -12,16 +12,16 @@ ghost use Rattle.eden_script.specs.ScriptText as script;
 ghost use Rattle.eden_edend.specs.internal.Told.{MountTells};
 
 use crate::labels::Labels;
-use crate::texts::{
-    change_fault_name, path_fault_name, push_at, push_changes, push_content, push_listed,
-    push_refused, push_refused_filter, push_refused_since,
-};
+use crate::texts::{push_at, push_changes};
 use eden_accumulate::{Mount, Position};
 use eden_globs::{Filter, FilterFault};
 use eden_history::SinceFault;
 use eden_ids::{GitNaming, Id, Path};
 use eden_objects::CommitFault;
-use eden_script::Word;
+use eden_script::{
+    Word, change_fault_name, path_fault_name, push_content, push_listed, push_refused,
+    push_refused_filter, push_refused_since,
+};
 use std::alloc::{AllocError, Global};
 
 /// Tells the present position.

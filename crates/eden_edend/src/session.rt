@@ -17,10 +17,9 @@ use crate::labels::Labels;
 use crate::mounting::tell_mount;
 use crate::objects::{Objects, tell_blob, tell_commit, tell_id, tell_tree};
 use crate::questions::{tell_dirty, tell_list, tell_position, tell_read, tell_since};
-use crate::texts::push_refused;
 use eden_accumulate::Mount;
 use eden_ids::GitNaming;
-use eden_script::{Command, words};
+use eden_script::{Command, push_refused, words};
 use eden_stream::{Answered, LineMachine};
 use std::alloc::{AllocError, Global};
 

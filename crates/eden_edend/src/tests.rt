@@ -1,23 +1,19 @@
-//! Scripts and what they print, over devices that give and take little at a time.
+//! Scripts and what they print.
 
 use super::{RunFault, run};
-use eden_devices::{Sink, Source};
 use eden_stream::Counted;
 use std::alloc::Global;
 use std::test::Fail;
 
-fn ran(alloc: Global, source: Source<'_>, sink: &mut Sink) -> Result<u64, RunFault> {
-    let mut source = source;
-    let mut reader = Counted::new(&mut source);
-    let mut writer = Counted::new(sink);
-    run(alloc, &mut reader, &mut writer)
-}
-
-/// What a script prints and how it ends, in one piece.
+/// What a script prints and how it ends.
 pub(crate) fn told(alloc: Global, script: &[u8]) -> (Vec<u8>, Result<u64, RunFault>) {
-    let mut sink = Sink::new(alloc);
-    let ended = ran(alloc, Source::new(script), &mut sink);
-    (sink.bytes, ended)
+    let mut text = Vec::new(alloc);
+    let ended = run(
+        alloc,
+        &mut Counted::new(script),
+        &mut Counted::new(&mut text),
+    );
+    (text, ended)
 }
 
 const FIRST_RUN: &str =
@@ -31,28 +27,6 @@ fn first_run(rt: HostRuntime) {
     let (text, ended) = told(rt.alloc(), FIRST_RUN.as_bytes());
     assert!(rt; text.as_slice() == FIRST_RUN_TEXT.as_bytes());
     assert_eq!(rt; ended, Ok(8));
-}
-
-#[test]
-fn first_run_in_pieces(rt: HostRuntime) {
-    let alloc = rt.alloc();
-    let script = FIRST_RUN.as_bytes();
-    for cut in 0..script.len() {
-        let mut sink = Sink::new(alloc);
-        let mut source = Source::new(script);
-        source.cut = cut;
-        assert_eq!(rt; ran(alloc, source, &mut sink), Ok(8));
-        assert!(rt;
-            sink.bytes.as_slice() == FIRST_RUN_TEXT.as_bytes(),
-            "cut at {cut}"
-        );
-    }
-    let mut sink = Sink::new(alloc);
-    sink.most = 3;
-    let mut source = Source::new(script);
-    source.most = 1;
-    assert_eq!(rt; ran(alloc, source, &mut sink), Ok(8));
-    assert!(rt; sink.bytes.as_slice() == FIRST_RUN_TEXT.as_bytes());
 }
 
 #[test]
@@ -157,17 +131,16 @@ fn bad_lines(rt: HostRuntime) {
                 "at 7 1 empty\nrefused Stale 7\n",
             ),
         ] {
-            let mut sink = Sink::new(alloc);
             let lines = before.as_bytes().iter().filter(|b| **b == b'\n').count() as u64;
             let Ok(script) = format!(in alloc; "{before}{line}\nmount empty 9 1\n") else {
                 return assert!(rt; false, "no memory");
             };
-            let ended = ran(alloc, Source::new(script.as_bytes()), &mut sink);
+            let (printed, ended) = told(alloc, script.as_bytes());
             assert!(rt;
                 ended == Err(RunFault::BadLine(lines.saturating_add(1))),
                 "{line}"
             );
-            assert!(rt; sink.bytes.as_slice() == text.as_bytes(), "{line}");
+            assert!(rt; printed.as_slice() == text.as_bytes(), "{line}");
         }
     }
 }
@@ -254,25 +227,4 @@ fn the_longest_line(rt: HostRuntime) -> Result<(), Fail> {
         assert!(rt; text.as_slice().starts_with(b"at 7 1 empty\n".as_slice()));
     }
     Ok(())
-}
-
-#[test]
-fn failing_devices(rt: HostRuntime) {
-    let alloc = rt.alloc();
-    let script = FIRST_RUN.as_bytes();
-    let mut source = Source::new(script);
-    source.most = 10;
-    source.fails_at = 30;
-    let mut sink = Sink::new(alloc);
-    assert_eq!(rt; ran(alloc, source, &mut sink), Err(RunFault::Read));
-    assert!(rt; sink.bytes.as_slice() == b"at 7 1 empty\nchanges 0 to 7 1 empty\n".as_slice());
-    for room in 0..FIRST_RUN_TEXT.len() {
-        let mut sink = Sink::new(alloc);
-        sink.full_at = room;
-        assert_eq!(rt;
-            ran(alloc, Source::new(script), &mut sink),
-            Err(RunFault::Write)
-        );
-        assert!(rt; sink.bytes.as_slice() == &FIRST_RUN_TEXT.as_bytes()[..room]);
-    }
 }

@@ -1,29 +1,19 @@
-//! What the lines of a script print.
+//! What the lines of a script print of positions, and of what changes came to.
 
-ghost use Rattle.std.specs.Prelude.{◌≡◌, ◌≢◌, ◌++◌, ◌∷◌, [], length, OnOk, codes, Err};
-ghost use Rattle.std.specs.Fmt.{decimal};
-ghost use Rattle.std.specs.List.{flat_map};
-ghost use Rattle.hex.specs.Hex.{encode_lower};
+ghost use Rattle.std.specs.Prelude.{◌≡◌, ◌≢◌, ◌++◌, OnOk, Err};
 ghost use Rattle.eden_script.specs.Fronts.{KeepsFront};
-ghost use Rattle.eden_script.specs.ScriptText.{root_text, position_text, at_text, ok_text, id_text, refused_text, put_fault_text, path_fault_text, change_fault_text, since_fault_text, filter_fault_text, mark_text, marked_text, changes_text, path_text, paths_text, conflicts_text, answer_text, kind_text, content_text};
+ghost use Rattle.eden_script.specs.ScriptText.{root_text, position_text, at_text, refused_text, change_fault_text, changes_text, conflicts_text, answer_text};
 ghost use Rattle.eden_edend.specs.internal.Told.{answer_made, answer_checked};
 
 use crate::labels::Labels;
 use eden_accumulate::Checked;
-use eden_globs::FilterFault;
-use eden_history::{ChangeFault, Mark, Marked, Position, SinceFault};
-use eden_ids::{Id, Kind, Path, PathFault};
-use eden_objects::PutFault;
-use eden_script::{push_bytes, push_escaped, push_number};
+use eden_history::{ChangeFault, Marked, Position};
+use eden_ids::Id;
+use eden_script::{
+    change_fault_name, push_all_marked, push_bytes, push_id, push_listed, push_number,
+    push_refused,
+};
 use std::alloc::AllocError;
-
-/// An id in hexadecimal.
-pub(crate) fn push_id(text: &mut Vec<u8>, id: &Id) -> Result<(), AllocError>
-    ensures told { OnOk result (text.new.items ≡ text.old.items ++ encode_lower id.now.0) }
-    ensures front { KeepsFront text.old.items text.new.items }
-{
-    push_bytes(text, id.to_hex().as_slice())
-}
 
 fn push_root(text: &mut Vec<u8>, labels: &Labels, root: &Id) -> Result<(), AllocError>
     ensures told { OnOk result (text.new.items ≡ text.old.items ++ root_text labels.now root.now) }
@@ -61,115 +51,6 @@ pub(crate) fn push_at(
     push_bytes(text, b"at ".as_slice())?;
     push_position(text, labels, position)?;
     push_bytes(text, b"\n".as_slice())
-}
-
-/// The line of an object that was put.
-pub(crate) fn push_ok(text: &mut Vec<u8>) -> Result<(), AllocError>
-    ensures told { OnOk result (text.new.items ≡ text.old.items ++ ok_text) }
-    ensures front { KeepsFront text.old.items text.new.items }
-{
-    push_bytes(text, b"ok\n".as_slice())
-}
-
-/// The line of an id that was asked for.
-pub(crate) fn push_id_line(text: &mut Vec<u8>, id: &Id) -> Result<(), AllocError>
-    ensures told { OnOk result (text.new.items ≡ text.old.items ++ id_text id.now) }
-    ensures front { KeepsFront text.old.items text.new.items }
-{
-    push_bytes(text, b"id ".as_slice())?;
-    push_id(text, id)?;
-    push_bytes(text, b"\n".as_slice())
-}
-
-/// The line of a refusal.
-pub(crate) fn push_refused(text: &mut Vec<u8>, name: &[u8]) -> Result<(), AllocError>
-    ensures told { OnOk result (text.new.items ≡ text.old.items ++ refused_text name.now) }
-    ensures front { KeepsFront text.old.items text.new.items }
-{
-    push_bytes(text, b"refused ".as_slice())?;
-    push_bytes(text, name)?;
-    push_bytes(text, b"\n".as_slice())
-}
-
-/// The name of a put's fault.
-pub(crate) fn put_fault_name(fault: PutFault) -> &'static [u8]
-    ensures { result.now ≡ put_fault_text fault }
-{
-    match fault {
-        PutFault::TooLarge => b"TooLarge".as_slice(),
-        PutFault::IdTaken => b"IdTaken".as_slice(),
-        PutFault::ZeroId => b"ZeroId".as_slice(),
-        PutFault::BadMode => b"BadMode".as_slice(),
-        PutFault::BadName => b"BadName".as_slice(),
-        PutFault::OutOfOrder => b"OutOfOrder".as_slice(),
-        PutFault::Duplicate => b"Duplicate".as_slice(),
-        PutFault::MissingChild => b"MissingChild".as_slice(),
-        PutFault::WrongChildKind => b"WrongChildKind".as_slice(),
-        PutFault::TooDeep => b"TooDeep".as_slice(),
-        PutFault::PathTooLong => b"PathTooLong".as_slice(),
-        PutFault::CutShort => b"CutShort".as_slice(),
-        PutFault::BadCommit => b"BadCommit".as_slice(),
-        PutFault::NoMemory => b"NoMemory".as_slice(),
-    }
-}
-
-/// The name of a path's fault.
-pub(crate) fn path_fault_name(fault: PathFault) -> &'static [u8]
-    ensures { result.now ≡ path_fault_text fault }
-{
-    match fault {
-        PathFault::Empty => b"Empty".as_slice(),
-        PathFault::TooLong => b"TooLong".as_slice(),
-        PathFault::BadComponent => b"BadComponent".as_slice(),
-        PathFault::TooDeep => b"TooDeep".as_slice(),
-        PathFault::NoMemory => b"NoMemory".as_slice(),
-    }
-}
-
-/// The name of a change's fault.
-pub(crate) fn change_fault_name(fault: ChangeFault) -> &'static [u8]
-    ensures { result.now ≡ change_fault_text fault }
-{
-    match fault {
-        ChangeFault::NotADirectory => b"NotADirectory".as_slice(),
-        ChangeFault::IsADirectory => b"IsADirectory".as_slice(),
-        ChangeFault::NoEntry => b"NoEntry".as_slice(),
-        ChangeFault::TooLarge => b"TooLarge".as_slice(),
-        ChangeFault::NoCommit => b"NoCommit".as_slice(),
-        ChangeFault::SequenceExhausted => b"SequenceExhausted".as_slice(),
-        ChangeFault::GenerationNotNew => b"GenerationNotNew".as_slice(),
-        ChangeFault::NoMemory => b"NoMemory".as_slice(),
-    }
-}
-
-/// A path on a line of its own.
-fn push_path(text: &mut Vec<u8>, path: &Path) -> Result<(), AllocError>
-    ensures told { OnOk result (text.new.items ≡ text.old.items ++ path_text path.now) }
-    ensures front { KeepsFront text.old.items text.new.items }
-{
-    push_escaped(text, path.as_bytes())?;
-    push_bytes(text, b"\n".as_slice())
-}
-
-fn push_paths(text: &mut Vec<u8>, paths: &[Path]) -> Result<(), AllocError>
-    ensures told { OnOk result (text.new.items ≡ text.old.items ++ flat_map path_text paths.now) }
-    ensures front { KeepsFront text.old.items text.new.items }
-{
-    for path in paths {
-        push_path(text, path)?;
-    }
-    Ok(())
-}
-
-/// What some paths are, how many there are, and then each of them.
-pub(crate) fn push_listed(text: &mut Vec<u8>, name: &[u8], paths: &[Path]) -> Result<(), AllocError>
-    ensures told { OnOk result (text.new.items ≡ text.old.items ++ paths_text name.now paths.now) }
-    ensures front { KeepsFront text.old.items text.new.items }
-{
-    push_bytes(text, name)?;
-    push_number(text, paths.len() as u64)?;
-    push_bytes(text, b"\n".as_slice())?;
-    push_paths(text, paths)
 }
 
 /// The line of a change that is refused. Where memory ran out there is none.
@@ -225,120 +106,6 @@ pub(crate) fn push_checked(
         Ok(checked) => push_position_and_conflicts(text, labels, checked),
         Err(fault) => push_unmade(text, *fault),
     }
-}
-
-/// The bytes at this place of a list of patterns are no pattern.
-fn push_bad_pattern(text: &mut Vec<u8>, place: usize) -> Result<(), AllocError>
-    ensures told { OnOk result (text.new.items ≡ text.old.items ++ (codes "BadPattern " ++ decimal place)) }
-    ensures front { KeepsFront text.old.items text.new.items }
-{
-    push_bytes(text, b"BadPattern ".as_slice())?;
-    push_number(text, place as u64)
-}
-
-fn push_filter_fault(text: &mut Vec<u8>, fault: &FilterFault) -> Result<(), AllocError>
-    ensures told { OnOk result (text.new.items ≡ text.old.items ++ filter_fault_text fault.now) }
-    ensures front { KeepsFront text.old.items text.new.items }
-{
-    match fault {
-        FilterFault::TooMany => push_bytes(text, b"TooMany".as_slice()),
-        FilterFault::PatternTooLong => push_bytes(text, b"PatternTooLong".as_slice()),
-        FilterFault::BadPattern(place) => push_bad_pattern(text, *place),
-        FilterFault::NoMemory => push_bytes(text, b"NoMemory".as_slice()),
-    }
-}
-
-/// The line of patterns that are refused.
-pub(crate) fn push_refused_filter(text: &mut Vec<u8>, fault: &FilterFault) -> Result<(), AllocError>
-    ensures told { OnOk result (text.new.items ≡ text.old.items ++ refused_text (filter_fault_text fault.now)) }
-    ensures front { KeepsFront text.old.items text.new.items }
-{
-    push_bytes(text, b"refused ".as_slice())?;
-    push_filter_fault(text, fault)?;
-    push_bytes(text, b"\n".as_slice())
-}
-
-fn kind_name(kind: Kind) -> &'static [u8]
-    ensures { result.now ≡ kind_text kind }
-{
-    match kind {
-        Kind::Plain => b"plain".as_slice(),
-        Kind::Exec => b"exec".as_slice(),
-        Kind::Link => b"link".as_slice(),
-    }
-}
-
-/// The line of a file: its kind, and what it holds.
-pub(crate) fn push_content(text: &mut Vec<u8>, kind: Kind, bytes: &[u8]) -> Result<(), AllocError>
-    ensures told { OnOk result (text.new.items ≡ text.old.items ++ content_text (record { kind = kind; bytes = bytes.now })) }
-    ensures front { KeepsFront text.old.items text.new.items }
-{
-    push_bytes(text, kind_name(kind))?;
-    push_bytes(text, b" ".as_slice())?;
-    push_escaped(text, bytes)?;
-    push_bytes(text, b"\n".as_slice())
-}
-
-fn push_since_fault(text: &mut Vec<u8>, fault: &SinceFault) -> Result<(), AllocError>
-    ensures told { OnOk result (text.new.items ≡ text.old.items ++ since_fault_text fault.now) }
-    ensures front { KeepsFront text.old.items text.new.items }
-{
-    match fault {
-        SinceFault::Stale(generation) => {
-            push_bytes(text, b"Stale ".as_slice())?;
-            push_number(text, *generation)
-        }
-        SinceFault::Ahead(head) => {
-            push_bytes(text, b"Ahead ".as_slice())?;
-            push_number(text, *head)
-        }
-        SinceFault::Truncated(floor) => {
-            push_bytes(text, b"Truncated ".as_slice())?;
-            push_number(text, *floor)
-        }
-        SinceFault::NoMemory => push_bytes(text, b"NoMemory".as_slice()),
-    }
-}
-
-/// The line of a position that is refused.
-pub(crate) fn push_refused_since(text: &mut Vec<u8>, fault: &SinceFault) -> Result<(), AllocError>
-    ensures told { OnOk result (text.new.items ≡ text.old.items ++ refused_text (since_fault_text fault.now)) }
-    ensures front { KeepsFront text.old.items text.new.items }
-{
-    push_bytes(text, b"refused ".as_slice())?;
-    push_since_fault(text, fault)?;
-    push_bytes(text, b"\n".as_slice())
-}
-
-fn mark_name(mark: Mark) -> &'static [u8]
-    ensures { result.now ≡ mark_text mark }
-{
-    match mark {
-        Mark::Created => b"Created".as_slice(),
-        Mark::Removed => b"Removed".as_slice(),
-        Mark::Changed => b"Changed".as_slice(),
-        Mark::Root => b"Root".as_slice(),
-    }
-}
-
-fn push_marked(text: &mut Vec<u8>, marked: &Marked) -> Result<(), AllocError>
-    ensures told { OnOk result (text.new.items ≡ text.old.items ++ marked_text marked.now) }
-    ensures front { KeepsFront text.old.items text.new.items }
-{
-    push_bytes(text, mark_name(marked.mark))?;
-    push_bytes(text, b" ".as_slice())?;
-    push_escaped(text, marked.path.as_bytes())?;
-    push_bytes(text, b"\n".as_slice())
-}
-
-fn push_all_marked(text: &mut Vec<u8>, marked: &[Marked]) -> Result<(), AllocError>
-    ensures told { OnOk result (text.new.items ≡ text.old.items ++ flat_map marked_text marked.now) }
-    ensures front { KeepsFront text.old.items text.new.items }
-{
-    for one in marked {
-        push_marked(text, one)?;
-    }
-    Ok(())
 }
 
 /// The lines of what changed since a position: how many paths up to which position, and then each of them.

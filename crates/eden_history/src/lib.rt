@@ -20,7 +20,7 @@ pub use crate::mark::{Mark, Marked};
 pub use crate::mount_fault::MountFault;
 pub use crate::position::Position;
 pub use crate::sides::Sides;
-pub use crate::touches::{Touch, Touches};
+pub use crate::touches::Touch;
 pub use crate::tree_faults::{absent_fault, place_fault, rename_fault, write_fault};
 
 mod answer;
@@ -32,7 +32,5 @@ mod mark;
 mod mount_fault;
 mod position;
 mod sides;
-#[cfg(test)]
-mod tests;
 mod touches;
 mod tree_faults;

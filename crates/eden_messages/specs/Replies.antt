@@ -14,7 +14,7 @@ use Rattle.eden_messages.specs.declared.message.Request.TheVariants.{Basis, Poll
 use Rattle.eden_history.specs.Worlds.{WorldState, now, position_of}
 use Rattle.eden_history.specs.Status.{status_of}
 use Rattle.eden_history.specs.Marks.{admitted, marked_since}
-use Rattle.eden_stream.specs.Frames.{body_limit}
+use Rattle.eden_frames.specs.Frames.{body_limit}
 use Rattle.eden_messages.specs.Spells.{reply_bytes}
 
 -- the cause with its number; no status is a want of memory

@@ -1,5 +1,5 @@
 -- Which bytes spell which message. All numbers are unsigned and big-endian. A body is the version 1, a tag, the query and what the
--- tag calls for; it stands in a frame (`Rattle.eden_stream.specs.Frames`).
+-- tag calls for; it stands in a frame (`Rattle.eden_frames.specs.Frames`).
 use Rattle.std.specs.Prelude.{◌≡◌, ℕ, ◌<◌, ◌≤◌, ◌^◌, List, [], ◌∷◌, ◌++◌, length, map, nat_lt, if◌then◌else◌, Option, Some, None}
 use Rattle.std.specs.Int.{w16, w32, w64, to_be_bytes}
 use Rattle.std.specs.List.{flat_map, AllByRecursion}
@@ -11,7 +11,7 @@ use Rattle.eden_ids.specs.declared.content.Kind.{Kind}
 use Rattle.eden_ids.specs.declared.content.Kind.TheVariants.{Plain, Exec, Link}
 use Rattle.eden_ids.specs.Paths.{IsPath}
 use Rattle.eden_globs.specs.Filters.{IsFilter}
-use Rattle.eden_stream.specs.Frames.{body_limit}
+use Rattle.eden_frames.specs.Frames.{body_limit}
 use Rattle.eden_history.specs.declared.mark.Mark.{Mark}
 use Rattle.eden_history.specs.declared.mark.Mark.TheVariants.{Created, Removed, Changed, Root}
 use Rattle.eden_history.specs.declared.mark.Marked.{Marked}

@@ -3,13 +3,13 @@ use Rattle.std.specs.Prelude.{ℕ, List, Result, Ok, Err}
 use Rattle.eden_query.specs.declared.fault.DecodeFault.{DecodeFault}
 use Rattle.eden_query.specs.declared.fault.DecodeFault.TheVariants as decode
 use Rattle.eden_query.specs.Reading.{read_request}
-use Rattle.eden_stream.specs.declared.server.FrameFault.{FrameFault}
-use Rattle.eden_stream.specs.declared.server.FrameFault.TheVariants as frame
+use Rattle.eden_frames.specs.declared.server.FrameFault.{FrameFault}
+use Rattle.eden_frames.specs.declared.server.FrameFault.TheVariants as frame
 use Rattle.eden_messages.specs.declared.message.Request.{Request}
 use Rattle.eden_history.specs.Worlds.{WorldState}
 use Rattle.eden_messages.specs.Replies.{reply_of}
 use Rattle.eden_messages.specs.Spells.{reply_bytes}
-use Rattle.eden_stream.specs.Frames as frames
+use Rattle.eden_frames.specs.Frames as frames
 
 -- a body's fault is its frame's; no body is read as a want of memory
 abbrev pub frame_fault : DecodeFault → FrameFault

@@ -9,10 +9,10 @@ use crate::fault::DecodeFault;
 use crate::fields::{
     byte_of, cause_of, content_of, filter_of, mark_of, path_of, position_of, query_of, u32_of,
 };
+use eden_frames::BODY_LIMIT;
 use eden_history::Marked;
 use eden_ids::{Path, Sequence};
 use eden_messages::{Reply, Request};
-use eden_stream::BODY_LIMIT;
 use std::alloc::Global;
 
 /// The tag that stands behind the version.

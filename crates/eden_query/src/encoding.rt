@@ -1,7 +1,7 @@
 ghost use Rattle.std.specs.Prelude.{◌≡◌, ◌≢◌, ◌<◌, ◌≤◌, ◌^◌, ◌↔◌, ◌++◌, ◌∷◌, List, ℕ, length, Err, OnOk, IfOk};
 ghost use Rattle.std.specs.Int.{w32, to_be_bytes};
 ghost use Rattle.eden_messages.specs.Spells.{query_bytes, position_bytes, text_bytes, filter_bytes, paths_bytes, mark_byte, marked_bytes, list_bytes, kind_byte, content_bytes, cause_bytes, request_bytes, reply_bytes, SpellsRequest, SpellsReply};
-ghost use Rattle.eden_stream.specs.Frames.{frame};
+ghost use Rattle.eden_frames.specs.Frames.{frame};
 
 use crate::fault::EncodeFault;
 use bytes::BufMut;
@@ -141,7 +141,7 @@ fn begun(alloc: Global, len: u32, tag: u8, query: &Query) -> Result<Vec<u8>, All
     Ok(out)
 }
 
-#[tactic(auto, unfolding(eden_stream::specs::Frames::frame))]
+#[tactic(auto, unfolding(eden_frames::specs::Frames::frame))]
 fn write_request(alloc: Global, request: &Request) -> Result<Vec<u8>, AllocError>
     ensures { IfOk result (λ out. out.items ≡ frame (request_bytes request.now)) }
 {
@@ -170,7 +170,7 @@ fn write_request(alloc: Global, request: &Request) -> Result<Vec<u8>, AllocError
     }
 }
 
-#[tactic(auto, unfolding(eden_stream::specs::Frames::frame))]
+#[tactic(auto, unfolding(eden_frames::specs::Frames::frame))]
 fn write_reply(alloc: Global, len: u32, reply: &Reply) -> Result<Vec<u8>, AllocError>
     requires len { len ≡ length (reply_bytes reply.now) }
     requires small { len ≤ 16777216 }

@@ -29,7 +29,7 @@ pub use crate::laws::{reply_law, request_law};
 pub use crate::raw::Raw;
 pub use crate::served::Served;
 pub use crate::serving::{reply_to, serve};
-pub use eden_stream::{BODY_LIMIT, FrameFault, ServeFault};
+pub use eden_frames::{BODY_LIMIT, FrameFault, ServeFault};
 
 mod answering;
 mod decoding;

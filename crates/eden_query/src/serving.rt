@@ -1,9 +1,9 @@
 //! A server that answers polls over any reader and writer.
 
 ghost use Rattle.std.specs.Prelude.{◌≡◌, ◌≢◌, ◌+◌, ◌≤◌, ℕ, List, [], length, IsErrOf, IfOk, IfSome};
-ghost use Rattle.eden_stream.specs.FrameAnswers.{AnswersBody};
+ghost use Rattle.eden_frames.specs.FrameAnswers.{AnswersBody};
 ghost use Rattle.eden_stream.specs.Counts.{Rose, RoseBy};
-ghost use Rattle.eden_stream.specs.FrameEnds.{Serves};
+ghost use Rattle.eden_frames.specs.FrameEnds.{Serves};
 ghost use Rattle.eden_history.specs.Worlds.{WorldState};
 ghost use Rattle.eden_messages.specs.Replies.{reply_of};
 ghost use Rattle.eden_messages.specs.Spells.{reply_bytes};
@@ -15,13 +15,12 @@ use crate::decoding::decode_request;
 use crate::encoding::encode_reply;
 use crate::fault::{DecodeFault, EncodeFault};
 use crate::served::Served;
+use eden_frames::{FrameFault, FrameServer, ServeFault, Served as Told, serve_frames};
 use eden_globs::Filter;
 use eden_ids::{Naming, NoMemory};
 use eden_messages::{Reply, Request};
 use eden_objects::CommitFault;
-use eden_stream::{
-    CountedRead, CountedWrite, FrameFault, FrameServer, ServeFault, Served as Told, serve_frames,
-};
+use eden_stream::{CountedRead, CountedWrite};
 use std::alloc::Global;
 use std::marker::PhantomData;
 

@@ -14,10 +14,10 @@ use Rattle.std.proofs.lemmas.List.Folds.{list_any-append}
 use Rattle.eden_ids.specs.declared.id.Id.{Id}
 use Rattle.eden_ids.specs.FileMaps.{PathSet, has, listing, path_set, same_path, union}
 use Rattle.eden_ids.proofs.FileMapLemmas.{has-none, has-path_set, has-union, same_path-refl, same_path-turned, same_path_set}
-use Rattle.eden_deltas.specs.declared.touch.FileTouch.{FileTouch}
-use Rattle.eden_deltas.specs.declared.delta.Delta.{Delta}
-use Rattle.eden_deltas.specs.declared.delta.Delta.TheVariants.{File, Root}
-use Rattle.eden_deltas.specs.Deltas.{touch}
+use Rattle.eden_journal.specs.declared.touch.FileTouch.{FileTouch}
+use Rattle.eden_journal.specs.declared.delta.Delta.{Delta}
+use Rattle.eden_journal.specs.declared.delta.Delta.TheVariants.{File, Root}
+use Rattle.eden_journal.specs.Deltas.{touch}
 use Rattle.eden_history.specs.declared.change.Change.{Change}
 use Rattle.eden_history.specs.declared.change.Change.TheVariants.{Write, Remove, Rename, Checkout, Reset, Flush, Remount}
 use Rattle.eden_history.specs.Worlds.{Row}

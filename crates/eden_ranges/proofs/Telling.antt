@@ -3,7 +3,7 @@ use Rattle.std.proofs.Common.{◌≡◌, ℕ, List, [], ◌∷◌, ◌++◌, map
 use Rattle.std.proofs.Math.ListN.{get_or}
 use Rattle.std.proofs.lemmas.List.{drop_all, drop_more}
 use Rattle.std.specs.FinMap as fin
-use Rattle.eden_deltas.specs.declared.touch.FileTouch.{FileTouch}
+use Rattle.eden_journal.specs.declared.touch.FileTouch.{FileTouch}
 use Rattle.eden_history.specs.declared.mark.Marked.{Marked}
 use Rattle.eden_history.specs.declared.touches.Touch.{Touch}
 use Rattle.eden_history.specs.Touches.{TouchMap, listed_touch, mark_told, marked_at}

@@ -4,9 +4,9 @@ use Rattle.std.specs.List.{list_all}
 use Rattle.eden_ids.specs.declared.id.Id.{Id}
 use Rattle.std.specs.FinMap as fin
 use Rattle.eden_ids.specs.FileMaps.{same_path}
-use Rattle.eden_deltas.specs.declared.touch.FileTouch.{FileTouch}
-use Rattle.eden_deltas.specs.declared.delta.Delta.{Delta}
-use Rattle.eden_deltas.specs.declared.delta.Delta.TheVariants.{File, Root}
+use Rattle.eden_journal.specs.declared.touch.FileTouch.{FileTouch}
+use Rattle.eden_journal.specs.declared.delta.Delta.{Delta}
+use Rattle.eden_journal.specs.declared.delta.Delta.TheVariants.{File, Root}
 use Rattle.eden_history.specs.declared.touches.Touch.{Touch}
 use Rattle.eden_ranges.specs.Gathered.{changed_by}
 use Rattle.eden_journal.specs.Histories.{Log, StandsFor}

@@ -12,10 +12,10 @@ ghost use Rattle.eden_ranges.specs.internal.Wanted.{wanted_paths, wanted_touches
 
 use crate::names::Names;
 use crate::ranges::Range;
-use eden_deltas::FileTouch;
 use eden_globs::Filter;
 use eden_history::Marked;
 use eden_ids::{Id, IdColumn, Naming, NoMemory, Path};
+use eden_journal::FileTouch;
 use eden_objects::{CommitFault, Store};
 use eden_treediff::diff_admitted;
 use indexmap::IndexSet;

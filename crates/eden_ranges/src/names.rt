@@ -3,14 +3,14 @@
 ghost use Rattle.std.specs.Prelude.{◌≡◌, ◌++◌, ◌∷◌, [], List, map, IfOk, OnOk};
 ghost use Rattle.std.specs.FinMap as fin;
 ghost use Rattle.eden_ids.specs.FileMaps.{listing};
-ghost use Rattle.eden_deltas.specs.declared.touch.FileTouch.{FileTouch};
+ghost use Rattle.eden_journal.specs.declared.touch.FileTouch.{FileTouch};
 ghost use Rattle.eden_history.specs.Touches.{listed, listed_touch, mark_told, marked_at};
 ghost use Rattle.eden_ranges.specs.internal.Names.{changes_in, joined, nothing_named, settled, with_path, with_touch};
 ghost use Rattle.eden_ranges.specs.internal.Mentions.{told};
 
-use eden_deltas::FileTouch;
 use eden_history::{Mark, Marked, Touch};
 use eden_ids::{NoMemory, Path, Sequence};
+use eden_journal::FileTouch;
 use std::alloc::Global;
 use std::marker::Model;
 

@@ -1,5 +1,5 @@
 //! The language of a script: how a line is parted into words, how bytes are escaped in them, how numbers are read and written,
-//! what each line asks for, and what a script prints.
+//! what each line asks for, and the parts of what a script prints.
 //!
 //! The words of a line are parted by single spaces. In a word `\\` stands for a backslash, `\n` for a line feed, `\s` for a space
 //! and `\e` for nothing at all, so that each list of bytes can be written as one word. A number is the decimal text of a `u64`, with
@@ -27,6 +27,10 @@ pub use crate::laws::{
 };
 pub use crate::lines::{Word, words};
 pub use crate::numbers::{number, push_number};
+pub use crate::texts::{
+    change_fault_name, path_fault_name, push_all_marked, push_content, push_id, push_id_line,
+    push_listed, push_ok, push_refused, push_refused_filter, push_refused_since, put_fault_name,
+};
 
 mod command;
 #[cfg(test)]
@@ -35,8 +39,13 @@ mod escapes;
 mod label;
 mod laws;
 mod lines;
+#[cfg(test)]
+mod name_tests;
 mod numbers;
 mod reading;
 #[cfg(test)]
 mod tests;
+#[cfg(test)]
+mod text_tests;
+mod texts;
 mod unread;

@@ -1,8 +1,6 @@
 pub mod Account
 pub mod Breaks
 pub mod Cuts
-pub mod FrameCuts
-pub mod FrameEndings
 pub mod LineAnswers
 pub mod LineCuts
 pub mod LineEndings

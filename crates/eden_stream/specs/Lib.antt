@@ -1,11 +1,6 @@
 pub mod Answers
 pub mod Counts
 pub mod Ends
-pub mod FrameAnswers
-pub mod FrameEnds
-pub mod FrameGrammar
-pub mod FrameLaws
-pub mod Frames
 pub mod Grammars
 pub mod Lines
 pub mod Pumps

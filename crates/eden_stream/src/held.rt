@@ -50,7 +50,7 @@ impl Held {
     }
 
     /// The bytes.
-    pub(crate) fn as_slice(&self) -> &[u8]
+    pub fn as_slice(&self) -> &[u8]
         ensures { result.now ≡ self.now }
     {
         &self.bytes[self.start..]

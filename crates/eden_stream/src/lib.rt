@@ -12,25 +12,18 @@
 #![tactic(auto)]
 
 mod counts;
-mod cutting;
-mod frames;
 mod framing;
 mod held;
 mod lines;
 mod machine;
 mod pump;
-mod server;
 mod teller;
-#[cfg(test)]
-mod tests;
 mod transfer;
 
 pub use counts::{Counted, CountedRead, CountedWrite, Faults};
-pub use cutting::{BODY_LIMIT, frames_law};
-pub use frames::{Frames, ServeFault, serve_frames};
 pub use framing::{Framing, Next};
+pub use held::Held;
 pub use lines::{RunFault, run_lines};
 pub use machine::{Answered, LineMachine};
 pub use pump::{Stop, pump_items};
-pub use server::{FrameFault, FrameServer, Served};
 pub use teller::{Answer, Teller};

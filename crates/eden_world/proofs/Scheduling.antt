@@ -31,7 +31,7 @@ use Rattle.eden_history.specs.Rows.{Stands}
 use Rattle.eden_messages.specs.Schedules.{IsFresh, IsSchedule, IsStrange, MayHappen, Mirrors, OnFreshRuns, Scene, Step, asked_by, happens, moved, run_schedule}
 use Rattle.eden_messages.specs.Schedules.Step.{Begins, Changes, Comes, Nothing, Refilters, Restarts, Sends, Serves, Strange}
 use Rattle.eden_messages.specs.Spells.{reply_bytes}
-use Rattle.eden_stream.specs.Frames.{body_limit}
+use Rattle.eden_frames.specs.Frames.{body_limit}
 use Rattle.eden_history.specs.Status.{status_of}
 use Rattle.eden_history.proofs.Following.{none_named}
 use Rattle.eden_world.proofs.Keeping.{legal_on, place_in_time, place_on, stands_on, still}

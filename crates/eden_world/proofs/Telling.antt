@@ -32,7 +32,7 @@ use Rattle.eden_history.specs.Marks.{admitted}
 use Rattle.eden_messages.specs.Replies.{admitted_paths, bounded, polled, reply_of}
 use Rattle.eden_history.specs.Rows.{IsPlace, IsRow, Stands}
 use Rattle.eden_messages.specs.Spells.{paths_of, reply_bytes}
-use Rattle.eden_stream.specs.Frames.{body_limit}
+use Rattle.eden_frames.specs.Frames.{body_limit}
 use Rattle.eden_history.specs.Status.{status, status_of}
 use Rattle.eden_history.proofs.Following.{Follows, event_follows}
 use Rattle.eden_world.proofs.Keeping.{goes_on, grown, now_is_place, now_is_row, place_grown, place_in_time, place_on, stands_grown, stands_now, stands_on, still}

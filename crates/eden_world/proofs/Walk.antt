@@ -3,12 +3,12 @@ use Rattle.std.proofs.Common.{◌≡◌, ℕ, ◌+◌, ◌-◌, ◌<◌, ◌≤�
 use Rattle.std.specs.Prelude.{if◌then◌else◌}
 use Rattle.std.specs.List.{slice_index_or}
 use Rattle.std.proofs.lemmas.List.{reverse-append, take-append-drop}
-use Rattle.eden_deltas.specs.declared.delta.Delta.{Delta}
-use Rattle.eden_deltas.specs.declared.run.Run.{Run}
-use Rattle.eden_deltas.specs.Deltas.{cost, is_one}
-use Rattle.eden_deltas.specs.Runs.{add_delta, alone, floor_of_runs, runs}
-use Rattle.eden_deltas.proofs.DeltaLemmas.{is_one-same}
-use Rattle.eden_deltas.proofs.Floors.{floor-ends, floor-none, floor-pays, runs-more, runs-none}
+use Rattle.eden_journal.specs.declared.delta.Delta.{Delta}
+use Rattle.eden_journal.specs.declared.run.Run.{Run}
+use Rattle.eden_journal.specs.Deltas.{cost, is_one}
+use Rattle.eden_journal.specs.Runs.{add_delta, alone, floor_of_runs, runs}
+use Rattle.eden_journal.proofs.DeltaLemmas.{is_one-same}
+use Rattle.eden_journal.proofs.Floors.{floor-ends, floor-none, floor-pays, runs-more, runs-none}
 use Rattle.eden_history.specs.Worlds.{Row, Event, last_row}
 use Rattle.eden_world.specs.internal.Paid.{is_paid}
 use Rattle.eden_history.specs.Recorded.{delta_of, deltas, start, starts}

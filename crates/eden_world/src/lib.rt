@@ -41,4 +41,7 @@ mod schedule_laws;
 mod sides;
 #[cfg(test)]
 mod tests;
+mod touches;
+#[cfg(test)]
+mod touches_tests;
 mod world;

@@ -1,5 +1,5 @@
 use Rattle.std.proofs.Common.{◌≡◌, ◌++◌, ◌∷◌, ◌+◌, [], Vec, Global, None, drop, refl, ap, ◌∙◌, arith, rules}
-use Rattle.eden_deltas.specs.declared.touch.FileTouch.{FileTouch}
+use Rattle.eden_journal.specs.declared.touch.FileTouch.{FileTouch}
 use Rattle.eden_ranges.proofs.Telling.{change_told, changes, mention_at, no_change_told, nothing_left}
 use Rattle.eden_ranges.proofs.names.Names.listed.Goals.{in-Some+in_ok-path+in_ok-push, in_default}
 use Rattle.eden_ranges.proofs.names.Names.listed.Goals as goal

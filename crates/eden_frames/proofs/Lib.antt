@@ -1,0 +1,2 @@
+pub mod FrameCuts
+pub mod FrameEndings

@@ -1,0 +1,6 @@
+pub mod FrameAnswers
+pub mod FrameEnds
+pub mod FrameGrammar
+pub mod FrameLaws
+pub mod Frames
+pub mod internal
