@@ -1,6 +1,6 @@
 //! A mount beside the plain, slow program that keeps whole histories: tests make the same changes on both, and compare what they say.
 //! Filters stand beside a plain matcher. And a mount is followed by mirrors over a network that loses, repeats and reorders: tests
-//! compare what they hold. And a script is run over devices that give and take little at a time, or fail.
+//! compare what they hold.
 //!
 //! A crate of its own, so that no crate that ships stands on the plain program.
 #![tactic(auto)]
@@ -25,7 +25,5 @@ mod scene;
 mod schedule_lot;
 #[cfg(test)]
 mod schedule_tests;
-#[cfg(test)]
-mod script_tests;
 #[cfg(test)]
 mod stores;

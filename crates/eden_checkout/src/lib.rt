@@ -18,5 +18,3 @@ pub use crate::checkout::{Planned, plan};
 
 mod apply;
 mod checkout;
-#[cfg(test)]
-mod tests;

@@ -15,15 +15,9 @@ pub use eden_stream::RunFault;
 
 mod changes;
 mod labels;
-#[cfg(test)]
-mod mount_tests;
 mod mounting;
-#[cfg(test)]
-mod object_tests;
 mod objects;
 mod questions;
 mod script;
 mod session;
-#[cfg(test)]
-mod tests;
 mod texts;

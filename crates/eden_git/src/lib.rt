@@ -26,6 +26,4 @@ mod fault;
 mod order;
 mod rows;
 mod starts;
-#[cfg(test)]
-mod tests;
 mod word;

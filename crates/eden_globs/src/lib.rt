@@ -17,5 +17,3 @@ pub use crate::laws::filter_law;
 mod filter;
 mod laws;
 mod matching;
-#[cfg(test)]
-mod tests;

@@ -30,19 +30,13 @@ pub use crate::sequence::Sequence;
 
 mod at_path;
 mod column;
-#[cfg(test)]
-mod column_tests;
 mod content;
 mod file_tree;
 mod hex_text;
 mod id;
-#[cfg(test)]
-mod id_tests;
 mod laws;
 mod memory;
 mod naming;
 mod path;
 mod path_table;
 mod sequence;
-#[cfg(test)]
-mod tests;

@@ -22,8 +22,6 @@ mod find;
 mod ids;
 mod kinds;
 mod laws;
-#[cfg(test)]
-mod tests;
 mod vectors;
 
 pub use find::find_row;

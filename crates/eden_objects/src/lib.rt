@@ -31,21 +31,13 @@ pub use eden_git::{RawEntry, Rows, Word, key_order, next_entry};
 mod beneath;
 mod commit;
 mod entries;
-#[cfg(test)]
-mod entries_tests;
 mod fault;
 mod front;
 mod judge;
 mod laws;
 mod list;
-#[cfg(test)]
-mod made;
 mod outline;
 mod seen;
 mod size;
 mod store;
-#[cfg(test)]
-mod tests;
 mod walk;
-#[cfg(test)]
-mod walk_tests;

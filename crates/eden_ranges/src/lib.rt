@@ -26,5 +26,3 @@ mod gathering;
 mod laws;
 mod names;
 mod ranges;
-#[cfg(test)]
-mod tests;

@@ -33,19 +33,11 @@ pub use crate::texts::{
 };
 
 mod command;
-#[cfg(test)]
-mod command_tests;
 mod escapes;
 mod label;
 mod laws;
 mod lines;
-#[cfg(test)]
-mod name_tests;
 mod numbers;
 mod reading;
-#[cfg(test)]
-mod tests;
-#[cfg(test)]
-mod text_tests;
 mod texts;
 mod unread;

@@ -18,8 +18,6 @@ mod merge;
 mod pair;
 mod settled;
 mod side;
-#[cfg(test)]
-mod tests;
 mod walk;
 
 pub use difference::{diff, diff_admitted};

@@ -25,10 +25,10 @@ mod judged;
 mod laws;
 mod list;
 mod overlay;
+#[cfg(test)]
+mod overlay_tests;
 mod reroot;
 mod revert;
-#[cfg(test)]
-mod tests;
 mod touch;
 mod walk;
 mod work;

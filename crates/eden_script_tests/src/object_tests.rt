@@ -1,7 +1,7 @@
 //! Scripts that put objects, and what they print. The ids are those that `git hash-object` gives to the same bytes.
 
-use super::RunFault;
-use crate::tests::told;
+use crate::script_tests::told;
+use eden_edend::RunFault;
 use std::alloc::Global;
 use std::test::Fail;
 

@@ -1,8 +1,8 @@
 ghost use Rattle.std.specs.Prelude.{◌≡◌, ◌||◌, nat_eq, slice_index};
 
 use crate::made::{commit_of, push_entry};
-use crate::{PutFault, Store};
 use eden_ids::{GitNaming, Id, Naming};
+use eden_objects::{PutFault, Store};
 use std::alloc::Global;
 use std::test::Fail;
 

@@ -1,4 +1,4 @@
-use crate::{
+use eden_git::{
     Columns, EntryFault, RawEntry, Rows, Word, cut, key_order, next_entry, read_entry, same_word,
     tree_named,
 };

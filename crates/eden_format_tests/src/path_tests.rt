@@ -1,4 +1,4 @@
-use crate::{Content, Id, Kind, Path, PathFault, PathTable, Sequence};
+use eden_ids::{Content, Id, Kind, Path, PathFault, PathTable, Sequence};
 use std::alloc::Global;
 use std::test::Fail;
 

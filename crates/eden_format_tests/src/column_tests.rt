@@ -1,4 +1,4 @@
-use crate::{Id, IdColumn};
+use eden_ids::{Id, IdColumn};
 use std::test::Fail;
 
 #[test]

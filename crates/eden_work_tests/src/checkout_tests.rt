@@ -1,6 +1,6 @@
 ghost use Rattle.eden_workcopy.specs.Meanings.{FitsIn};
 
-use crate::{Planned, plan};
+use eden_checkout::{Planned, plan};
 use eden_history::Mode;
 use eden_ids::{GitNaming, Id, Kind, Path};
 use eden_objects::{CommitFault, Store};

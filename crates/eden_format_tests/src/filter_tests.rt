@@ -1,4 +1,4 @@
-use crate::{Filter, FilterFault};
+use eden_globs::{Filter, FilterFault};
 use eden_ids::Path;
 use std::alloc::Global;
 use std::test::Fail;

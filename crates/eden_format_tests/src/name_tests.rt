@@ -1,6 +1,6 @@
 //! A fault has one name: what a script prints of it is what it displays.
 
-use crate::texts::{
+use eden_script::{
     change_fault_name, path_fault_name, push_refused_filter, push_refused_since, put_fault_name,
 };
 use eden_globs::FilterFault;

@@ -1,4 +1,4 @@
-use crate::{GitNaming, HexFault, Id, Naming};
+use eden_ids::{GitNaming, HexFault, Id, Naming};
 use std::alloc::Global;
 use std::test::Fail;
 

@@ -1,4 +1,4 @@
-use crate::{number, push_bytes, push_escaped, push_number, words};
+use eden_script::{number, push_bytes, push_escaped, push_number, words};
 use std::alloc::{AllocError, Global};
 use std::test::Fail;
 

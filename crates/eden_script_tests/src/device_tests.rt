@@ -1,5 +1,6 @@
 //! Scripts over devices that give and take little at a time, or fail.
 
+use crate::script_tests::{FIRST_RUN, FIRST_RUN_TEXT};
 use eden_devices::{Sink, Source};
 use eden_edend::{RunFault, run};
 use eden_stream::Counted;
@@ -11,12 +12,6 @@ fn ran(alloc: Global, source: Source<'_>, sink: &mut Sink) -> Result<u64, RunFau
     let mut writer = Counted::new(sink);
     run(alloc, &mut reader, &mut writer)
 }
-
-const FIRST_RUN: &str =
-    "mount empty 7 1000\nsince 7 1\nwrite a plain hi\nwrite b plain yo\nremove a\nsince 7 1\nsince 7 3\nsince 7 4\n";
-
-const FIRST_RUN_TEXT: &str =
-    "at 7 1 empty\nchanges 0 to 7 1 empty\nat 7 2 empty\nat 7 3 empty\nat 7 4 empty\nchanges 2 to 7 4 empty\nChanged a\nCreated b\nchanges 1 to 7 4 empty\nRemoved a\nchanges 0 to 7 4 empty\n";
 
 #[test]
 fn first_run_in_pieces(rt: HostRuntime) {

@@ -1,5 +1,5 @@
-use crate::{Command, Label, words};
 use eden_history::Mode;
+use eden_script::{Command, Label, words};
 use std::alloc::Global;
 use std::test::Fail;
 

@@ -1,6 +1,6 @@
 //! The parts of what a script prints.
 
-use crate::{
+use eden_script::{
     push_all_marked, push_content, push_id, push_id_line, push_listed, push_ok, push_refused,
 };
 use eden_history::{Mark, Marked};

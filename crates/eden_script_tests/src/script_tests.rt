@@ -1,6 +1,6 @@
 //! Scripts and what they print.
 
-use super::{RunFault, run};
+use eden_edend::{RunFault, run};
 use eden_stream::Counted;
 use std::alloc::Global;
 use std::test::Fail;
@@ -16,10 +16,10 @@ pub(crate) fn told(alloc: Global, script: &[u8]) -> (Vec<u8>, Result<u64, RunFau
     (text, ended)
 }
 
-const FIRST_RUN: &str =
+pub(crate) const FIRST_RUN: &str =
     "mount empty 7 1000\nsince 7 1\nwrite a plain hi\nwrite b plain yo\nremove a\nsince 7 1\nsince 7 3\nsince 7 4\n";
 
-const FIRST_RUN_TEXT: &str =
+pub(crate) const FIRST_RUN_TEXT: &str =
     "at 7 1 empty\nchanges 0 to 7 1 empty\nat 7 2 empty\nat 7 3 empty\nat 7 4 empty\nchanges 2 to 7 4 empty\nChanged a\nCreated b\nchanges 1 to 7 4 empty\nRemoved a\nchanges 0 to 7 4 empty\n";
 
 #[test]

@@ -1,7 +1,7 @@
-use crate::{diff, diff_admitted};
 use eden_globs::Filter;
 use eden_ids::{GitNaming, Id, Kind, Path};
 use eden_objects::{CommitFault, Store};
+use eden_treediff::{diff, diff_admitted};
 use std::alloc::Global;
 use std::test::Fail;
 

@@ -1,5 +1,5 @@
-use crate::{Entry, Store, next_entry};
 use eden_ids::{GitNaming, Id, Kind};
+use eden_objects::{Entry, Store, next_entry};
 use std::alloc::Global;
 use std::test::Fail;
 

@@ -1,7 +1,7 @@
 use crate::made::{commit_of, push_entry};
-use crate::{CommitFault, NoCommit, Store};
 use eden_globs::Filter;
 use eden_ids::{GitNaming, Id, Kind, Path};
+use eden_objects::{CommitFault, NoCommit, Store};
 use std::alloc::Global;
 use std::test::Fail;
 

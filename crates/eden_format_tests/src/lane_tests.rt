@@ -1,5 +1,5 @@
-use crate::{count_differing, differ_kinds, differ_rows, find_row};
 use eden_ids::{Id, IdColumn};
+use eden_lanes::{count_differing, differ_kinds, differ_rows, find_row};
 use std::alloc::Global;
 use std::test::Fail;
 

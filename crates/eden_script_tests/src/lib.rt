@@ -1,0 +1,13 @@
+//! Tests of scripts: what each line prints, over devices that give and take all at once, little at a time, or fail.
+//!
+//! A crate of its own, so that the program doesn't wait for them.
+#![tactic(auto)]
+
+#[cfg(test)]
+mod device_tests;
+#[cfg(test)]
+mod mount_tests;
+#[cfg(test)]
+mod object_tests;
+#[cfg(test)]
+mod script_tests;

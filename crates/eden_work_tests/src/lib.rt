@@ -1,0 +1,11 @@
+//! Tests of working copies, of checkouts and of ranges of a journal, over stores that are put by hand.
+//!
+//! A crate of its own, so that no crate that ships waits for them.
+#![tactic(auto)]
+
+#[cfg(test)]
+mod checkout_tests;
+#[cfg(test)]
+mod range_tests;
+#[cfg(test)]
+mod workcopy_tests;
