@@ -39,11 +39,5 @@ mod fields;
 mod laws;
 mod mounting;
 mod raw;
-#[cfg(test)]
-mod reading_tests;
 mod served;
 mod serving;
-#[cfg(test)]
-mod serving_tests;
-#[cfg(test)]
-mod tests;

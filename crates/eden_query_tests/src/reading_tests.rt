@@ -1,7 +1,7 @@
 //! Each change of one byte of a body of each message, judged by a plain reader.
 
-use crate::tests::{joined, replies, reply_fault, request_fault, requests};
-use crate::{DecodeFault, decode_reply, decode_request, encode_reply, encode_request};
+use crate::message_tests::{joined, replies, reply_fault, request_fault, requests};
+use eden_query::{DecodeFault, decode_reply, decode_request, encode_reply, encode_request};
 use std::alloc::Global;
 use std::test::Fail;
 

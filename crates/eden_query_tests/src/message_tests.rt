@@ -1,8 +1,8 @@
-use crate::{DecodeFault, decode_reply, decode_request, encode_reply, encode_request};
 use eden_globs::Filter;
 use eden_history::{Mark, Marked, Position};
 use eden_ids::{Content, Id, Kind, Path, Sequence};
 use eden_messages::{Cause, Query, Reply, Request};
+use eden_query::{DecodeFault, decode_reply, decode_request, encode_reply, encode_request};
 use std::alloc::Global;
 use std::test::Fail;
 

@@ -1,11 +1,11 @@
 //! Frames of polls and what a mount replies, in whatever pieces they come.
 
-use crate::{FrameFault, ServeFault, Served, serve};
 use eden_accumulate::Mount;
 use eden_devices::{Endless, Source};
 use eden_history::Change;
 use eden_ids::{GitNaming, Id, Kind, Path, Sequence};
 use eden_objects::Store;
+use eden_query::{FrameFault, ServeFault, Served, serve};
 use eden_stream::Counted;
 use std::alloc::Global;
 use std::sync::Arc;

@@ -1,0 +1,11 @@
+//! Tests of messages as bytes and of serving them, over devices that give and take all at once, little at a time, or fail.
+//!
+//! A crate of its own, so that no crate that ships waits for them.
+#![tactic(auto)]
+
+#[cfg(test)]
+mod message_tests;
+#[cfg(test)]
+mod reading_tests;
+#[cfg(test)]
+mod serving_tests;
