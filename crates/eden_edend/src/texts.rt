@@ -10,8 +10,7 @@ use eden_accumulate::Checked;
 use eden_history::{ChangeFault, Marked, Position};
 use eden_ids::Id;
 use eden_script::{
-    change_fault_name, push_all_marked, push_bytes, push_id, push_listed, push_number,
-    push_refused,
+    change_fault_name, push_all_marked, push_bytes, push_id, push_listed, push_number, push_refused,
 };
 use std::alloc::AllocError;
 

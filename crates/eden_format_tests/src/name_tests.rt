@@ -1,12 +1,12 @@
 //! A fault has one name: what a script prints of it is what it displays.
 
-use eden_script::{
-    change_fault_name, path_fault_name, push_refused_filter, push_refused_since, put_fault_name,
-};
 use eden_globs::FilterFault;
 use eden_history::{ChangeFault, SinceFault};
 use eden_ids::PathFault;
 use eden_objects::PutFault;
+use eden_script::{
+    change_fault_name, path_fault_name, push_refused_filter, push_refused_since, put_fault_name,
+};
 use std::test::Fail;
 
 #[test]

@@ -1,10 +1,10 @@
 //! The parts of what a script prints.
 
+use eden_history::{Mark, Marked};
+use eden_ids::{Id, Kind, Path};
 use eden_script::{
     push_all_marked, push_content, push_id, push_id_line, push_listed, push_ok, push_refused,
 };
-use eden_history::{Mark, Marked};
-use eden_ids::{Id, Kind, Path};
 use std::test::Fail;
 
 const TEXT: &str = "ok\nrefused NoLabel\nid 0000000000000000000000000000000000000000\n\
