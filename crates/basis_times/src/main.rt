@@ -9,11 +9,12 @@ use anyhow::Result;
 use eden_accumulate::Mount;
 use eden_globs::Filter;
 use eden_ids::{GitNaming, Id};
+use eden_made::{commit_of, push_entry};
 use eden_messages::{Query, Request};
 use eden_objects::Store;
 use eden_query::{encode_request, serve};
 use eden_stream::Counted;
-use std::alloc::{AllocError, Global};
+use std::alloc::Global;
 use std::sync::Arc;
 use std::time::{CpuClock, Duration};
 
@@ -26,21 +27,14 @@ const DIRECTORIES: usize = 1_000;
 /// How many files each has.
 const FILES: usize = 100;
 
-/// Adds an entry to the payload of a tree.
-fn push_entry(payload: &mut Vec<u8>, head: &str, id: Id) -> Result<(), AllocError> {
-    payload.extend_from_slice(head.as_bytes())?;
-    payload.push(0)?;
-    payload.extend_from_slice(&id.0)
-}
-
 /// Puts a directory whose files have one content, which no other directory has.
 fn put_directory(alloc: Global, store: &mut Store<GitNaming>, number: usize) -> Result<Id> {
     let text = format!(in alloc; "text {number}")?;
     let blob = store.put_blob(text.as_bytes())?;
     let mut payload = Vec::new(alloc);
     for file in 0..FILES {
-        let head = format!(in alloc; "100644 file{file:02}")?;
-        push_entry(&mut payload, head.as_str(), blob)?;
+        let name = format!(in alloc; "file{file:02}")?;
+        push_entry(&mut payload, "100644", name.as_bytes(), blob)?;
     }
     Ok(store.put_tree(payload.as_slice())?)
 }
@@ -50,14 +44,11 @@ fn put_commit(alloc: Global, store: &mut Store<GitNaming>) -> Result<Id> {
     let mut payload = Vec::new(alloc);
     for number in 0..DIRECTORIES {
         let id = put_directory(alloc, store, number)?;
-        let head = format!(in alloc; "40000 dir{number:03}")?;
-        push_entry(&mut payload, head.as_str(), id)?;
+        let name = format!(in alloc; "dir{number:03}")?;
+        push_entry(&mut payload, "40000", name.as_bytes(), id)?;
     }
     let tree = store.put_tree(payload.as_slice())?;
-    let mut text = b"tree ".as_slice().to_vec(alloc)?;
-    text.extend_from_slice(&tree.to_hex())?;
-    text.push(b'\n')?;
-    Ok(store.put_commit(text.as_slice())?)
+    Ok(store.put_commit(commit_of(alloc, tree, "")?.as_slice())?)
 }
 
 /// A mount of that commit.

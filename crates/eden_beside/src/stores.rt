@@ -1,6 +1,7 @@
 //! Stores of commits for tests.
 
 use eden_ids::{GitNaming, Id, Path};
+use eden_made::{commit_of, push_entry};
 use eden_objects::Store;
 use std::alloc::Global;
 use std::sync::Arc;
@@ -25,11 +26,7 @@ fn put_tree(
 ) -> Result<Id, Fail> {
     let mut payload = Vec::new(alloc);
     for (mode, name, id) in entries {
-        payload.extend_from_slice(mode.as_bytes())?;
-        payload.push(b' ')?;
-        payload.extend_from_slice(name.as_bytes())?;
-        payload.push(0)?;
-        payload.extend_from_slice(&id.0)?;
+        push_entry(&mut payload, mode, name.as_bytes(), *id)?;
     }
     Ok(store.put_tree(payload.as_slice())?)
 }
@@ -41,10 +38,7 @@ fn put_commit(
     entries: &[(&str, &str, Id)],
 ) -> Result<Id, Fail> {
     let tree = put_tree(alloc, store, entries)?;
-    let mut payload = b"tree ".as_slice().to_vec(alloc)?;
-    payload.extend_from_slice(&tree.to_hex())?;
-    payload.push(b'\n')?;
-    Ok(store.put_commit(payload.as_slice())?)
+    Ok(store.put_commit(commit_of(alloc, tree, "")?.as_slice())?)
 }
 
 /// Two commits of two files each, one of which has the same path in both.

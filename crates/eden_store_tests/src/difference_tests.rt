@@ -1,5 +1,6 @@
 use eden_globs::Filter;
 use eden_ids::{GitNaming, Id, Kind, Path};
+use eden_made::{commit_of, push_entry};
 use eden_objects::{CommitFault, Store};
 use eden_treediff::{diff, diff_admitted};
 use std::alloc::Global;
@@ -14,24 +15,6 @@ struct World {
 
 /// An object of a table: its word, its name, and a blob's bytes, a tree's entries `MODE NAME CHILD` or a commit's tree.
 type Row = (&'static str, &'static str, &'static str);
-
-/// Appends an entry of a tree.
-fn push_entry(payload: &mut Vec<u8>, mode: &str, name: &str, id: Id) -> Result<(), Fail> {
-    payload.extend_from_slice(mode.as_bytes())?;
-    payload.extend_from_slice(b" ".as_slice())?;
-    payload.extend_from_slice(name.as_bytes())?;
-    payload.extend_from_slice(b"\0".as_slice())?;
-    payload.extend_from_slice(id.0.as_slice())?;
-    Ok(())
-}
-
-/// The payload of a commit that names a tree.
-fn commit_of(alloc: Global, tree: Id) -> Result<Vec<u8>, Fail> {
-    let mut payload = b"tree ".to_vec(alloc)?;
-    payload.extend_from_slice(tree.to_hex().as_slice())?;
-    payload.extend_from_slice(b"\n".as_slice())?;
-    Ok(payload)
-}
 
 impl World {
     /// The id with a name; no object has that of another name.
@@ -52,7 +35,7 @@ impl World {
             let name = words.next().unwrap_or("");
             let child = words.next().unwrap_or("");
             if !mode.is_empty() {
-                push_entry(&mut payload, mode, name, self.id(child))?;
+                push_entry(&mut payload, mode, name.as_bytes(), self.id(child))?;
             }
         }
         Ok(payload)
@@ -67,7 +50,7 @@ impl World {
                 self.store.put_tree(payload.as_slice())?
             }
             _ => {
-                let payload = commit_of(alloc, self.id(text))?;
+                let payload = commit_of(alloc, self.id(text), "")?;
                 self.store.put_commit(payload.as_slice())?
             }
         };
@@ -160,8 +143,8 @@ fn wide_tree(alloc: Global, world: &mut World, lowest: Id) -> Result<Id, Fail> {
     let mut tree = lowest;
     for _ in 0..40 {
         let mut payload = Vec::new(alloc);
-        push_entry(&mut payload, "40000", "a", tree)?;
-        push_entry(&mut payload, "40000", "b", tree)?;
+        push_entry(&mut payload, "40000", b"a".as_slice(), tree)?;
+        push_entry(&mut payload, "40000", b"b".as_slice(), tree)?;
         tree = world.store.put_tree(payload.as_slice())?;
     }
     Ok(tree)
@@ -172,9 +155,13 @@ fn wide_commit(alloc: Global, world: &mut World, files: &str, lowest: &str) -> R
     let lowest = world.id(lowest);
     let tree = wide_tree(alloc, world, lowest)?;
     let mut payload = world.entries(alloc, files)?;
-    push_entry(&mut payload, "40000", "z", tree)?;
+    push_entry(&mut payload, "40000", b"z".as_slice(), tree)?;
     let root = world.store.put_tree(payload.as_slice())?;
-    Ok(world.store.put_commit(commit_of(alloc, root)?.as_slice())?)
+    Ok(
+        world
+            .store
+            .put_commit(commit_of(alloc, root, "")?.as_slice())?,
+    )
 }
 
 /// A store of two files, a tree of one of them, that tree with a directory that has no files, and such a directory.

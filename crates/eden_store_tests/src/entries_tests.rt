@@ -1,23 +1,16 @@
 use eden_ids::{GitNaming, Id, Kind};
+use eden_made::{commit_of, push_entry};
 use eden_objects::{Entry, Store, next_entry};
 use std::alloc::Global;
 use std::test::Fail;
-
-/// The bytes of an entry of a tree.
-fn push_entry(payload: &mut Vec<u8>, front: &[u8], id: Id) -> Result<(), Fail> {
-    payload.extend_from_slice(front)?;
-    payload.push(0)?;
-    payload.extend_from_slice(id.0.as_slice())?;
-    Ok(())
-}
 
 /// Puts a tree of a file and a directory, and gives the tree, the file's blob and the directory's tree.
 fn put_two(alloc: Global, store: &mut Store<GitNaming>) -> Result<(Id, Id, Id), Fail> {
     let blob = store.put_blob(b"x".as_slice())?;
     let empty = store.put_tree(b"".as_slice())?;
     let mut payload = Vec::new(alloc);
-    push_entry(&mut payload, b"100755 a.b".as_slice(), blob)?;
-    push_entry(&mut payload, b"40000 a".as_slice(), empty)?;
+    push_entry(&mut payload, "100755", b"a.b".as_slice(), blob)?;
+    push_entry(&mut payload, "40000", b"a".as_slice(), empty)?;
     Ok((store.put_tree(payload.as_slice())?, blob, empty))
 }
 
@@ -90,10 +83,7 @@ fn tree_of_a_commit(rt: HostRuntime) -> Result<(), Fail> {
     let alloc = rt.alloc();
     let mut store = Store::new(alloc, GitNaming);
     let (tree, blob, _) = put_two(alloc, &mut store)?;
-    let mut payload = b"tree ".to_vec(alloc)?;
-    payload.extend_from_slice(tree.to_hex().as_slice())?;
-    payload.push(b'\n')?;
-    let commit = store.put_commit(payload.as_slice())?;
+    let commit = store.put_commit(commit_of(alloc, tree, "")?.as_slice())?;
     assert_eq!(rt; store.tree_of(commit), Some(tree));
     for id in [Id::ZERO, tree, blob, Id([1; 20])] {
         assert_eq!(rt; store.tree_of(id), None);

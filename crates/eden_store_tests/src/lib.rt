@@ -10,6 +10,4 @@ mod entries_tests;
 #[cfg(test)]
 mod lookup_tests;
 #[cfg(test)]
-mod made;
-#[cfg(test)]
 mod put_tests;

@@ -1,6 +1,6 @@
-use crate::made::{commit_of, push_entry};
 use eden_globs::Filter;
 use eden_ids::{GitNaming, Id, Kind, Path};
+use eden_made::{commit_of, push_entry};
 use eden_objects::{CommitFault, NoCommit, Store};
 use std::alloc::Global;
 use std::test::Fail;

@@ -1,7 +1,7 @@
 ghost use Rattle.std.specs.Prelude.{◌≡◌, ◌||◌, nat_eq, slice_index};
 
-use crate::made::{commit_of, push_entry};
 use eden_ids::{GitNaming, Id, Naming};
+use eden_made::{commit_of, push_entry};
 use eden_objects::{PutFault, Store};
 use std::alloc::Global;
 use std::test::Fail;

@@ -3,6 +3,7 @@ ghost use Rattle.eden_workcopy.specs.Meanings.{FitsIn};
 use eden_checkout::{Planned, plan};
 use eden_history::Mode;
 use eden_ids::{GitNaming, Id, Kind, Path};
+use eden_made::{commit_of, push_entry};
 use eden_objects::{CommitFault, Store};
 use eden_workcopy::WorkCopy;
 use std::alloc::Global;
@@ -34,16 +35,6 @@ struct Names {
     r: Id,
 }
 
-/// Appends an entry of a tree.
-fn push_entry(payload: &mut Vec<u8>, mode: &str, name: u8, id: Id) -> Result<(), Fail> {
-    payload.extend_from_slice(mode.as_bytes())?;
-    payload.push(b' ')?;
-    payload.push(name)?;
-    payload.push(0)?;
-    payload.extend_from_slice(id.0.as_slice())?;
-    Ok(())
-}
-
 impl Names {
     /// The payload of a tree, two bytes to an entry: its name, and what it names.
     fn entries(&self, alloc: Global, text: &[u8]) -> Result<Vec<u8>, Fail> {
@@ -51,10 +42,10 @@ impl Names {
         for entry in text.chunks(2) {
             let name = *entry.first().unwrap_or(&b' ');
             match entry.last() {
-                Some(b'x') => push_entry(&mut payload, "100644", name, self.x)?,
-                Some(b'y') => push_entry(&mut payload, "100644", name, self.y)?,
-                Some(b'P') => push_entry(&mut payload, "40000", name, self.p)?,
-                _ => push_entry(&mut payload, "40000", name, self.r)?,
+                Some(b'x') => push_entry(&mut payload, "100644", &[name], self.x)?,
+                Some(b'y') => push_entry(&mut payload, "100644", &[name], self.y)?,
+                Some(b'P') => push_entry(&mut payload, "40000", &[name], self.p)?,
+                _ => push_entry(&mut payload, "40000", &[name], self.r)?,
             }
         }
         Ok(payload)
@@ -69,10 +60,7 @@ fn put_commit(
     text: &[u8],
 ) -> Result<Id, Fail> {
     let tree = store.put_tree(names.entries(alloc, text)?.as_slice())?;
-    let mut payload = b"tree ".to_vec(alloc)?;
-    payload.extend_from_slice(tree.to_hex().as_slice())?;
-    payload.push(b'\n')?;
-    Ok(store.put_commit(payload.as_slice())?)
+    Ok(store.put_commit(commit_of(alloc, tree, "")?.as_slice())?)
 }
 
 /// A tree below so many levels of two directories each.
@@ -85,8 +73,8 @@ fn put_levels(
     let mut tree = below;
     for _ in 0..levels {
         let mut payload = Vec::new(alloc);
-        push_entry(&mut payload, "40000", b'r', tree)?;
-        push_entry(&mut payload, "40000", b's', tree)?;
+        push_entry(&mut payload, "40000", b"r".as_slice(), tree)?;
+        push_entry(&mut payload, "40000", b"s".as_slice(), tree)?;
         tree = store.put_tree(payload.as_slice())?;
     }
     Ok(tree)
@@ -98,7 +86,7 @@ fn commits_of(alloc: Global, first: &[u8], second: &[u8], levels: u8) -> Result<
     let x = store.put_blob(b"x".as_slice())?;
     let y = store.put_blob(b"y".as_slice())?;
     let mut payload = Vec::new(alloc);
-    push_entry(&mut payload, "100644", b'p', y)?;
+    push_entry(&mut payload, "100644", b"p".as_slice(), y)?;
     let p = store.put_tree(payload.as_slice())?;
     let r = put_levels(alloc, &mut store, p, levels)?;
     let names = Names { x, y, p, r };

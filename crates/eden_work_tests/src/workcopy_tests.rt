@@ -3,6 +3,7 @@ ghost use Rattle.eden_workcopy.specs.Meanings.{FitsIn};
 use eden_globs::Filter;
 use eden_history::ChangeFault;
 use eden_ids::{Content, GitNaming, Id, Kind, Path, Sequence};
+use eden_made::{commit_of, push_entry};
 use eden_objects::{CommitFault, Store};
 use eden_workcopy::WorkCopy;
 use std::alloc::Global;
@@ -16,28 +17,22 @@ struct Mounted {
     ghost fits: { FitsIn store work },
 }
 
-/// Adds an entry, `MODE NAME`, to the payload of a tree.
-fn push_entry(payload: &mut Vec<u8>, entry: &str, id: Id) -> Result<(), Fail> {
-    payload.extend_from_slice(entry.as_bytes())?;
-    payload.extend_from_slice(b"\0".as_slice())?;
-    payload.extend_from_slice(id.0.as_slice())?;
-    Ok(())
-}
-
 /// Puts a commit of the tree with this payload.
 fn put_commit(alloc: Global, store: &mut Store<GitNaming>, tree: &[u8]) -> Result<Id, Fail> {
     let tree = store.put_tree(tree)?;
-    let mut payload = b"tree ".to_vec(alloc)?;
-    payload.extend_from_slice(tree.to_hex().as_slice())?;
-    payload.extend_from_slice(b"\n".as_slice())?;
-    Ok(store.put_commit(payload.as_slice())?)
+    Ok(store.put_commit(commit_of(alloc, tree, "")?.as_slice())?)
 }
 
-/// Puts a commit of one file, `MODE NAME`.
-fn put_single(alloc: Global, store: &mut Store<GitNaming>, entry: &str) -> Result<Id, Fail> {
+/// Puts a commit of one file.
+fn put_single(
+    alloc: Global,
+    store: &mut Store<GitNaming>,
+    mode: &str,
+    name: &str,
+) -> Result<Id, Fail> {
     let blob = store.put_blob(b"1".as_slice())?;
     let mut tree = Vec::new(alloc);
-    push_entry(&mut tree, entry, blob)?;
+    push_entry(&mut tree, mode, name.as_bytes(), blob)?;
     put_commit(alloc, store, tree.as_slice())
 }
 
@@ -45,12 +40,12 @@ fn put_single(alloc: Global, store: &mut Store<GitNaming>, entry: &str) -> Resul
 fn put_family(alloc: Global, store: &mut Store<GitNaming>) -> Result<Id, Fail> {
     let blob = store.put_blob(b"1".as_slice())?;
     let mut below = Vec::new(alloc);
-    push_entry(&mut below, "100644 x", blob)?;
+    push_entry(&mut below, "100644", b"x".as_slice(), blob)?;
     let dir = store.put_tree(below.as_slice())?;
     let mut tree = Vec::new(alloc);
-    push_entry(&mut tree, "100644 a", blob)?;
-    push_entry(&mut tree, "100644 a.b", blob)?;
-    push_entry(&mut tree, "40000 d", dir)?;
+    push_entry(&mut tree, "100644", b"a".as_slice(), blob)?;
+    push_entry(&mut tree, "100644", b"a.b".as_slice(), blob)?;
+    push_entry(&mut tree, "40000", b"d".as_slice(), dir)?;
     put_commit(alloc, store, tree.as_slice())
 }
 
@@ -250,8 +245,8 @@ fn changes_over_nothing(rt: HostRuntime) -> Result<(), Fail> {
 fn another_root(rt: HostRuntime) -> Result<(), Fail> {
     let alloc = rt.alloc();
     let mut store = Store::new(alloc, GitNaming);
-    let plain = put_single(alloc, &mut store, "100644 f")?;
-    let exec = put_single(alloc, &mut store, "100755 f")?;
+    let plain = put_single(alloc, &mut store, "100644", "f")?;
+    let exec = put_single(alloc, &mut store, "100755", "f")?;
     let mut mounted = Mounted::over(alloc, store, plain)?;
     assert!(rt; mounted.is_refused(Id([1; 20])));
     mounted.reroot(exec)?;

@@ -28,20 +28,12 @@ pub use eden_history::{
 pub use eden_messages::{Cause, Query, Reply, Request};
 pub use eden_stream::{Counted, Faults};
 
-#[cfg(test)]
-mod checkout_tests;
 mod commit_files;
 mod events;
 mod refusal;
 mod reply;
-#[cfg(test)]
-mod request_tests;
 mod row;
 mod schedule_laws;
 mod sides;
-#[cfg(test)]
-mod tests;
 mod touches;
-#[cfg(test)]
-mod touches_tests;
 mod world;

@@ -1,21 +1,12 @@
-use crate::World;
-use crate::tests::{at, path, tells, write};
+use crate::world_tests::{at, path, tells, write};
 use eden_history::{Answer, Change, Mark, Mode, Position};
 use eden_ids::{GitNaming, Id, Sequence};
+use eden_made::{commit_of, push_entry};
 use eden_objects::Store;
+use eden_world::World;
 use std::alloc::Global;
 use std::sync::Arc;
 use std::test::Fail;
-
-/// Adds an entry to a tree's payload.
-fn entry(tree: &mut Vec<u8>, mode: &str, name: &str, id: Id) -> Result<(), Fail> {
-    tree.extend_from_slice(mode.as_bytes())?;
-    tree.push(b' ')?;
-    tree.extend_from_slice(name.as_bytes())?;
-    tree.push(0)?;
-    tree.extend_from_slice(&id.0)?;
-    Ok(())
-}
 
 /// Puts a tree of these entries.
 fn tree(
@@ -25,17 +16,14 @@ fn tree(
 ) -> Result<Id, Fail> {
     let mut payload = Vec::new(alloc);
     for (mode, name, id) in entries {
-        entry(&mut payload, mode, name, *id)?;
+        push_entry(&mut payload, mode, name.as_bytes(), *id)?;
     }
     Ok(store.put_tree(payload.as_slice())?)
 }
 
 /// Puts a commit of a tree.
 fn commit(alloc: Global, store: &mut Store<GitNaming>, tree: Id) -> Result<Id, Fail> {
-    let mut payload = b"tree ".as_slice().to_vec(alloc)?;
-    payload.extend_from_slice(&tree.to_hex())?;
-    payload.push(b'\n')?;
-    Ok(store.put_commit(payload.as_slice())?)
+    Ok(store.put_commit(commit_of(alloc, tree, "")?.as_slice())?)
 }
 
 fn mount(alloc: Global, store: Store<GitNaming>, root: Id) -> Result<World<GitNaming>, Fail> {

@@ -1,4 +1,4 @@
-use crate::tests::{QUERY, empty, path, poll, refused, remove, told, write};
+use crate::world_tests::{QUERY, empty, path, poll, refused, remove, told, write};
 use eden_globs::Filter;
 use eden_history::Position;
 use eden_ids::{Content, Kind, Sequence};

@@ -1,9 +1,9 @@
-use crate::World;
 use eden_globs::Filter;
 use eden_history::{Answer, Change, ChangeFault, Mark, Marked, Position};
 use eden_ids::{GitNaming, Id, Kind, Path, Sequence};
 use eden_messages::{Cause, Query, Reply, Request};
 use eden_objects::{CommitFault, Store};
+use eden_world::World;
 use std::alloc::Global;
 use std::sync::Arc;
 use std::test::Fail;
@@ -308,5 +308,40 @@ fn flush_and_remount(rt: HostRuntime) -> Result<(), Fail> {
     assert!(rt; refuses(alloc, &world, 7, 3, Cause::Stale(8))?);
     assert!(rt; tells(alloc, &world, 1, &[])?);
     assert!(rt; world.now().files().get(&path(alloc, "a")?).is_some());
+    Ok(())
+}
+
+#[test]
+fn marks_by_the_first_and_the_last_change(rt: HostRuntime) -> Result<(), Fail> {
+    let alloc = rt.alloc();
+    let mut world = empty(alloc, 1000)?;
+    let changes = vec![in alloc;
+        write(alloc, "c", "1")?,
+        write(alloc, "d", "1")?,
+        write(alloc, "a", "1")?,
+        write(alloc, "b", "1")?,
+        write(alloc, "b", "2")?,
+        write(alloc, "c", "2")?,
+        remove(alloc, "d")?,
+        remove(alloc, "c")?,
+        remove(alloc, "a")?,
+        write(alloc, "d", "2")?,
+    ]?;
+    for change in &changes {
+        let _ = world.apply(change)?;
+    }
+    assert!(rt;
+        tells(
+            alloc,
+            &world,
+            3,
+            &[
+                ("a", Mark::Changed),
+                ("b", Mark::Created),
+                ("c", Mark::Removed),
+                ("d", Mark::Changed)
+            ]
+        )?
+    );
     Ok(())
 }
