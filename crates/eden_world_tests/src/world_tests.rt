@@ -315,20 +315,25 @@ fn flush_and_remount(rt: HostRuntime) -> Result<(), Fail> {
 fn marks_by_the_first_and_the_last_change(rt: HostRuntime) -> Result<(), Fail> {
     let alloc = rt.alloc();
     let mut world = empty(alloc, 1000)?;
-    let changes = vec![in alloc;
-        write(alloc, "c", "1")?,
-        write(alloc, "d", "1")?,
-        write(alloc, "a", "1")?,
-        write(alloc, "b", "1")?,
-        write(alloc, "b", "2")?,
-        write(alloc, "c", "2")?,
-        remove(alloc, "d")?,
-        remove(alloc, "c")?,
-        remove(alloc, "a")?,
-        write(alloc, "d", "2")?,
-    ]?;
-    for change in &changes {
-        let _ = world.apply(change)?;
+    // A path is written, or the file there is taken away.
+    for (at, is_written) in [
+        ("c", true),
+        ("d", true),
+        ("a", true),
+        ("b", true),
+        ("b", true),
+        ("c", true),
+        ("d", false),
+        ("c", false),
+        ("a", false),
+        ("d", true),
+    ] {
+        let change = if is_written {
+            write(alloc, at, "1")?
+        } else {
+            remove(alloc, at)?
+        };
+        let _ = world.apply(&change)?;
     }
     assert!(rt;
         tells(
