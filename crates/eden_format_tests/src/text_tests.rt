@@ -19,7 +19,7 @@ fn parts_stand_one_behind_the_other(rt: HostRuntime) -> Result<(), Fail> {
     for (path, mark) in [("a b", Mark::Removed), ("c", Mark::Created)] {
         paths.push(Path::parse(alloc, path.as_bytes())?)?;
         let path = Path::parse(alloc, path.as_bytes())?;
-        marked.insert(0, Marked { mark, path })?;
+        marked.insert(0, Marked { mark, path }.copy()?)?;
     }
     let mut text = Vec::new(alloc);
     push_ok(&mut text)?;
