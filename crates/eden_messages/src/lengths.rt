@@ -5,12 +5,10 @@ ghost use Rattle.std.specs.List.{flat_map};
 ghost use Rattle.eden_messages.specs.Spells.{position_bytes, text_bytes, filter_bytes, marked_bytes, content_bytes, request_bytes, reply_bytes, if_small};
 
 use crate::message::{Reply, Request};
+use eden_frames::BODY_LIMIT;
 use eden_globs::Filter;
 use eden_history::{Marked, Position};
 use eden_ids::{Content, Path};
-
-/// The most bytes of a body: 16 MiB.
-const BODY_LIMIT: usize = 16_777_216;
 
 /// The bytes of a root.
 fn len_of_root(root: &[u8; 20]) -> usize
