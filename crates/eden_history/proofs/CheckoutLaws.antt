@@ -3,6 +3,7 @@ use Rattle.std.proofs.Common.{◌≡◌, ℕ, Bool, true, false, cond, not, ◌&
 use Rattle.std.specs.Prelude.{IsSome}
 use Rattle.std.specs.List.{list_any}
 use Rattle.std.specs.FinMap as fin
+use Rattle.std.proofs.lemmas.Bool.{and_parts}
 use Rattle.eden_ids.specs.declared.content.Content.{Content}
 use Rattle.eden_ids.specs.Paths.{clashes, lies_below}
 use Rattle.eden_ids.specs.FileMaps.{FileMap, PathSet, IsFileMap, file_at, paths, same_file, same_path, differ, path_set, has, clashes_any}
@@ -16,15 +17,6 @@ use Rattle.eden_history.specs.Checkouts.{is_clean, clashes_dirty, is_blocked, pa
 or_true : (b : Bool) → (b || true) ≡ true
 or_true true = refl
 or_true false = refl
-
-both : (a b : Bool) → (a && b) ≡ true → (a ≡ true) × (b ≡ true)
-both true true e = (refl, refl)
-both true false e = absurd (cc)
-both false b e = absurd (cc)
-
-neither : (a b : Bool) → (a || b) ≡ false → (a ≡ false) × (b ≡ false)
-neither true b e = absurd (cc)
-neither false b e = (refl, e)
 
 by_two : (b : Bool) → (b ≡ true → false ≡ true) → b ≡ false
 by_two true h = absurd (let bad : false ≡ true = h refl in cc)
@@ -218,12 +210,12 @@ clash_is_new work root target p ok clean blocked =
   where
     clash : same_file (file_at root p) (file_at target p) ≡ true → ⊥
     clash same =
-        let parts = both (is_some (file_at target p)) (clashes_dirty work root p) blocked in
+        let parts = and_parts (is_some (file_at target p)) (clashes_dirty work root p) blocked in
         let here : is_some (file_at work p) ≡ true =
         ap is_some (same_file-is (file_at work p) (file_at root p) clean ∙ same_file-is (file_at root p) (file_at target p) same) ∙ parts.0 in
         let found = any_found (λ q. clashes p q && not (is_clean work root q)) (paths work) parts.1 in
         let there : is_some (file_at work found.0) ≡ true = fin.contains_key-keys work found.0 ∙ found.1 in
-        let clashing = both (clashes p found.0) (not (is_clean work root found.0)) found.2 in
+        let clashing = and_parts (clashes p found.0) (not (is_clean work root found.0)) found.2 in
         let bad : true ≡ false = sym clashing.0 ∙ ok p found.0 here there in
         cc
 
@@ -235,7 +227,7 @@ conflict_differs work root target p ok e = cases (is_clean work root p) refl e
         → cond a (is_blocked work root target p) (not (same_file (file_at root p) (file_at target p)) && not (same_file (file_at work p) (file_at target p))) ≡ true
         → has (differ root target) p ≡ true
     cases true clean h = clash_is_new work root target p ok clean h
-    cases false dirty h = has-differ root target p ∙ (both (not (same_file (file_at root p) (file_at target p))) (not (same_file (file_at work p) (file_at target p))) h).0
+    cases false dirty h = has-differ root target p ∙ (and_parts (not (same_file (file_at root p) (file_at target p))) (not (same_file (file_at work p) (file_at target p))) h).0
 
 pub conflicts_in_differ : (work root target : FileMap) (p : List ℕ) → IsFileMap work → has (conflicts work root target) p ≡ true → has (differ root target) p ≡ true
 conflicts_in_differ work root target p ok e = conflict_differs work root target p ok (sym (has-conflicts work root target p) ∙ e)

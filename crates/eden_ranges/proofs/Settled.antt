@@ -17,6 +17,7 @@ use Rattle.std.specs.FinMap.Entries.{below_all, same_entries}
 use Rattle.eden_ids.specs.FileMaps.{listing, path_set, same_path}
 use Rattle.eden_ids.specs.Sameness.{same_bytes}
 use Rattle.eden_ids.proofs.FileMapLemmas.{bytes_same, has-listing, has-path_set, same_path-bytes, same_path-is}
+use Rattle.eden_ids.proofs.ByteOrder.{both, first, second}
 use Rattle.eden_history.specs.declared.touches.Touch.{Touch}
 use Rattle.eden_history.specs.Touches.{TouchMap, first_before, untouched}
 use Rattle.eden_history.proofs.Touched.{get-touched}
@@ -116,10 +117,6 @@ find_settled q p t (m ∷ ms) up = by (same_bytes m.0 p) refl (find_settled q p 
         ∙ ap (λ r. cond (same_path q r) (Some (joined (flat (cond (same_path q p) (Some t) None)) m.1)) (cond (same_path q p) (Some t) None)) (sym same))
     by false e one two =
         ap (cond (same_path q p) (Some t)) two ∙ first (same_path q p) refl (strictly p m.0 up.0 (same_path-bytes m.0 p ∙ e))
-
-both : (a b : Bool) → T a → T b → T (a && b)
-both true b x y = y
-both false b x y = absurd x
 
 is_below : (p q : List ℕ) → order p q ≡ Less → T (is_lt (order p q))
 is_below p q e = subst (λ o. T (is_lt o)) (sym e) tt
@@ -338,14 +335,6 @@ settling_ends done others i m whole past so_far =
     ∙ so_far
 
 -- ---- where files were changed
-
-first : (a b : Bool) → T (a && b) → T a
-first true b h = tt
-first false b h = absurd h
-
-second : (a b : Bool) → T (a && b) → T b
-second true b h = h
-second false b h = absurd h
 
 below-changes : (k : List ℕ) (ms : List Mentioned) → T (below_all order k ms) → T (below_all order k (changes_in ms))
 below-changes k [] h = tt

@@ -7,7 +7,7 @@ use Rattle.std.specs.Cmp.Lexicographic.{nat_list_cmp_total, slice_cmp}
 use Rattle.std.specs.FinMap as fin
 use Rattle.std.specs.FinMap.{find, is_sorted, slice_cmp-IsAntisymmetric, nat_cmp-IsAntisymmetric}
 use Rattle.std.specs.FinMap.Entries.{below_all, same_entries}
-use Rattle.std.proofs.lemmas.Bool.{eqb-true, eq-eqb}
+use Rattle.std.proofs.lemmas.Bool.{and_parts, eqb-true, eq-eqb}
 use Rattle.std.proofs.lemmas.List.{reverse-append, append-nil}
 use Rattle.std.proofs.lemmas.List.Elements.{filter-append}
 use Rattle.std.proofs.lemmas.List.Folds.{list_any-append}
@@ -39,20 +39,12 @@ use Rattle.eden_history.proofs.Following.{IsNotAfter}
 use Rattle.eden_ranges.proofs.Numbered.{none_counted}
 use Rattle.eden_ranges.proofs.Along.{along, newer, none_newer, one_newer}
 use Rattle.eden_ranges.proofs.Named.{plain_root}
+use Rattle.eden_ranges.proofs.Relisted.{is_true}
 
 -- ---- a table, by its paths
 
 abbrev Entry : Type 0
 Entry = List ℕ × Touch
-
-both : (a b : Bool) → (a && b) ≡ true → (a ≡ true) × (b ≡ true)
-both true true e = (refl, refl)
-both true false e = absurd (cc)
-both false b e = absurd (cc)
-
-is_true : (b : Bool) → T b → b ≡ true
-is_true true h = refl
-is_true false h = absurd h
 
 -- the entries without what is said of the paths
 abbrev bare : List Entry → List (List ℕ × Unit {0})
@@ -111,7 +103,7 @@ passed : (e : Entry) (es later : List Entry) → below_all (slice_cmp nat_cmp) e
     → map (λ p. told p (find (slice_cmp nat_cmp) p es)) (map (λ e. e.0) later) ≡ map (λ p. told p (find (slice_cmp nat_cmp) p (e ∷ es))) (map (λ e. e.0) later)
 passed e es [] below = refl
 passed e es (l ∷ later) below =
-    let parts = both (is_lt (slice_cmp nat_cmp e.0 l.0)) (below_all (slice_cmp nat_cmp) e.0 later) below in
+    let parts = and_parts (is_lt (slice_cmp nat_cmp e.0 l.0)) (below_all (slice_cmp nat_cmp) e.0 later) below in
     let apart : same_path l.0 e.0 ≡ false = same_path-turned l.0 e.0 ∙ not_tied (slice_cmp nat_cmp e.0 l.0) parts.0 in
     λ i. told l.0 (cond (sym apart i) (Some e.1) (find (slice_cmp nat_cmp) l.0 es)) ∷ passed e es later parts.1 i
 
@@ -119,7 +111,7 @@ entries_told : (es : List Entry) → is_sorted (slice_cmp nat_cmp) es ≡ true
     → map listed_touch es ≡ map (λ p. told p (find (slice_cmp nat_cmp) p es)) (map (λ e. e.0) es)
 entries_told [] sorted = refl
 entries_told (e ∷ es) sorted =
-    let parts = both (below_all (slice_cmp nat_cmp) e.0 es) (is_sorted (slice_cmp nat_cmp) es) sorted in
+    let parts = and_parts (below_all (slice_cmp nat_cmp) e.0 es) (is_sorted (slice_cmp nat_cmp) es) sorted in
     (λ i. told e.0 (cond (sym (same_path-refl e.0) i) (Some e.1) (find (slice_cmp nat_cmp) e.0 es)) ∷ (entries_told es parts.1 ∙ passed e es es parts.0) i)
 
 listed_told : (t : TouchMap) → listed t ≡ map (λ p. told p (fin.get t p)) (fin.keys t)

@@ -1,5 +1,5 @@
 -- Entries in blocks, seen as one list.
-use Rattle.std.proofs.Common.{◌≡◌, ℕ, suc, zero, ◌+◌, ◌<◌, ◌≤◌, Bool, true, false, cond, not, T, ◌&&◌, List, [], ◌∷◌, ◌++◌, take, drop, length, Option, Some, None, refl, sym, ap, subst, ◌∙◌, arith, append_assoc, vec_len, add-one}
+use Rattle.std.proofs.Common.{◌≡◌, ℕ, suc, zero, ◌+◌, ◌<◌, ◌≤◌, true, false, cond, not, T, List, [], ◌∷◌, ◌++◌, take, drop, length, Option, Some, None, refl, sym, ap, subst, ◌∙◌, arith, append_assoc, vec_len, add-one}
 use Rattle.std.proofs.lemmas.List.{append-nil}
 use Rattle.std.specs.declared.cmp.Ordering.TheVariants.{Less, Equal, Greater}
 use Rattle.std.specs.Ordering.{is_lt, is_le, is_eq}
@@ -11,9 +11,10 @@ use Rattle.std.specs.FinMap.{find, put, is_sorted}
 use Rattle.std.specs.FinMap.Entries.{below_all, by_order}
 use Rattle.eden_ids.specs.FileMaps.{same_path}
 use Rattle.eden_ids.specs.declared.content.Content.{Content}
+use Rattle.eden_ids.proofs.ByteOrder.{both, first, less, second}
 use Rattle.eden_workcopy.specs.Layers.{Entry, by_bytes, place}
 use Rattle.eden_workcopy.specs.internal.Blocks.{flat, AllFilled, begins_by, begun, spot}
-use Rattle.eden_workcopy.proofs.Placing.{first, second, less, is_less, turned, trans, below_later, none_above, without, without_none}
+use Rattle.eden_workcopy.proofs.Placing.{is_less, turned, trans, below_later, none_above, without, without_none}
 
 abbrev pub Rising : List Entry → Type 0
 Rising es = T (is_sorted by_bytes es)
@@ -25,10 +26,6 @@ Above k es = T (below_all by_bytes k es)
 abbrev pub AllBefore : List ℕ → List Entry → Type 0
 AllBefore k [] = Unit {0}
 AllBefore k (e ∷ es) = T (is_lt (by_bytes e.0 k)) × AllBefore k es
-
-both : (a b : Bool) → T a → T b → T (a && b)
-both true b x y = y
-both false b x y = absurd x
 
 -- ---- two lists in order, one behind the other
 

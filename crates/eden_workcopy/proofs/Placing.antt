@@ -1,5 +1,5 @@
 -- Where an entry stands, or would stand, in a list in byte order of paths.
-use Rattle.std.proofs.Common.{◌≡◌, ◌≢◌, ℕ, suc, zero, ◌<◌, ◌≤◌, Bool, true, false, cond, not, T, ◌&&◌, List, [], ◌∷◌, take, length, nat_eq, Option, Some, None, Result, Ok, Err, OnErr, refl, sym, ap, subst, ◌∙◌, arith}
+use Rattle.std.proofs.Common.{◌≡◌, ◌≢◌, ℕ, suc, zero, ◌<◌, ◌≤◌, Bool, true, false, cond, not, T, List, [], ◌∷◌, take, length, nat_eq, Option, Some, None, Result, Ok, Err, OnErr, refl, sym, ap, subst, ◌∙◌, arith}
 use Rattle.std.specs.Prelude.{filter}
 use Rattle.std.specs.declared.cmp.Ordering.{Ordering}
 use Rattle.std.specs.declared.cmp.Ordering.TheVariants.{Less, Equal, Greater}
@@ -16,20 +16,8 @@ use Rattle.std.proofs.lemmas.Slice.Eq.{bytes_eq-Decides}
 use Rattle.eden_workcopy.specs.Layers.{by_bytes, place, Entry, IsThere}
 use Rattle.eden_ids.specs.FileMaps.{same_path}
 use Rattle.eden_ids.proofs.FileMapLemmas.{same_path-turned}
+use Rattle.eden_ids.proofs.ByteOrder.{both, first, less, second}
 use Rattle.eden_ids.specs.declared.content.Content.{Content}
-
-pub first : (a b : Bool) → T (a && b) → T a
-first true b p = tt
-first false b p = p
-
-pub second : (a b : Bool) → T (a && b) → T b
-second true b p = p
-second false b p = absurd p
-
-pub less : (r : Ordering) → T (is_lt r) → r ≡ Less
-less Less p = refl
-less Equal p = absurd p
-less Greater p = absurd p
 
 pub is_less : (p q : List ℕ) → by_bytes p q ≡ Less → T (is_lt (by_bytes p q))
 is_less p q e = subst (λ r. T (is_lt r)) (sym e) tt
@@ -76,10 +64,6 @@ module _ {X : Type 0} where
   pub below_later : (k q : List ℕ) (es : List (List ℕ × X)) → T (is_lt (by_bytes k q)) → T (below_all by_bytes q es) → T (below_all by_bytes k es)
   below_later k q [] p h = tt
   below_later k q (e ∷ es) p h = both _ _ (trans k q e.0 p (first _ _ h)) (below_later k q es p (second _ _ h))
-    where
-      both : (a b : Bool) → T a → T b → T (a && b)
-      both true b x y = y
-      both false b x y = absurd x
 
   -- the entry that stands there is found
   pub found_there : (k : List ℕ) (v : X) (es : List (List ℕ × X)) → slice_get es (place k es) ≡ Some (k, v) → find by_bytes k es ≡ Some v

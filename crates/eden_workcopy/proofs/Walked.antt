@@ -5,10 +5,10 @@ use Rattle.std.specs.Ordering.{is_lt}
 use Rattle.std.specs.FinMap as fin
 use Rattle.std.specs.FinMap.Entries.{below_all}
 use Rattle.eden_ids.specs.Paths.{lies_below}
-use Rattle.eden_ids.proofs.ByteOrder.{from, upto, below_between}
+use Rattle.eden_ids.proofs.ByteOrder.{below_between, first, from, less, second, upto}
 use Rattle.eden_workcopy.specs.Layers.{Entry, by_bytes, place}
 use Rattle.eden_workcopy.specs.internal.Blocks.{before}
-use Rattle.eden_workcopy.proofs.Placing.{first, second, less, trans}
+use Rattle.eden_workcopy.proofs.Placing.{trans}
 use Rattle.eden_workcopy.proofs.Touched.{kept}
 
 before_first : (k : List ℕ) (e : Entry) (fs : List Entry) → T (is_lt (by_bytes e.0 k)) → before k (e ∷ fs) ≡ e ∷ before k fs

@@ -10,6 +10,7 @@ use Rattle.eden_globs.specs.Filters.{admits}
 use Rattle.eden_ids.specs.declared.content.Content.{Content}
 use Rattle.eden_ids.specs.FileMaps.{FileMap, file_at, paths, has, listing, same_path}
 use Rattle.eden_ids.proofs.FileMapLemmas.{same_path-is}
+use Rattle.eden_ids.proofs.ByteOrder.{both, first, second}
 use Rattle.eden_ids.proofs.TreeMaps.{entries_found}
 use Rattle.eden_ids.specs.declared.id.Id.{Id}
 use Rattle.eden_objects.specs.Objects.{Held}
@@ -22,7 +23,7 @@ use Rattle.eden_workcopy.specs.Layers.{Layer, Entry, by_bytes, or_below, over, p
 use Rattle.eden_workcopy.specs.Listings.{admitted}
 use Rattle.eden_ids.proofs.Sifted.{listing_of}
 use Rattle.eden_workcopy.proofs.Overs.{file_at-over}
-use Rattle.eden_workcopy.proofs.Placing.{first, second, turned, below_later}
+use Rattle.eden_workcopy.proofs.Placing.{turned, below_later}
 use Rattle.eden_workcopy.proofs.Touched.{kept}
 
 -- a path before others, if it is wanted
@@ -150,10 +151,6 @@ Above k es = T (below_all by_bytes k es)
 
 abbrev Rising : {X : Type 0} → List (List ℕ × X) → Type 0
 Rising es = T (fin.is_sorted by_bytes es)
-
-both : (a b : Bool) → T a → T b → T (a && b)
-both true b x y = y
-both false b x y = absurd x
 
 above_own : (k : List ℕ) (b : Bool) (u : List ℕ) (ws : List (List ℕ)) → T (is_lt (by_bytes k u)) → Above k (pairs ws) → Above k (pairs (cond b (u ∷ ws) ws))
 above_own k true u ws h more = both _ _ h more
