@@ -7,8 +7,10 @@
 # with it row by row; LARGEST the most files that are written, 1,000,000 if it is not set.
 set -euo pipefail
 
-tries=${1:-5}
 root=$(cd "$(dirname "$0")/.." && pwd)
+most=1
+. "$root/bench/begin.sh"
+tries=${1:-5}
 . "$root/bench/scripts.sh"
 
 # N writes of N files in 1,000 directories: in the order of the paths, or in none.

@@ -6,8 +6,10 @@
 # EDEND names the program that is measured, if it is another than this one, as one of an earlier commit.
 set -euo pipefail
 
-tries=${1:-5}
 root=$(cd "$(dirname "$0")/.." && pwd)
+most=1
+. "$root/bench/begin.sh"
+tries=${1:-5}
 . "$root/bench/scripts.sh"
 
 # 100,000 lines of changes of 1,000 files on a mount of so many directories: each file is written a hundred times, or renamed fifty times

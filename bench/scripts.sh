@@ -1,13 +1,17 @@
-# Sourced by the scripts that measure edend on commits of many files. They set `tries` and `root`, and need git and the kit.
+# Sourced by the scripts that measure edend on commits of many files, behind begin.sh. They set `tries` and `root`, and need git and the kit.
 
 work=$(mktemp -d)
 . "$root/tests-with-git/object-lines.sh"
 trap 'rm -rf "$work"' EXIT
 edend=${EDEND:-}
 if [ -z "$edend" ]; then
+    building edend
     (cd "$root/crates/edend" && rt run -- run < /dev/null) > "$work/built" 2>&1 || { cat "$work/built"; exit 1; }
     edend=$root/crates/edend/out/edend
 fi
+for program in "$edend" ${BEFORE:+"$BEFORE"}; do
+    [ "$(echo 'mount empty 1 0' | "$program" run 2>&1)" = 'at 1 1 empty' ] || { echo "$program is no edend" >&2; exit 1; }
+done
 
 # The path of file F of directory D of a shape: 1,000 directories side by side, or ten in each of ten in each of ten.
 path='

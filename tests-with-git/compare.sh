@@ -7,12 +7,14 @@
 # usage: tests-with-git/compare.sh [SEED]
 #
 # It needs git, and the programs edend and beside_git, which `rt run` builds where they are not built yet. With HOW=try, `rt try` runs
-# edend, without a proof of it. What it makes lies in a folder of its own, which it takes away again.
+# both, without a proof. What it makes lies in a folder of its own, which it takes away again.
 set -euo pipefail
 
+root=$(cd "$(dirname "$0")/.." && pwd)
+most=1
+. "$root/bench/begin.sh"
 how=${HOW:-run}
 seed=${1:-1}
-root=$(cd "$(dirname "$0")/.." && pwd)
 work=$(mktemp -d)
 . "$root/tests-with-git/object-lines.sh"
 trap 'rm -rf "$work"' EXIT
@@ -82,6 +84,7 @@ done >> "$work/script"
 } > "$work/ids"
 
 # The ids of a script.
+[ "$how" = try ] || building edend and beside_git
 (cd "$root/crates/edend" && rt "$how" -- run < "$work/script") > "$work/printed"
 grep '^id ' "$work/printed" | cut -d ' ' -f 2 > "$work/printed-ids"
 cmp "$work/ids" "$work/printed-ids"
@@ -97,7 +100,7 @@ refused=$(grep -c '^refused' "$work/printed" || true)
     done
 } > "$work/listed-by-git"
 git cat-file --batch < "$work/ids" > "$work/batch"
-(cd "$root/crates/beside_git" && rt run < "$work/batch") > "$work/listed"
+(cd "$root/crates/beside_git" && rt "$how" < "$work/batch") > "$work/listed"
 cmp "$work/listed-by-git" "$work/listed"
 
 echo "$(wc -l < "$work/ids") ids and $(grep -c '^commit ' "$work/listed") listings are those of Git, \
@@ -142,7 +145,7 @@ awk -v seed="$seed" '
         path = any_file()
         how = any(6)
         if (how == 0) put(path)
-        else if (how == 1) sub(/^[0-9]+/, mode[any(3) + 1], files[path])
+        else if (how == 1) { if (path in files) sub(/^[0-9]+/, mode[any(3) + 1], files[path]); else put(path) }
         else if (how == 2) delete files[path]
         else if (how == 3) { put(path "/" name[any(names) + 1]); put(path "/" name[any(names) + 1]) }
         else if (how == 4) { while (any(2) && match(path, /\/[^\/]*$/)) path = substr(path, 1, RSTART - 1); put(path) }

@@ -59,7 +59,7 @@ fn poll(alloc: Global, audited: &Audited<GitNaming>, turn: u64) -> Request {
 fn change(alloc: Global, audited: &mut Audited<GitNaming>, turn: u64) -> Result<(Call, Answer)> {
     let change = write(alloc, turn)?;
     let answer = audited.apply(1, &change)?;
-    Ok((Call::Change(change), Answer::Made(answer)))
+    Ok((Call::Change(change), Answer::from(answer)))
 }
 
 /// Asks, and gives what was asked with its answer.

@@ -24,6 +24,7 @@ use Rattle.eden_history.specs.Recorded.{delta_of, starts}
 use Rattle.eden_history.specs.Renames.{absent_fault, moved, place_fault, rename_fault, renamed, write_fault}
 use Rattle.eden_ids.specs.Sameness.{same_bytes}
 use Rattle.eden_history.specs.Outcome.{change_fault, event_at, is_event, next_files, next_root, next_row, refusal, takes_number, world_after}
+use Rattle.eden_history.specs.Spellable.{IsChange}
 use Rattle.eden_history.proofs.RenameLaws.{first-none}
 use Rattle.eden_accumulate.specs.Mounts.{Follows, IsRefusal, Refuses, State, StandsFor, files_of, number_fault}
 use Rattle.eden_accumulate.proofs.Histories.{answer-refused, event_of, grown, history-flushed, history-remounted}
@@ -58,16 +59,17 @@ grown_by log other more touches same grows h is = grows h (subst (λ l. journal.
 -- a change of files, where the working copy and the journal were changed as it says
 pub file_stands : (held : List Held) (old new : WorkCopy) (log more : journal.Log) (mount : State) → state held old log ≡ mount
     → (world : WorldState) → StandsFor mount world → (change : Change) → starts change ≡ false → next_root (now world) change ≡ (now world).root
-    → refusal (commits_of world) (now world) change ≡ None → is_event change ≡ true
+    → refusal (commits_of world) (now world) change ≡ None → is_event change ≡ true → IsChange change
     → FitsIn held new → new.root ≡ old.root → means held new ≡ next_files (commits_of world) (now world) change
     → (delta : FilesChanged) → File delta ≡ delta_of (now world) (event_of world change) → GrowsBy log more delta
     → StandsFor (state held new more) (world_after world change)
-file_stands held old new log more mount view world h change e stays allowed happens fits root files delta is grows =
+file_stands held old new log more mount view world h change e stays allowed happens text fits root files delta is grows =
     let h-old : StandsFor (state held old log) world = subst (λ m. StandsFor m world) (sym view) h in
     made_stands (state held old log) world change (state held new more) (record {
       stood = h-old;
       allowed = allowed;
       happens = happens;
+      text = text;
       held = refl;
       fits = fits;
       root = root ∙ h-old.root ∙ sym stays;
@@ -105,15 +107,15 @@ files-written commits row path kind bytes = refl
 
 -- a file that was written, where nothing stood against it
 pub write_follows : {held : List Held} {old new : WorkCopy} {log other more : journal.Log} {mount : State} (path : List ℕ) (kind : Kind) (bytes : List ℕ) → state held old log ≡ mount
-    → IsRefusal mount (Write path kind bytes) None → new.root ≡ old.root
+    → IsRefusal mount (Write path kind bytes) None → IsChange (Write path kind bytes) → new.root ≡ old.root
     → ((h : List Held) → means h new ≡ fin.insert (means h old) path (record { kind = kind; bytes = bytes }))
     → ((h : List Held) → FitsIn h old → write_fault (means h old) path bytes ≡ None → FitsIn h new)
     → (delta : FilesChanged) → delta ≡ touched_at path (is_some (file_at (files_of mount) path)) true → other ≡ log → GrowsBy other more delta
     → Follows mount (Write path kind bytes) (state held new more)
-write_follows {held} {old} {new} {log} {other} {more} {mount} path kind bytes view judged root files fits delta is same grows world h =
+write_follows {held} {old} {new} {log} {other} {more} {mount} path kind bytes view judged text root files fits delta is same grows world h =
     let allowed = sym (judged world h) in
     let here = files_are held old log mount view world h in
-    file_stands held old new log more mount view world h (Write path kind bytes) refl refl allowed refl
+    file_stands held old new log more mount view world h (Write path kind bytes) refl refl allowed refl text
     (fits held (fits_still held old log mount view world h) (ap (λ m. write_fault m path bytes) here ∙ allowed_files (commits_of world) (now world) (Write path kind bytes) allowed))
     root
     (files held ∙ ap (λ m. fin.insert m path (record { kind = kind; bytes = bytes })) here ∙ files-written (commits_of world) (now world) path kind bytes)
@@ -144,13 +146,13 @@ files-removed commits row path = refl
 
 -- a file that was taken away, where one stood there
 pub remove_follows : {held : List Held} {old new : WorkCopy} {log other more : journal.Log} {mount : State} (path : List ℕ) → state held old log ≡ mount
-    → IsRefusal mount (Remove path) None → new.root ≡ old.root
+    → IsRefusal mount (Remove path) None → IsChange (Remove path) → new.root ≡ old.root
     → ((h : List Held) → means h new ≡ fin.remove (means h old) path) → ((h : List Held) → FitsIn h old → FitsIn h new)
     → (delta : FilesChanged) → delta ≡ touched_at path true false → other ≡ log → GrowsBy other more delta
     → Follows mount (Remove path) (state held new more)
-remove_follows {held} {old} {new} {log} {other} {more} {mount} path view judged root files fits delta is same grows world h =
+remove_follows {held} {old} {new} {log} {other} {more} {mount} path view judged text root files fits delta is same grows world h =
     let allowed = sym (judged world h) in
-    file_stands held old new log more mount view world h (Remove path) refl refl allowed refl (fits held (fits_still held old log mount view world h)) root
+    file_stands held old new log more mount view world h (Remove path) refl refl allowed refl text (fits held (fits_still held old log mount view world h)) root
     (files held ∙ ap (λ m. fin.remove m path) (files_are held old log mount view world h) ∙ files-removed (commits_of world) (now world) path)
     delta
     (ap File is ∙ delta-removed (commits_of world) (now world) path (present (now world).files path (allowed_files (commits_of world) (now world) (Remove path) allowed)))
@@ -189,12 +191,12 @@ files-renamed commits row old new = refl
 
 -- a file that was moved to another path, where nothing stood against it
 pub rename_follows : {held seen : List Held} {before after : WorkCopy} {log other more : journal.Log} {mount : State} (old new : List ℕ) → state held before log ≡ mount → seen ≡ held
-    → IsRefusal mount (Rename old new) None → same_bytes old new ≡ false → old ≢ new → after.root ≡ before.root
+    → IsRefusal mount (Rename old new) None → IsChange (Rename old new) → same_bytes old new ≡ false → old ≢ new → after.root ≡ before.root
     → means seen after ≡ renamed (means seen before) old new
     → (FitsIn seen before → rename_fault (means seen before) old new ≡ None → FitsIn seen after)
     → (delta : FilesChanged) → delta ≡ moved_delta (files_of mount) old new → other ≡ log → GrowsBy other more delta
     → Follows mount (Rename old new) (state held after more)
-rename_follows {held} {seen} {before} {after} {log} {other} {more} {mount} old new view there judged distinct apart root files fits delta is same grows world h =
+rename_follows {held} {seen} {before} {after} {log} {other} {more} {mount} old new view there judged text distinct apart root files fits delta is same grows world h =
     let allowed = sym (judged world h) in
     let here = files_are held before log mount view world h in
     let free = allowed_files (commits_of world) (now world) (Rename old new) allowed in
@@ -202,7 +204,7 @@ rename_follows {held} {seen} {before} {after} {log} {other} {more} {mount} old n
     let fits-held : FitsIn held before → rename_fault (means held before) old new ≡ None → FitsIn held after =
     subst (λ s. FitsIn s before → rename_fault (means s before) old new ≡ None → FitsIn s after) there fits in
     let files-held : means held after ≡ renamed (means held before) old new = subst (λ s. means s after ≡ renamed (means s before) old new) there files in
-    file_stands held before after log more mount view world h (Rename old new) refl refl allowed (ap not distinct)
+    file_stands held before after log more mount view world h (Rename old new) refl refl allowed (ap not distinct) text
     (fits-held (fits_still held before log mount view world h) (ap (λ m. rename_fault m old new) here ∙ free))
     root
     (files-held ∙ ap (λ m. renamed m old new) here ∙ files-renamed (commits_of world) (now world) old new)
@@ -216,14 +218,15 @@ rename_follows {held} {seen} {before} {after} {log} {other} {more} {mount} old n
 still_stands : (held : List Held) (work : WorkCopy) (log more : journal.Log) (mount : State) → state held work log ≡ mount
     → (world : WorldState) → StandsFor mount world → (change : Change) → next_root (now world) change ≡ (now world).root
     → next_files (commits_of world) (now world) change ≡ (now world).files
-    → refusal (commits_of world) (now world) change ≡ None → is_event change ≡ true
+    → refusal (commits_of world) (now world) change ≡ None → is_event change ≡ true → IsChange change
     → journal.StandsFor more (history_of (grown world change)) → StandsFor (state held work more) (world_after world change)
-still_stands held work log more mount view world h change stays same allowed happens is =
+still_stands held work log more mount view world h change stays same allowed happens text is =
     let h-old : StandsFor (state held work log) world = subst (λ m. StandsFor m world) (sym view) h in
     made_stands (state held work log) world change (state held work more) (record {
       stood = h-old;
       allowed = allowed;
       happens = happens;
+      text = text;
       held = refl;
       fits = h-old.fits;
       root = h-old.root ∙ sym stays;
@@ -236,16 +239,16 @@ pub flush_follows : {held : List Held} {work : WorkCopy} {log more : journal.Log
 unfolding next_files
 flush_follows {held} {work} {log} {more} {mount} view judged grows world h =
     let h-old : StandsFor (state held work log) world = subst (λ m. StandsFor m world) (sym view) h in
-    still_stands held work log more mount view world h Flush refl refl (sym (judged world h)) refl
+    still_stands held work log more mount view world h Flush refl refl (sym (judged world h)) refl tt
     (subst (journal.StandsFor more) (sym (history-flushed world h.is_world.1.legal)) (grows (history_of world) h-old.log))
 
 pub remount_follows : {held : List Held} {work : WorkCopy} {log more : journal.Log} {mount : State} (generation : ℕ) → state held work log ≡ mount
-    → IsRefusal mount (Remount generation) None → journal.StandsFor more (journal.opened generation log.root log.limit 1)
+    → IsRefusal mount (Remount generation) None → generation < 2 ^ 64 → journal.StandsFor more (journal.opened generation log.root log.limit 1)
     → Follows mount (Remount generation) (state held work more)
 unfolding next_files
-remount_follows {held} {work} {log} {more} {mount} generation view judged is world h =
+remount_follows {held} {work} {log} {more} {mount} generation view judged number is world h =
     let h-old : StandsFor (state held work log) world = subst (λ m. StandsFor m world) (sym view) h in
-    still_stands held work log more mount view world h (Remount generation) refl refl (sym (judged world h)) refl
+    still_stands held work log more mount view world h (Remount generation) refl refl (sym (judged world h)) refl number
     (subst (journal.StandsFor more)
     ((λ i. journal.opened generation (h-old.log.root i) (h-old.log.limit i) 1) ∙ sym (history-remounted world generation)) is)
 

@@ -23,6 +23,8 @@ use Rattle.eden_history.specs.declared.position.Position.{Position}
 use Rattle.eden_history.proofs.RenameLaws.{first-none}
 use Rattle.eden_history.specs.Checkouts.{checked_out, conflicts, is_dry, unclean}
 use Rattle.eden_history.specs.Named.{held_files}
+use Rattle.eden_history.specs.Spellable.{IsChange}
+use Rattle.eden_ids.specs.Texts.{IsIdText}
 use Rattle.eden_history.specs.Worlds.{Row, Commits, WorldState, commits_of, now}
 use Rattle.eden_history.specs.Recorded.{delta_of, starts}
 use Rattle.eden_history.specs.Outcome.{answer_at, change_fault, commit_fault, event_at, is_event, next_files, next_root, next_row, refusal, world_after}
@@ -51,16 +53,17 @@ pub record Moved (held : List Held) (new : WorkCopy) (commit : Id) (wanted : Fil
 
 root_stands : (held : List Held) (old new : WorkCopy) (log more : journal.Log) (mount : State) → state held old log ≡ mount
     → (world : WorldState) → StandsFor mount world → (change : Change) (commit : Id) → starts change ≡ false → next_root (now world) change ≡ commit
-    → refusal (commits_of world) (now world) change ≡ None → is_event change ≡ true
+    → refusal (commits_of world) (now world) change ≡ None → is_event change ≡ true → IsChange change
     → Moved held new commit (next_files (commits_of world) (now world) change)
     → (paths : List (List ℕ)) → Root (now world).root paths ≡ delta_of (now world) (event_of world change) → MovesBy log more commit paths
     → StandsFor (state held new more) (world_after world change)
-root_stands held old new log more mount view world h change commit e goes allowed happens moved paths is moves =
+root_stands held old new log more mount view world h change commit e goes allowed happens text moved paths is moves =
     let h-old : StandsFor (state held old log) world = subst (λ m. StandsFor m world) (sym view) h in
     made_stands (state held old log) world change (state held new more) (record {
       stood = h-old;
       allowed = allowed;
       happens = happens;
+      text = text;
       held = refl;
       fits = moved.fits;
       root = moved.root ∙ sym goes;
@@ -80,11 +83,11 @@ unfolding next_files
 files-reset commits row commit = refl
 
 pub reset_follows : {held seen : List Held} {old new : WorkCopy} {log other more : journal.Log} {mount : State} (commit : Id) → state held old log ≡ mount → seen ≡ held
-    → IsRefusal mount (Reset commit) None → FitsIn seen new → new.root ≡ commit → means seen new ≡ means seen old
+    → IsRefusal mount (Reset commit) None → IsIdText commit → FitsIn seen new → new.root ≡ commit → means seen new ≡ means seen old
     → (paths : List (List ℕ)) → paths ≡ [] → other ≡ log → MovesBy other more commit paths → Follows mount (Reset commit) (state held new more)
-reset_follows {held} {seen} {old} {new} {log} {other} {more} {mount} commit view there judged fits root files paths none same moves world h =
+reset_follows {held} {seen} {old} {new} {log} {other} {more} {mount} commit view there judged text fits root files paths none same moves world h =
     let is-files : means held new ≡ means held old = subst (λ s. means s new ≡ means s old) there files in
-    root_stands held old new log more mount view world h (Reset commit) commit refl refl (sym (judged world h)) refl
+    root_stands held old new log more mount view world h (Reset commit) commit refl refl (sym (judged world h)) refl text
     (record {
       fits = subst (λ s. FitsIn s new) there fits;
       root = root;
@@ -116,16 +119,16 @@ three f held seen old log mount view same world h commit =
     ∙ (λ i. f (h-old.files i) (commit_files (h-old.held i) (h-old.root i)) (commit_files (h-old.held i) commit))
 
 pub checkout_follows : {held seen : List Held} {old new : WorkCopy} {log other more : journal.Log} {mount : State} (commit : Id) (mode : Mode) → state held old log ≡ mount → seen ≡ held
-    → IsRefusal mount (Checkout commit mode) None → is_dry mode ≡ false → FitsIn seen new → new.root ≡ (if is_dry mode then old.root else commit)
+    → IsRefusal mount (Checkout commit mode) None → IsIdText commit → is_dry mode ≡ false → FitsIn seen new → new.root ≡ (if is_dry mode then old.root else commit)
     → means seen new ≡ checked_out mode (means seen old) (root_files seen old) (commit_files seen commit)
     → (paths : List (List ℕ))
     → paths ≡ (if is_dry mode then [] else listing (unclean (means seen old) (root_files seen old) (means seen new) (commit_files seen commit)))
     → other ≡ log → MovesBy other more commit paths → Follows mount (Checkout commit mode) (state held new more)
-checkout_follows {held} {seen} {old} {new} {log} {other} {more} {mount} commit mode view there judged real fits root files paths is same moves world h =
+checkout_follows {held} {seen} {old} {new} {log} {other} {more} {mount} commit mode view there judged text real fits root files paths is same moves world h =
     let is-files : means held new ≡ next_files (commits_of world) (now world) (Checkout commit mode) =
     ap (λ s. means s new) (sym there) ∙ files ∙ three (checked_out mode) held seen old log mount view there world h commit
     ∙ files-checked (commits_of world) (now world) commit mode in
-    root_stands held old new log more mount view world h (Checkout commit mode) commit refl refl (sym (judged world h)) (ap not real)
+    root_stands held old new log more mount view world h (Checkout commit mode) commit refl refl (sym (judged world h)) (ap not real) text
     (record { fits = subst (λ s. FitsIn s new) there fits; root = root ∙ ap (λ b. if b then old.root else commit) real; files = is-files })
     paths
     (ap (Root (now world).root)

@@ -4,9 +4,11 @@ use Rattle.std.specs.Prelude.{if◌then◌else◌}
 use Rattle.std.specs.Option.{option_or}
 use Rattle.std.proofs.lemmas.Bool.{lt-ltb}
 use Rattle.eden_ids.specs.declared.id.Id.{Id}
+use Rattle.eden_ids.specs.Texts.{IsIdText}
 use Rattle.eden_journal.specs.declared.delta.Delta.{Delta}
 use Rattle.eden_objects.specs.Objects.{Held}
 use Rattle.eden_objects.specs.Closed.{AllNamed, IsClosed}
+use Rattle.eden_objects.specs.Small.{AreSmall}
 use Rattle.eden_objects.specs.Commits.{commit_map}
 use Rattle.eden_objects.specs.Files as Files
 use Rattle.eden_objects.specs.Files.{commit_files}
@@ -23,8 +25,10 @@ use Rattle.eden_history.specs.declared.position.Position.{Position}
 use Rattle.eden_history.specs.Worlds.{WorldState, commits_of, now, opened, position_of}
 use Rattle.eden_history.specs.Recorded.{delta_of, deltas, starts}
 use Rattle.eden_history.specs.Outcome.{answer_at, answer_of, change_fault, is_event, next_files, next_root, refusal, takes_number, world_after}
+use Rattle.eden_history.specs.Spellable.{IsChange}
 use Rattle.eden_history.proofs.Steps.{has-number}
 use Rattle.eden_history.proofs.LegalFiles.{world_opens}
+use Rattle.eden_history.proofs.Spelled.{spellable_grows, spellable_opens}
 use Rattle.eden_accumulate.specs.Mounts.{begun_at, Follows, IsRefusal, Refuses, State, StandsFor, files_of, number_fault}
 use Rattle.eden_accumulate.proofs.Histories.{after-event, after-nothing, answer-allowed, answer-refused, event_of, files-made, generation-kept, grown, grown_world, head_is, history-recorded, root-made}
 
@@ -41,12 +45,12 @@ position_is mount world h =
     λ i. record { generation = h.log.generation i; sequence = sequence_is mount world h i; root = h.log.root i }
 
 -- a mount of a commit, with no event
-pub opened_stands : (name : List ℕ → List ℕ → Id) (held : List Held) (work : WorkCopy) (log : journal.Log) (generation limit : ℕ) (root : Id) → IsClosed held → AllNamed name held
-    → FitsIn held work → work.root ≡ root
+pub opened_stands : (name : List ℕ → List ℕ → Id) (held : List Held) (work : WorkCopy) (log : journal.Log) (generation limit : ℕ) (root : Id) → IsClosed held → AllNamed name held → AreSmall held
+    → generation < 2 ^ 64 → IsIdText root → FitsIn held work → work.root ≡ root
     → commit_map held root ≡ Some (means held work) → journal.StandsFor log (journal.opened generation root limit 1)
     → StandsFor (record { held = held; work = work; log = log }) (opened held generation limit root (commit_files held root))
 unfolding deltas
-opened_stands name held work log generation limit root closed named fits is-root is-files is-log =
+opened_stands name held work log generation limit root closed named small number text fits is-root is-files is-log =
     let files : means held work ≡ commit_files held root = sym (ap Files.files_of is-files) in
     record {
       held = refl;
@@ -55,13 +59,15 @@ opened_stands name held work log generation limit root closed named fits is-root
       files = files;
       log = is-log;
       is_world = (name, world_opens name held generation limit root (commit_files held root) closed named (ap is_some is-files) refl);
+      spellable = spellable_opens held generation limit root (commit_files held root) closed small number text refl;
     }
 
 -- a mount that begins with parts that hold nothing of the past
-pub begun_stands : (name : List ℕ → List ℕ → Id) (mount : State) → IsClosed mount.held → AllNamed name mount.held → mount.log.head < 2 ^ 64 → FitsIn mount.held mount.work → mount.log.root ≡ mount.work.root → ((h : History) × journal.StandsFor mount.log h)
+pub begun_stands : (name : List ℕ → List ℕ → Id) (mount : State) → IsClosed mount.held → AllNamed name mount.held → AreSmall mount.held → mount.log.head < 2 ^ 64 → mount.log.generation < 2 ^ 64
+    → IsIdText mount.work.root → FitsIn mount.held mount.work → mount.log.root ≡ mount.work.root → ((h : History) × journal.StandsFor mount.log h)
     → mount.log.held ≡ [] → StandsFor mount (begun_at mount)
 unfolding deltas
-begun_stands name mount closed named number fits root stands nothing =
+begun_stands name mount closed named small number generation text fits root stands nothing =
     record {
       held = refl;
       fits = fits;
@@ -69,7 +75,8 @@ begun_stands name mount closed named number fits root stands nothing =
       files = refl;
       log = subst (λ id. journal.StandsFor mount.log (journal.opened mount.log.generation id mount.log.limit mount.log.head)) root
           (empty_logs_begin mount.log stands.0 stands.1 nothing);
-      is_world = (name, record { closed = closed; named = named; legal = (fits.1, tt); begins = fits.0; number = number });
+      is_world = (name, record { closed = closed; named = named; legal = (fits.files, tt); begins = fits.root; number = number });
+      spellable = record { small = small; opening = record { generation = generation; sequence = number; root = text; files = fits.texts }; changes = tt };
     }
 
 -- ---- refusals
@@ -140,6 +147,7 @@ pub record IsMade (mount : State) (world : WorldState) (change : Change) (next :
   pub stood : StandsFor mount world
   pub allowed : refusal (commits_of world) (now world) change ≡ None
   pub happens : is_event change ≡ true
+  pub text : IsChange change
   pub held : next.held ≡ mount.held
   pub fits : FitsIn next.held next.work
   pub root : next.work.root ≡ next_root (now world) change
@@ -155,6 +163,7 @@ made_stands mount world change next h =
       files = h.files ∙ sym (files-made (commits_of world) (now world) change);
       log = h.log;
       is_world = grown_world world change h.allowed h.happens h.stood.is_world;
+      spellable = spellable_grows world (event_of world change) h.stood.spellable h.text;
     })
 
 -- a mount is not changed by what makes no event

@@ -14,6 +14,7 @@ use Rattle.eden_history.specs.declared.change.ChangeFault.TheVariants.{SequenceE
 use Rattle.eden_history.specs.Worlds.{WorldState, commits_of, now}
 use Rattle.eden_history.specs.Outcome.{answer_of, refusal, world_after}
 use Rattle.eden_history.specs.Legal.{IsSomeWorld}
+use Rattle.eden_history.specs.Spellable.{IsSpellable}
 
 -- a store's objects, a working copy and what a journal holds
 pub record State : Type 0 where
@@ -26,7 +27,7 @@ abbrev pub files_of : State → FileMap
 files_of mount = means mount.held mount.work
 
 -- a mount is the present of a world: the objects, the root and the files are the world's, and the journal holds what the limit pays for
--- of what the world recorded
+-- of what the world recorded. All that the world replies has a spelling
 pub record StandsFor (mount : State) (world : WorldState) : Type 0 where
   pub held : mount.held ≡ world.held
   pub fits : FitsIn mount.held mount.work
@@ -34,6 +35,7 @@ pub record StandsFor (mount : State) (world : WorldState) : Type 0 where
   pub files : files_of mount ≡ (now world).files
   pub log : journal.StandsFor mount.log (history_of world)
   pub is_world : IsSomeWorld world
+  pub spellable : IsSpellable world
 
 -- the answer to a change is that of each world for which the mount stands
 abbrev pub Answers : State → Change → Answer → Type 0

@@ -8,7 +8,7 @@ ghost use Rattle.eden_history.specs.Worlds.{WorldState, now, opened, position_of
 ghost use Rattle.eden_history.specs.Renames.{absent_fault};
 
 use eden_history::{ChangeFault, MountFault, Position};
-use eden_ids::{Id, Kind, Naming, Path};
+use eden_ids::{Id, Kind, Naming, Path, id_law};
 use eden_journal::Journal;
 use eden_objects::{CommitFault, Store};
 use eden_workcopy::WorkCopy;
@@ -63,6 +63,7 @@ impl<N: Naming + Drop> Mount<N> {
         ensures refuses { IfErr result (λ _. commit_map (arc_value store) root ≡ None) }
     {
         store.closed_law();
+        id_law(root);
         let Ok(work) = WorkCopy::new(alloc, &store, root) else {
             let cause = CommitFault::NoCommit;
             return Err(MountFault { store, cause });

@@ -4,7 +4,7 @@ ghost use Rattle.eden_workcopy.specs.Meanings.{FitsIn};
 ghost use Rattle.eden_accumulate.specs.Mounts.{StandsFor, begun_at};
 
 use crate::mount::Mount;
-use eden_ids::{Naming, NoMemory};
+use eden_ids::{Naming, NoMemory, id_law};
 use eden_journal::Journal;
 use eden_objects::Store;
 use eden_workcopy::WorkCopy;
@@ -24,7 +24,9 @@ impl<N: Naming + Drop> Mount<N> {
     {
         // A journal stands for some history, and one that holds nothing also for the one that begins at its head.
         let _ = journal.head();
+        let _ = journal.generation();
         store.closed_law();
+        id_law(work.root());
         Mount {
             store,
             work,

@@ -2,7 +2,7 @@ ghost use Rattle.std.specs.Prelude.{◌≡◌, ◌≢◌, None, Some, true, IfOk
 ghost use Rattle.eden_objects.specs.Commits.{commit_map};
 ghost use Rattle.eden_history.specs.Worlds.{WorldState, now, position_of};
 ghost use Rattle.eden_history.specs.Marks.{marked_since};
-ghost use Rattle.eden_ranges.specs.Expanded.{are_comparable};
+ghost use Rattle.eden_ranges.specs.Expanded.{are_commits, are_comparable};
 ghost use Rattle.eden_ranges.specs.WorldRanges.{changes_since, roots_since, unclean_since};
 ghost use Rattle.eden_accumulate.specs.Mounts.{StandsFor};
 ghost use Rattle.eden_accumulate.specs.Ranges.{EndsNow, IsStatus, Tells};
@@ -29,7 +29,7 @@ impl<N: Naming + Drop> Mount<N> {
     /// A position is refused as `Stale` where its generation isn't the mount's, as `Ahead` where its number is above the present one, and
     /// as `Truncated` where the journal no longer holds what changed since; the first cause that stands is told. Its root decides nothing.
     /// `NoMemory` may stand in place of any answer where a growth was refused. Only what changed after the position is looked at.
-    #[tactic(auto, using(crate::proofs::Ranging::ends_now, crate::proofs::Ranging::is_status, crate::proofs::Ranging::tells, crate::proofs::Ranging::comparable_roots))]
+    #[tactic(auto, using(crate::proofs::Ranging::ends_now, crate::proofs::Ranging::is_status, crate::proofs::Ranging::tells, crate::proofs::Ranging::root_commits, crate::proofs::Ranging::comparable_roots))]
     pub fn range_since(&self, position: &Position) -> Result<Range, SinceFault>
         ensures accepts { IfOk result (λ _. IsStatus self.now position.now None) }
         ensures from { IfOk result (λ range. range.from ≡ position.now.sequence) }
@@ -43,6 +43,7 @@ impl<N: Naming + Drop> Mount<N> {
         // Expanded over the mount's objects, it has each path that changed since, with its mark, and no other.
         ensures tells { IfOk result (λ range. Tells self.now position.now range) }
         // Each root of it is a commit, so that over the mount's objects it can be expanded.
+        ensures commits { IfOk result (λ range. are_commits (commit_map self.now.held) range.roots ≡ true) }
         ensures comparable { IfOk result (λ range. are_comparable (commit_map self.now.held) range.roots ≡ true) }
         ensures refuses { IfErr result (λ fault. fault ≢ SinceFault.NoMemory → IsStatus self.now position.now (Some fault)) }
     {

@@ -9,7 +9,7 @@ ghost use Rattle.eden_accumulate.specs.Mounts.{Answers, Follows, IsRefusal, Refu
 use crate::mount::Mount;
 use eden_checkout::plan;
 use eden_history::{ChangeFault, Mode, Position};
-use eden_ids::{Id, Naming, Path, Sequence};
+use eden_ids::{Id, Naming, Path, Sequence, id_law};
 use eden_objects::CommitFault;
 
 /// What a checkout came to.
@@ -59,6 +59,7 @@ impl<N: Naming + Drop> Mount<N> {
         ensures refuses { IfErr result (λ fault. fault ≢ ChangeFault.NoMemory → Refuses self.old (Reset commit) fault) }
         ensures unchanged { OnErr result (self.new ≡ self.old) }
     {
+        id_law(commit);
         if let Some(fault) = self.reset_refusal(commit) {
             return Err(fault);
         }
@@ -98,6 +99,7 @@ impl<N: Naming + Drop> Mount<N> {
         ensures refuses { IfErr result (λ fault. fault ≢ ChangeFault.NoMemory → Refuses self.old (Checkout commit mode) fault) }
         ensures unchanged { OnErr result (self.new ≡ self.old) }
     {
+        id_law(commit);
         if let Some(fault) = self.checkout_refusal(commit, mode) {
             return Err(fault);
         }

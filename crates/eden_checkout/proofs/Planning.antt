@@ -3,6 +3,7 @@ use Rattle.std.proofs.Common.{◌≡◌, ℕ, Bool, true, false, ◌&&◌, ◌||
 use Rattle.std.specs.Prelude.{IsSome, filter, if◌then◌else◌}
 use Rattle.eden_ids.specs.declared.id.Id.{Id}
 use Rattle.eden_ids.specs.FileMaps.{FileMap, IsFileMap, PathSet, differ, has, listing, no_paths, path_set, union}
+use Rattle.eden_ids.specs.Texts.{AreTexts}
 use Rattle.eden_ids.proofs.FileMapLemmas.{has-none, has-union, path_set-listing, same_path_set}
 use Rattle.eden_objects.specs.Objects.{Held}
 use Rattle.eden_objects.specs.Commits.{commit_map}
@@ -10,6 +11,7 @@ use Rattle.eden_objects.specs.Files.{files_of}
 use Rattle.eden_treediff.specs.Merges.{differences}
 use Rattle.eden_history.specs.Checkouts.{checked_out, conflicts, is_conflict, is_dry, unclean}
 use Rattle.eden_history.proofs.CheckoutLaws.{checked_out_no_clash, conflict_differs, has-conflicts}
+use Rattle.eden_history.proofs.Spelled.{texts_checked_out}
 use Rattle.eden_workcopy.specs.Meanings.{FitsIn, means}
 use Rattle.eden_workcopy.specs.declared.work.WorkCopy.{WorkCopy}
 use Rattle.eden_ids.proofs.Sifted.{listing_of}
@@ -62,12 +64,13 @@ files_planned held mode work start next w r t root target w_is r_is t_is begun k
     by Dry begun kept made = ap (means held) (kept refl ∙ begun refl)
     by Force begun kept made = made (λ e. absurd (let bad : Force ≡ Dry = e in cc))
 
-pub made_fits : (held : List Held) (mode : Mode) (start next : WorkCopy) (work root target : FileMap) → IsFileMap work → FitsIn held start → means held start ≡ target
+pub made_fits : (held : List Held) (mode : Mode) (start next : WorkCopy) (work root target : FileMap) → IsFileMap work → AreTexts work → FitsIn held start → means held start ≡ target
     → next.root ≡ start.root → means held next ≡ checked_out mode work root target → FitsIn held next
-made_fits held mode start next work root target ok fits begun same files = (
-  subst (λ (id : Id). IsSome (commit_map held id)) (sym same) fits.0,
-  subst IsFileMap (sym files) (checked_out_no_clash mode work root target ok (subst IsFileMap begun fits.1)),
-)
+made_fits held mode start next work root target ok texts fits begun same files = record {
+  root = subst (λ (id : Id). IsSome (commit_map held id)) (sym same) fits.root;
+  files = subst IsFileMap (sym files) (checked_out_no_clash mode work root target ok (subst IsFileMap begun fits.files));
+  texts = subst AreTexts (sym files) (texts_checked_out mode work root target texts (subst AreTexts begun fits.texts));
+}
 
 -- a set that nothing is added to
 union_nothing : (s : PathSet) → union s no_paths ≡ s

@@ -1,5 +1,6 @@
 ghost use Rattle.std.specs.Prelude.{◌≡◌, ◌≢◌, [], Some, None, IsSome, is_some, filter, if◌then◌else◌, IfOk, IfErr};
 ghost use Rattle.eden_ids.specs.FileMaps.{IsFileMap, differ, file_at, listing, path_set, paths, union};
+ghost use Rattle.eden_ids.specs.Texts.{AreTexts};
 ghost use Rattle.eden_objects.specs.Commits.{commit_map};
 ghost use Rattle.eden_objects.specs.Files.{commit_files};
 ghost use Rattle.eden_workcopy.specs.Meanings.{FitsIn, means};
@@ -126,6 +127,7 @@ fn judge<'x, N: Naming + Drop, W: FileTree, R: FileTree, T: FileTree, D: FileTre
     differing: &[Path],
 ) -> Result<Judged, NoMemory>
     requires files { IsFileMap (W.files work.now) }
+    requires texts { AreTexts (W.files work.now) }
     requires dirty { paths (D.files dirty.now) ≡ paths (dirty_files (W.files work.now) (R.files root.now)) }
     requires changed { changed.now ≡ listing (differ (W.files work.now) (R.files root.now)) }
     requires differing { differing.now ≡ listing (differ (R.files root.now) (T.files target.now)) }

@@ -1,44 +1,52 @@
-//! Servings by an echoing server over devices that give and take little at a time.
-ghost use Rattle.std.specs.Prelude.{◌≡◌, ◌==◌, if◌then◌else◌, ℕ, List, [], ◌∷◌, ◌++◌, Ok, Err, ⊤, slice_index};
-ghost use Rattle.eden_frames.specs.declared.server.FrameFault.TheVariants.{BadTag};
+//! Answers by an echoing teller over devices that give and take little at a time.
+ghost use Rattle.eden_frames.specs.FrameAnswers.{AnswersBody, answers_story};
+ghost use Rattle.eden_devices.specs.Echoes.{echoed};
 
 use super::{Endless, Sink, Source};
-use eden_frames::{FrameFault, FrameServer, ServeFault, Served, serve_frames};
-use eden_stream::{Counted, Faults};
+use eden_frames::{FrameFault, Frames, ServeFault, tell_frames};
+use eden_stream::{Answer, Counted, Faults, Teller};
 use std::alloc::Global;
 use std::test::*;
 
 // Gives each body back with an LF behind it, and can't read one that begins
 // with `!`.
 #[derive(Drop)]
-struct EchoServer;
+struct Echo;
 
-impl FrameServer<EchoServer> for EchoServer {
-    ghost stands_for = { λ _ answers. (body : List ℕ) → answers body ≡ (if slice_index body 0 == 33 then Err BadTag else Ok (body ++ 10 ∷ [])) };
-
-    ghost becomes = { λ _ _. ⊤ };
-
-    fn answer(_server: &mut EchoServer, body: &[u8], text: &mut Vec<u8>) -> Served {
-        if matches!(body, [b'!', ..]) {
-            return Served::Fault(FrameFault::BadTag);
-        }
-        match text.extend_from_slice(body) {
-            Ok(()) => match text.push(b'\n') {
-                Ok(()) => Served::Reply,
-                Err(_) => Served::NoMemory,
-            },
-            Err(_) => Served::NoMemory,
-        }
+fn echo_body(body: &[u8], text: &mut Vec<u8>) -> Answer<FrameFault>
+    ensures { AnswersBody echoed body.now text.old.items text.new.items result }
+{
+    if matches!(body, [b'!', ..]) {
+        return Answer::Fault(FrameFault::BadTag);
     }
+    match text.extend_from_slice(body) {
+        Ok(()) => match text.push(b'\n') {
+            Ok(()) => Answer::Told,
+            Err(_) => Answer::NoMemory,
+        },
+        Err(_) => Answer::NoMemory,
+    }
+}
+
+impl Teller<Frames, (), FrameFault> for Echo {
+    ghost story = { λ _ _ _. answers_story echoed };
+
+    #[tactic(auto, using(eden_frames::proofs::Replying::answers_tell))]
+    fn tell(&self, _server: &mut (), body: &[u8], text: &mut Vec<u8>) -> Answer<FrameFault> {
+        echo_body(body, text)
+    }
+
+    ghost lawful = { λ _ _ _. record { passes = λ _ _ _ silent _. absurd silent; stops = λ _ _ told. told } };
 }
 
 // Serves what the source gives, and gives how it ended.
 fn serve(alloc: Global, source: &mut Source<'_>, sink: &mut Sink) -> Result<u64, ServeFault> {
-    serve_frames::<_, _, EchoServer, EchoServer>(
+    tell_frames(
         alloc,
         &mut Counted::new(source),
         &mut Counted::new(sink),
-        &mut EchoServer,
+        &Echo,
+        &mut (),
     )
 }
 
@@ -177,11 +185,12 @@ fn a_failed_writer_has_a_part_of_the_replies(rt: HostRuntime) -> Result<(), Fail
 fn endless_frames_spend_the_reads(rt: HostRuntime) -> Result<(), Fail> {
     let mut reader = Counted::new(Endless::new(&[0]));
     let mut sink = Sink::new(rt.alloc());
-    let outcome = serve_frames::<_, _, EchoServer, EchoServer>(
+    let outcome = tell_frames(
         rt.alloc(),
         &mut reader,
         &mut Counted::new(&mut sink),
-        &mut EchoServer,
+        &Echo,
+        &mut (),
     );
     assert_eq!(rt; outcome, Err(ServeFault::TurnsSpent));
     assert_eq!(rt; reader.calls(), 1_000_000);

@@ -13,7 +13,7 @@
 //! assert_eq!(rt; source.read(&mut place)?, 2);
 //! let mut sink = Sink::new(rt.alloc());
 //! sink.write_all(&place[..2])?;
-//! assert_eq!(rt; sink.bytes.as_slice(), b"so");
+//! assert_eq!(rt; sink.bytes.as_slice(), b"so".as_slice());
 //! ```
 #![tactic(auto)]
 

@@ -34,7 +34,7 @@ pub root_there : (mount : State) (snapshot : Snapshot) (held : List Held)
 root_there mount snapshot held place some same =
     let root : snapshot.position.root ≡ mount.work.root = ap (λ (p : Position). p.root) (place some.0 some.1) ∙ sym some.1.root in
     subst (λ (h : List Held). IsSome (commit_map h snapshot.position.root)) (sym same)
-    (subst (λ (r : Id). IsSome (commit_map mount.held r)) (sym root) some.1.fits.0)
+    (subst (λ (r : Id). IsSome (commit_map mount.held r)) (sym root) some.1.fits.root)
 
 -- what a snapshot of a mount shows over the mount's objects is what the world's files are
 pub snapshot_lists : (mount : State) (snapshot : Snapshot) (held : List Held) (patterns listed : List (List ℕ))

@@ -1,4 +1,5 @@
-//! The program `edend` as a library: a script of objects, changes and questions, run over a store and a mount.
+//! The program `edend` as a library: a script of objects, changes and questions, run over a store and a mount; and the program with its
+//! command line and its statuses, over any devices.
 //!
 //! ```rust
 //! use eden_edend::run;
@@ -10,6 +11,7 @@
 //! ```
 #![tactic(auto)]
 
+pub use crate::program::edend;
 pub use crate::script::run;
 pub use eden_stream::RunFault;
 
@@ -17,6 +19,7 @@ mod changes;
 mod labels;
 mod mounting;
 mod objects;
+mod program;
 mod questions;
 mod script;
 mod session;

@@ -18,5 +18,3 @@
 pub use crate::files::Files;
 
 mod files;
-#[cfg(test)]
-mod tests;

@@ -9,7 +9,7 @@ use Rattle.std.proofs.lemmas.List.Elements.{All-tail}
 use Rattle.std.proofs.lemmas.Nat.{be_bytes_4, from_be_bytes-to_be_bytes_4}
 use Rattle.eden_frames.specs.Frames.{IsBody, body_limit, frame, told}
 use Rattle.eden_frames.specs.FrameLaws.{HasNoFrame, IsCutOneWay, IsPrefixFree}
-use Rattle.eden_frames.specs.internal.FrameStory.{HasFrame}
+use Rattle.eden_frames.specs.internal.Fronts.{HasFrame}
 
 length_bytes : (n : ℕ) → length (to_be_bytes w32 n) ≡ 4
 length_bytes n = refl

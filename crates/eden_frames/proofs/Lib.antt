@@ -1,2 +1,3 @@
 pub mod FrameCuts
 pub mod FrameEndings
+pub mod Replying

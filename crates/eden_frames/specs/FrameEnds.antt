@@ -3,8 +3,8 @@ use Rattle.std.specs.Prelude.{◌≡◌, ℕ, ◌+◌, ◌<◌, ◌⊎◌, List,
 use Rattle.std.specs.Io.KnownBytes.{Appends, Consumes, IsAtEnd}
 use Rattle.eden_frames.specs.Frames.{IsBody, IsCut, IsPartial, IsTooLong, frame}
 use Rattle.eden_frames.specs.FrameAnswers.{HaveReplies, replies}
-use Rattle.eden_frames.specs.declared.server.FrameFault.{FrameFault}
-use Rattle.eden_frames.specs.declared.server.FrameFault.TheVariants.{CutShort, TooLarge}
+use Rattle.eden_frames.specs.declared.fault.FrameFault.{FrameFault}
+use Rattle.eden_frames.specs.declared.fault.FrameFault.TheVariants.{CutShort, TooLarge}
 use Rattle.eden_frames.specs.declared.frames.ServeFault.{ServeFault}
 use Rattle.eden_frames.specs.declared.frames.ServeFault.TheVariants.{Frame, Read, Write, TurnsSpent, NoMemory}
 

@@ -2,8 +2,8 @@
 use Rattle.std.specs.Prelude.{◌≡◌, true, ◌<◌, ◌⊎◌, length}
 use Rattle.eden_frames.specs.Frames.{IsBody, IsCut, IsPartial, IsTooLong}
 use Rattle.eden_stream.specs.Grammars.{Grammar}
-use Rattle.eden_frames.specs.declared.server.FrameFault.{FrameFault}
-use Rattle.eden_frames.specs.declared.server.FrameFault.TheVariants.{CutShort, TooLarge}
+use Rattle.eden_frames.specs.declared.fault.FrameFault.{FrameFault}
+use Rattle.eden_frames.specs.declared.fault.FrameFault.TheVariants.{CutShort, TooLarge}
 
 -- every frame asks for an answer; the faulty ones are too long, or lack their end where no more bytes come
 abbrev pub frame_grammar : Grammar FrameFault

@@ -1,3 +1,3 @@
 -- What the implementation uses alone.
 pub mod FrameLaws
-pub mod FrameStory
+pub mod Fronts

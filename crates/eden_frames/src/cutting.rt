@@ -2,7 +2,7 @@
 ghost use Rattle.std.specs.Prelude.{◌≡◌, ◌+◌, ◌≤◌, drop, length, take};
 ghost use Rattle.eden_frames.specs.Frames.{told};
 ghost use Rattle.eden_frames.specs.FrameLaws.{IsCutOneWay, IsPrefixFree};
-ghost use Rattle.eden_frames.specs.internal.FrameStory.{Begins};
+ghost use Rattle.eden_frames.specs.internal.Fronts.{Begins};
 
 /// The most bytes of a frame's body: 16 MiB.
 pub const BODY_LIMIT: usize = 16_777_216;

@@ -1,4 +1,4 @@
-//! Frames, and the serving of a stream of them: a case of the pump of `eden_stream`.
+//! Frames, and the answering of a stream of them: a case of the pump of `eden_stream`.
 //!
 //! A frame is four bytes of length, the highest first, and a body of that many bytes, at most 16,777,216.
 //!
@@ -11,9 +11,9 @@
 #![tactic(auto)]
 
 mod cutting;
+mod fault;
 mod frames;
-mod server;
 
 pub use cutting::{BODY_LIMIT, frames_law};
-pub use frames::{Frames, ServeFault, serve_frames};
-pub use server::{FrameFault, FrameServer, Served};
+pub use fault::FrameFault;
+pub use frames::{Frames, ServeFault, tell_frames};

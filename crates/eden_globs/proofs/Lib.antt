@@ -4,3 +4,4 @@ mod Rows
 mod Entering
 mod Plain
 pub mod FilterLemmas
+pub mod Alike

@@ -1,5 +1,8 @@
-ghost use Rattle.std.specs.Prelude.{◌≡◌, ◌≢◌, ◌≤◌, ◌==◌, ◌&&◌, ◌||◌, ℕ, List, [], false, true, nat_lt, length, not, None, Some, map, IfOk, IfErr};
+ghost use Rattle.std.specs.Prelude.{◌≡◌, ◌≢◌, ◌≤◌, ◌==◌, ◌&&◌, ◌||◌, ℕ, List, [], false, true, nat_lt, length, not, None, Some, map, IfOk, IfErr, nat_eq};
 ghost use Rattle.std.specs.List.{list_all, list_any};
+ghost use Rattle.std.specs.Cmp.Lexicographic.{pointwise, lists_per, lists_equiv};
+ghost use Rattle.std.specs.Cmp.Rules.{comparing};
+ghost use Rattle.std.proofs.Common.{rules};
 ghost use Rattle.eden_ids.specs.Paths.{IsPath, components, lies_below};
 ghost use Rattle.eden_globs.specs.Filters.{admits, enters, filter_fault, is_part, is_spelled, lists, pattern_admits, pattern_enters, pattern_fault};
 
@@ -251,6 +254,20 @@ impl Clone for Filter {
         let patterns = self.patterns.clone()?;
         Ok(Filter { patterns })
     }
+}
+
+impl PartialEq for Filter {
+    ghost eq = { pointwise (pointwise nat_eq) };
+
+    ghost laws = { lists_per (Prim.search (comparing, rules)) };
+
+    fn eq(&self, other: &Filter) -> bool {
+        self.patterns == other.patterns
+    }
+}
+
+impl Eq for Filter {
+    ghost laws = { lists_equiv (Prim.search (comparing, rules)) };
 }
 
 impl fmt::Debug for Filter {

@@ -42,7 +42,7 @@ next_fits commits row (Reset commit) maps e fits = fits
 next_fits commits row Flush maps e fits = fits
 next_fits commits row (Remount generation) maps e fits = fits
 
-allowed_files : (commits : Commits) (row : Row) (change : Change) → refusal commits row change ≡ None → change_fault commits row change ≡ None
+pub allowed_files : (commits : Commits) (row : Row) (change : Change) → refusal commits row change ≡ None → change_fault commits row change ≡ None
 unfolding refusal
 allowed_files commits row change e = (first-none (change_fault commits row change) _ e).0
 

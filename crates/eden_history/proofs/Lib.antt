@@ -9,3 +9,5 @@ pub mod Touched
 pub mod Ranges
 pub mod Floors
 pub mod Following
+pub mod Spelled
+pub mod Alike

@@ -5,6 +5,7 @@ pub mod DirtyFiles
 pub mod Named
 pub mod Outcome
 pub mod Legal
+pub mod Spellable
 pub mod Changes
 pub mod Status
 pub mod Marks

@@ -15,7 +15,7 @@ pub enum Mode {
 }
 
 /// What is done to a mount.
-#[derive(Clone, Debug, Drop)]
+#[derive(Clone, Debug, PartialEq, Drop)]
 pub enum Change {
     /// Sets the kind and the bytes of the file at a path, whether or not one stands there.
     Write {

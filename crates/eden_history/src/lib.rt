@@ -20,6 +20,7 @@ pub use crate::mark::{Mark, Marked};
 pub use crate::mount_fault::MountFault;
 pub use crate::position::Position;
 pub use crate::sides::Sides;
+pub use crate::text_laws::change_law;
 pub use crate::touches::Touch;
 pub use crate::tree_faults::{absent_fault, place_fault, rename_fault, write_fault};
 
@@ -32,5 +33,6 @@ mod mark;
 mod mount_fault;
 mod position;
 mod sides;
+mod text_laws;
 mod touches;
 mod tree_faults;

@@ -5,7 +5,8 @@ use eden_ids::Id;
 pub struct Position {
     /// Which life of which mount. No generation serves two.
     pub generation: u64,
-    /// How many rows the generation had by then; its first row is number 1.
+    /// The row's number in the generation: each event makes the next one. A mount opens at number 1, one that is made of parts at its
+    /// journal's head.
     pub sequence: u64,
     /// The commit that was checked out. It is shown, and decides nothing.
     pub root: Id,

@@ -7,3 +7,7 @@ mod HexTexts
 pub mod ColumnLemmas
 pub mod Sifted
 pub mod Tables
+pub mod Texts
+pub mod Members
+pub mod TextLemmas
+pub mod Alike

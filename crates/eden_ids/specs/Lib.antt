@@ -4,3 +4,4 @@ pub mod FileMaps
 pub mod Hex
 pub mod Naming
 pub mod Columns
+pub mod Texts

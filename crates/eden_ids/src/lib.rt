@@ -27,6 +27,7 @@ pub use crate::naming::{GitNaming, Naming};
 pub use crate::path::{NoPath, Path, PathFault, is_component};
 pub use crate::path_table::PathTable;
 pub use crate::sequence::Sequence;
+pub use crate::text_laws::{bytes_law, id_law, path_law};
 
 mod at_path;
 mod column;
@@ -40,3 +41,4 @@ mod naming;
 mod path;
 mod path_table;
 mod sequence;
+mod text_laws;

@@ -1,3 +1,5 @@
 pub mod Spelling
 pub mod BodyLengths
 pub mod Filters
+pub mod Replying
+pub mod Alike

@@ -24,7 +24,8 @@ use Rattle.eden_messages.specs.declared.message.Cause.{Cause}
 use Rattle.eden_messages.specs.declared.message.Cause.TheVariants as causes
 use Rattle.eden_messages.specs.declared.message.Reply.{Reply}
 use Rattle.eden_messages.specs.declared.message.Reply.TheVariants.{BasisIs, ChangesAre, ContentIs, Refused}
-use Rattle.eden_messages.specs.Spells.{query_bytes, IsQuery, position_bytes, IsPosition, text_bytes, IsPathText, filter_bytes, mark_byte, IsListing, paths_bytes, marked_bytes, list_bytes, paths_of, kind_byte, content_bytes, IsContentText, IsValue, cause_bytes, IsCause, request_bytes, IsRequest, reply_bytes, IsReply}
+use Rattle.eden_ids.specs.Texts.{IsContentText, IsPathText}
+use Rattle.eden_messages.specs.Spells.{query_bytes, IsQuery, position_bytes, IsPosition, text_bytes, filter_bytes, mark_byte, IsListing, paths_bytes, marked_bytes, list_bytes, paths_of, kind_byte, content_bytes, IsValue, cause_bytes, IsCause, request_bytes, IsRequest, reply_bytes, IsReply}
 
 -- ---- fronts of one length
 
@@ -203,7 +204,7 @@ same_all_marked (m ∷ ms) (n ∷ ns) x y is also len e =
     let b = same_all_marked ms ns x y is.1 also.1 (omega (arith, len)) a.1 in
     (marked_pair_same m n ms ns a.0 b.0, b.1)
 
-paths_len : (ms : List Marked) → length (paths_of ms) ≡ length ms
+pub paths_len : (ms : List Marked) → length (paths_of ms) ≡ length ms
 paths_len [] = refl
 paths_len (m ∷ ms) = ap suc (paths_len ms)
 

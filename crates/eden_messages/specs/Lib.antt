@@ -1,5 +1,4 @@
 pub mod Spells
 pub mod Replies
+pub mod Calls
 pub mod Mirrors
-pub mod Schedules
-pub mod Headline

@@ -1,5 +1,6 @@
 -- What a mount replies to a request.
 use Rattle.std.specs.Prelude.{ℕ, nat_lt, if◌then◌else◌, List, length, Option, Some, None, filter}
+use Rattle.eden_ids.specs.declared.id.Id.{Id}
 use Rattle.eden_ids.specs.FileMaps.{FileMap, file_at, paths}
 use Rattle.eden_globs.specs.Filters.{admits}
 use Rattle.eden_history.specs.declared.answer.SinceFault.{SinceFault}
@@ -12,10 +13,12 @@ use Rattle.eden_messages.specs.declared.message.Reply.TheVariants.{BasisIs, Chan
 use Rattle.eden_messages.specs.declared.message.Request.{Request}
 use Rattle.eden_messages.specs.declared.message.Request.TheVariants.{Basis, Poll, Fetch}
 use Rattle.eden_history.specs.Worlds.{WorldState, now, position_of}
+use Rattle.eden_history.specs.Legal.{IsWorld}
+use Rattle.eden_history.specs.Spellable.{IsSpellable}
 use Rattle.eden_history.specs.Status.{status_of}
 use Rattle.eden_history.specs.Marks.{admitted, marked_since}
 use Rattle.eden_frames.specs.Frames.{body_limit}
-use Rattle.eden_messages.specs.Spells.{reply_bytes}
+use Rattle.eden_messages.specs.Spells.{IsRequest, SpellsReply, reply_bytes}
 
 -- the cause with its number; no status is a want of memory
 abbrev pub cause_of : SinceFault → Cause
@@ -55,3 +58,8 @@ reply_of world (Basis query patterns) = basis_reply world query patterns
 reply_of world (Fetch query path) = content_reply world query path
 reply_of world (Poll query since patterns) =
     polled world query since.sequence patterns (status_of world since)
+
+-- whatever may be asked of a spellable world, the reply has a spelling
+abbrev pub RepliesAreSpelled : Type 0
+RepliesAreSpelled = (name : List ℕ → List ℕ → Id) (world : WorldState) (request : Request) → IsWorld name world → IsSpellable world → IsRequest request
+    → SpellsReply (reply_bytes (reply_of world request)) (reply_of world request)

@@ -9,7 +9,7 @@ use Rattle.std.specs.declared.cmp.Ordering.TheVariants.{Less}
 use Rattle.eden_ids.specs.declared.content.Content.{Content}
 use Rattle.eden_ids.specs.declared.content.Kind.{Kind}
 use Rattle.eden_ids.specs.declared.content.Kind.TheVariants.{Plain, Exec, Link}
-use Rattle.eden_ids.specs.Paths.{IsPath}
+use Rattle.eden_ids.specs.Texts.{AreBytes, IsContentText, IsPathText}
 use Rattle.eden_globs.specs.Filters.{IsFilter}
 use Rattle.eden_frames.specs.Frames.{body_limit}
 use Rattle.eden_history.specs.declared.mark.Mark.{Mark}
@@ -25,9 +25,6 @@ use Rattle.eden_messages.specs.declared.message.Reply.{Reply}
 use Rattle.eden_messages.specs.declared.message.Reply.TheVariants.{BasisIs, ChangesAre, ContentIs, Refused}
 
 -- ---- fields
-
-abbrev pub AreBytes : List ℕ → Type 0
-AreBytes bytes = AllByRecursion (λ b. b < 256) bytes
 
 abbrev pub query_bytes : Query → List ℕ
 query_bytes q = to_be_bytes w64 q.mirror ++ to_be_bytes w64 q.life ++ to_be_bytes w64 q.number
@@ -50,10 +47,6 @@ pub record IsPosition (p : Position) : Type 0 where
 -- two bytes of length, and that many bytes: a path, or a pattern
 abbrev pub text_bytes : List ℕ → List ℕ
 text_bytes text = to_be_bytes w16 (length text) ++ text
-
-pub record IsPathText (text : List ℕ) : Type 0 where
-  pub path : IsPath text
-  pub bytes : AreBytes text
 
 -- a byte of count, and each pattern
 abbrev pub filter_bytes : List (List ℕ) → List ℕ
@@ -110,11 +103,6 @@ kind_byte Link = 3
 abbrev pub content_bytes : Option Content → List ℕ
 content_bytes None = 0 ∷ []
 content_bytes (Some content) = kind_byte content.kind ∷ to_be_bytes w32 (length content.bytes) ++ content.bytes
-
--- a file has 8 MiB at the most
-pub record IsContentText (content : Content) : Type 0 where
-  pub few : length content.bytes ≤ 8388608
-  pub bytes : AreBytes content.bytes
 
 abbrev pub IsValue : Option Content → Type 0
 IsValue None = Unit {0}

@@ -1,4 +1,5 @@
 ghost use Rattle.std.specs.Prelude.{◌≡◌, IfOk};
+ghost use Rattle.eden_messages.specs.Mirrors.{query_of};
 
 use eden_globs::Filter;
 use eden_history::{Marked, Position};
@@ -16,7 +17,7 @@ pub struct Query {
 }
 
 /// What a client asks of a mount.
-#[derive(Clone, Debug, Drop)]
+#[derive(Clone, Debug, PartialEq, Eq, Drop)]
 pub enum Request {
     /// Which paths hold a file.
     Basis {
@@ -44,6 +45,17 @@ pub enum Request {
 }
 
 impl Request {
+    /// Which question it is. This takes no memory.
+    pub fn query(&self) -> Query
+        ensures { result ≡ query_of self.now }
+    {
+        match self {
+            Request::Basis { query, .. } => *query,
+            Request::Poll { query, .. } => *query,
+            Request::Fetch { query, .. } => *query,
+        }
+    }
+
     /// A request that is equal to this one. `NoMemory` comes where a growth was refused.
     pub fn copy(&self) -> Result<Request, NoMemory>
         ensures { IfOk result (λ request. request ≡ self.now) }

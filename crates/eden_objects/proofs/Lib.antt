@@ -7,6 +7,7 @@ pub mod Clashes
 pub mod Maps
 pub mod Blobs
 pub mod CommitLaws
+pub mod CommitTexts
 pub mod Naming
 pub mod FilesOf
 pub mod Grown

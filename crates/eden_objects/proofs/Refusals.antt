@@ -1,5 +1,6 @@
 -- Refusals of a put call, and what is known where none stands.
-use Rattle.std.proofs.Common.{◌≡◌, ◌≢◌, ◌∙◌, sym, refl, ap, ℕ, Bool, true, false, not, List, length, Option, Some, None, Err, nat_lt}
+use Rattle.std.proofs.Common.{◌≡◌, ◌≢◌, ◌≤◌, ◌∙◌, sym, refl, ap, ℕ, Bool, true, false, not, List, length, Option, Some, None, Err, nat_lt}
+use Rattle.std.proofs.lemmas.Bool.{ltb-false}
 use Rattle.eden_ids.specs.declared.id.Id.{Id}
 use Rattle.eden_objects.specs.declared.fault.PutFault.{PutFault}
 use Rattle.eden_objects.specs.declared.fault.PutFault.TheVariants.{TooLarge, IdTaken, ZeroId, BadMode, BadName, OutOfOrder, Duplicate, MissingChild, WrongChildKind, TooDeep, PathTooLong, CutShort, BadCommit, NoMemory}
@@ -93,6 +94,13 @@ pub commit_sound : (payload : List ℕ) (held : List Held) → commit_fault payl
 commit_sound payload held h =
     named_held held (tree_named payload)
     (if_so_first (nat_lt (length payload) 46) CutShort _ (if_so_first (nat_lt 8388608 (length payload)) TooLarge _ h))
+
+-- a payload that isn't refused is within the limit
+pub few_bytes : (payload : List ℕ) (more : Option PutFault) → first_fault (if_so (nat_lt 8388608 (length payload)) TooLarge) more ≡ None → length payload ≤ 8388608
+few_bytes payload more h = ltb-false 8388608 (length payload) (by (nat_lt 8388608 (length payload)) h) where
+  by : (t : Bool) → first_fault (if_so t TooLarge) more ≡ None → t ≡ false
+  by true h = cc h
+  by false h = refl
 
 -- an entry that may follow names an object of its kind
 pub entry_held : (held : List Held) (earlier : List Entry) (e : Entry) → None ≡ entry_fault held earlier e

@@ -18,6 +18,7 @@ use Rattle.eden_objects.specs.Counts.{capped}
 use Rattle.eden_git.specs.Trees.{Entry, entries_of}
 use Rattle.eden_objects.specs.Trees.{tree_fold, entries_depth, entries_reach}
 use Rattle.eden_objects.specs.Closed.{IsClosed, IsSound, IsTree, AllNamed}
+use Rattle.eden_objects.specs.Small.{AreSmall, IsSmall}
 use Rattle.eden_objects.proofs.CommitLaws.{same_word-is}
 use Rattle.eden_objects.specs.Contents.{held_of, option_held, helds, IsOutlined, Measures, AreMeasured, TellsOutline, TellsTree}
 
@@ -154,17 +155,17 @@ absent_in entries id closed absent = none_held id (lookup (same_id id) entries) 
 -- what every store keeps, it keeps with a sound object more
 
 abbrev pub IsKept : (List ℕ → List ℕ → Id) → List (Id × Object) → Type 0
-IsKept name table = IsClosed (helds table) × AllNamed name (helds table) × AreMeasured table
+IsKept name table = IsClosed (helds table) × AllNamed name (helds table) × AreMeasured table × AreSmall (helds table)
 
 pub kept : (name : List ℕ → List ℕ → Id) (entries more : List (Id × Object)) (held : List Held) (id : Id) (object : Object)
     → helds (reverse entries) ≡ held → more ≡ entries ++ (id, object) ∷ [] → IsKept name (reverse entries)
     → find id held ≡ None → IsSound object.word object.payload.items held
-    → name (word_text object.word) object.payload.items ≡ id → Measures held object
+    → name (word_text object.word) object.payload.items ≡ id → Measures held object → IsSmall (held_of id object)
     → IsKept name (reverse more)
-kept name entries more held id object view is old fresh sound called measured =
+kept name entries more held id object view is old fresh sound called measured small =
     rw (is, reverse-append entries ((id, object) ∷ []))
     (by held view fresh sound measured) where
       by : (held : List Held) → helds (reverse entries) ≡ held → find id held ≡ None → IsSound object.word object.payload.items held
           → Measures held object → IsKept name ((id, object) ∷ reverse entries)
       by held view fresh sound measured =
-          ((ap (find id) view ∙ fresh, rw view sound, old.0), (called, old.1), (rw view measured, old.2))
+          ((ap (find id) view ∙ fresh, rw view sound, old.0), (called, old.1), (rw view measured, old.2), (small, old.3))

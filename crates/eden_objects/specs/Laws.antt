@@ -8,6 +8,7 @@ use Rattle.eden_ids.specs.declared.id.Id.{Id}
 use Rattle.eden_ids.specs.declared.content.Kind.{Kind}
 use Rattle.eden_ids.specs.FileMaps.{FileMap, file_at, paths, IsFileMap}
 use Rattle.eden_ids.specs.Paths.{path_fault}
+use Rattle.eden_ids.specs.Texts.{AreTexts}
 use Rattle.eden_git.specs.declared.word.Word.TheVariants.{Blob, Tree}
 use Rattle.eden_objects.specs.Objects.{Held, find}
 use Rattle.eden_git.specs.Trees.{Entry, cut, entries_of, is_name}
@@ -15,6 +16,7 @@ use Rattle.eden_objects.specs.Commits.{Row, tree_rows, entries_rows, find_row, c
 use Rattle.eden_git.specs.Directories.{file_named, dir_named}
 use Rattle.eden_objects.specs.Walks.{then_find, content_found}
 use Rattle.eden_objects.specs.Closed.{AllNamed, IsHeld, HasTree, IsClosed, NamesDiffer}
+use Rattle.eden_objects.specs.Small.{AreSmall}
 
 -- the files of a tree are those of its entries
 abbrev pub TreesUnfold : Type 0
@@ -68,6 +70,10 @@ CommitsListTheirRows = (held : List Held) → IsClosed held → (commit : Id) (r
 abbrev pub RowsAreFiles : Type 0
 RowsAreFiles = (held : List Held) (commit : Id) (rows : List Row) (files : FileMap) → commit_rows held commit ≡ Some rows → commit_map held commit ≡ Some files
     → (path : List ℕ) → file_at files path ≡ content_found held (find_row path rows)
+
+-- where each payload is within its limit, so is what a commit holds
+abbrev pub CommitsHoldTexts : Type 0
+CommitsHoldTexts = (held : List Held) → IsClosed held → AreSmall held → (commit : Id) (files : FileMap) → commit_map held commit ≡ Some files → AreTexts files
 
 -- Where a naming gave each id, two objects of one kind with one payload are one.
 

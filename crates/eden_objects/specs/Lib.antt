@@ -3,6 +3,7 @@ pub mod Trees
 pub mod Commits
 pub mod Puts
 pub mod Closed
+pub mod Small
 pub mod Laws
 pub mod Walks
 pub mod Contents

@@ -2,7 +2,7 @@
 
 ghost use Rattle.std.specs.Prelude.{◌≡◌, ℕ, List, Some};
 ghost use Rattle.eden_ids.specs.declared.id.Id.{Id};
-ghost use Rattle.eden_objects.specs.Laws.{TreesUnfold, NamesFound, DirectoriesFound, PathsRise, PathsAreLegal, RowsRise, RowsAreLegal, RowsNameBlobs, CommitsAreFileMaps, CommitsListTheirRows, RowsAreFiles, EqualObjectsAreOne, EqualFilesHaveOneBlob, TreesStay, CommitRowsStay, CommitMapsStay};
+ghost use Rattle.eden_objects.specs.Laws.{TreesUnfold, NamesFound, DirectoriesFound, PathsRise, PathsAreLegal, RowsRise, RowsAreLegal, RowsNameBlobs, CommitsAreFileMaps, CommitsHoldTexts, CommitsListTheirRows, RowsAreFiles, EqualObjectsAreOne, EqualFilesHaveOneBlob, TreesStay, CommitRowsStay, CommitMapsStay};
 
 /// The files of a tree, in any store that is closed, as `Store::closed_law` says that each is.
 #[tactic(auto, using(crate::proofs::Closed::rows_of_tree, crate::proofs::Lookup::look_file, crate::proofs::Lookup::look_dir, crate::proofs::Rising::rising_law, crate::proofs::Fitting::fitting_law))]
@@ -34,6 +34,8 @@ pub fn commit_map_law()
     ensures paths { CommitsListTheirRows }
     // and at each path what is looked up there: the kind, and the payload of the blob.
     ensures files { RowsAreFiles }
+    // Its paths and files are ones that bytes can say, where no payload is above the limit.
+    ensures texts { CommitsHoldTexts }
 {}
 
 /// Two objects of a store that are of one kind and have one payload are one object.

@@ -1,9 +1,10 @@
-ghost use Rattle.std.specs.Prelude.{◌≡◌, ◌∷◌, [], None, Some, OnOk, OnErr, option_copied};
+ghost use Rattle.std.specs.Prelude.{◌≡◌, ◌≤◌, ◌∷◌, [], None, Some, OnOk, OnErr, length, option_copied};
 ghost use Rattle.eden_objects.specs.Objects.{find};
 ghost use Rattle.eden_git.specs.Words.{same_word, word_text};
 ghost use Rattle.eden_ids.specs.Sameness.{same_bytes};
 ghost use Rattle.eden_objects.specs.Puts.{PutGives, TreeGives, put_outcome, blob_outcome, commit_outcome, named, tree_outcome};
 ghost use Rattle.eden_objects.specs.Closed.{IsClosed, IsSound, AllNamed};
+ghost use Rattle.eden_objects.specs.Small.{AreSmall, IsSmall};
 ghost use Rattle.eden_objects.specs.Contents.{held_of, option_held, IsOutlined, Measures, TellsOutline, is_object, standing_answer};
 
 use crate::fault::PutFault;
@@ -60,6 +61,7 @@ impl<N: Naming + Drop> Model for Store<N> {
     ghost use Rattle.std.specs.Prelude.{List, reverse};
     ghost use Rattle.eden_objects.specs.Objects.{Held};
     ghost use Rattle.eden_objects.specs.Closed.{IsClosed, AllNamed};
+    ghost use Rattle.eden_objects.specs.Small.{AreSmall};
     ghost use Rattle.eden_objects.specs.Contents.{helds, AreMeasured};
 
     ghost Value = { List Held };
@@ -68,7 +70,8 @@ impl<N: Naming + Drop> Model for Store<N> {
 
     ghost invariant = { λ s. IsClosed (helds (reverse s.objects.entries))
         × AllNamed N.id (helds (reverse s.objects.entries))
-        × AreMeasured (reverse s.objects.entries) };
+        × AreMeasured (reverse s.objects.entries)
+        × AreSmall (helds (reverse s.objects.entries)) };
 }
 
 impl<N: Naming + Drop> Store<N> {
@@ -142,10 +145,12 @@ impl<N: Naming + Drop> Store<N> {
         self.objects.get(&id)
     }
 
-    /// What holds of every store: an object has one id and names earlier ones of the right kinds, and its id is the naming's.
+    /// What holds of every store: an object has one id and names earlier ones of the right kinds, its id is the naming's, and its payload
+    /// has 8 MiB at the most.
     pub fn closed_law(&self)
         ensures closed { IsClosed self.now }
         ensures named { AllNamed N.id self.now }
+        ensures small { AreSmall self.now }
     {
         let _ = &self.objects;
     }
@@ -160,6 +165,7 @@ impl<N: Naming + Drop> Store<N> {
         requires sound { IsSound object.word object.payload.items self.old }
         requires named { N.id (word_text object.word) object.payload.items ≡ id }
         requires measured { Measures self.old object }
+        requires small { IsSmall (held_of id object) }
         ensures ok { OnOk result (self.new ≡ held_of id object ∷ self.old) }
         ensures err { OnErr result (self.new ≡ self.old) }
     {
@@ -178,6 +184,7 @@ impl<N: Naming + Drop> Store<N> {
     ) -> Result<Id, PutFault>
         requires sound { IsSound word payload.now self.old }
         requires measured { IsOutlined self.old word payload.now outline }
+        requires small { length payload.now ≤ 8388608 }
         ensures { PutGives result self.old self.new (put_outcome (named N.id word payload.now) self.old) }
     {
         let id = self.naming.id_of(word.text(), payload);

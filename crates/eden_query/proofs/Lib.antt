@@ -1,7 +1,3 @@
-mod Loops
-mod Numbers
-mod FieldLaws
-mod BodyLaws
-mod Lists
 mod ReplyFits
 mod Telling
+mod Asking

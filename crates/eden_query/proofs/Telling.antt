@@ -1,11 +1,13 @@
 -- What a mount tells of its past is what the worlds reply for which it stands.
-use Rattle.std.proofs.Common.{◌≡◌, ℕ, true, List, Option, Some, None, sym, ap, subst, ◌∙◌}
+use Rattle.std.proofs.Common.{◌≡◌, ℕ, true, List, Option, Some, None, refl, sym, ap, subst, ◌∙◌}
 use Rattle.std.specs.Prelude.{IsSome, Ok, Err}
 use Rattle.eden_ids.specs.declared.id.Id.{Id}
 use Rattle.eden_objects.specs.Commits.{commit_map}
 use Rattle.eden_ids.specs.declared.content.Content.{Content}
 use Rattle.eden_ids.specs.FileMaps.{file_at}
 use Rattle.eden_ranges.specs.declared.ranges.Range.{Range}
+use Rattle.eden_ranges.specs.Expanded.{are_commits}
+use Rattle.eden_ranges.proofs.Columns.{commits_are_comparable}
 use Rattle.eden_accumulate.specs.Mounts.{State, StandsFor, files_of}
 use Rattle.eden_accumulate.specs.Snapshots.{shown_to}
 use Rattle.eden_accumulate.specs.declared.snapshot.Snapshot.{Snapshot}
@@ -16,12 +18,13 @@ use Rattle.eden_messages.specs.declared.message.Query.{Query}
 use Rattle.eden_messages.specs.declared.message.Reply.TheVariants.{BasisIs, ChangesAre, ContentIs, Refused}
 use Rattle.eden_messages.specs.declared.message.Request.TheVariants.{Basis, Poll, Fetch}
 use Rattle.eden_history.specs.declared.position.Position.{Position}
-use Rattle.eden_history.specs.Worlds.{WorldState, now, position_of}
+use Rattle.eden_history.specs.Worlds.{Commits, WorldState, now, position_of}
 use Rattle.eden_history.specs.Status.{status_of}
 use Rattle.eden_history.specs.Marks.{admitted}
 use Rattle.eden_messages.specs.Replies.{admitted_paths, bounded, cause_of, polled, reply_of}
+use Rattle.eden_query.specs.declared.raw.Raw.{Raw}
 use Rattle.eden_query.specs.declared.raw.Raw.TheVariants as raw
-use Rattle.eden_query.specs.Raws.{is_answerable, told}
+use Rattle.eden_query.specs.Raws.{NamesCommits, is_answerable, told}
 use Rattle.eden_query.specs.Settled.{settled, settled_by, settled_of}
 
 pub ranged_tells : (mount : State) (query : Query) (since : Position) (patterns : List (List ℕ)) (range : Range)
@@ -52,14 +55,35 @@ held_tells mount query patterns position path content place same world h =
     let value : content ≡ file_at (now world).files path = same ∙ ap (λ f. file_at f path) h.files in
     λ i. bounded query (ContentIs query (place world h i) path (value i))
 
--- a mount's root is a commit of its objects, so what it holds for a basis can be listed over them
-pub based_answerable : (mount : State) (query : Query) (snapshot : Snapshot)
+-- ---- the commits that it names
+
+-- a mount's root is a commit of its objects
+present_there : (mount : State) (position : Position) → ((world : WorldState) → StandsFor mount world → position ≡ position_of (now world))
+    → (world : WorldState) × StandsFor mount world → IsSome (commit_map mount.held position.root)
+present_there mount position place some =
+    let root : position.root ≡ mount.work.root = ap (λ (p : Position). p.root) (place some.0 some.1) ∙ sym some.1.root in
+    subst (λ (r : Id). IsSome (commit_map mount.held r)) (sym root) some.1.fits.root
+
+pub ranged_commits : (mount : State) (query : Query) (range : Range) → are_commits (commit_map mount.held) range.roots ≡ true → EndsNow mount range
+    → (world : WorldState) × StandsFor mount world → NamesCommits (commit_map mount.held) (raw.Ranged query range)
+ranged_commits mount query range roots ends some = (roots, present_there mount range.to ends some)
+
+pub based_commits : (mount : State) (query : Query) (snapshot : Snapshot)
     → ((world : WorldState) → StandsFor mount world → snapshot.position ≡ position_of (now world))
-    → (world : WorldState) × StandsFor mount world
-    → is_answerable (commit_map mount.held) (raw.Based query snapshot) ≡ true
-based_answerable mount query snapshot place some =
-    let root : snapshot.position.root ≡ mount.work.root = ap (λ (p : Position). p.root) (place some.0 some.1) ∙ sym some.1.root in
-    subst (λ (r : Id). IsSome (commit_map mount.held r)) (sym root) some.1.fits.0
+    → (world : WorldState) × StandsFor mount world → NamesCommits (commit_map mount.held) (raw.Based query snapshot)
+based_commits mount query snapshot place some = present_there mount snapshot.position place some
+
+pub held_commits : (mount : State) (query : Query) (position : Position) (path : List ℕ) (content : Option Content)
+    → ((world : WorldState) → StandsFor mount world → position ≡ position_of (now world))
+    → (world : WorldState) × StandsFor mount world → NamesCommits (commit_map mount.held) (raw.Held query position path content)
+held_commits mount query position path content place some = present_there mount position place some
+
+-- what names commits alone can be answered
+pub named_answerable : (commits : Commits) (raw : Raw) → NamesCommits commits raw → is_answerable commits raw ≡ true
+named_answerable commits (raw.Ranged query range) names = commits_are_comparable commits range.roots names.0
+named_answerable commits (raw.Based query snapshot) names = names
+named_answerable commits (raw.Held query position path content) names = refl
+named_answerable commits (raw.Refused query cause) names = refl
 
 -- ---- where it is answered
 

@@ -1,10 +1,10 @@
 -- What a world answers to the body of a frame.
 use Rattle.std.specs.Prelude.{ℕ, List, Result, Ok, Err}
-use Rattle.eden_query.specs.declared.fault.DecodeFault.{DecodeFault}
-use Rattle.eden_query.specs.declared.fault.DecodeFault.TheVariants as decode
-use Rattle.eden_query.specs.Reading.{read_request}
-use Rattle.eden_frames.specs.declared.server.FrameFault.{FrameFault}
-use Rattle.eden_frames.specs.declared.server.FrameFault.TheVariants as frame
+use Rattle.eden_wire.specs.declared.fault.DecodeFault.{DecodeFault}
+use Rattle.eden_wire.specs.declared.fault.DecodeFault.TheVariants as decode
+use Rattle.eden_wire.specs.Reading.{read_request}
+use Rattle.eden_frames.specs.declared.fault.FrameFault.{FrameFault}
+use Rattle.eden_frames.specs.declared.fault.FrameFault.TheVariants as frame
 use Rattle.eden_messages.specs.declared.message.Request.{Request}
 use Rattle.eden_history.specs.Worlds.{WorldState}
 use Rattle.eden_messages.specs.Replies.{reply_of}

@@ -1,7 +1,7 @@
 -- What is replied, from what a mount told when it was asked.
-use Rattle.std.specs.Prelude.{Bool, true, is_some, List, [], ℕ}
+use Rattle.std.specs.Prelude.{◌≡◌, Bool, true, is_some, IsSome, List, [], ℕ}
 use Rattle.eden_objects.specs.Objects.{Held}
-use Rattle.eden_ranges.specs.Expanded.{are_comparable, expanded}
+use Rattle.eden_ranges.specs.Expanded.{are_commits, are_comparable, expanded}
 use Rattle.eden_messages.specs.declared.message.Reply.{Reply}
 use Rattle.eden_messages.specs.declared.message.Reply.TheVariants.{BasisIs, ChangesAre, ContentIs, Refused}
 use Rattle.eden_messages.specs.declared.message.Request.{Request}
@@ -28,6 +28,13 @@ is_answerable commits (raw.Ranged query range) = are_comparable commits range.ro
 is_answerable commits (raw.Based query snapshot) = is_some (commits snapshot.position.root)
 is_answerable commits (raw.Held query position path content) = true
 is_answerable commits (raw.Refused query cause) = true
+
+-- whether each commit that it names is there: the roots that a range passes and the one at its end, and that of a snapshot or of a file
+abbrev pub NamesCommits : Commits → Raw → Type 0
+NamesCommits commits (raw.Ranged query range) = (are_commits commits range.roots ≡ true) × IsSome (commits range.to.root)
+NamesCommits commits (raw.Based query snapshot) = IsSome (commits snapshot.position.root)
+NamesCommits commits (raw.Held query position path content) = IsSome (commits position.root)
+NamesCommits commits (raw.Refused query cause) = Unit {0}
 
 -- the patterns of a request's filter; one that has no filter has no pattern either
 abbrev pub patterns_of : Request → List (List ℕ)

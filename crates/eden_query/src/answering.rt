@@ -1,16 +1,16 @@
 //! What is left to do once a mount was asked.
 
-ghost use Rattle.std.specs.Prelude.{◌≡◌, ◌≢◌, ◌≤◌, length, true, false, is_some, IfOk, IfErr, OnOk};
+ghost use Rattle.std.specs.Prelude.{◌≡◌, ◌≢◌, ◌≤◌, [], length, true, false, is_some, IfOk, IfErr, OnOk};
 ghost use Rattle.eden_objects.specs.Commits.{commit_map};
 ghost use Rattle.eden_accumulate.specs.Snapshots.{shown_to};
 ghost use Rattle.eden_messages.specs.Spells.{reply_bytes};
-ghost use Rattle.eden_query.specs.Raws.{is_answerable, told};
+ghost use Rattle.eden_query.specs.Raws.{is_answerable, patterns_of, told};
 
 use crate::raw::Raw;
 use eden_accumulate::Snapshot;
 use eden_globs::Filter;
 use eden_ids::{Content, Naming, NoMemory, Path, Sequence};
-use eden_messages::Reply;
+use eden_messages::{Reply, Request};
 use eden_objects::{CommitFault, Store};
 use eden_ranges::expand_admitted;
 use std::alloc::Global;
@@ -78,5 +78,41 @@ pub fn answer<N: Naming + Drop>(
             query: *query,
             cause: *cause,
         }),
+    }
+}
+
+/// The request's filter, or the other one where it has none.
+fn filter_of<'a>(request: &'a Request, everything: &'a Filter) -> &'a Filter
+    requires { everything.now ≡ [] }
+    ensures { result.now ≡ patterns_of request.now }
+{
+    match request {
+        Request::Basis { filter, .. } => filter,
+        Request::Poll { filter, .. } => filter,
+        Request::Fetch { .. } => everything,
+    }
+}
+
+/// The reply to a request for which a server held this, over the objects that the server had then or has since. The server isn't needed any
+/// more.
+///
+/// `NoMemory` comes where a growth was refused.
+pub fn answer_request<N: Naming + Drop>(
+    alloc: Global,
+    raw: &Raw,
+    store: &Store<N>,
+    request: &Request,
+) -> Result<Reply, NoMemory>
+    requires { is_answerable (commit_map store.now) raw.now ≡ true }
+    ensures reply { IfOk result (λ reply. reply ≡ told store.now (patterns_of request.now) raw.now) }
+    ensures fits { IfOk result (λ reply. length (reply_bytes reply) ≤ 16777216) }
+{
+    let everything = Filter::all(alloc);
+    let filter = filter_of(request, &everything);
+    match answer(alloc, raw, store, filter) {
+        Ok(reply) => Ok(reply),
+        // The commits are there that it takes.
+        Err(CommitFault::NoCommit) => unreachable!(),
+        Err(CommitFault::NoMemory) => Err(NoMemory),
     }
 }

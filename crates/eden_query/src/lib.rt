@@ -1,5 +1,6 @@
-//! The bytes of requests and replies, and a service over them: each message has one spelling, each body that spells one is
-//! read, and a world is served over any reader and writer.
+//! What a mount replies to requests, and a service of them: whatever stands for a mount's present is served over any reader and writer.
+//!
+//! The bytes of messages are eden_wire's, whose calls are handed on from here.
 //!
 //! ```rust
 //! use eden_accumulate::Mount;
@@ -21,22 +22,17 @@
 //! ```
 #![tactic(auto)]
 
-pub use crate::answering::answer;
-pub use crate::decoding::{decode_reply, decode_request};
-pub use crate::encoding::{encode_reply, encode_request};
-pub use crate::fault::{DecodeFault, EncodeFault};
-pub use crate::laws::{reply_law, request_law};
+pub use crate::answering::{answer, answer_request};
 pub use crate::raw::Raw;
 pub use crate::served::Served;
-pub use crate::serving::{reply_to, serve};
-pub use eden_frames::{BODY_LIMIT, FrameFault, ServeFault};
+pub use crate::serving::{fault_of_frame, reply_to, serve};
+pub use eden_frames::{BODY_LIMIT, FrameFault, ServeFault, tell_frames};
+pub use eden_wire::{
+    DecodeFault, EncodeFault, decode_reply, decode_request, encode_reply, encode_request,
+    reply_law, request_law,
+};
 
 mod answering;
-mod decoding;
-mod encoding;
-mod fault;
-mod fields;
-mod laws;
 mod mounting;
 mod raw;
 mod served;

@@ -1,13 +1,13 @@
 //! A mount answers requests.
 
-ghost use Rattle.std.specs.Prelude.{◌≡◌, ℕ, List, None, IfOk, true};
+ghost use Rattle.std.specs.Prelude.{◌≡◌, ℕ, List, None, IfOk};
 ghost use Rattle.eden_ids.specs.FileMaps.{file_at};
 ghost use Rattle.eden_objects.specs.Commits.{commit_map};
 ghost use Rattle.eden_accumulate.specs.Mounts.{StandsFor, files_of};
 ghost use Rattle.eden_history.specs.Worlds.{WorldState, now, position_of};
 ghost use Rattle.eden_history.specs.Status.{status_of};
 ghost use Rattle.eden_messages.specs.Replies.{reply_of};
-ghost use Rattle.eden_query.specs.Raws.{is_answerable, patterns_of, told};
+ghost use Rattle.eden_query.specs.Raws.{NamesCommits, patterns_of, told};
 ghost use Rattle.eden_query.specs.Settled.{settled, settled_by, settled_of};
 
 use crate::raw::Raw;
@@ -20,12 +20,12 @@ use eden_objects::Store;
 use std::sync::Arc;
 
 /// Which files are held, as a basis asks for them.
-#[tactic(auto, using(crate::proofs::Telling::based_tells, crate::proofs::Telling::based_answerable, crate::proofs::Telling::based_settled))]
+#[tactic(auto, using(crate::proofs::Telling::based_tells, crate::proofs::Telling::based_commits, crate::proofs::Telling::based_settled))]
 fn based<N: Naming + Drop>(mount: &Mount<N>, query: Query) -> Result<Raw, NoMemory>
     ensures replies { IfOk result (λ raw. (world : WorldState) → StandsFor mount.now world → (patterns : List (List ℕ))
         → told mount.now.held patterns raw ≡ reply_of world (Request.Basis query patterns)) }
     ensures settled { IfOk result (λ raw. (world : WorldState) → StandsFor mount.now world → settled raw ≡ Ok (position_of (now world))) }
-    ensures answerable { IfOk result (λ raw. is_answerable (commit_map mount.now.held) raw ≡ true) }
+    ensures commits { IfOk result (λ raw. NamesCommits (commit_map mount.now.held) raw) }
 {
     mount.stands_law();
     let snapshot = mount.snapshot()?;
@@ -33,7 +33,7 @@ fn based<N: Naming + Drop>(mount: &Mount<N>, query: Query) -> Result<Raw, NoMemo
 }
 
 /// What changed since a position, as it is asked for.
-#[tactic(auto, using(crate::proofs::Telling::ranged_tells, crate::proofs::Telling::refused_tells, crate::proofs::Telling::ranged_settled, crate::proofs::Telling::refused_settled))]
+#[tactic(auto, using(crate::proofs::Telling::ranged_tells, crate::proofs::Telling::refused_tells, crate::proofs::Telling::ranged_commits, crate::proofs::Telling::ranged_settled, crate::proofs::Telling::refused_settled))]
 fn ranged<N: Naming + Drop>(
     mount: &Mount<N>,
     query: Query,
@@ -43,8 +43,9 @@ fn ranged<N: Naming + Drop>(
         → told mount.now.held patterns raw ≡ reply_of world (Request.Poll query since.now patterns)) }
     ensures settled { IfOk result (λ raw. (world : WorldState) → StandsFor mount.now world
         → settled raw ≡ settled_by (position_of (now world)) (status_of world since.now)) }
-    ensures answerable { IfOk result (λ raw. is_answerable (commit_map mount.now.held) raw ≡ true) }
+    ensures commits { IfOk result (λ raw. NamesCommits (commit_map mount.now.held) raw) }
 {
+    mount.stands_law();
     match mount.range_since(since) {
         Ok(range) => Ok(Raw::Ranged(query, range)),
         Err(fault) => Ok(Raw::Refused(query, Cause::of(fault)?)),
@@ -65,17 +66,18 @@ fn content_at<N: Naming + Drop>(mount: &Mount<N>, path: &Path) -> Result<Option<
 }
 
 /// What a request asks for.
-#[tactic(auto, using(crate::proofs::Telling::held_tells, crate::proofs::Telling::held_settled))]
+#[tactic(auto, using(crate::proofs::Telling::held_tells, crate::proofs::Telling::held_commits, crate::proofs::Telling::held_settled))]
 fn raw_of<N: Naming + Drop>(mount: &Mount<N>, request: &Request) -> Result<Raw, NoMemory>
     ensures replies { IfOk result (λ raw. (world : WorldState) → StandsFor mount.now world
         → told mount.now.held (patterns_of request.now) raw ≡ reply_of world request.now) }
     ensures settled { IfOk result (λ raw. (world : WorldState) → StandsFor mount.now world → settled raw ≡ settled_of world request.now) }
-    ensures answerable { IfOk result (λ raw. is_answerable (commit_map mount.now.held) raw ≡ true) }
+    ensures commits { IfOk result (λ raw. NamesCommits (commit_map mount.now.held) raw) }
 {
     match request {
         Request::Basis { query, .. } => based(mount, *query),
         Request::Poll { query, since, .. } => ranged(mount, *query, since),
         Request::Fetch { query, path } => {
+            mount.stands_law();
             let content = content_at(mount, path)?;
             Ok(Raw::Held(*query, mount.position(), path.copy()?, content))
         }
@@ -104,6 +106,7 @@ impl<N: Naming + Drop> Served<N> for Mount<N> {
         None
     }
 
+    #[tactic(auto, using(crate::proofs::Telling::named_answerable))]
     fn hold(&mut self, _caller: u64, request: &Request) -> Result<Raw, NoMemory> {
         self.stands_law();
         raw_of(self, request)

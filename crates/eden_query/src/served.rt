@@ -11,7 +11,7 @@ ghost use Rattle.eden_history.specs.Worlds.{WorldState};
 ghost use Rattle.eden_query.specs.declared.raw.Raw.{Raw};
 ghost use Rattle.eden_messages.specs.Replies.{reply_of};
 ghost use Rattle.eden_history.specs.Outcome.{answer_of, world_after};
-ghost use Rattle.eden_query.specs.Raws.{is_answerable, patterns_of, told};
+ghost use Rattle.eden_query.specs.Raws.{NamesCommits, is_answerable, patterns_of, told};
 ghost use Rattle.eden_query.specs.Servers.{raised};
 ghost use Rattle.eden_query.specs.Settled.{settled, settled_of};
 
@@ -60,6 +60,8 @@ pub trait Served<N: Naming + Drop> {
         ensures replies { IfOk result (λ raw. (world : WorldState) → stands_for self.old world
             → told (held self.old) (patterns_of request.now) raw ≡ reply_of world request.now) }
         ensures settled { IfOk result (λ raw. (world : WorldState) → stands_for self.old world → settled raw ≡ settled_of world request.now) }
+        // Each commit that it names is there, so that it can be answered.
+        ensures commits { IfOk result (λ raw. NamesCommits (commit_map (held self.old)) raw) }
         ensures answerable { IfOk result (λ raw. is_answerable (commit_map (held self.old)) raw ≡ true) }
         ensures stands { (world : WorldState) → stands_for self.old world → stands_for self.new world }
         ensures held { held self.new ≡ held self.old }

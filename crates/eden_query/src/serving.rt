@@ -1,40 +1,41 @@
-//! A server that answers polls over any reader and writer.
+//! A server that answers requests over any reader and writer.
 
-ghost use Rattle.std.specs.Prelude.{◌≡◌, ◌≢◌, ◌+◌, ◌≤◌, ℕ, List, [], length, IsErrOf, IfOk, IfSome};
+ghost use Rattle.std.specs.Prelude.{◌≡◌, ◌≢◌, ◌+◌, ◌≤◌, ◌⊎◌, length, IsErrOf, IfOk, IfSome, OnOk, OnErr};
 ghost use Rattle.eden_frames.specs.FrameAnswers.{AnswersBody};
-ghost use Rattle.eden_stream.specs.Counts.{Rose, RoseBy};
 ghost use Rattle.eden_frames.specs.FrameEnds.{Serves};
+ghost use Rattle.eden_frames.specs.FrameTellings.{EndsTelling};
 ghost use Rattle.eden_history.specs.Worlds.{WorldState};
 ghost use Rattle.eden_messages.specs.Replies.{reply_of};
 ghost use Rattle.eden_messages.specs.Spells.{reply_bytes};
+ghost use Rattle.eden_stream.specs.Counts.{Rose, RoseBy};
 ghost use Rattle.eden_query.specs.Answers.{answer_to, frame_fault};
-ghost use Rattle.eden_query.specs.Raws.{patterns_of};
+ghost use Rattle.eden_query.specs.Raws.{patterns_of, told};
+ghost use Rattle.eden_query.specs.Servers.{raised};
+ghost use Rattle.eden_query.specs.Servings.{serving_story};
+ghost use Rattle.eden_query.specs.declared.raw.Raw.{Raw};
+ghost use Rattle.eden_query.specs.internal.Askings.{AsksBody};
 
-use crate::answering::answer;
-use crate::decoding::decode_request;
-use crate::encoding::encode_reply;
-use crate::fault::{DecodeFault, EncodeFault};
+use crate::answering::answer_request;
 use crate::served::Served;
-use eden_frames::{FrameFault, FrameServer, ServeFault, Served as Told, serve_frames};
-use eden_globs::Filter;
+use eden_frames::{FrameFault, Frames, ServeFault, tell_frames};
 use eden_ids::{Naming, NoMemory};
 use eden_messages::{Reply, Request};
-use eden_objects::CommitFault;
-use eden_stream::{CountedRead, CountedWrite};
+use eden_stream::{Answer, CountedRead, CountedWrite, Teller};
+use eden_wire::{DecodeFault, EncodeFault, decode_request, encode_reply};
 use std::alloc::Global;
 use std::marker::PhantomData;
 
 /// As which caller frames are answered.
 const STREAM: u64 = 0;
 
-/// Answers bodies by the requests that they spell.
+/// Asks a server what the bodies of frames spell.
 #[derive(Drop)]
-struct Bodies<N> {
+struct Asker<N> {
     naming: PhantomData<N>,
 }
 
-/// A body's fault as its frame's.
-fn fault_of_frame(fault: DecodeFault) -> Option<FrameFault>
+/// The fault of a body as that of its frame, under the same name; a want of memory is none.
+pub fn fault_of_frame(fault: DecodeFault) -> Option<FrameFault>
     ensures some { IfSome result (λ frame. (fault ≢ DecodeFault.NoMemory) × (frame ≡ frame_fault fault)) }
 {
     match fault {
@@ -45,18 +46,6 @@ fn fault_of_frame(fault: DecodeFault) -> Option<FrameFault>
         DecodeFault::Trailing => Some(FrameFault::Trailing),
         DecodeFault::Version => Some(FrameFault::Version),
         DecodeFault::NoMemory => None,
-    }
-}
-
-/// The request's filter, or the other one where it has none.
-fn filter_of<'a>(request: &'a Request, everything: &'a Filter) -> &'a Filter
-    requires { everything.now ≡ [] }
-    ensures { result.now ≡ patterns_of request.now }
-{
-    match request {
-        Request::Basis { filter, .. } => filter,
-        Request::Poll { filter, .. } => filter,
-        Request::Fetch { .. } => everything,
     }
 }
 
@@ -72,17 +61,15 @@ pub fn reply_to<N: Naming + Drop, T: Served<N>>(
     ensures reply { IfOk result (λ reply. (world : WorldState) → T.stands_for server.old world → reply ≡ reply_of world request.now) }
     ensures fits { IfOk result (λ reply. length (reply_bytes reply) ≤ 16777216) }
     ensures stands { (world : WorldState) → T.stands_for server.old world → T.stands_for server.new world }
+    ensures held { T.held server.new ≡ T.held server.old }
+    ensures given { IfOk result (λ reply. (raw : Raw) × T.hold_gives server.old caller request.now raw server.new
+        × (reply ≡ told (T.held server.old) (patterns_of request.now) raw)) }
+    ensures noted { OnOk result (T.stored server.new ≡ raised (T.stored server.old)) }
+    ensures left { OnErr result ((server.new ≡ server.old) ⊎ ((raw : Raw) × T.hold_gives server.old caller request.now raw server.new)) }
 {
     let raw = server.hold(caller, request)?;
     let store = server.store();
-    let everything = Filter::all(store.allocator());
-    let filter = filter_of(request, &everything);
-    match answer(store.allocator(), &raw, store, filter) {
-        Ok(reply) => Ok(reply),
-        // What a server holds can be answered over its objects.
-        Err(CommitFault::NoCommit) => unreachable!(),
-        Err(CommitFault::NoMemory) => Err(NoMemory),
-    }
+    answer_request(store.allocator(), &raw, store, request)
 }
 
 /// What the server answers to a body.
@@ -90,52 +77,54 @@ fn answer_body<N: Naming + Drop, T: Served<N>>(
     server: &mut T,
     body: &[u8],
     text: &mut Vec<u8>,
-) -> Told
+) -> Answer<FrameFault>
     ensures answered { (world : WorldState) → T.stands_for server.old world
         → AnswersBody (answer_to world) body.now text.old.items text.new.items result }
     ensures stands { (world : WorldState) → T.stands_for server.old world → T.stands_for server.new world }
+    ensures asked { AsksBody T.hold_gives 0 server.old body.now server.new result }
 {
     let alloc = server.store().allocator();
     let request = match decode_request(alloc, body) {
         Ok(request) => request,
         Err(fault) => {
             return match fault_of_frame(fault) {
-                Some(fault) => Told::Fault(fault),
-                None => Told::NoMemory,
+                Some(fault) => Answer::Fault(fault),
+                None => Answer::NoMemory,
             };
         }
     };
     let reply = match reply_to(server, STREAM, &request) {
         Ok(reply) => reply,
-        Err(_) => return Told::NoMemory,
+        Err(_) => return Answer::NoMemory,
     };
     let frame = match encode_reply(alloc, &reply) {
         Ok(frame) => frame,
         // What is replied fits a frame.
         Err(EncodeFault::TooLarge) => unreachable!(),
-        Err(EncodeFault::NoMemory) => return Told::NoMemory,
+        Err(EncodeFault::NoMemory) => return Answer::NoMemory,
     };
     match text.extend_from_slice(frame.as_slice()) {
-        Ok(()) => Told::Reply,
-        Err(_) => Told::NoMemory,
+        Ok(()) => Answer::Told,
+        Err(_) => Answer::NoMemory,
     }
 }
 
-impl<N: Naming + Drop, T: Served<N>> FrameServer<T> for Bodies<N> {
-    ghost use Rattle.eden_history.specs.Worlds.{WorldState};
-    ghost use Rattle.eden_query.specs.Answers.{answer_to};
+impl<N: Naming + Drop, T: Served<N>> Teller<Frames, T, FrameFault> for Asker<N> {
+    ghost story = { λ _ before now. serving_story T.stands_for T.hold_gives 0 before now };
 
-    ghost stands_for = { λ server answers. (world : WorldState) × T.stands_for server world × ((body : List ℕ) → answers body ≡ answer_to world body) };
-
-    ghost becomes = { λ before now. (world : WorldState) → T.stands_for before world → T.stands_for now world };
-
-    fn answer(server: &mut T, body: &[u8], text: &mut Vec<u8>) -> Told {
+    #[tactic(auto, using(crate::proofs::Asking::serving_tells))]
+    fn tell(&self, server: &mut T, body: &[u8], text: &mut Vec<u8>) -> Answer<FrameFault> {
         answer_body(server, body, text)
     }
+
+    ghost lawful = { λ _ _ _. record { passes = λ _ _ _ silent _. absurd silent; stops = λ _ _ told. told } };
 }
 
 /// Serves requests: reads their frames from `reader`, and writes the frames of the right replies to `writer`, in order. Gives the
 /// number of frames. The server is asked as caller 0, and stays the present of each history whose present it was.
+///
+/// Each frame is one request of that caller, in order; a frame with a fault is none. Where a growth was refused, the frame behind those that
+/// are answered may be asked too, and a stored history then keeps its entry; so it may before `Write`, which can come in its place.
 ///
 /// Whole frames are answered before the next read, of 64 KiB each; replies are gathered, and written before the next read and
 /// whenever there are 64 KiB of them.
@@ -158,10 +147,15 @@ pub fn serve<N: Naming + Drop, T: Served<N>, R: CountedRead, W: CountedWrite>(
     ensures ends { (world : WorldState) → T.stands_for server.old world
         → Serves (answer_to world) (R.remaining reader.old) (R.remaining reader.new) (W.contents writer.old) (W.contents writer.new) result }
     ensures stands { (world : WorldState) → T.stands_for server.old world → T.stands_for server.new world }
+    ensures asks { EndsTelling (serving_story T.stands_for T.hold_gives 0 server.old server.new) (R.remaining reader.old) (R.remaining reader.new)
+        (W.contents writer.old) (W.contents writer.new) result }
     ensures read { IsErrOf result ServeFault.Read → Rose (R.failed reader.old) (R.failed reader.new) }
     ensures write { IsErrOf result ServeFault.Write → Rose (W.failed writer.old) (W.failed writer.new) }
     ensures turns_spent { IsErrOf result ServeFault.TurnsSpent → RoseBy 1000000 (R.called reader.old) (R.called reader.new) }
     ensures turns { R.called reader.new ≤ R.called reader.old + 1000000 }
 {
-    serve_frames::<R, W, T, Bodies<N>>(alloc, reader, writer, server)
+    let asker = Asker::<N> {
+        naming: PhantomData,
+    };
+    tell_frames::<R, W, T, Asker<N>>(alloc, reader, writer, &asker, server)
 }

@@ -1,8 +1,12 @@
-//! Tests of messages as bytes and of serving them, over devices that give and take all at once, little at a time, or fail.
+//! Tests of messages as bytes, of serving them over devices that give and take all at once, little at a time, or fail, and of audits.
 //!
 //! A crate of its own, so that no crate that ships waits for them.
 #![tactic(auto)]
 
+#[cfg(test)]
+mod asked_tests;
+#[cfg(test)]
+mod audit_tests;
 #[cfg(test)]
 mod message_tests;
 #[cfg(test)]

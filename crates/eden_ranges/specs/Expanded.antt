@@ -1,6 +1,7 @@
 -- Which paths a range names, and what became of each.
 use Rattle.std.specs.Prelude.{ℕ, Bool, true, ◌&&◌, ◌||◌, is_some, List, [], ◌∷◌, map}
 use Rattle.std.specs.FinMap as fin
+use Rattle.std.specs.List.{list_all}
 use Rattle.eden_globs.specs.Filters.{admits}
 use Rattle.eden_ids.specs.declared.id.Id.{Id}
 use Rattle.eden_ids.specs.FileMaps.{PathSet, listing, no_paths, path_set, union}
@@ -40,6 +41,10 @@ comparable_after commits root (next ∷ roots) = is_comparable commits root next
 abbrev pub are_comparable : Commits → List Id → Bool
 are_comparable commits [] = true
 are_comparable commits (root ∷ roots) = comparable_after commits root roots
+
+-- each root is a commit
+abbrev pub are_commits : Commits → List Id → Bool
+are_commits commits roots = list_all (λ root. is_some (commits root)) roots
 
 -- ---- ranges
 

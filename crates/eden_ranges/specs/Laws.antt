@@ -1,6 +1,5 @@
 -- What a range says of a world.
-use Rattle.std.specs.Prelude.{◌≡◌, ℕ, true, is_some, List, [], ◌∷◌, ◌++◌, filter, reverse, Option, Some, None}
-use Rattle.std.specs.List.{list_all}
+use Rattle.std.specs.Prelude.{◌≡◌, ℕ, true, List, [], ◌∷◌, ◌++◌, filter, reverse, Option, Some, None}
 use Rattle.eden_ids.specs.declared.id.Id.{Id}
 use Rattle.std.specs.FinMap as fin
 use Rattle.eden_ids.specs.FileMaps.{same_path}
@@ -17,7 +16,7 @@ use Rattle.eden_history.specs.Marks.{marked_since}
 use Rattle.eden_history.specs.Status.{status_of}
 use Rattle.eden_ranges.specs.Histories.{history_of}
 use Rattle.eden_ranges.specs.Since.{head_position, log_status, range_of}
-use Rattle.eden_ranges.specs.Expanded.{are_comparable, expanded}
+use Rattle.eden_ranges.specs.Expanded.{are_commits, are_comparable, expanded}
 use Rattle.eden_ranges.specs.WorldRanges.{range_in}
 
 -- the head's position is the world's
@@ -41,7 +40,7 @@ RangesAreSince = (world : WorldState) → IsLegal world → (log : Log) → Stan
 
 -- roots of which each is a commit can be compared
 abbrev pub CommitsAreComparable : Type 0
-CommitsAreComparable = (commits : Commits) (roots : List Id) → list_all (λ root. is_some (commits root)) roots ≡ true → are_comparable commits roots ≡ true
+CommitsAreComparable = (commits : Commits) (roots : List Id) → are_commits commits roots ≡ true → are_comparable commits roots ≡ true
 
 -- ---- what changes of files come to
 

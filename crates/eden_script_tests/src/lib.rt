@@ -1,4 +1,5 @@
-//! Tests of scripts: what each line prints, over devices that give and take all at once, little at a time, or fail.
+//! Tests of scripts: what each line prints, over devices that give and take all at once, little at a time, or fail. And of the program
+//! that runs them: its command line and its statuses.
 //!
 //! A crate of its own, so that the program doesn't wait for them.
 #![tactic(auto)]
@@ -9,5 +10,7 @@ mod device_tests;
 mod mount_tests;
 #[cfg(test)]
 mod object_tests;
+#[cfg(test)]
+mod program_tests;
 #[cfg(test)]
 mod script_tests;

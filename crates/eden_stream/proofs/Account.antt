@@ -131,19 +131,25 @@ module _ {E : Type 0} (grammar : Grammar E) (law : IsGrammar grammar) where
   -- after any turn the account goes on, with as many items or one more
   pub ran_turned : (story next : Story E) → IsStory grammar next → (r0 r1 w0 w1 : Option (List ℕ)) (ended : Bool) (count : ℕ) (held left old new : List ℕ)
       → (ran : Ran grammar (Tellings story) r0 r1 w0 w1 ended count held old) → (turn : Turn E) → TakesTurn grammar next ended ran.stream ran.items ran.sent left new turn
-      → (number : ℕ) × Ran grammar (Losses next) r0 r1 w0 w1 ended number left new
+      → (number : ℕ) × Ran grammar (Losses grammar next ended) r0 r1 w0 w1 ended number left new
   ran_turned story next lawful r0 r1 w0 w1 ended count held left old new ran Taken step =
-      let now = ran_taken story next r0 r1 w0 w1 ended count held left old new ran step in
-      (count + 1, ran_stays (Tellings next) (Losses next) r0 r1 w0 w1 ended (count + 1) left left new new now now.cut (lawful.stops now.items (now.sent ++ new) now.says))
+      let now = ran_taken story next r0 r1 w0 w1 ended count held left old new ran step in (
+        count + 1,
+        ran_stays (Tellings next) (Losses grammar next ended) r0 r1 w0 w1 ended (count + 1) left left new new now now.cut
+            (inl (lawful.stops now.items (now.sent ++ new) now.says)),
+      )
   ran_turned story next lawful r0 r1 w0 w1 ended count held left old new ran (Faulty fault) step = (
     count,
-    ran_stays (Tellings story) (Losses next) r0 r1 w0 w1 ended count held left old new ran step.0
-        (faults_lose next lawful ended left fault ran.stream ran.items (ran.sent ++ new) step.1),
+    ran_stays (Tellings story) (Losses grammar next ended) r0 r1 w0 w1 ended count held left old new ran step.0
+        (inl (faults_lose next lawful ended left fault ran.stream ran.items (ran.sent ++ new) step.1)),
   )
   ran_turned story next lawful r0 r1 w0 w1 ended count held left old new ran NoMemory step =
-      (count, ran_stays (Tellings story) (Losses next) r0 r1 w0 w1 ended count held left old new ran step.0 step.1)
-  ran_turned story next lawful r0 r1 w0 w1 ended count held left old new ran Waiting step =
-      (count, ran_stays (Tellings story) (Losses next) r0 r1 w0 w1 ended count held left old new ran step.0 (lawful.stops ran.items (ran.sent ++ new) step.2))
+      (count, ran_stays (Tellings story) (Losses grammar next ended) r0 r1 w0 w1 ended count held left old new ran step.0 (inr step.1))
+  ran_turned story next lawful r0 r1 w0 w1 ended count held left old new ran Waiting step = (
+    count,
+    ran_stays (Tellings story) (Losses grammar next ended) r0 r1 w0 w1 ended count held left old new ran step.0
+        (inl (lawful.stops ran.items (ran.sent ++ new) step.2)),
+  )
 
 -- some first bytes of what waits were written, and the others wait still
 pub tears_send : (w1 w2 : Option (List ℕ)) (waiting : List ℕ) → (tears : Tears w1 w2 waiting) → Sends w1 w2 waiting (drop tears.0 waiting)

@@ -5,7 +5,7 @@ use Rattle.std.specs.Io.KnownBytes.{Appends}
 use Rattle.std.proofs.lemmas.List.{take_at}
 use Rattle.eden_stream.specs.Ends.{Ends, EndsAtBadLine, EndsBetweenLines}
 use Rattle.eden_stream.specs.Pumps as pumps
-use Rattle.eden_stream.specs.Pumps.{Faults, Ran}
+use Rattle.eden_stream.specs.Pumps.{Faults, Losses, Ran}
 use Rattle.eden_stream.specs.Lines.{HasNoBreak, IsTooLong}
 use Rattle.eden_stream.specs.Scripts.{IsScript, in_front}
 use Rattle.eden_stream.specs.internal.LineLaws.{story_laws}
@@ -29,6 +29,12 @@ module _ {M : Type 0} (stands_for : M → (List (List ℕ) → Option (List ℕ)
   -- what is told of some lines they print
   told_prints : (items : List (List ℕ)) (text : List ℕ) → (line_story stands_for before now).told items text → script items ≡ Some text
   told_prints items text told = (story_laws stands_for before now lawful).stops items text told script s
+
+  -- and so do lines behind which a growth was refused
+  lost_prints : (ended : Bool) (stream : List ℕ) (items : List (List ℕ)) (text : List ℕ) → Losses line_grammar (line_story stands_for before now) ended stream items text
+      → script items ≡ Some text
+  lost_prints ended stream items text (inl lost) = lost script s
+  lost_prints ended stream items text (inr spent) = spent.3 script s
 
   all_written : (sent : List ℕ) → Appends w0 w1 sent → Appends w0 w1 (sent ++ [])
   all_written sent written = subst (Appends w0 w1) (sym (append-nil sent)) written
@@ -110,7 +116,7 @@ module _ {M : Type 0} (stands_for : M → (List (List ℕ) → Option (List ℕ)
         text = ran.sent ++ [];
         read = ran.read;
         cut = more.1;
-        prints = ran.says script s;
+        prints = lost_prints e.0 ran.stream ran.items (ran.sent ++ []) ran.says;
         written = all_written ran.sent ran.written;
       }
   run_ends (Err Write) e =
@@ -125,7 +131,7 @@ module _ {M : Type 0} (stands_for : M → (List (List ℕ) → Option (List ℕ)
         taken = length ran.sent;
         read = ran.read;
         cut = more.1;
-        prints = ran.says script s;
+        prints = lost_prints e.0 ran.stream ran.items (ran.sent ++ waiting) ran.says;
         written = subst (Appends w0 w1) (sym (take_at ran.sent waiting (length ran.sent) refl)) ran.written;
       }
 

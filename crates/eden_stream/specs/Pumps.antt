@@ -23,9 +23,10 @@ pub record Ran {E : Type 0} (grammar : Grammar E) (Says : List ℕ → List (Lis
 abbrev pub Tellings : {E : Type 0} → Story E → List ℕ → List (List ℕ) → List ℕ → Type 0
 Tellings story stream items text = story.told items text
 
--- the items were answered with the text
-abbrev pub Losses : {E : Type 0} → Story E → List ℕ → List (List ℕ) → List ℕ → Type 0
-Losses story stream items text = story.lost items text
+-- the items were answered with the text; the server may have been given the one behind them too
+abbrev pub Losses : {E : Type 0} → Grammar E → Story E → Bool → List ℕ → List (List ℕ) → List ℕ → Type 0
+Losses grammar story ended stream items text = story.lost items text
+    ⊎ ((item : List ℕ) × (left : List ℕ) × grammar.cut ended stream (items ++ item ∷ []) left × story.spent items item text)
 
 -- the items were answered with the text; behind them the bytes are faulty, or begin with an item that the server refuses
 abbrev pub Faults : {E : Type 0} → Grammar E → Story E → Bool → List ℕ → E → List ℕ → List (List ℕ) → List ℕ → Type 0
@@ -39,5 +40,5 @@ Ends grammar story r0 r1 w0 w1 (Err (Item number fault)) = (ended : Bool) × (co
     × Ran grammar (Faults grammar story ended held fault) r0 r1 w0 w1 ended count held []
 Ends grammar story r0 r1 w0 w1 (Err Read) = (count : ℕ) × (held : List ℕ) × grammar.partial false held × Ran grammar (Tellings story) r0 r1 w0 w1 false count held []
 Ends grammar story r0 r1 w0 w1 (Err TurnsSpent) = (count : ℕ) × (held : List ℕ) × grammar.partial false held × Ran grammar (Tellings story) r0 r1 w0 w1 false count held []
-Ends grammar story r0 r1 w0 w1 (Err NoMemory) = (ended : Bool) × (count : ℕ) × (held : List ℕ) × Ran grammar (Losses story) r0 r1 w0 w1 ended count held []
-Ends grammar story r0 r1 w0 w1 (Err Write) = (ended : Bool) × (count : ℕ) × (held : List ℕ) × (waiting : List ℕ) × Ran grammar (Losses story) r0 r1 w0 w1 ended count held waiting
+Ends grammar story r0 r1 w0 w1 (Err NoMemory) = (ended : Bool) × (count : ℕ) × (held : List ℕ) × Ran grammar (Losses grammar story ended) r0 r1 w0 w1 ended count held []
+Ends grammar story r0 r1 w0 w1 (Err Write) = (ended : Bool) × (count : ℕ) × (held : List ℕ) × (waiting : List ℕ) × Ran grammar (Losses grammar story ended) r0 r1 w0 w1 ended count held waiting

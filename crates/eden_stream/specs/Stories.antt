@@ -12,6 +12,8 @@ pub record Story (E : Type 0) : Type 1 where
   pub lost : List (List ℕ) → List ℕ → Type 0
   -- behind these items it can't answer this one, for this fault
   pub refused : List (List ℕ) → List ℕ → E → Type 0
+  -- it answered them so, and was given this item too, for which there was no memory
+  pub spent : List (List ℕ) → List ℕ → List ℕ → Type 0
 
 -- An item that asks for no answer changes nothing.
 pub record IsStory {E : Type 0} (grammar : Grammar E) (story : Story E) : Type 0 where
@@ -22,4 +24,4 @@ pub record IsStory {E : Type 0} (grammar : Grammar E) (story : Story E) : Type 0
 abbrev pub Tells : {E : Type 0} → Story E → List (List ℕ) → List ℕ → List ℕ → List ℕ → List ℕ → Answer E → Type 0
 Tells story items sent item old new Told = story.told (items ++ item ∷ []) (sent ++ new)
 Tells story items sent item old new (Fault fault) = story.lost items (sent ++ new) × story.refused items item fault
-Tells story items sent item old new NoMemory = story.lost items (sent ++ take (length old) new)
+Tells story items sent item old new NoMemory = story.spent items item (sent ++ take (length old) new)

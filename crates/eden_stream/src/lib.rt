@@ -1,4 +1,4 @@
-//! Devices that count, and a pump that runs a script of lines over them.
+//! Devices that count, and a pump over them: it cuts a stream into items, lines among them, has each answered, and writes the answers.
 //!
 //! ```rust
 //! use eden_stream::{Counted, Faults};

@@ -1,3 +1,4 @@
+ghost use Rattle.std.proofs.Props.{props};
 ghost use Rattle.eden_workcopy.specs.Meanings.{FitsIn};
 
 use eden_checkout::{Planned, plan};
@@ -22,7 +23,7 @@ struct Commits {
 struct Fixture {
     store: Store<GitNaming>,
     work: WorkCopy,
-    ghost fits: { FitsIn store work },
+    ghost fits: { FitsIn store work } by { Prim.hlevel props },
 }
 
 /// The blobs and trees that a table's entries name by one byte: `x` and `y` hold that byte, `P` has one file `p` with a `y`, and `R` has

@@ -6,6 +6,8 @@
 #[cfg(test)]
 mod checkout_tests;
 #[cfg(test)]
+mod overlay_tests;
+#[cfg(test)]
 mod range_tests;
 #[cfg(test)]
 mod workcopy_tests;

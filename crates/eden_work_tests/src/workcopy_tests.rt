@@ -1,3 +1,4 @@
+ghost use Rattle.std.proofs.Props.{props};
 ghost use Rattle.eden_workcopy.specs.Meanings.{FitsIn};
 
 use eden_globs::Filter;
@@ -14,7 +15,7 @@ use std::test::Fail;
 struct Mounted {
     store: Store<GitNaming>,
     work: WorkCopy,
-    ghost fits: { FitsIn store work },
+    ghost fits: { FitsIn store work } by { Prim.hlevel props },
 }
 
 /// Puts a commit of the tree with this payload.
@@ -242,7 +243,7 @@ fn changes_over_nothing(rt: HostRuntime) -> Result<(), Fail> {
 
 // The two commits have `f` with the same bytes, and differ in its kind alone.
 #[test]
-fn another_root(rt: HostRuntime) -> Result<(), Fail> {
+fn reroot_and_revert(rt: HostRuntime) -> Result<(), Fail> {
     let alloc = rt.alloc();
     let mut store = Store::new(alloc, GitNaming);
     let plain = put_single(alloc, &mut store, "100644", "f")?;

@@ -5,6 +5,8 @@ use Rattle.std.specs.Cmp.Lexicographic.{nat_list_cmp_total}
 use Rattle.std.specs.FinMap as fin
 use Rattle.eden_ids.specs.declared.content.Content.{Content}
 use Rattle.eden_ids.specs.FileMaps.{FileMap, IsFileMap, file_at, same_path, put_option, has_file_above, has_file_below}
+use Rattle.eden_ids.specs.Texts.{AreTexts}
+use Rattle.eden_ids.proofs.TextLemmas.{texts_insert, texts_remove}
 use Rattle.eden_ids.proofs.FileMapLemmas.{same_path-is, same_file_map, IsFileMap-insert, IsFileMap-remove}
 use Rattle.eden_history.specs.Renames.{place_fault}
 use Rattle.eden_workcopy.specs.Layers.{Layer, or_below, over}
@@ -12,6 +14,14 @@ use Rattle.eden_workcopy.specs.Reverts.{revert_fault}
 use Rattle.eden_workcopy.proofs.Overs.{file_at-over}
 use Rattle.eden_workcopy.proofs.Works.{place_free}
 use Rattle.eden_workcopy.proofs.Rerooted.{at_put}
+
+-- a path that takes the file of another map
+pub texts_put : (files other : FileMap) (path : List ℕ) → AreTexts files → AreTexts other → AreTexts (put_option files path (file_at other path))
+texts_put files other path texts more = by (file_at other path) refl
+  where
+    by : (file : Option Content) → file_at other path ≡ file → AreTexts (put_option files path file)
+    by None is = texts_remove files path texts
+    by (Some f) is = let text = more path f is in texts_insert files path f texts text.0 text.1
 
 pub over-forgotten : (base : FileMap) (layer after : Layer) (k : List ℕ) → after ≡ fin.remove layer k → over base after ≡ put_option (over base layer) k (file_at base k)
 over-forgotten base layer after k is =

@@ -8,6 +8,7 @@ use Rattle.eden_ids.specs.declared.id.Id.{Id}
 use Rattle.eden_ids.specs.declared.content.Content.{Content}
 use Rattle.eden_ids.specs.Paths.{lies_below}
 use Rattle.eden_ids.specs.FileMaps.{FileMap, file_at, paths, has_file_below, same_path, IsFileMap}
+use Rattle.eden_ids.specs.Texts.{AreTexts}
 use Rattle.std.specs.Ordering.{nat_cmp}
 use Rattle.std.specs.Cmp.Lexicographic.{slice_cmp}
 use Rattle.eden_ids.proofs.FileMapLemmas.{same_path-is}
@@ -15,8 +16,10 @@ use Rattle.eden_ids.proofs.TreeMaps.{entries_found}
 use Rattle.eden_objects.specs.Objects.{Held}
 use Rattle.eden_objects.specs.Commits.{Row, commit_rows, commit_map, map_of_rows, rows_where}
 use Rattle.eden_objects.specs.Closed.{IsClosed}
+use Rattle.eden_objects.specs.Small.{AreSmall}
 use Rattle.eden_objects.specs.Files.{files_of, commit_files}
 use Rattle.eden_objects.proofs.CommitLaws.{file_maps}
+use Rattle.eden_objects.proofs.CommitTexts.{commits_texts}
 use Rattle.eden_history.specs.declared.change.ChangeFault.{ChangeFault}
 use Rattle.eden_history.specs.declared.change.ChangeFault.TheVariants.{NotADirectory, IsADirectory}
 use Rattle.eden_history.specs.Renames.{moved, renamed}
@@ -35,11 +38,12 @@ pub new_files : (held : List Held) (root : Id) (layer : Layer) → is_some (comm
 new_files held root layer e is =
     some_rows held (commit_rows held root) e ∙ ap Some (sym (ap (over (commit_files held root)) is ∙ over-nothing (commit_files held root)))
 
-pub new_fits : (held : List Held) (root : Id) (layer : Layer) → IsClosed held → is_some (commit_rows held root) ≡ true → layer ≡ fin.empty
-    → IsSome (commit_map held root) × IsFileMap (over (commit_files held root) layer)
-new_fits held root layer closed e is =
+pub new_fits : (held : List Held) (root : Id) (layer : Layer) → IsClosed held → AreSmall held → is_some (commit_rows held root) ≡ true → layer ≡ fin.empty
+    → FitsIn held (record { root = root; overlay = layer })
+new_fits held root layer closed small e is =
+    let files = over (commit_files held root) layer in
     let map = new_files held root layer e is in
-    (ap is_some map, file_maps held closed root (over (commit_files held root) layer) map)
+    record { root = ap is_some map; files = file_maps held closed root files map; texts = commits_texts held closed small root files map }
 
 none_of : (held : List Held) (o : Option (List Row)) → is_some o ≡ false → map_of_rows held o ≡ None
 none_of held None e = refl
@@ -144,4 +148,8 @@ pub means_elsewhere : (held other : List Held) (work : WorkCopy) → commit_map 
 means_elsewhere held other work is = ap (λ o. over (files_of o) work.overlay) is
 
 pub fits_elsewhere : (held other : List Held) (work : WorkCopy) → commit_map held work.root ≡ commit_map other work.root → FitsIn held work → FitsIn other work
-fits_elsewhere held other work is fits = subst (λ o. IsSome o × IsFileMap (over (files_of o) work.overlay)) is fits
+fits_elsewhere held other work is fits = record {
+  root = subst (λ (o : Option FileMap). IsSome o) is fits.root;
+  files = subst IsFileMap (means_elsewhere held other work is) fits.files;
+  texts = subst AreTexts (means_elsewhere held other work is) fits.texts;
+}

@@ -2,6 +2,7 @@
 use Rattle.std.specs.Prelude.{ℕ, Bool, List, IsSome}
 use Rattle.std.specs.FinMap as fin
 use Rattle.eden_ids.specs.FileMaps.{FileMap, IsFileMap, PathSet, path_set}
+use Rattle.eden_ids.specs.Texts.{AreTexts}
 use Rattle.eden_objects.specs.Objects.{Held}
 use Rattle.eden_objects.specs.Commits.{commit_map}
 use Rattle.eden_objects.specs.Files.{commit_files}
@@ -12,9 +13,11 @@ use Rattle.eden_workcopy.specs.declared.work.WorkCopy.{WorkCopy}
 abbrev pub means : List Held → WorkCopy → FileMap
 means held work = over (commit_files held work.root) work.overlay
 
--- the store has the root's commit, and root and overlay make a file map there
-abbrev pub FitsIn : List Held → WorkCopy → Type 0
-FitsIn held work = IsSome (commit_map held work.root) × IsFileMap (means held work)
+-- the store has the root's commit, and root and overlay make a file map there, whose paths and files keep the limits
+pub record FitsIn (held : List Held) (work : WorkCopy) : Type 0 where
+  pub root : IsSome (commit_map held work.root)
+  pub files : IsFileMap (means held work)
+  pub texts : AreTexts (means held work)
 
 -- the paths that a change touched, each once and ascending, with whether a file stands there now
 abbrev pub touched_of : WorkCopy → List (List ℕ × Bool)

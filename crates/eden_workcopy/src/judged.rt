@@ -7,7 +7,7 @@ ghost use Rattle.eden_history.specs.Renames.{rename_fault, renamed, write_fault}
 ghost use Rattle.eden_workcopy.specs.Meanings.{means, FitsIn};
 
 use crate::work::WorkCopy;
-use eden_ids::{Content, Kind, Naming, NoMemory, Path};
+use eden_ids::{Content, Kind, Naming, NoMemory, Path, path_law};
 use eden_objects::Store;
 
 impl WorkCopy {
@@ -23,6 +23,7 @@ impl WorkCopy {
             → write_fault (means held self.old) path.now bytes.now ≡ None → FitsIn held self.new) }
         ensures same { OnErr result (self.new ≡ self.old) }
     {
+        path_law(path);
         let content = Content::from_bytes(self.overlay.allocator(), kind, bytes)?;
         let key = path.copy()?;
         self.overlay.set(key, Some(content))?;
@@ -66,6 +67,7 @@ impl WorkCopy {
         let Some(content) = self.file_copy(store, old)? else {
             return Ok(());
         };
+        path_law(new);
         let from = old.copy()?;
         let to = new.copy()?;
         self.overlay.shift(from, to, content)?;

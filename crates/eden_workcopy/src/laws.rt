@@ -24,7 +24,7 @@ pub fn over_law()
 {}
 
 /// A working copy means the same, and fits, over each two stores in which its root's commit holds the same files.
-#[tactic(auto, using(crate::proofs::Works::means_elsewhere, crate::proofs::Works::fits_elsewhere))]
+#[tactic(auto, using(crate::proofs::Works::means_elsewhere))]
 pub fn elsewhere_law()
     ensures means { (held other : List Held) (work : WorkCopy) → commit_map held work.root ≡ commit_map other work.root
         → means held work ≡ means other work }

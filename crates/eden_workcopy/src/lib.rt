@@ -25,8 +25,6 @@ mod judged;
 mod laws;
 mod list;
 mod overlay;
-#[cfg(test)]
-mod overlay_tests;
 mod reroot;
 mod revert;
 mod touch;

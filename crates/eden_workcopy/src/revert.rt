@@ -42,6 +42,7 @@ impl WorkCopy {
         if let Some(fault) = self.revert_fault(store, path) {
             return Err(fault);
         }
+        store.closed_law();
         self.overlay.forget(path.as_bytes());
         Ok(())
     }

@@ -2,7 +2,3 @@ mod Listed
 mod Tabulating
 mod SideLaws
 mod Walk
-mod Keeping
-mod Telling
-mod Mirroring
-mod Scheduling

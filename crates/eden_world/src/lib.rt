@@ -2,7 +2,8 @@
 //!
 //! It keeps whole file maps and looks at every path, so that it can be read beside the definitions in eden_history and eden_messages. The
 //! programs that keep less are measured by it, and none of them stands on it. The plain types of which the definitions speak are handed on
-//! from here, and so are the counting devices.
+//! from here, what a change is answered with under the name `Made`, since `Answer` is what a caller is told of any call; and so are the
+//! counting devices, and eden_headline's law over the same definitions.
 //!
 //! ```rust
 //! use eden_history::{Answer, Change};
@@ -19,13 +20,13 @@
 #![tactic(auto)]
 
 pub use crate::row::{Event, Row};
-pub use crate::schedule_laws::schedule_law;
 pub use crate::world::World;
 pub use eden_files::Files;
+pub use eden_headline::schedule_law;
 pub use eden_history::{
-    Answer, Change, ChangeFault, Mark, Marked, Mode, MountFault, Position, SinceFault,
+    Answer as Made, Change, ChangeFault, Mark, Marked, Mode, MountFault, Position, SinceFault,
 };
-pub use eden_messages::{Cause, Query, Reply, Request};
+pub use eden_messages::{Answer, Call, Cause, Query, Reply, Request};
 pub use eden_stream::{Counted, Faults};
 
 mod commit_files;
@@ -33,7 +34,6 @@ mod events;
 mod refusal;
 mod reply;
 mod row;
-mod schedule_laws;
 mod sides;
 mod touches;
 mod world;

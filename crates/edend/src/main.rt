@@ -6,47 +6,10 @@
 //! command line is refused, or asks for help. 3: reading, writing or memory failed, or the reads were spent; standard error tells which.
 #![tactic(auto)]
 
-use clap::Command;
-use clap::error::ErrorKind;
-use eden_edend::{RunFault, run};
-use eden_stream::Counted;
-use std::alloc::{AllocError, Global};
+use eden_edend::edend;
+use std::alloc::AllocError;
 use std::process::ExitCode;
 use std::{env, io};
-
-/// Runs the script on standard input, and gives the status that the program ends with.
-fn run_script(rt: &HostRuntime) -> u8 {
-    let mut reader = Counted::new(rt.stdin());
-    let mut writer = Counted::new(rt.stdout());
-    let name = match run(rt.alloc(), &mut reader, &mut writer) {
-        Ok(_) => return 0,
-        Err(RunFault::BadLine(number)) => {
-            let _ = eprintln!(rt; "line {number}: BadLine");
-            return 1;
-        }
-        Err(RunFault::Read) => "Read",
-        Err(RunFault::Write) => "Write",
-        Err(RunFault::TurnsSpent) => "TurnsSpent",
-        Err(RunFault::NoMemory) => "NoMemory",
-    };
-    let _ = eprintln!(rt; "edend: {name}");
-    3
-}
-
-/// The version that `--version` tells.
-const VERSION: &str = "0.1.0";
-
-/// Reads the command line. Help and the version are errors here too: they run nothing.
-fn read_words(alloc: Global, words: &[String]) -> Result<(), clap::Error> {
-    let run = Command::new(alloc, "run").about("Runs a script from standard input");
-    let command = Command::new(alloc, "edend")
-        .version(VERSION)
-        .about("A mount whose changes are journaled, driven by a script")
-        .subcommand_required(true)
-        .subcommand(run)?;
-    let _ = command.try_get_matches_from(words)?;
-    Ok(())
-}
 
 fn main(rt: HostRuntime) -> ExitCode {
     let words: Result<Vec<String>, _> = match env::args(&rt) {
@@ -61,15 +24,12 @@ fn main(rt: HostRuntime) -> ExitCode {
         let _ = eprintln!(rt; "edend: NoMemory");
         return ExitCode::from(3);
     };
-    match read_words(rt.alloc(), words.as_slice()) {
-        Ok(()) => ExitCode::from(run_script(&rt)),
-        Err(error) if error.kind() == ErrorKind::DisplayVersion => {
-            let _ = print!(rt; "{error}");
-            ExitCode::SUCCESS
-        }
-        Err(error) => {
-            let _ = eprint!(rt; "{error}");
-            ExitCode::from(2)
-        }
-    }
+    let status = edend(
+        rt.alloc(),
+        words.as_slice(),
+        rt.stdin(),
+        rt.stdout(),
+        &mut rt.stderr(),
+    );
+    ExitCode::from(status)
 }

@@ -54,6 +54,7 @@ line_story stands_for before now = record {
   told = λ items text. (script : List (List ℕ) → Option (List ℕ)) → stands_for before script → GoesOn (stands_for now) script items text;
   lost = λ items text. (script : List (List ℕ) → Option (List ℕ)) → stands_for before script → script items ≡ Some text;
   refused = λ items item fault. (script : List (List ℕ) → Option (List ℕ)) → stands_for before script → script (items ++ item ∷ []) ≡ None;
+  spent = λ items item text. (script : List (List ℕ) → Option (List ℕ)) → stands_for before script → script items ≡ Some text;
 }
 
 -- the first line of the bytes, and what is left behind it

@@ -15,7 +15,8 @@ TakesTurn grammar story ended stream items sent held text turns.Taken =
     (item : List ℕ) × grammar.cut ended stream (items ++ item ∷ []) held × story.told (items ++ item ∷ []) (sent ++ text)
 TakesTurn grammar story ended stream items sent held text (turns.Faulty fault) =
     grammar.cut ended stream items held × Faults grammar story ended held fault stream items (sent ++ text)
-TakesTurn grammar story ended stream items sent held text turns.NoMemory = grammar.cut ended stream items held × story.lost items (sent ++ text)
+TakesTurn grammar story ended stream items sent held text turns.NoMemory =
+    grammar.cut ended stream items held × ((item : List ℕ) × (left : List ℕ) × grammar.cut ended stream (items ++ item ∷ []) left × story.spent items item (sent ++ text))
 TakesTurn grammar story ended stream items sent held text turns.Waiting =
     grammar.cut ended stream items held × grammar.partial ended held × story.told items (sent ++ text)
 

@@ -1,4 +1,5 @@
-use Rattle.std.proofs.Common.{ap, ◌∙◌}
+use Rattle.std.proofs.Common.{ap, sym, subst, ◌∙◌}
+use Rattle.eden_ids.specs.Texts.{AreTexts}
 use Rattle.eden_objects.specs.Files.{commit_files}
 use Rattle.eden_workcopy.specs.Meanings.{means}
 use Rattle.eden_checkout.specs.Plans.{root_files}
@@ -22,3 +23,6 @@ returns-clause-unclean g c =
     (c.deref-5.ensures.value ∙ c.in_ok-changed.ensures)
     (λ kept. ap (commit_files held) (c.in_ok-judged.ensures.root ∙ c.in_ok-start.ensures.root ∙ root_moved c.args.mode c.args.work.now.root c.args.commit kept))
     c.in_ok-unclean.ensures
+
+pub judge-requires-clause-texts : goal.judge-requires-clause-texts
+judge-requires-clause-texts g c = subst AreTexts (sym c.over-files.ensures) c.requires.texts

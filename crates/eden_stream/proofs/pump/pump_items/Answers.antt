@@ -1,5 +1,5 @@
 -- With no buffer nothing was read.
-use Rattle.std.proofs.Common.{false, [], ◌++◌}
+use Rattle.std.proofs.Common.{false, inl, [], ◌++◌}
 use Rattle.eden_stream.specs.Pumps.{Losses, Tellings}
 use Rattle.eden_stream.proofs.Account.{ran_start, ran_stays}
 use Rattle.eden_stream.proofs.pump.pump_items.Goals as goal
@@ -12,5 +12,10 @@ returns-in-Err-clause-ends g c = λ before told.
     let lawful = g.met.S.Teller.lawful c.args.teller.now before c.args.server.now in
     let r0 = g.R.Read.remaining c.args.reader.now in
     let w0 = g.W.Write.contents c.args.writer.now in
-    let ran = ran_start grammar law story r0 w0 told in
-    (false, 0, [], ran_stays grammar law (Tellings story) (Losses story) r0 r0 w0 w0 false 0 [] [] [] [] ran ran.cut (lawful.stops ran.items (ran.sent ++ []) ran.says))
+    let ran = ran_start grammar law story r0 w0 told in (
+      false,
+      0,
+      [],
+      ran_stays grammar law (Tellings story) (Losses grammar story false) r0 r0 w0 w0 false 0 [] [] [] [] ran ran.cut
+          (inl (lawful.stops ran.items (ran.sent ++ []) ran.says)),
+    )

@@ -1,5 +1,5 @@
 -- Each turn carries the account on, and each exit closes it.
-use Rattle.std.proofs.Common.{◌≡◌, true, false, ◌+◌, ◌++◌, [], length, drop, refl, sym, ap, subst, arith}
+use Rattle.std.proofs.Common.{◌≡◌, true, false, inl, inr, ◌+◌, ◌++◌, [], length, drop, refl, sym, ap, subst, arith}
 use Rattle.eden_stream.specs.Pumps.{Faults, Losses, Ran, Tellings}
 use Rattle.eden_stream.proofs.Account.{faulty_is_no_answer, no_memory_is_no_answer, ran_ended, ran_got, ran_no_more, ran_received, ran_sent, ran_sent_all, ran_start, ran_stays, ran_taken, ran_turned, tears_send, waiting_is_no_answer}
 use Rattle.eden_stream.proofs.pump.pump_with.Goals as goal
@@ -44,7 +44,7 @@ returns-then-not-send_after-clause-ends g c = λ before s.
     let turned = ran_turned grammar law story next lawful r0 r1 w0 w1 ended count held left old new ran c.take_turn-turn.result
     (c.take_turn-turn.ensures.turn before ran.stream ran.items ran.sent ran.cut ran.says) in
     let tears = c.if-not-send_after.ensures.torn in
-    (ended, turned.0, left, drop tears.0 new, ran_sent grammar law (Losses next) r0 r1 w0 w1 w2 ended turned.0 left new (drop tears.0 new) (tears_send w1 w2 new tears) turned.1)
+    (ended, turned.0, left, drop tears.0 new, ran_sent grammar law (Losses grammar next ended) r0 r1 w0 w1 w2 ended turned.0 left new (drop tears.0 new) (tears_send w1 w2 new tears) turned.1)
 
 pub loop-turn-preserved-in-Taken : goal.loop-turn-preserved-in-Taken
 loop-turn-preserved-in-Taken g c = record {
@@ -128,8 +128,9 @@ returns-in-NoMemory-clause-ends g c = λ before s.
     let sends = c.if-not-send_after.ensures.sent in
     let step = c.in-NoMemory.ensures.turn before ran.stream ran.items ran.sent ran.cut ran.says in
     let empty = c.if-not-send_after.ensures.none_left (no_memory_is_no_answer c.take_turn-turn.result c.in-NoMemory.is) in
-    let now = ran_stays grammar law (Tellings story) (Losses next) r0 r1 w0 w1 ended count held left old new ran step.0 step.1 in
-    (ended, count, left, ran_sent_all grammar law (Losses next) r0 r1 w0 w1 w2 ended count left new none sends empty now)
+    let says = Losses grammar next ended in
+    let now = ran_stays grammar law (Tellings story) says r0 r1 w0 w1 ended count held left old new ran step.0 (inr step.1) in
+    (ended, count, left, ran_sent_all grammar law says r0 r1 w0 w1 w2 ended count left new none sends empty now)
 
 pub returns-then-ended-clause-ends : goal.returns-then-ended-clause-ends
 returns-then-ended-clause-ends g c = λ before s.
@@ -250,8 +251,13 @@ returns-in-NoMemory-receive-clause-ends g c = λ before s.
     let r2 = g.R.Read.remaining c.receive.new.reader in
     let got = c.in-NoMemory-receive.ensures.bytes in
     let now = ran_got grammar law next.told r0 r1 r2 w0 w2 count left got.0 [] got.1 still in
-    let bytes = left ++ got.0 in
-    (false, count, bytes, ran_stays grammar law (Tellings next) (Losses next) r0 r2 w0 w2 false count bytes bytes [] [] now now.cut (lawful.stops now.items (now.sent ++ []) now.says))
+    let bytes = left ++ got.0 in (
+      false,
+      count,
+      bytes,
+      ran_stays grammar law (Tellings next) (Losses grammar next false) r0 r2 w0 w2 false count bytes bytes [] [] now now.cut
+          (inl (lawful.stops now.items (now.sent ++ []) now.says)),
+    )
 
 pub loop-turn-preserved-in-More : goal.loop-turn-preserved-in-More
 loop-turn-preserved-in-More g c = record {

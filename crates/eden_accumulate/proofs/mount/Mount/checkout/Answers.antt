@@ -28,7 +28,7 @@ append_root-requires-clause-below g c =
 pub returns-clause-stands : goal.returns-clause-stands
 returns-clause-stands g c =
     let real : is_dry c.args.mode ≡ false = search rules in
-    checkout_follows c.args.commit c.args.mode c.self.view_is c.deref-2.ensures c.in_default.ensures real c.in-Ok.ensures.fits c.in-Ok.ensures.root c.in-Ok.ensures.files
+    checkout_follows c.args.commit c.args.mode c.self.view_is c.deref-2.ensures c.in_default.ensures c.id_law.ensures real c.in-Ok.ensures.fits c.in-Ok.ensures.root c.in-Ok.ensures.files
     c.in-Ok.planned.unclean c.in-Ok.ensures.unclean c.reserve.ensures.log c.append_root.ensures.stands
 
 pub invariant_of-self-2 : goal.invariant_of-self-2
@@ -36,7 +36,7 @@ invariant_of-self-2 g c =
     let real : is_dry c.args.mode ≡ false = search rules in
     let m = c.self.inside in
     still_present (state (arc_value m.store) m.work m.journal.log) c.args.self.now (state (arc_value m.store) c.in-Ok.planned.next c.append_root.new.self.log) (Checkout c.args.commit c.args.mode) c.self.view_is c.self.invariant
-    (checkout_follows c.args.commit c.args.mode c.self.view_is c.deref-2.ensures c.in_default.ensures real c.in-Ok.ensures.fits c.in-Ok.ensures.root c.in-Ok.ensures.files
+    (checkout_follows c.args.commit c.args.mode c.self.view_is c.deref-2.ensures c.in_default.ensures c.id_law.ensures real c.in-Ok.ensures.fits c.in-Ok.ensures.root c.in-Ok.ensures.files
     c.in-Ok.planned.unclean c.in-Ok.ensures.unclean c.reserve.ensures.log c.append_root.ensures.stands)
 
 pub returns-clause-answers : goal.returns-clause-answers

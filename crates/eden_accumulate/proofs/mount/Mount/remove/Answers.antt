@@ -23,14 +23,14 @@ append_file-requires-clause-below g c =
 
 pub returns-clause-stands : goal.returns-clause-stands
 returns-clause-stands g c =
-    remove_follows c.args.path.now c.self.view_is c.in_default.ensures c.take_file.ensures.root c.in_ok-take_file.ensures.files c.in_ok-take_file.ensures.fits
+    remove_follows c.args.path.now c.self.view_is c.in_default.ensures c.path_law.ensures c.take_file.ensures.root c.in_ok-take_file.ensures.files c.in_ok-take_file.ensures.fits
     c.in_ok-delta.delta c.in_ok-delta.ensures c.reserve.ensures.log c.append_file.ensures.stands
 
 pub invariant_of-self-2 : goal.invariant_of-self-2
 invariant_of-self-2 g c =
     let m = c.self.inside in
     still_present (state (arc_value m.store) m.work m.journal.log) c.args.self.now (state (arc_value m.store) c.take_file.new.self c.append_file.new.self.log) (Remove c.args.path.now) c.self.view_is c.self.invariant
-    (remove_follows c.args.path.now c.self.view_is c.in_default.ensures c.take_file.ensures.root c.in_ok-take_file.ensures.files c.in_ok-take_file.ensures.fits
+    (remove_follows c.args.path.now c.self.view_is c.in_default.ensures c.path_law.ensures c.take_file.ensures.root c.in_ok-take_file.ensures.files c.in_ok-take_file.ensures.fits
     c.in_ok-delta.delta c.in_ok-delta.ensures c.reserve.ensures.log c.append_file.ensures.stands)
 
 pub returns-clause-answers : goal.returns-clause-answers

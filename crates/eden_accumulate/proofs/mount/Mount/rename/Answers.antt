@@ -27,7 +27,7 @@ pub returns-clause-stands : goal.returns-clause-stands
 returns-clause-stands g c =
     let other : same_bytes c.args.old.now c.args.new.now ≡ false = search rules in
     let apart : c.args.old.now ≢ c.args.new.now = search rules in
-    rename_follows c.args.old.now c.args.new.now c.self.view_is c.deref.ensures c.in_default.ensures other apart c.move_file.ensures.root c.in_ok-move_file.ensures.files c.in_ok-move_file.ensures.fits
+    rename_follows c.args.old.now c.args.new.now c.self.view_is c.deref.ensures c.in_default.ensures (c.path_law.ensures, c.path_law-2.ensures) other apart c.move_file.ensures.root c.in_ok-move_file.ensures.files c.in_ok-move_file.ensures.fits
     c.in_ok-delta.delta c.in_ok-delta.ensures c.reserve.ensures.log c.append_file.ensures.stands
 
 pub invariant_of-self-2 : goal.invariant_of-self-2
@@ -36,7 +36,7 @@ invariant_of-self-2 g c =
     let apart : c.args.old.now ≢ c.args.new.now = search rules in
     let m = c.self.inside in
     still_present (state (arc_value m.store) m.work m.journal.log) c.args.self.now (state (arc_value m.store) c.move_file.new.self c.append_file.new.self.log) (Rename c.args.old.now c.args.new.now) c.self.view_is c.self.invariant
-    (rename_follows c.args.old.now c.args.new.now c.self.view_is c.deref.ensures c.in_default.ensures other apart c.move_file.ensures.root c.in_ok-move_file.ensures.files c.in_ok-move_file.ensures.fits
+    (rename_follows c.args.old.now c.args.new.now c.self.view_is c.deref.ensures c.in_default.ensures (c.path_law.ensures, c.path_law-2.ensures) other apart c.move_file.ensures.root c.in_ok-move_file.ensures.files c.in_ok-move_file.ensures.fits
     c.in_ok-delta.delta c.in_ok-delta.ensures c.reserve.ensures.log c.append_file.ensures.stands)
 
 pub returns-clause-answers : goal.returns-clause-answers

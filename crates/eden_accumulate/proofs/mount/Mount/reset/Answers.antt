@@ -25,14 +25,14 @@ append_root-requires-clause-below g c =
 
 pub returns-clause-stands : goal.returns-clause-stands
 returns-clause-stands g c =
-    reset_follows c.args.commit c.self.view_is c.deref.ensures c.in_default.ensures c.in-Ok.ensures.fits c.in-Ok.ensures.root c.in-Ok.ensures.files
+    reset_follows c.args.commit c.self.view_is c.deref.ensures c.in_default.ensures c.id_law.ensures c.in-Ok.ensures.fits c.in-Ok.ensures.root c.in-Ok.ensures.files
     c.new.result c.new.ensures c.reserve.ensures.log c.append_root.ensures.stands
 
 pub invariant_of-self-2 : goal.invariant_of-self-2
 invariant_of-self-2 g c =
     let m = c.self.inside in
     still_present (state (arc_value m.store) m.work m.journal.log) c.args.self.now (state (arc_value m.store) c.in-Ok.next c.append_root.new.self.log) (Reset c.args.commit) c.self.view_is c.self.invariant
-    (reset_follows c.args.commit c.self.view_is c.deref.ensures c.in_default.ensures c.in-Ok.ensures.fits c.in-Ok.ensures.root c.in-Ok.ensures.files
+    (reset_follows c.args.commit c.self.view_is c.deref.ensures c.in_default.ensures c.id_law.ensures c.in-Ok.ensures.fits c.in-Ok.ensures.root c.in-Ok.ensures.files
     c.new.result c.new.ensures c.reserve.ensures.log c.append_root.ensures.stands)
 
 pub returns-clause-answers : goal.returns-clause-answers

@@ -23,14 +23,14 @@ append_file-requires-clause-below g c =
 
 pub returns-clause-stands : goal.returns-clause-stands
 returns-clause-stands g c =
-    write_follows c.args.path.now c.args.kind c.args.bytes.now c.self.view_is c.in_default.ensures c.put_file.ensures.root c.in_ok-put_file.ensures.files c.in_ok-put_file.ensures.fits
+    write_follows c.args.path.now c.args.kind c.args.bytes.now c.self.view_is c.in_default.ensures (c.path_law.ensures, c.bytes_law.ensures) c.put_file.ensures.root c.in_ok-put_file.ensures.files c.in_ok-put_file.ensures.fits
     c.in_ok-delta.delta c.in_ok-delta.ensures c.reserve.ensures.log c.append_file.ensures.stands
 
 pub invariant_of-self-2 : goal.invariant_of-self-2
 invariant_of-self-2 g c =
     let m = c.self.inside in
     still_present (state (arc_value m.store) m.work m.journal.log) c.args.self.now (state (arc_value m.store) c.put_file.new.self c.append_file.new.self.log) (Write c.args.path.now c.args.kind c.args.bytes.now) c.self.view_is c.self.invariant
-    (write_follows c.args.path.now c.args.kind c.args.bytes.now c.self.view_is c.in_default.ensures c.put_file.ensures.root c.in_ok-put_file.ensures.files c.in_ok-put_file.ensures.fits
+    (write_follows c.args.path.now c.args.kind c.args.bytes.now c.self.view_is c.in_default.ensures (c.path_law.ensures, c.bytes_law.ensures) c.put_file.ensures.root c.in_ok-put_file.ensures.files c.in_ok-put_file.ensures.fits
     c.in_ok-delta.delta c.in_ok-delta.ensures c.reserve.ensures.log c.append_file.ensures.stands)
 
 pub returns-clause-answers : goal.returns-clause-answers

@@ -11,7 +11,7 @@ invariant_of-self-2 g c =
     let absent = absent_in c.self.inside.objects.entries c.args.id c.self.invariant.0 (ap (find c.args.id) c.self.view_is ∙ c.requires.fresh) in
     kept g.N.Naming.id c.self.inside.objects.entries c.insert.new.self.entries c.args.self.now c.args.id c.args.object c.self.view_is
     (c.in-Ok.ensures.entries ∙ insert_entry-new same_id c.self.inside.objects c.args.id c.args.object absent)
-    c.self.invariant c.requires.fresh c.requires.sound c.requires.named c.requires.measured
+    c.self.invariant c.requires.fresh c.requires.sound c.requires.named c.requires.measured c.requires.small
 
 pub returns-clause-ok : goal.returns-clause-ok
 returns-clause-ok g c =

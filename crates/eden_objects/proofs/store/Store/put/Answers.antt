@@ -1,4 +1,5 @@
-use Rattle.std.proofs.Common.{rules, ◌≡◌, None, Some, false, refl}
+use Rattle.std.proofs.Common.{rules, arith, ◌≡◌, ◌<◌, ℕ, None, Some, false, refl, get_or}
+use Rattle.eden_ids.proofs.Texts.{bytes_are}
 use Rattle.eden_objects.specs.Objects.{find, zero_id}
 use Rattle.eden_ids.specs.Sameness.{same_id}
 use Rattle.eden_objects.specs.Puts.{named}
@@ -29,3 +30,9 @@ returns-in-Err g c =
     let added = no_memory (named g.N.Naming.id c.args.word c.args.payload.now) c.args.self.now c.id_of-id.result called zero absent in
     let same : c.add.new.self ≡ c.args.self.now = search rules in
     (same, added.0, added.1, added.2)
+
+pub add-requires-clause-small : goal.add-requires-clause-small
+add-requires-clause-small g c =
+    let below : (i : ℕ) → get_or c.args.payload.now i 0 < 256 = λ i. omega (arith, c.type_inv.payload i) in
+    let same : c.in-Ok.payload.items ≡ c.args.payload.now = c.in-Ok.ensures.items_if_clones_equal (λ x y is. is) in
+    record { few = rw same c.requires.small; bytes = rw same (bytes_are c.args.payload.now below) }

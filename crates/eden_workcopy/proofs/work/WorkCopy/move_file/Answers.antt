@@ -1,9 +1,11 @@
 use Rattle.std.proofs.Common.{◌≡◌, Some, false, sym, subst, ◌∙◌}
 use Rattle.eden_ids.specs.FileMaps.{IsFileMap, file_at}
+use Rattle.eden_ids.specs.Texts.{AreTexts}
 use Rattle.eden_objects.specs.Files.{commit_files}
 use Rattle.eden_ids.specs.Sameness.{same_bytes}
 use Rattle.eden_workcopy.specs.Meanings.{means}
 use Rattle.eden_history.proofs.RenameLaws.{rename_fits}
+use Rattle.eden_history.proofs.Spelled.{texts_renamed}
 use Rattle.eden_workcopy.proofs.Works.{shifted}
 use Rattle.eden_workcopy.proofs.work.WorkCopy.move_file.Goals as goal
 
@@ -16,4 +18,8 @@ returns-clause-files g c =
 
 pub returns-clause-fits : goal.returns-clause-fits
 returns-clause-fits g c =
-    λ fits free. (fits.0, subst IsFileMap (sym (returns-clause-files g c)) (rename_fits (means c.args.store.now c.args.self.now) c.args.old.now c.args.new.now fits.1 free))
+    λ fits free. record {
+      root = fits.root;
+      files = subst IsFileMap (sym (returns-clause-files g c)) (rename_fits (means c.args.store.now c.args.self.now) c.args.old.now c.args.new.now fits.files free);
+      texts = subst AreTexts (sym (returns-clause-files g c)) (texts_renamed (means c.args.store.now c.args.self.now) c.args.old.now c.args.new.now fits.texts c.path_law.ensures);
+    }

@@ -1,8 +1,12 @@
-use Rattle.std.proofs.Common.{sym, subst}
+use Rattle.std.proofs.Common.{sym, subst, arith}
 use Rattle.eden_ids.specs.FileMaps.{IsFileMap}
+use Rattle.eden_ids.specs.Texts.{AreTexts}
+use Rattle.eden_ids.proofs.TextLemmas.{texts_insert}
+use Rattle.eden_ids.proofs.Texts.{bytes_are}
 use Rattle.eden_objects.specs.Files.{commit_files}
 use Rattle.eden_workcopy.specs.Meanings.{means}
 use Rattle.eden_history.proofs.RenameLaws.{write_fits}
+use Rattle.eden_history.proofs.Spelled.{written_text}
 use Rattle.eden_workcopy.proofs.Works.{written}
 use Rattle.eden_workcopy.proofs.work.WorkCopy.put_file.Goals as goal
 
@@ -13,8 +17,11 @@ returns-clause-files c =
 
 pub returns-clause-fits : goal.returns-clause-fits
 returns-clause-fits c =
-    λ held fits free. (
-      fits.0,
-      subst IsFileMap (sym (returns-clause-files c held))
-          (write_fits (means held c.args.self.now) c.args.path.now c.args.bytes.now (record { kind = c.args.kind; bytes = c.args.bytes.now }) fits.1 free),
-    )
+    λ held fits free. record {
+      root = fits.root;
+      files = subst IsFileMap (sym (returns-clause-files c held))
+          (write_fits (means held c.args.self.now) c.args.path.now c.args.bytes.now (record { kind = c.args.kind; bytes = c.args.bytes.now }) fits.files free);
+      texts = subst AreTexts (sym (returns-clause-files c held))
+          (texts_insert (means held c.args.self.now) c.args.path.now (record { kind = c.args.kind; bytes = c.args.bytes.now }) fits.texts c.path_law.ensures
+          (written_text (means held c.args.self.now) c.args.path.now c.args.bytes.now c.args.kind free (bytes_are c.args.bytes.now (λ i. omega (arith, c.type_inv.bytes i)))));
+    }

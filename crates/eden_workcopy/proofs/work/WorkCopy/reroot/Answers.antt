@@ -1,5 +1,6 @@
 use Rattle.std.proofs.Common.{IsSome, sym, subst}
 use Rattle.eden_ids.specs.FileMaps.{IsFileMap}
+use Rattle.eden_ids.specs.Texts.{AreTexts}
 use Rattle.eden_objects.specs.Commits.{commit_map}
 use Rattle.eden_objects.specs.Files.{commit_files}
 use Rattle.eden_workcopy.specs.internal.Agreements.{AllAgree, IsLean}
@@ -9,7 +10,7 @@ use Rattle.eden_workcopy.proofs.work.WorkCopy.reroot.Goals as goal
 
 pub returns-in-Err-NoCommit-clause-refuses : goal.returns-in-Err-NoCommit-clause-refuses
 returns-in-Err-NoCommit-clause-refuses g c =
-    λ _. no_second (commit_map c.args.store.now c.args.self.now.root) (commit_map c.args.store.now c.args.commit) c.requires.0
+    λ _. no_second (commit_map c.args.store.now c.args.self.now.root) (commit_map c.args.store.now c.args.commit) c.requires.root
     (c.in-Err-NoCommit.ensures.fault (no_memory_else c.in-Err-NoCommit.field-0 c.in-Err-NoCommit.field-0-is))
 
 pub returns-in-Ok-keep_at-clause-files : goal.returns-in-Ok-keep_at-clause-files
@@ -24,10 +25,11 @@ returns-in-Ok-keep_at-clause-files g c =
 pub returns-in-Ok-keep_at-clause-fits : goal.returns-in-Ok-keep_at-clause-fits
 returns-in-Ok-keep_at-clause-fits g c =
     let old = commit_map c.args.store.now c.args.self.now.root in
-    let new = commit_map c.args.store.now c.args.commit in (
-      subst (λ id. IsSome (commit_map c.args.store.now id)) (sym c.in-Ok-keep_at.ensures.root) (listed_differ old new c.in-Ok.paths.items c.in-Ok.ensures.paths).0,
-      subst IsFileMap (sym (returns-in-Ok-keep_at-clause-files g c)) c.requires.1,
-    )
+    let new = commit_map c.args.store.now c.args.commit in record {
+      root = subst (λ id. IsSome (commit_map c.args.store.now id)) (sym c.in-Ok-keep_at.ensures.root) (listed_differ old new c.in-Ok.paths.items c.in-Ok.ensures.paths).0;
+      files = subst IsFileMap (sym (returns-in-Ok-keep_at-clause-files g c)) c.requires.files;
+      texts = subst AreTexts (sym (returns-in-Ok-keep_at-clause-files g c)) c.requires.texts;
+    }
 
 pub returns-in-Ok-keep_at-clause-lean : goal.returns-in-Ok-keep_at-clause-lean
 returns-in-Ok-keep_at-clause-lean g c =

@@ -1,6 +1,8 @@
 use Rattle.std.proofs.Common.{sym, subst}
 use Rattle.eden_ids.specs.FileMaps.{IsFileMap}
+use Rattle.eden_ids.specs.Texts.{AreTexts}
 use Rattle.eden_ids.proofs.FileMapLemmas.{IsFileMap-remove}
+use Rattle.eden_ids.proofs.TextLemmas.{texts_remove}
 use Rattle.eden_objects.specs.Files.{commit_files}
 use Rattle.eden_workcopy.specs.Meanings.{means}
 use Rattle.eden_workcopy.proofs.Works.{removed}
@@ -12,4 +14,8 @@ returns-clause-files c =
 
 pub returns-clause-fits : goal.returns-clause-fits
 returns-clause-fits c =
-    λ held fits. (fits.0, subst IsFileMap (sym (returns-clause-files c held)) (IsFileMap-remove (means held c.args.self.now) c.args.path.now fits.1))
+    λ held fits. record {
+      root = fits.root;
+      files = subst IsFileMap (sym (returns-clause-files c held)) (IsFileMap-remove (means held c.args.self.now) c.args.path.now fits.files);
+      texts = subst AreTexts (sym (returns-clause-files c held)) (texts_remove (means held c.args.self.now) c.args.path.now fits.texts);
+    }

@@ -1,6 +1,0 @@
-use Rattle.std.specs.Cmp.Lexicographic.{bytes_decides}
-use Rattle.std.proofs.lemmas.Slice.Eq.{slice_eq-Decides}
-use Rattle.eden_audit.proofs.same.same_paths.Goals as goal
-
-pub returns : goal.returns
-returns c = slice_eq-Decides bytes_decides _ _ _ c.eq.ensures

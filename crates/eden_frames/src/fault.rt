@@ -1,0 +1,29 @@
+use thiserror::Error;
+
+/// Why a frame can't be answered.
+#[derive(Clone, Copy, Debug, PartialEq, Eq, Error)]
+pub enum FrameFault {
+    /// The input ends inside the frame, or the body ends inside a field.
+    #[error("CutShort")]
+    CutShort,
+
+    /// The length is above 16,777,216.
+    #[error("TooLarge")]
+    TooLarge,
+
+    /// The tag is none that may stand there.
+    #[error("BadTag")]
+    BadTag,
+
+    /// A field's value is none that may stand there.
+    #[error("BadField")]
+    BadField,
+
+    /// Bytes stand after the last field.
+    #[error("Trailing")]
+    Trailing,
+
+    /// The body is of another version of the format.
+    #[error("Version")]
+    Version,
+}

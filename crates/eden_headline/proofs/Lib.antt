@@ -1,0 +1,4 @@
+mod Keeping
+mod Telling
+mod Mirroring
+mod Scheduling

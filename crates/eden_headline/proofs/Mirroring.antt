@@ -1,0 +1,408 @@
+-- What a mirror keeps whatever comes to it: each value that it wants stood in a row at its place or after it, and what it asks and awaits
+-- will leave it so.
+use Rattle.std.proofs.Common.{◌≡◌, ℕ, ◌+◌, ◌≤◌, Bool, true, false, cond, not, ◌&&◌, ◌||◌, List, [], ◌∷◌, map, Option, Some, None, refl, sym, ap, subst, ◌∙◌, arith}
+use Rattle.std.specs.Prelude.{Contains, if◌then◌else◌}
+use Rattle.std.specs.List.{AllByRecursion}
+use Rattle.std.proofs.lemmas.Bool.{and_parts, eqb-true, leb-true}
+use Rattle.std.proofs.lemmas.Map.Views.{any-filter_same}
+use Rattle.std.proofs.lemmas.List.Elements.{All-contains, All-from_recursion}
+use Rattle.eden_ids.specs.declared.content.Content.{Content}
+use Rattle.eden_ids.specs.FileMaps.{file_at, put_option, same_path}
+use Rattle.eden_ids.proofs.FileMapLemmas.{file_at-none, put_option-at, same_path-is}
+use Rattle.eden_globs.specs.Filters.{admits}
+use Rattle.eden_messages.specs.declared.message.Cause.{Cause}
+use Rattle.eden_messages.specs.declared.message.Cause.TheVariants.{Stale, Ahead, Truncated, TooLarge}
+use Rattle.eden_messages.specs.declared.message.Query.{Query}
+use Rattle.eden_messages.specs.declared.message.Reply.{Reply}
+use Rattle.eden_messages.specs.declared.message.Reply.TheVariants.{BasisIs, ChangesAre, ContentIs, Refused}
+use Rattle.eden_messages.specs.declared.message.Request.{Request}
+use Rattle.eden_messages.specs.declared.message.Request.TheVariants.{Basis, Poll, Fetch}
+use Rattle.eden_messages.specs.declared.outcome.Outcome.{Outcome}
+use Rattle.eden_history.specs.declared.position.Position.{Position}
+use Rattle.eden_history.specs.Worlds.{WorldState}
+use Rattle.eden_messages.specs.Mirrors.{MirrorState, Round, new_mirror, begun, counts, delivered, delivered_in, distinct, emptied, fetched, gathers, has_number, is_among, list_request, next_round, query_numbered, query_of, refiltered, refused, requests_in, same_query, taken_if, without}
+use Rattle.eden_messages.specs.Mirrors.Round.{Idle, Asked, Gathering}
+use Rattle.eden_history.specs.Rows.{IsPlace, Stands}
+use Rattle.eden_messages.specs.Spells.{paths_of}
+use Rattle.eden_headline.proofs.Telling.{BasisTells, IsTrueOf, PollTells}
+
+-- ---- what a mirror keeps
+
+-- the request is under this mirror's id and life
+pub record IsOwn (m : MirrorState) (request : Request) : Type 0 where
+  pub mirror : (query_of request).mirror ≡ m.id
+  pub life : (query_of request).life ≡ m.life
+
+-- but for its round
+pub record IsKept (world : WorldState) (sent : List Request) (id : ℕ) (m : MirrorState) : Type 0 where
+  pub named : m.id ≡ id
+  pub numbers : (request : Request) → Contains sent request → IsOwn m request → (query_of request).number ≤ m.last
+  pub outside : (p : List ℕ) → admits m.patterns p ≡ false → file_at m.files p ≡ None
+  pub placed : (place : Position) → m.place ≡ Some place → IsPlace world place
+  pub values : (place : Position) (p : List ℕ) → m.place ≡ Some place → admits m.patterns p ≡ true → Stands world place.generation place.sequence p (file_at m.files p)
+
+-- it asks since its place, and under the round's query nothing else was sent
+pub record IsGoodAsk (sent : List Request) (m : MirrorState) (request : Request) : Type 0 where
+  pub asks : request ≡ list_request (query_numbered m m.last) m.place m.patterns
+  pub alone : (other : Request) → Contains sent other → query_of other ≡ query_of request → other ≡ request
+
+-- a path that is wanted and not awaited has a value of the target or later
+pub record IsGoodGathering (world : WorldState) (m : MirrorState) (query : Query) (target : Position) (awaited : List (List ℕ)) : Type 0 where
+  pub asks : query ≡ query_numbered m m.last
+  pub reached : IsPlace world target
+  pub outside : (p : List ℕ) → admits m.patterns p ≡ false → is_among p awaited ≡ false
+  pub gathered : (p : List ℕ) → admits m.patterns p ≡ true → is_among p awaited ≡ false → Stands world target.generation target.sequence p (file_at m.files p)
+  pub later : (place : Position) → m.place ≡ Some place → (place.generation ≡ target.generation) × (place.sequence ≤ target.sequence)
+
+abbrev pub IsGoodRound : WorldState → List Request → MirrorState → Round → Type 0
+IsGoodRound world sent m Idle = Unit {0}
+IsGoodRound world sent m (Asked request) = IsGoodAsk sent m request
+IsGoodRound world sent m (Gathering query target awaited) = IsGoodGathering world m query target awaited
+
+pub record IsSound (world : WorldState) (sent : List Request) (id : ℕ) (m : MirrorState) : Type 0 where
+  pub kept : IsKept world sent id m
+  pub round : IsGoodRound world sent m m.round
+
+-- ---- requests
+
+list_query : (query : Query) (place : Option Position) (patterns : List (List ℕ)) → query_of (list_request query place patterns) ≡ query
+list_query query None patterns = refl
+list_query query (Some place) patterns = refl
+
+patterns_of : Request → List (List ℕ)
+patterns_of (Basis query patterns) = patterns
+patterns_of (Poll query since patterns) = patterns
+patterns_of (Fetch query path) = []
+
+since_of : Request → Option Position
+since_of (Basis query patterns) = None
+since_of (Poll query since patterns) = Some since
+since_of (Fetch query path) = None
+
+list_patterns : (query : Query) (place : Option Position) (patterns : List (List ℕ)) → patterns_of (list_request query place patterns) ≡ patterns
+unfolding patterns_of
+list_patterns query None patterns = refl
+list_patterns query (Some place) patterns = refl
+
+list_since : (query : Query) (place : Option Position) (patterns : List (List ℕ)) → since_of (list_request query place patterns) ≡ place
+unfolding since_of
+list_since query None patterns = refl
+list_since query (Some place) patterns = refl
+
+one_query : (q r : Query) → q.mirror ≡ r.mirror → q.life ≡ r.life → q.number ≡ r.number → q ≡ r
+one_query q r m l n = λ i. record { mirror = m i; life = l i; number = n i }
+
+query_same : (q r : Query) → same_query q r ≡ true → q ≡ r
+query_same q r e =
+    let last = and_parts _ _ e in
+    let first = and_parts _ _ last.0 in
+    one_query q r (eqb-true _ _ first.0) (eqb-true _ _ first.1) (eqb-true _ _ last.1)
+
+fetches_alike : (query : Query) (ps : List (List ℕ)) → AllByRecursion (λ r. query_of r ≡ query) (map (λ path. Fetch query path) ps)
+fetches_alike query [] = tt
+fetches_alike query (p ∷ ps) = (refl, fetches_alike query ps)
+
+-- all that a mirror asks is under the number of its last round
+pub own_query : (world : WorldState) (sent : List Request) (m : MirrorState) (request : Request) → (round : Round) → IsGoodRound world sent m round → Contains (requests_in round) request
+    → query_of request ≡ query_numbered m m.last
+own_query world sent m request Idle good there = All-contains (λ r. query_of r ≡ query_numbered m m.last) [] request (All-from_recursion (λ r. query_of r ≡ query_numbered m m.last) [] tt) there
+own_query world sent m request (Asked asked) good there =
+    All-contains (λ r. query_of r ≡ query_numbered m m.last) (asked ∷ []) request
+    (All-from_recursion (λ r. query_of r ≡ query_numbered m m.last) (asked ∷ []) (ap query_of good.asks ∙ list_query (query_numbered m m.last) m.place m.patterns, tt)) there
+own_query world sent m request (Gathering query target awaited) good there =
+    All-contains (λ r. query_of r ≡ query) (map (λ path. Fetch query path) awaited) request (All-from_recursion (λ r. query_of r ≡ query) (map (λ path. Fetch query path) awaited) (fetches_alike query awaited)) there ∙ good.asks
+
+-- what it asks in a round whose list was not told yet is that list alone
+pub own_request : (asked request : Request) → Contains (requests_in (Asked asked)) request → request ≡ asked
+own_request asked request there = All-contains (λ r. r ≡ asked) (asked ∷ []) request (All-from_recursion (λ r. r ≡ asked) (asked ∷ []) (refl, tt)) there
+
+-- ---- lists of paths
+
+among_without : (p path : List ℕ) (ps : List (List ℕ)) → is_among p (without path ps) ≡ (not (same_path p path) && is_among p ps)
+among_without p path ps = any-filter_same (λ q. same_path p q) (λ q. not (same_path q path)) (not (same_path p path)) (λ k e. ap (λ q. not (same_path q path)) (sym (same_path-is p k e))) ps
+
+among_distinct : (p : List ℕ) (ps : List (List ℕ)) → is_among p (distinct ps) ≡ is_among p ps
+among_distinct p [] = refl
+among_distinct p (q ∷ ps) =
+    ap (λ b. same_path p q || b) (among_without p q (distinct ps) ∙ ap (λ b. not (same_path p q) && b) (among_distinct p ps))
+    ∙ once (same_path p q) (is_among p ps)
+  where
+    once : (a b : Bool) → (a || (not a && b)) ≡ (a || b)
+    once true b = refl
+    once false b = refl
+
+-- ---- a mirror that begins, is refiltered or is new
+
+none_placed : {X : Type 0} (place : Position) → ◌≡◌ {A = Option Position} None (Some place) → X
+none_placed place e = absurd (let bad : ◌≡◌ {A = Option Position} None (Some place) = e in cc)
+
+-- of a mirror without files and without a place
+blank : (world : WorldState) (sent : List Request) (id : ℕ) (m : MirrorState) → m.id ≡ id
+    → ((request : Request) → Contains sent request → IsOwn m request → (query_of request).number ≤ m.last) → IsKept world sent id (emptied m)
+blank world sent id m named numbers =
+    record {
+      named = named;
+      numbers = λ request there own. numbers request there (record { mirror = own.mirror; life = own.life });
+      outside = λ p out. file_at-none p;
+      placed = λ place e. none_placed place e;
+      values = λ place p e wanted. none_placed place e;
+    }
+
+pub sound_new : (world : WorldState) (sent : List Request) (id life : ℕ) (patterns : List (List ℕ))
+    → ((request : Request) → Contains sent request → (query_of request).mirror ≡ id → (query_of request).life ≡ life → ⊥) → IsSound world sent id (new_mirror id life patterns)
+sound_new world sent id life patterns unused =
+    record {
+      kept = blank world sent id (new_mirror id life patterns) refl (λ request there own. absurd (unused request there own.mirror own.life));
+      round = tt;
+    }
+
+pub sound_refiltered : (world : WorldState) (sent : List Request) (id : ℕ) (m : MirrorState) (patterns : List (List ℕ)) → IsSound world sent id m → IsSound world sent id (refiltered m patterns)
+unfolding refiltered
+sound_refiltered world sent id m patterns is =
+    record {
+      kept = blank world sent id (record m { patterns = patterns; round = Idle }) is.kept.named
+          (λ request there own. is.kept.numbers request there (record { mirror = own.mirror; life = own.life }));
+      round = tt;
+    }
+
+pub sound_begun : (world : WorldState) (sent : List Request) (id : ℕ) (m : MirrorState) → IsSound world sent id m → IsSound world sent id (begun m)
+unfolding begun
+sound_begun world sent id m is = by (has_number m)
+  where
+    above : (request : Request) → Contains sent request → IsOwn m request → (query_of request).number ≤ m.last + 1
+    above request there own = let le = is.kept.numbers request there own in omega arith
+
+    alone : (other : Request) → Contains sent other → query_of other ≡ query_numbered m (m.last + 1) → ⊥
+    alone other there same =
+        let le = is.kept.numbers other there (record { mirror = ap (λ q. q.mirror) same; life = ap (λ q. q.life) same }) in
+        let number = ap (λ q. q.number) same in
+        omega arith
+
+    by : (b : Bool) → IsSound world sent id (if b then next_round m else m)
+    by true =
+        record {
+          kept =
+              record {
+                named = is.kept.named;
+                numbers = λ request there own. above request there (record { mirror = own.mirror; life = own.life });
+                outside = is.kept.outside;
+                placed = is.kept.placed;
+                values = is.kept.values;
+              };
+          round =
+              record {
+                asks = refl;
+                alone = λ other there same. absurd (alone other there (same ∙ list_query (query_numbered m (m.last + 1)) m.place m.patterns));
+              };
+        }
+    by false = is
+
+-- ---- a mirror to which a reply comes
+
+-- what gathers is sound, also where nothing is awaited
+gathers_sound : (world : WorldState) (sent : List Request) (id : ℕ) (m : MirrorState) (query : Query) (target : Position) (awaited : List (List ℕ))
+    → IsKept world sent id m → IsGoodGathering world m query target awaited → IsSound world sent id (gathers m query target awaited).0
+gathers_sound world sent id m query target [] kept good =
+    record {
+      kept =
+          record {
+            named = kept.named;
+            numbers = λ request there own. kept.numbers request there (record { mirror = own.mirror; life = own.life });
+            outside = kept.outside;
+            placed = λ place e. subst (IsPlace world) (reached place e) good.reached;
+            values = λ place p e wanted. subst (λ t. Stands world t.generation t.sequence p (file_at m.files p)) (reached place e) (good.gathered p wanted refl);
+          };
+      round = tt;
+    }
+  where
+    reached : (place : Position) → ◌≡◌ {A = Option Position} (Some target) (Some place) → target ≡ place
+    reached place e = cc
+gathers_sound world sent id m query target (p ∷ ps) kept good =
+    record {
+      kept =
+          record {
+            named = kept.named;
+            numbers = λ request there own. kept.numbers request there (record { mirror = own.mirror; life = own.life });
+            outside = kept.outside;
+            placed = kept.placed;
+            values = kept.values;
+          };
+      round =
+          record { asks = good.asks; reached = good.reached; outside = good.outside; gathered = good.gathered; later = good.later };
+    }
+
+taken_sound : (world : WorldState) (sent : List Request) (id : ℕ) (m : MirrorState) (b : Bool) (taken : MirrorState × Outcome) → IsSound world sent id m
+    → (b ≡ true → IsSound world sent id taken.0) → IsSound world sent id (taken_if b m taken).0
+taken_sound world sent id m true taken is made = made refl
+taken_sound world sent id m false taken is made = is
+
+-- the list of all paths
+basis_sound : (world : WorldState) (sent : List Request) (id : ℕ) (m : MirrorState) (asked query : Query) (patterns : List (List ℕ)) (position : Position) (ps : List (List ℕ))
+    → IsSound world sent id m → IsGoodAsk sent m (Basis asked patterns) → BasisTells world sent query position ps → query ≡ asked
+    → IsSound world sent id (gathers (emptied m) asked position (distinct ps)).0
+unfolding patterns_of
+basis_sound world sent id m asked query patterns position ps is good told same =
+    gathers_sound world sent id (emptied m) asked position (distinct ps) (blank world sent id m is.kept.named is.kept.numbers)
+    (record {
+      asks = ap query_of good.asks ∙ list_query (query_numbered m m.last) m.place m.patterns;
+      reached = told.place;
+      outside = λ p out. among_distinct p ps ∙ told.refused p (ap (λ f. admits f p) filters ∙ out);
+      gathered = λ p wanted none.
+          subst (Stands world position.generation position.sequence p) (sym (file_at-none p)) (told.absent p (ap (λ f. admits f p) filters ∙ wanted) (sym (among_distinct p ps) ∙ none));
+      later = λ place e. none_placed place e;
+    })
+  where
+    filters : told.patterns ≡ m.patterns
+    filters = ap patterns_of (good.alone (Basis query told.patterns) told.asked same ∙ good.asks) ∙ list_patterns (query_numbered m m.last) m.place m.patterns
+
+-- the list of what changed
+changes_sound : (world : WorldState) (sent : List Request) (id : ℕ) (m : MirrorState) (asked query : Query) (since : Position) (patterns : List (List ℕ)) (target : Position) (ps : List (List ℕ))
+    → IsSound world sent id m → IsGoodAsk sent m (Poll asked since patterns) → PollTells world sent query target ps → query ≡ asked
+    → IsSound world sent id (gathers m asked target (distinct ps)).0
+unfolding patterns_of since_of
+changes_sound world sent id m asked query since patterns target ps is good told same =
+    gathers_sound world sent id m asked target (distinct ps) is.kept
+    (record {
+      asks = ap query_of good.asks ∙ list_query (query_numbered m m.last) m.place m.patterns;
+      reached = told.place;
+      outside = λ p out. among_distinct p ps ∙ told.refused p (ap (λ f. admits f p) filters ∙ out);
+      gathered = λ p wanted none.
+          told.stays p (file_at m.files p) (ap (λ f. admits f p) filters ∙ wanted) (sym (among_distinct p ps) ∙ none) (is.kept.values told.since p (sym place_is) wanted);
+      later = λ place e. later place (place_is ∙ e);
+    })
+  where
+    one : Poll query told.since told.patterns ≡ list_request (query_numbered m m.last) m.place m.patterns
+    one = good.alone (Poll query told.since told.patterns) told.asked same ∙ good.asks
+
+    filters : told.patterns ≡ m.patterns
+    filters = ap patterns_of one ∙ list_patterns (query_numbered m m.last) m.place m.patterns
+
+    place_is : Some told.since ≡ m.place
+    place_is = ap since_of one ∙ list_since (query_numbered m m.last) m.place m.patterns
+
+    later : (place : Position) → ◌≡◌ {A = Option Position} (Some told.since) (Some place) → (place.generation ≡ target.generation) × (place.sequence ≤ target.sequence)
+    later place e = let there : told.since ≡ place = cc in subst (λ s. (s.generation ≡ target.generation) × (s.sequence ≤ target.sequence)) there (told.alike, told.before)
+
+-- what stands since a number stands since an earlier one
+since_earlier : (world : WorldState) (generation other number earlier : ℕ) (p : List ℕ) (file : Option Content) → generation ≡ other → earlier ≤ number
+    → Stands world generation number p file → Stands world other earlier p file
+since_earlier world generation other number earlier p file same le is =
+    record { row = is.row; is_row = is.is_row; alike = is.alike ∙ same; after = let low = is.after in omega arith; value = is.value }
+
+-- a content
+content_sound : (world : WorldState) (sent : List Request) (id : ℕ) (m : MirrorState) (asked : Query) (target position : Position) (awaited : List (List ℕ)) (path : List ℕ) (content : Option Content)
+    → IsSound world sent id m → IsGoodGathering world m asked target awaited → Stands world position.generation position.sequence path content
+    → position.generation ≡ target.generation → target.sequence ≤ position.sequence → is_among path awaited ≡ true
+    → IsSound world sent id (fetched m asked target awaited path content).0
+content_sound world sent id m asked target position awaited path content is good told same le there =
+    gathers_sound world sent id (record m { files = put_option m.files path content }) asked target (without path awaited)
+    (record {
+      named = is.kept.named;
+      numbers = λ request sent_it own. is.kept.numbers request sent_it (record { mirror = own.mirror; life = own.life });
+      outside = λ p out. put_option-at m.files path content p ∙ unwanted p out (same_path p path) refl;
+      placed = is.kept.placed;
+      values = λ place p e wanted.
+          subst (Stands world place.generation place.sequence p) (sym (put_option-at m.files path content p))
+          (by place.generation place.sequence p (let gen = (good.later place e).0 in gen) (let low = (good.later place e).1 in low) (same_path p path) refl (λ apart. is.kept.values place p e wanted));
+    })
+    (record {
+      asks = good.asks;
+      reached = good.reached;
+      outside = λ p out. among_without p path awaited ∙ ap (λ b. not (same_path p path) && b) (good.outside p out) ∙ and_false (not (same_path p path));
+      gathered = λ p wanted none.
+          subst (Stands world target.generation target.sequence p) (sym (put_option-at m.files path content p))
+          (by target.generation target.sequence p refl (omega arith) (same_path p path) refl (λ apart. good.gathered p wanted (left p apart none)));
+      later = good.later;
+    })
+  where
+    and_false : (b : Bool) → (b && false) ≡ false
+    and_false true = refl
+    and_false false = refl
+
+    unwanted : (p : List ℕ) → admits m.patterns p ≡ false → (b : Bool) → same_path p path ≡ b → cond b content (file_at m.files p) ≡ None
+    unwanted p out true e =
+        absurd (let bad : true ≡ false = sym there ∙ ap (λ q. is_among q awaited) (sym (same_path-is p path e)) ∙ good.outside p out in cc)
+    unwanted p out false e = is.kept.outside p out
+
+    by : (generation number : ℕ) (p : List ℕ) → generation ≡ target.generation → number ≤ target.sequence → (b : Bool) → same_path p path ≡ b
+        → (same_path p path ≡ false → Stands world generation number p (file_at m.files p)) → Stands world generation number p (cond b content (file_at m.files p))
+    by generation number p gen low true e old =
+        since_earlier world position.generation generation position.sequence number p content (same ∙ sym gen) (omega arith)
+        (subst (λ q. Stands world position.generation position.sequence q content) (sym (same_path-is p path e)) told)
+    by generation number p gen low false e old = old e
+
+    left : (p : List ℕ) → same_path p path ≡ false → is_among p (without path awaited) ≡ false → is_among p awaited ≡ false
+    left p apart none = sym (ap (λ b. not b && is_among p awaited) apart) ∙ sym (among_without p path awaited) ∙ none
+
+ended : (world : WorldState) (sent : List Request) (id : ℕ) (m : MirrorState) → IsSound world sent id m → IsSound world sent id (record m { round = Idle })
+ended world sent id m is =
+    record {
+      kept =
+          record {
+            named = is.kept.named;
+            numbers = λ request there own. is.kept.numbers request there (record { mirror = own.mirror; life = own.life });
+            outside = is.kept.outside;
+            placed = is.kept.placed;
+            values = is.kept.values;
+          };
+      round = tt;
+    }
+
+unplaced : (world : WorldState) (sent : List Request) (id : ℕ) (m : MirrorState) → IsSound world sent id m → IsSound world sent id (record m { place = None; round = Idle })
+unplaced world sent id m is =
+    record {
+      kept =
+          record {
+            named = is.kept.named;
+            numbers = λ request there own. is.kept.numbers request there (record { mirror = own.mirror; life = own.life });
+            outside = is.kept.outside;
+            placed = λ place e. none_placed place e;
+            values = λ place p e wanted. none_placed place e;
+          };
+      round = tt;
+    }
+
+refused_sound : (world : WorldState) (sent : List Request) (id : ℕ) (m : MirrorState) (cause : Cause) → IsSound world sent id m → IsSound world sent id (refused m cause).0
+refused_sound world sent id m (Stale generation) is = unplaced world sent id m is
+refused_sound world sent id m (Ahead head) is = unplaced world sent id m is
+refused_sound world sent id m (Truncated floor) is = unplaced world sent id m is
+refused_sound world sent id m TooLarge is = ended world sent id m is
+
+counted_parts : (asked : Query) (target : Position) (awaited : List (List ℕ)) (query : Query) (position : Position) (path : List ℕ) → counts asked target awaited query position path ≡ true
+    → (position.generation ≡ target.generation) × (target.sequence ≤ position.sequence) × (is_among path awaited ≡ true)
+counted_parts asked target awaited query position path e =
+    let last = and_parts _ _ e in
+    let third = and_parts _ _ last.0 in
+    let second = and_parts _ _ third.0 in
+    (eqb-true _ _ second.1, leb-true _ _ third.1, last.1)
+
+delivered_sound : (world : WorldState) (sent : List Request) (id : ℕ) (m : MirrorState) (round : Round) (reply : Reply) → IsSound world sent id m → IsGoodRound world sent m round
+    → IsTrueOf world sent reply → IsSound world sent id (delivered_in m round reply).0
+delivered_sound world sent id m Idle (BasisIs query position ps) is good told = is
+delivered_sound world sent id m Idle (ChangesAre query target marked) is good told = is
+delivered_sound world sent id m Idle (ContentIs query position path content) is good told = is
+delivered_sound world sent id m Idle (Refused query cause) is good told = is
+delivered_sound world sent id m (Asked (Basis asked patterns)) (BasisIs query position ps) is good told =
+    taken_sound world sent id m (same_query query asked) _ is (λ e. basis_sound world sent id m asked query patterns position ps is good told (query_same query asked e))
+delivered_sound world sent id m (Asked (Poll asked since patterns)) (BasisIs query position ps) is good told = is
+delivered_sound world sent id m (Asked (Fetch asked path)) (BasisIs query position ps) is good told = is
+delivered_sound world sent id m (Asked (Basis asked patterns)) (ChangesAre query target marked) is good told = is
+delivered_sound world sent id m (Asked (Poll asked since patterns)) (ChangesAre query target marked) is good told =
+    taken_sound world sent id m (same_query query asked) _ is
+    (λ e. changes_sound world sent id m asked query since patterns target (paths_of marked) is good told (query_same query asked e))
+delivered_sound world sent id m (Asked (Fetch asked path)) (ChangesAre query target marked) is good told = is
+delivered_sound world sent id m (Asked request) (ContentIs query position path content) is good told = is
+delivered_sound world sent id m (Asked request) (Refused query cause) is good told =
+    taken_sound world sent id m (same_query query (query_of request)) _ is (λ e. refused_sound world sent id m cause is)
+delivered_sound world sent id m (Gathering asked target awaited) (BasisIs query position ps) is good told = is
+delivered_sound world sent id m (Gathering asked target awaited) (ChangesAre query other marked) is good told = is
+delivered_sound world sent id m (Gathering asked target awaited) (ContentIs query position path content) is good told =
+    taken_sound world sent id m (counts asked target awaited query position path) _ is
+    (λ e. let parts = counted_parts asked target awaited query position path e in
+    content_sound world sent id m asked target position awaited path content is good told parts.0 parts.1 parts.2)
+delivered_sound world sent id m (Gathering asked target awaited) (Refused query cause) is good told = is
+
+pub sound_delivered : (world : WorldState) (sent : List Request) (id : ℕ) (m : MirrorState) (reply : Reply) → IsSound world sent id m → IsTrueOf world sent reply
+    → IsSound world sent id (delivered m reply).0
+unfolding delivered
+sound_delivered world sent id m reply is told = delivered_sound world sent id m m.round reply is is.round told

@@ -1,0 +1,265 @@
+-- What every reply that a mount ever gave goes on to say truly of its world, whenever it comes.
+use Rattle.std.proofs.Common.{◌≡◌, ℕ, ◌<◌, ◌≤◌, ◌⊎◌, inl, inr, Bool, true, false, cond, not, ◌&&◌, nat_lt, List, [], ◌∷◌, ◌++◌, length, map, filter, Option, Some, None, is_some, refl, sym, ap, subst, ◌∙◌, arith}
+use Rattle.std.specs.Prelude.{Contains, ◌==◌, if◌then◌else◌}
+use Rattle.std.specs.FinMap as fin
+use Rattle.std.proofs.lemmas.Bool.{eqb-false, eqb-true, ltb-false, ltb-true}
+use Rattle.std.proofs.lemmas.Map.Views.{any-filter_same}
+use Rattle.std.proofs.lemmas.List.Elements.{Contains-append_left}
+use Rattle.eden_ids.specs.declared.content.Content.{Content}
+use Rattle.eden_ids.specs.FileMaps.{file_at, has, listing, paths, same_path}
+use Rattle.eden_ids.proofs.FileMapLemmas.{has-listing, same_path-is}
+use Rattle.eden_globs.specs.Filters.{admits}
+use Rattle.eden_history.specs.declared.answer.SinceFault.{SinceFault}
+use Rattle.eden_history.specs.declared.answer.SinceFault.TheVariants as since_fault
+use Rattle.eden_history.specs.declared.change.Change.{Change}
+use Rattle.eden_history.specs.declared.mark.Marked.{Marked}
+use Rattle.eden_messages.specs.declared.message.Cause.TheVariants.{TooLarge}
+use Rattle.eden_messages.specs.declared.message.Query.{Query}
+use Rattle.eden_messages.specs.declared.message.Reply.{Reply}
+use Rattle.eden_messages.specs.declared.message.Reply.TheVariants.{BasisIs, ChangesAre, ContentIs, Refused}
+use Rattle.eden_messages.specs.declared.message.Request.{Request}
+use Rattle.eden_messages.specs.declared.message.Request.TheVariants.{Basis, Poll, Fetch}
+use Rattle.eden_history.specs.declared.position.Position.{Position}
+use Rattle.eden_history.specs.Worlds.{Event, WorldState, commits_of, now, position_of}
+use Rattle.eden_history.specs.Changes.{changes}
+use Rattle.eden_history.specs.Legal.{IsLegal}
+use Rattle.eden_history.specs.Marks.{mark_of, marked_since}
+use Rattle.eden_messages.specs.Mirrors.{is_among}
+use Rattle.eden_history.specs.Outcome.{outcome, world_after}
+use Rattle.eden_history.specs.Outcome.Outcome.{Next}
+use Rattle.eden_history.specs.Recorded.{floor_of}
+use Rattle.eden_history.specs.Marks.{admitted}
+use Rattle.eden_messages.specs.Replies.{admitted_paths, bounded, polled, reply_of}
+use Rattle.eden_history.specs.Rows.{IsPlace, IsRow, Stands}
+use Rattle.eden_messages.specs.Spells.{paths_of, reply_bytes}
+use Rattle.eden_frames.specs.Frames.{body_limit}
+use Rattle.eden_history.specs.Status.{status, status_of}
+use Rattle.eden_history.proofs.Following.{Follows, event_follows}
+use Rattle.eden_headline.proofs.Keeping.{goes_on, grown, now_is_place, now_is_row, place_grown, place_in_time, place_on, stands_grown, stands_now, stands_on, still}
+
+-- ---- what is true of a reply
+
+-- it answers some basis that was sent; at its position and later no file stood at an admitted path that is not listed
+pub record BasisTells (world : WorldState) (sent : List Request) (query : Query) (position : Position) (ps : List (List ℕ)) : Type 0 where
+  pub patterns : List (List ℕ)
+  pub asked : Contains sent (Basis query patterns)
+  pub place : IsPlace world position
+  pub refused : (p : List ℕ) → admits patterns p ≡ false → is_among p ps ≡ false
+  pub absent : (p : List ℕ) → admits patterns p ≡ true → is_among p ps ≡ false → Stands world position.generation position.sequence p None
+
+-- it answers some poll that was sent; what stood at an admitted path that is not listed, since the poll's position, stood there at the target
+-- or later
+pub record PollTells (world : WorldState) (sent : List Request) (query : Query) (target : Position) (ps : List (List ℕ)) : Type 0 where
+  pub since : Position
+  pub patterns : List (List ℕ)
+  pub asked : Contains sent (Poll query since patterns)
+  pub place : IsPlace world target
+  pub alike : since.generation ≡ target.generation
+  pub before : since.sequence ≤ target.sequence
+  pub refused : (p : List ℕ) → admits patterns p ≡ false → is_among p ps ≡ false
+  pub stays : (p : List ℕ) (file : Option Content) → admits patterns p ≡ true → is_among p ps ≡ false → Stands world since.generation since.sequence p file
+      → Stands world target.generation target.sequence p file
+
+abbrev pub IsTrueOf : WorldState → List Request → Reply → Type 0
+IsTrueOf world sent (BasisIs query position ps) = BasisTells world sent query position ps
+IsTrueOf world sent (ChangesAre query target marked) = PollTells world sent query target (paths_of marked)
+IsTrueOf world sent (ContentIs query position path content) = Stands world position.generation position.sequence path content
+IsTrueOf world sent (Refused query cause) = Unit {0}
+
+-- ---- it stays true
+
+pub true_of_more : (world : WorldState) (sent more : List Request) (reply : Reply) → IsTrueOf world sent reply → IsTrueOf world (sent ++ more) reply
+true_of_more world sent more (BasisIs query position ps) is =
+    record { patterns = is.patterns; asked = Contains-append_left sent more _ is.asked; place = is.place; refused = is.refused; absent = is.absent }
+true_of_more world sent more (ChangesAre query target marked) is =
+    record {
+      since = is.since;
+      patterns = is.patterns;
+      asked = Contains-append_left sent more _ is.asked;
+      place = is.place;
+      alike = is.alike;
+      before = is.before;
+      refused = is.refused;
+      stays = is.stays;
+    }
+true_of_more world sent more (ContentIs query position path content) is = is
+true_of_more world sent more (Refused query cause) is = tt
+
+-- a row that is new since a place of its generation comes after it
+new_row : (world : WorldState) (event : Event) (target : Position) (p : List ℕ) (file : Option Content) → IsLegal world → IsPlace world target
+    → outcome (commits_of world) (now world) event.change ≡ Next event → event.row.generation ≡ target.generation → file_at event.row.files p ≡ file
+    → Stands (grown world event) target.generation target.sequence p file
+new_row world event target p file legal place made same value =
+    by (event_follows (commits_of world) world.opening world.past event (made, legal.1)) (place_in_time world target legal place)
+  where
+    found : target.sequence ≤ event.row.sequence → Stands (grown world event) target.generation target.sequence p file
+    found after = record { row = event.row; is_row = inl refl; alike = same; after = after; value = value }
+
+    by : Follows (now world) event.row → (target.generation < (now world).generation) ⊎ ((target.generation ≡ (now world).generation) × (target.sequence ≤ (now world).sequence))
+        → Stands (grown world event) target.generation target.sequence p file
+    by (inl next) (inl lt) = absurd (let g = next.0 in omega arith)
+    by (inl next) (inr both) = let n = next.1 in let le = both.1 in found (omega arith)
+    by (inr lower) (inl lt) = absurd (omega arith)
+    by (inr lower) (inr both) = absurd (let g = both.0 in omega arith)
+
+stays_grown : (world : WorldState) (event : Event) (since target : Position) (p : List ℕ) (file : Option Content) → IsLegal world → IsPlace world target
+    → outcome (commits_of world) (now world) event.change ≡ Next event → since.generation ≡ target.generation
+    → (Stands world since.generation since.sequence p file → Stands world target.generation target.sequence p file)
+    → Stands (grown world event) since.generation since.sequence p file → Stands (grown world event) target.generation target.sequence p file
+stays_grown world event since target p file legal place made same stays is = by is.is_row
+  where
+    by : ((is.row ≡ event.row) ⊎ IsRow world is.row) → Stands (grown world event) target.generation target.sequence p file
+    by (inl new) = new_row world event target p file legal place made (ap (λ r. r.generation) (sym new) ∙ is.alike ∙ same) (ap (λ r. file_at r.files p) (sym new) ∙ is.value)
+    by (inr old) =
+        stands_grown world event target.generation target.sequence p file
+        (stays (record { row = is.row; is_row = old; alike = is.alike; after = is.after; value = is.value }))
+
+poll_grown : (world : WorldState) (event : Event) (sent : List Request) (query : Query) (target : Position) (ps : List (List ℕ)) → IsLegal world
+    → outcome (commits_of world) (now world) event.change ≡ Next event → PollTells world sent query target ps → PollTells (grown world event) sent query target ps
+poll_grown world event sent query target ps legal made is =
+    record {
+      since = is.since;
+      patterns = is.patterns;
+      asked = is.asked;
+      place = place_grown world event target is.place;
+      alike = is.alike;
+      before = is.before;
+      refused = is.refused;
+      stays = λ p file a none. stays_grown world event is.since target p file legal is.place made is.alike (is.stays p file a none);
+    }
+
+pub true_on : (world : WorldState) (sent : List Request) (change : Change) (reply : Reply) → IsLegal world → IsTrueOf world sent reply → IsTrueOf (world_after world change) sent reply
+true_on world sent change (BasisIs query position ps) legal is =
+    record {
+      patterns = is.patterns;
+      asked = is.asked;
+      place = place_on world change position is.place;
+      refused = is.refused;
+      absent = λ p a none. stands_on world change position.generation position.sequence p None (is.absent p a none);
+    }
+true_on world sent change (ChangesAre query target marked) legal is =
+    goes_on (λ w. PollTells w sent query target (paths_of marked)) world change is
+    (λ event made. poll_grown world event sent query target (paths_of marked) legal made is)
+true_on world sent change (ContentIs query position path content) legal is = stands_on world change position.generation position.sequence path content is
+true_on world sent change (Refused query cause) legal is = tt
+
+-- ---- lists of paths
+
+among_filter : (patterns : List (List ℕ)) (p : List ℕ) (ps : List (List ℕ)) → is_among p (filter (admits patterns) ps) ≡ (admits patterns p && is_among p ps)
+among_filter patterns p ps = any-filter_same (λ q. same_path p q) (admits patterns) (admits patterns p) (λ k e. ap (admits patterns) (sym (same_path-is p k e))) ps
+
+admitted_listed : (patterns : List (List ℕ)) (marked : List Marked) → paths_of (admitted patterns marked) ≡ filter (admits patterns) (paths_of marked)
+admitted_listed patterns [] = refl
+admitted_listed patterns (m ∷ ms) = by (admits patterns m.path) (admitted_listed patterns ms)
+  where
+    by : (b : Bool) → paths_of (admitted patterns ms) ≡ filter (admits patterns) (paths_of ms)
+        → paths_of (cond b (m ∷ admitted patterns ms) (admitted patterns ms)) ≡ cond b (m.path ∷ filter (admits patterns) (paths_of ms)) (filter (admits patterns) (paths_of ms))
+    by true more = ap (λ ps. m.path ∷ ps) more
+    by false more = more
+
+marked_paths : (world : WorldState) (since : ℕ) → paths_of (marked_since world since) ≡ listing (changes (now world).generation since (now world).sequence world.past)
+marked_paths world since = each (listing (changes (now world).generation since (now world).sequence world.past))
+  where
+    each : (ps : List (List ℕ))
+        → paths_of (map (λ path. record { mark = mark_of path (now world).generation since (now world).sequence world.opening world.past; path = path }) ps) ≡ ps
+    each [] = refl
+    each (q ∷ ps) = ap (λ more. q ∷ more) (each ps)
+
+-- a path is listed in the reply to a poll where it is admitted and named since
+pub among_changes : (world : WorldState) (since : ℕ) (patterns : List (List ℕ)) (p : List ℕ)
+    → is_among p (paths_of (admitted patterns (marked_since world since)))
+    ≡ (admits patterns p && has (changes (now world).generation since (now world).sequence world.past) p)
+among_changes world since patterns p =
+    ap (is_among p) (admitted_listed patterns (marked_since world since))
+    ∙ among_filter patterns p (paths_of (marked_since world since))
+    ∙ ap (λ ps. admits patterns p && is_among p ps) (marked_paths world since)
+    ∙ ap (λ b. admits patterns p && b) (sym (has-listing (changes (now world).generation since (now world).sequence world.past) p))
+
+-- ---- what is replied now is true
+
+turned_down : (patterns : List (List ℕ)) (p : List ℕ) (b : Bool) → admits patterns p ≡ false → (admits patterns p && b) ≡ false
+turned_down patterns p b out = ap (λ c. c && b) out
+
+left_over : (patterns : List (List ℕ)) (p : List ℕ) (b : Bool) → admits patterns p ≡ true → (admits patterns p && b) ≡ false → b ≡ false
+left_over patterns p b wanted none = sym (ap (λ c. c && b) wanted) ∙ none
+
+bounded_true : (world : WorldState) (sent : List Request) (query : Query) (reply : Reply) → IsTrueOf world sent reply → IsTrueOf world sent (bounded query reply)
+unfolding bounded
+bounded_true world sent query reply is = by (nat_lt body_limit (length (reply_bytes reply)))
+  where
+    by : (b : Bool) → IsTrueOf world sent (if b then Refused query TooLarge else reply)
+    by true = tt
+    by false = is
+
+basis_true : (world : WorldState) (sent : List Request) (query : Query) (patterns : List (List ℕ)) → Contains sent (Basis query patterns)
+    → BasisTells world sent query (position_of (now world)) (admitted_paths patterns (now world).files)
+basis_true world sent query patterns asked =
+    record {
+      patterns = patterns;
+      asked = asked;
+      place = now_is_place world;
+      refused = λ p no. among_filter patterns p (paths (now world).files) ∙ turned_down patterns p (is_among p (paths (now world).files)) no;
+      absent = λ p yes none. subst (Stands world (now world).generation (now world).sequence p) (nothing p yes none) (stands_now world p);
+    }
+  where
+    none_there : (file : Option Content) → is_some file ≡ false → file ≡ None
+    none_there None e = refl
+    none_there (Some file) e = cc
+
+    nothing : (p : List ℕ) → admits patterns p ≡ true → is_among p (admitted_paths patterns (now world).files) ≡ false → file_at (now world).files p ≡ None
+    nothing p wanted none =
+        none_there (file_at (now world).files p)
+        (fin.contains_key-keys (now world).files p ∙ left_over patterns p (is_among p (paths (now world).files)) wanted (sym (among_filter patterns p (paths (now world).files)) ∙ none))
+
+-- ---- of positions
+
+-- what a position's status is decided by
+pub by_status : (Holds : Option SinceFault → Type 0) (generation head floor : ℕ) (position : Position)
+    → ((position.generation ≡ generation → ⊥) → Holds (Some (since_fault.Stale generation)))
+    → (position.generation ≡ generation → head < position.sequence → Holds (Some (since_fault.Ahead head)))
+    → (position.generation ≡ generation → position.sequence ≤ head → Holds (Some (since_fault.Truncated floor)))
+    → (position.generation ≡ generation → position.sequence ≤ head → Holds None)
+    → Holds (status generation head floor position)
+by_status Holds generation head floor position stale ahead truncated good =
+    by (position.generation == generation) (nat_lt head position.sequence) (nat_lt position.sequence floor) refl refl
+  where
+    by : (same later below : Bool) → (position.generation == generation) ≡ same → nat_lt head position.sequence ≡ later
+        → Holds (if not same then Some (since_fault.Stale generation) else if later then Some (since_fault.Ahead head) else if below then Some (since_fault.Truncated floor) else None)
+    by false later below s l = stale (eqb-false position.generation generation s)
+    by true true below s l = ahead (eqb-true position.generation generation s) (ltb-true head position.sequence l)
+    by true false true s l = truncated (eqb-true position.generation generation s) (ltb-false head position.sequence l)
+    by true false false s l = good (eqb-true position.generation generation s) (ltb-false head position.sequence l)
+
+poll_true : (world : WorldState) (sent : List Request) (query : Query) (since : Position) (patterns : List (List ℕ)) → IsLegal world → Contains sent (Poll query since patterns)
+    → IsTrueOf world sent (polled world query since.sequence patterns (status_of world since))
+poll_true world sent query since patterns legal asked =
+    by_status (λ fault. IsTrueOf world sent (polled world query since.sequence patterns fault)) (now world).generation (now world).sequence (floor_of world) since
+    (λ apart. tt) (λ same late. tt) (λ same before. tt) (λ same before. bounded_true world sent query _ (told same before))
+  where
+    told : since.generation ≡ (now world).generation → since.sequence ≤ (now world).sequence
+        → PollTells world sent query (position_of (now world)) (paths_of (admitted patterns (marked_since world since.sequence)))
+    told same before =
+        record {
+          since = since;
+          patterns = patterns;
+          asked = asked;
+          place = now_is_place world;
+          alike = same;
+          before = before;
+          refused = λ p out. among_changes world since.sequence patterns p ∙ turned_down patterns p _ out;
+          stays = λ p file wanted none is.
+              record {
+                row = now world;
+                is_row = now_is_row world;
+                alike = refl;
+                after = omega arith;
+                value = sym (still (commits_of world) (now world).generation since.sequence (now world).sequence world.opening world.past is.row p legal.1 is.is_row (is.alike ∙ same) is.after refl (omega arith)
+                    (left_over patterns p _ wanted (sym (among_changes world since.sequence patterns p) ∙ none))) ∙ is.value;
+              };
+        }
+
+-- the reply to a request that was sent
+pub reply_true : (world : WorldState) (sent : List Request) (request : Request) → IsLegal world → Contains sent request → IsTrueOf world sent (reply_of world request)
+reply_true world sent (Basis query patterns) legal asked = bounded_true world sent query _ (basis_true world sent query patterns asked)
+reply_true world sent (Fetch query path) legal asked = bounded_true world sent query _ (stands_now world path)
+reply_true world sent (Poll query since patterns) legal asked = poll_true world sent query since patterns legal asked

@@ -1,0 +1,251 @@
+-- What makes replies spellable is kept by every change, and holds of each row of a world and of each path that an event names.
+use Rattle.std.proofs.Common.{◌≡◌, ℕ, ◌^◌, ◌<◌, ◌⊎◌, inl, inr, Bool, true, false, cond, ◌||◌, is_some, nat_lt, List, [], ◌∷◌, length, Option, Some, None, refl, sym, subst, ◌∙◌, arith}
+use Rattle.std.specs.Prelude.{if◌then◌else◌}
+use Rattle.std.proofs.lemmas.Bool.{ltb-false}
+use Rattle.std.specs.List.{AllByRecursion}
+use Rattle.std.specs.FinMap as fin
+use Rattle.eden_ids.specs.declared.id.Id.{Id}
+use Rattle.eden_ids.specs.declared.content.Content.{Content}
+use Rattle.eden_ids.specs.declared.content.Kind.{Kind}
+use Rattle.eden_ids.specs.FileMaps.{FileMap, PathSet, clashes_any, differ, file_at, listing, no_paths, path_set}
+use Rattle.eden_ids.specs.Sameness.{same_bytes}
+use Rattle.eden_ids.specs.Texts.{AreBytes, AreTexts, IsContentText, IsIdText, IsPathText}
+use Rattle.eden_ids.proofs.FileMapLemmas.{has-none}
+use Rattle.eden_ids.proofs.Members.{all_members, all_of_set, all_of_union}
+use Rattle.eden_ids.proofs.TextLemmas.{differ_texts, texts_insert, texts_none, texts_remove}
+use Rattle.eden_objects.specs.Objects.{Held}
+use Rattle.eden_objects.specs.Closed.{IsClosed}
+use Rattle.eden_objects.specs.Commits.{commit_map}
+use Rattle.eden_objects.specs.Files.{files_of}
+use Rattle.eden_objects.specs.Small.{AreSmall}
+use Rattle.eden_objects.proofs.CommitTexts.{commits_texts}
+use Rattle.eden_history.specs.declared.change.Mode.{Mode}
+use Rattle.eden_history.specs.declared.change.Mode.TheVariants.{Normal, Dry, Force}
+use Rattle.eden_history.specs.declared.change.Change.{Change}
+use Rattle.eden_history.specs.declared.change.Change.TheVariants.{Write, Remove, Rename, Checkout, Reset, Flush, Remount}
+use Rattle.eden_history.specs.declared.change.ChangeFault.{ChangeFault}
+use Rattle.eden_history.specs.declared.change.ChangeFault.TheVariants.{TooLarge}
+use Rattle.eden_history.specs.Worlds.{Row, Event, Commits, WorldState, commits_of, last_row, now, opened}
+use Rattle.eden_history.specs.Checkouts.{checked_out, is_blocked, is_clean, rule_of, unclean}
+use Rattle.eden_history.specs.Named.{commits_differ, held_files, named, unclean_set}
+use Rattle.eden_history.specs.Changes.{changes, is_in_range, named_if}
+use Rattle.eden_history.specs.Outcome.{Outcome, change_fault, event_at, extended, is_event, judged, next_files, next_generation, next_root, next_row, outcome, refusal, world_after}
+use Rattle.eden_history.specs.Outcome.Outcome.{Refuses, NoEvent, Next}
+use Rattle.eden_history.specs.Renames.{moved, place_fault, renamed, write_fault}
+use Rattle.eden_history.specs.Legal.{AreMade, IsWorld}
+use Rattle.eden_history.specs.Spellable.{IsChange, IsRowText, IsSpellable}
+use Rattle.eden_history.proofs.CheckoutLaws.{file_at-checked_out}
+use Rattle.eden_history.proofs.LegalFiles.{allowed_files}
+use Rattle.eden_history.proofs.Ranges.{changes_more, changes_none}
+use Rattle.eden_history.proofs.RenameLaws.{first-none}
+use Rattle.eden_history.proofs.Steps.{has_room, is_made}
+
+-- ---- the files after a change
+
+-- each commit that is there holds paths and files within the limits
+abbrev HoldTexts : Commits → Type 0
+HoldTexts commits = (id : Id) (files : FileMap) → commits id ≡ Some files → AreTexts files
+
+pub held_texts : (commits : Commits) → HoldTexts commits → (id : Id) → AreTexts (held_files commits id)
+held_texts commits texts id = by (commits id) refl
+  where
+    by : (found : Option FileMap) → commits id ≡ found → AreTexts (files_of found)
+    by None e = texts_none
+    by (Some files) e = texts id files e
+
+within_limit : (b : Bool) → (if b then Some TooLarge else None) ≡ None → b ≡ false
+within_limit true e = let bad : ◌≡◌ {A = Option ChangeFault} (Some TooLarge) None = e in cc
+within_limit false e = refl
+
+-- what may be written is within the limit
+pub written_text : (files : FileMap) (path bytes : List ℕ) (kind : Kind) → write_fault files path bytes ≡ None → AreBytes bytes → IsContentText (record { kind = kind; bytes = bytes })
+written_text files path bytes kind allowed all =
+    let small : nat_lt 8388608 (length bytes) ≡ false = within_limit (nat_lt 8388608 (length bytes)) (first-none (place_fault files path) _ allowed).1 in
+    record { few = ltb-false 8388608 (length bytes) small; bytes = all }
+
+pub texts_renamed : (files : FileMap) (old new : List ℕ) → AreTexts files → IsPathText new → AreTexts (renamed files old new)
+texts_renamed files old new texts path = by (same_bytes old new)
+  where
+    at : (file : Option Content) → file_at files old ≡ file → AreTexts (moved files old new file)
+    at None e = texts
+    at (Some file) e = texts_insert (fin.remove files old) new file (texts_remove files old texts) path (texts old file e).1
+
+    by : (same : Bool) → AreTexts (if same then files else moved files old new (file_at files old))
+    by true = texts
+    by false = at (file_at files old) refl
+
+-- a file that a checkout leaves stood in the working copy or stands in the target
+from_either : (mode : Mode) (work root target : FileMap) (p : List ℕ) (file : Content) → rule_of mode work root target p ≡ Some file
+    → (file_at work p ≡ Some file) ⊎ (file_at target p ≡ Some file)
+from_either Normal work root target p file is = by (is_clean work root p) (is_blocked work root target p) is
+  where
+    by : (clean blocked : Bool) → cond clean (cond blocked None (file_at target p)) (file_at work p) ≡ Some file → (file_at work p ≡ Some file) ⊎ (file_at target p ≡ Some file)
+    by true true e = absurd (let bad : ◌≡◌ {A = Option Content} None (Some file) = e in cc)
+    by true false e = inr e
+    by false blocked e = inl e
+from_either Dry work root target p file is = inl is
+from_either Force work root target p file is = by (is_some (file_at root p) || is_some (file_at target p)) (clashes_any target p) is
+  where
+    by : (theirs clashing : Bool) → cond theirs (file_at target p) (cond clashing None (file_at work p)) ≡ Some file → (file_at work p ≡ Some file) ⊎ (file_at target p ≡ Some file)
+    by true clashing e = inr e
+    by false true e = absurd (let bad : ◌≡◌ {A = Option Content} None (Some file) = e in cc)
+    by false false e = inl e
+
+pub texts_checked_out : (mode : Mode) (work root target : FileMap) → AreTexts work → AreTexts target → AreTexts (checked_out mode work root target)
+texts_checked_out mode work root target ours theirs p file at =
+    by (from_either mode work root target p file (sym (file_at-checked_out mode work root target p) ∙ at))
+  where
+    by : (file_at work p ≡ Some file) ⊎ (file_at target p ≡ Some file) → IsPathText p × IsContentText file
+    by (inl e) = ours p file e
+    by (inr e) = theirs p file e
+
+texts_next : (commits : Commits) (row : Row) (change : Change) → HoldTexts commits → change_fault commits row change ≡ None → IsChange change → AreTexts row.files
+    → AreTexts (next_files commits row change)
+unfolding next_files
+texts_next commits row (Write path kind bytes) held allowed is texts =
+    texts_insert row.files path (record { kind = kind; bytes = bytes }) texts is.0 (written_text row.files path bytes kind allowed is.1)
+texts_next commits row (Remove path) held allowed is texts = texts_remove row.files path texts
+texts_next commits row (Rename old new) held allowed is texts = texts_renamed row.files old new texts is.1
+texts_next commits row (Checkout commit mode) held allowed is texts =
+    texts_checked_out mode row.files (held_files commits row.root) (held_files commits commit) texts (held_texts commits held commit)
+texts_next commits row (Reset commit) held allowed is texts = texts
+texts_next commits row Flush held allowed is texts = texts
+texts_next commits row (Remount generation) held allowed is texts = texts
+
+-- ---- the rows of a world
+
+generation_fits : (row : Row) (change : Change) → IsChange change → row.generation < 2 ^ 64 → next_generation row change < 2 ^ 64
+generation_fits row (Write path kind bytes) is fits = fits
+generation_fits row (Remove path) is fits = fits
+generation_fits row (Rename old new) is fits = fits
+generation_fits row (Checkout commit mode) is fits = fits
+generation_fits row (Reset commit) is fits = fits
+generation_fits row Flush is fits = fits
+generation_fits row (Remount generation) is fits = is
+
+root_text : (row : Row) (change : Change) → IsChange change → IsIdText row.root → IsIdText (next_root row change)
+root_text row (Write path kind bytes) is root = root
+root_text row (Remove path) is root = root
+root_text row (Rename old new) is root = root
+root_text row (Checkout commit mode) is root = is
+root_text row (Reset commit) is root = is
+root_text row Flush is root = root
+root_text row (Remount generation) is root = root
+
+next_text : (commits : Commits) (row : Row) (change : Change) → HoldTexts commits → refusal commits row change ≡ None → is_event change ≡ true → IsChange change → IsRowText row
+    → IsRowText (next_row commits row change)
+unfolding next_row
+next_text commits row change held allowed happens is texts =
+    record {
+      generation = generation_fits row change is texts.generation;
+      sequence = has_room commits row change allowed happens;
+      root = root_text row change is texts.root;
+      files = texts_next commits row change held (allowed_files commits row change allowed) is texts.files;
+    }
+
+row_texts : (commits : Commits) (opening : Row) (past : List Event) → HoldTexts commits → IsRowText opening → AllByRecursion (λ event. IsChange event.change) past
+    → AreMade commits opening past → IsRowText (last_row opening past)
+row_texts commits opening [] held texts are made = texts
+row_texts commits opening (event ∷ past) held texts are made =
+    let one = is_made commits (last_row opening past) event made.0 in
+    subst (λ (e : Event). IsRowText e.row) (sym one.made)
+    (next_text commits (last_row opening past) event.change held one.allowed one.happens are.0 (row_texts commits opening past held texts are.1 made.1))
+
+-- the present row
+pub now_texts : (name : List ℕ → List ℕ → Id) (world : WorldState) → IsWorld name world → IsSpellable world → IsRowText (now world)
+now_texts name world is spellable =
+    row_texts (commits_of world) world.opening world.past (commits_texts world.held is.closed spellable.small) spellable.opening spellable.changes is.legal.1
+
+-- ---- the paths that events name
+
+unclean_texts : (work root next target : FileMap) → AreTexts work → AreTexts root → AreTexts next → AreTexts target → AllByRecursion IsPathText (listing (unclean work root next target))
+unfolding unclean
+unclean_texts work root next target first second third fourth =
+    all_of_union IsPathText (differ work root) (differ next target) (differ_texts work root first second) (differ_texts next target third fourth)
+
+names_texts : (commits : Commits) (before : Row) (change : Change) (after : Row) → HoldTexts commits → IsChange change → AreTexts before.files → AreTexts after.files
+    → AllByRecursion IsPathText (named commits before change after)
+names_texts commits before (Write path kind bytes) after held is old new = (is.0, tt)
+names_texts commits before (Remove path) after held is old new = (is, tt)
+names_texts commits before (Rename from to) after held is old new = (is.0, (is.1, tt))
+names_texts commits before (Checkout commit mode) after held is old new =
+    let root = held_texts commits held before.root in
+    let target = held_texts commits held commit in
+    all_of_union IsPathText (unclean_set commits before commit after) (commits_differ commits before.root commit)
+    (unclean_texts before.files (held_files commits before.root) after.files (held_files commits commit) old root new target)
+    (differ_texts (held_files commits before.root) (held_files commits commit) root target)
+names_texts commits before (Reset commit) after held is old new =
+    differ_texts (held_files commits before.root) (held_files commits commit) (held_texts commits held before.root) (held_texts commits held commit)
+names_texts commits before Flush after held is old new = tt
+names_texts commits before (Remount generation) after held is old new = tt
+
+event_texts : (commits : Commits) (opening : Row) (past : List Event) (event : Event) → HoldTexts commits → IsRowText opening → AllByRecursion (λ e. IsChange e.change) (event ∷ past)
+    → AreMade commits opening (event ∷ past) → AllByRecursion IsPathText event.names
+event_texts commits opening past event held texts are made =
+    let one = is_made commits (last_row opening past) event made.0 in
+    let before = row_texts commits opening past held texts are.1 made.1 in
+    let after = next_text commits (last_row opening past) event.change held one.allowed one.happens are.0 before in
+    subst (λ (e : Event). AllByRecursion IsPathText e.names) (sym one.made)
+    (names_texts commits (last_row opening past) event.change (next_row commits (last_row opening past) event.change) held are.0 before.files after.files)
+
+changes_paths : (commits : Commits) (generation since until : ℕ) (opening : Row) (past : List Event) → HoldTexts commits → IsRowText opening
+    → AllByRecursion (λ event. IsChange event.change) past → AreMade commits opening past → AllByRecursion IsPathText (listing (changes generation since until past))
+changes_paths commits generation since until opening [] held texts are made =
+    subst (λ s. AllByRecursion IsPathText (listing s)) (sym (changes_none generation since until))
+    (all_members IsPathText no_paths (λ p is. absurd (let bad : false ≡ true = sym (has-none p) ∙ is in cc)))
+changes_paths commits generation since until opening (event ∷ past) held texts are made =
+    subst (λ s. AllByRecursion IsPathText (listing s)) (sym (changes_more generation since until event past))
+    (by (changes generation since until past) (is_in_range generation since until event.row) (event_texts commits opening past event held texts are made)
+    (changes_paths commits generation since until opening past held texts are.1 made.1))
+  where
+    by : (others : PathSet) (counts : Bool) → AllByRecursion IsPathText event.names → AllByRecursion IsPathText (listing others)
+        → AllByRecursion IsPathText (listing (named_if counts event.names others))
+    by others true names more = all_of_union IsPathText (path_set event.names) others (all_of_set IsPathText event.names names) more
+    by others false names more = more
+
+-- the paths that are named since a number of the present generation
+pub named_texts : (name : List ℕ → List ℕ → Id) (world : WorldState) (since : ℕ) → IsWorld name world → IsSpellable world
+    → AllByRecursion IsPathText (listing (changes (now world).generation since (now world).sequence world.past))
+named_texts name world since is spellable =
+    changes_paths (commits_of world) (now world).generation since (now world).sequence world.opening world.past
+    (commits_texts world.held is.closed spellable.small) spellable.opening spellable.changes is.legal.1
+
+-- ---- worlds
+
+-- a mount of a commit, with no event, is spellable
+pub spellable_opens : (held : List Held) (generation limit : ℕ) (root : Id) (files : FileMap) → IsClosed held → AreSmall held → generation < 2 ^ 64 → IsIdText root
+    → files ≡ held_files (commit_map held) root → IsSpellable (opened held generation limit root files)
+spellable_opens held generation limit root files closed small fits id is =
+    let texts : AreTexts files = subst AreTexts (sym is) (held_texts (commit_map held) (commits_texts held closed small) root) in
+    record { small = small; opening = record { generation = fits; sequence = omega arith; root = id; files = texts }; changes = tt }
+
+-- and so it is with one more event
+pub spellable_grows : (world : WorldState) (event : Event) → IsSpellable world → IsChange event.change → IsSpellable (record world { past = event ∷ world.past })
+spellable_grows world event is change = record { small = is.small; opening = is.opening; changes = (change, is.changes) }
+
+-- an outcome's event is that of a change that a value can be
+abbrev OfChange : Outcome → Type 0
+OfChange (Refuses fault) = Unit {0}
+OfChange NoEvent = Unit {0}
+OfChange (Next event) = IsChange event.change
+
+outcome_change : (commits : Commits) (row : Row) (change : Change) → IsChange change → OfChange (outcome commits row change)
+outcome_change commits row change is = by (refusal commits row change)
+  where
+    happens : (b : Bool) → OfChange (if b then Next (event_at commits row change (next_row commits row change)) else NoEvent)
+    happens true = is
+    happens false = tt
+
+    by : (fault : Option ChangeFault) → OfChange (judged commits row change fault)
+    by (Some fault) = tt
+    by None = happens (is_event change)
+
+spellable_extended : (world : WorldState) (o : Outcome) → IsSpellable world → OfChange o → IsSpellable (extended world o)
+spellable_extended world (Refuses fault) is change = is
+spellable_extended world NoEvent is change = is
+spellable_extended world (Next event) is change = spellable_grows world event is change
+
+-- after any change, also one that is refused
+pub spellable_after : (world : WorldState) (change : Change) → IsSpellable world → IsChange change → IsSpellable (world_after world change)
+spellable_after world change is allowed =
+    spellable_extended world (outcome (commits_of world) (now world) change) is (outcome_change (commits_of world) (now world) change allowed)

@@ -1,0 +1,29 @@
+//! What the type of a change says of its value, as the contract of a function with no work to do.
+
+ghost use Rattle.eden_history.specs.Spellable.{IsChange};
+
+use crate::change::Change;
+use eden_ids::{bytes_law, id_law, path_law};
+
+/// What holds of every change: its paths are paths, its ids are twenty bytes, and its number has eight.
+pub fn change_law(change: &Change)
+    ensures { IsChange change.now }
+{
+    match change {
+        Change::Write { path, bytes, .. } => {
+            path_law(path);
+            bytes_law(bytes.as_slice());
+        }
+        Change::Remove { path } => path_law(path),
+        Change::Rename { old, new } => {
+            path_law(old);
+            path_law(new);
+        }
+        Change::Checkout { commit, .. } => id_law(*commit),
+        Change::Reset { commit } => id_law(*commit),
+        Change::Flush => {}
+        Change::Remount { generation } => {
+            let _generation = *generation;
+        }
+    }
+}

@@ -1,0 +1,205 @@
+-- Every reply of a spellable world has a spelling.
+use Rattle.std.proofs.Common.{◌≡◌, ℕ, ◌+◌, ◌^◌, ◌<◌, ◌≤◌, Bool, true, false, cond, not, nat_eq, nat_lt, List, [], ◌∷◌, map, length, Option, Some, None, refl, sym, ap, subst, ◌∙◌, length-append, arith}
+use Rattle.std.specs.Prelude.{filter, if◌then◌else◌}
+use Rattle.std.proofs.lemmas.Bool.{ltb-false}
+use Rattle.std.proofs.lemmas.List.Concat.{flat_map-cons}
+use Rattle.std.proofs.lemmas.List.Elements.{All-filter, All-from_recursion, recursion_from_All}
+use Rattle.std.proofs.lemmas.List.Kept.{IsStrictlySortedBy-filter}
+use Rattle.std.specs.List.{AllByRecursion, flat_map}
+use Rattle.std.specs.List.Sorted.{IsStrictlySortedBy}
+use Rattle.eden_ids.specs.declared.content.Content.{Content}
+use Rattle.eden_ids.specs.declared.id.Id.{Id}
+use Rattle.eden_ids.specs.FileMaps.{FileMap, file_at, listing, paths}
+use Rattle.eden_ids.specs.Texts.{AreTexts, IsPathText}
+use Rattle.eden_ids.proofs.ByteOrder.{fin_keys_rise, order}
+use Rattle.eden_ids.proofs.TextLemmas.{paths_texts}
+use Rattle.eden_globs.specs.Filters.{admits}
+use Rattle.eden_frames.specs.Frames.{body_limit}
+use Rattle.eden_history.specs.declared.answer.SinceFault.{SinceFault}
+use Rattle.eden_history.specs.declared.answer.SinceFault.TheVariants as since
+use Rattle.eden_history.specs.declared.mark.Mark.{Mark}
+use Rattle.eden_history.specs.declared.mark.Marked.{Marked}
+use Rattle.eden_history.specs.declared.position.Position.{Position}
+use Rattle.eden_history.specs.Worlds.{Row, WorldState, now, position_of}
+use Rattle.eden_history.specs.Changes.{changes}
+use Rattle.eden_history.specs.Legal.{IsWorld}
+use Rattle.eden_history.specs.Marks.{admitted, mark_of, marked_since}
+use Rattle.eden_history.specs.Recorded.{floor_of}
+use Rattle.eden_history.specs.Spellable.{IsRowText, IsSpellable}
+use Rattle.eden_history.specs.Status.{status, status_of}
+use Rattle.eden_history.proofs.Floors.{floor_fits}
+use Rattle.eden_history.proofs.Spelled.{named_texts, now_texts}
+use Rattle.eden_messages.specs.declared.message.Cause.{Cause}
+use Rattle.eden_messages.specs.declared.message.Cause.TheVariants.{Stale, Ahead, Truncated, TooLarge}
+use Rattle.eden_messages.specs.declared.message.Query.{Query}
+use Rattle.eden_messages.specs.declared.message.Request.TheVariants.{Basis, Poll, Fetch}
+use Rattle.eden_messages.specs.declared.message.Reply.{Reply}
+use Rattle.eden_messages.specs.declared.message.Reply.TheVariants.{BasisIs, ChangesAre, ContentIs, Refused}
+use Rattle.eden_messages.specs.Spells.{Ascends, IsCause, IsListing, IsPosition, IsQuery, IsReply, IsValue, SpellsReply, cause_bytes, marked_bytes, paths_of, reply_bytes, text_bytes}
+use Rattle.eden_messages.specs.Replies.{RepliesAreSpelled, admitted_paths, bounded, cause_of, polled, reply_of}
+use Rattle.eden_messages.proofs.BodyLengths.{basis_len, changes_len}
+use Rattle.eden_messages.proofs.Spelling.{paths_len}
+
+-- ---- refusals, and replies that are refused where they are too long
+
+cause_len : (cause : Cause) → length (cause_bytes cause) ≡ 9
+cause_len (Stale generation) = refl
+cause_len (Ahead head) = refl
+cause_len (Truncated floor) = refl
+cause_len TooLarge = refl
+
+refused_len : (query : Query) (cause : Cause) → length (reply_bytes (Refused query cause)) ≡ 35
+refused_len query cause = let nine = cause_len cause in simp length-append (omega (arith, nine))
+
+refused_spelled : (query : Query) (cause : Cause) → IsQuery query → IsCause cause → SpellsReply (reply_bytes (Refused query cause)) (Refused query cause)
+refused_spelled query cause is fits = record { fields = (is, fits); bytes = refl; limit = omega (arith, refused_len query cause) }
+
+bounded_spelled : (query : Query) (reply : Reply) → IsQuery query → (length (reply_bytes reply) ≤ body_limit → IsReply reply)
+    → SpellsReply (reply_bytes (bounded query reply)) (bounded query reply)
+unfolding bounded
+bounded_spelled query reply is fields = by (nat_lt body_limit (length (reply_bytes reply))) refl
+  where
+    by : (long : Bool) → nat_lt body_limit (length (reply_bytes reply)) ≡ long
+        → SpellsReply (reply_bytes (if long then Refused query TooLarge else reply)) (if long then Refused query TooLarge else reply)
+    by true e = refused_spelled query TooLarge is tt
+    by false e =
+        let small = ltb-false body_limit (length (reply_bytes reply)) e in
+        record { fields = fields small; bytes = refl; limit = small }
+
+-- ---- lists of paths
+
+-- a path takes two bytes at least
+paths_few : (ps : List (List ℕ)) → length ps + length ps ≤ length (flat_map text_bytes ps)
+paths_few [] = omega arith
+paths_few (p ∷ ps) =
+    let rest = paths_few ps in
+    let one : length (flat_map text_bytes (p ∷ ps)) ≡ length (text_bytes p) + length (flat_map text_bytes ps) =
+    ap length (flat_map-cons text_bytes p ps) ∙ length-append (text_bytes p) (flat_map text_bytes ps) in
+    omega (arith, rest, one)
+
+marked_few : (list : List Marked) → length list + length list ≤ length (flat_map marked_bytes list)
+marked_few [] = omega arith
+marked_few (m ∷ ms) =
+    let rest = marked_few ms in
+    let one : length (flat_map marked_bytes (m ∷ ms)) ≡ length (marked_bytes m) + length (flat_map marked_bytes ms) =
+    ap length (flat_map-cons marked_bytes m ms) ∙ length-append (marked_bytes m) (flat_map marked_bytes ms) in
+    omega (arith, rest, one)
+
+-- paths in byte order ascend
+ascends : (ps : List (List ℕ)) → IsStrictlySortedBy order ps → Ascends ps
+unfolding IsStrictlySortedBy
+ascends [] rise = tt
+ascends (p ∷ []) rise = (tt, tt)
+ascends (p ∷ q ∷ ps) rise = (rise.0.0, ascends (q ∷ ps) rise.1)
+
+-- those of a list that a filter admits
+admitted_listing : (patterns ps : List (List ℕ)) → AllByRecursion IsPathText ps → IsStrictlySortedBy order ps → length (filter (admits patterns) ps) < 2 ^ 32
+    → IsListing (filter (admits patterns) ps)
+admitted_listing patterns ps texts rise few =
+    record {
+      count = few;
+      texts = recursion_from_All IsPathText (filter (admits patterns) ps) (All-filter (admits patterns) IsPathText ps (All-from_recursion IsPathText ps texts));
+      ascends = ascends (filter (admits patterns) ps) (IsStrictlySortedBy-filter order (admits patterns) ps rise);
+    }
+
+-- the paths of marked ones, of which a filter admits some
+marked_paths : (patterns ps : List (List ℕ)) (mark : List ℕ → Mark)
+    → paths_of (admitted patterns (map (λ path. record { mark = mark path; path = path }) ps)) ≡ filter (admits patterns) ps
+marked_paths patterns [] mark = refl
+marked_paths patterns (p ∷ ps) mark = by (admits patterns p) (marked_paths patterns ps mark)
+  where
+    rest : List Marked
+    rest = admitted patterns (map (λ path. record { mark = mark path; path = path }) ps)
+
+    by : (b : Bool) → paths_of rest ≡ filter (admits patterns) ps
+        → paths_of (cond b (record { mark = mark p; path = p } ∷ rest) rest) ≡ cond b (p ∷ filter (admits patterns) ps) (filter (admits patterns) ps)
+    by true e = ap (λ qs. p ∷ qs) e
+    by false e = e
+
+-- ---- what a world replies
+
+position_text : (row : Row) → IsRowText row → IsPosition (position_of row)
+position_text row is = record { generation = is.generation; sequence = is.sequence; root = is.root.twenty; root_bytes = is.root.bytes }
+
+value_text : (files : FileMap) (path : List ℕ) → AreTexts files → IsValue (file_at files path)
+value_text files path texts = by (file_at files path) refl
+  where
+    by : (o : Option Content) → file_at files path ≡ o → IsValue o
+    by None e = tt
+    by (Some file) e = (texts path file e).1
+
+-- the causes for which a position is refused
+abbrev OfCause : Option SinceFault → Type 0
+OfCause None = Unit {0}
+OfCause (Some fault) = IsCause (cause_of fault)
+
+status_cause : (generation head floor : ℕ) (position : Position) → generation < 2 ^ 64 → head < 2 ^ 64 → floor < 2 ^ 64 → OfCause (status generation head floor position)
+status_cause generation head floor position one two three =
+    by (not (nat_eq position.generation generation)) (nat_lt head position.sequence) (nat_lt position.sequence floor)
+  where
+    by : (stale ahead truncated : Bool)
+        → OfCause (if stale then Some (since.Stale generation) else (if ahead then Some (since.Ahead head) else (if truncated then Some (since.Truncated floor) else None)))
+    by true ahead truncated = one
+    by false true truncated = two
+    by false false true = three
+    by false false false = tt
+
+module _ (name : List ℕ → List ℕ → Id) (world : WorldState) (is : IsWorld name world) (spellable : IsSpellable world) where
+  present : IsRowText (now world)
+  present = now_texts name world is spellable
+
+  basis_spelled : (query : Query) (patterns : List (List ℕ)) → IsQuery query
+      → SpellsReply (reply_bytes (reply_of world (Basis query patterns))) (reply_of world (Basis query patterns))
+  basis_spelled query patterns asked =
+      bounded_spelled query (BasisIs query (position_of (now world)) (admitted_paths patterns (now world).files)) asked
+      (λ small.
+      let long = basis_len query (position_of (now world)) (admitted_paths patterns (now world).files) in
+      let few = paths_few (admitted_paths patterns (now world).files) in (
+        asked,
+        position_text (now world) present,
+        admitted_listing patterns (paths (now world).files) (paths_texts (now world).files present.files) (fin_keys_rise (now world).files) (omega (arith, small, long, few)),
+      ))
+
+  content_spelled : (query : Query) (path : List ℕ) → IsQuery query → IsPathText path
+      → SpellsReply (reply_bytes (reply_of world (Fetch query path))) (reply_of world (Fetch query path))
+  content_spelled query path asked text =
+      bounded_spelled query (ContentIs query (position_of (now world)) path (file_at (now world).files path)) asked
+      (λ small. (asked, position_text (now world) present, text, value_text (now world).files path present.files))
+
+  changes_listing : (since : ℕ) (patterns : List (List ℕ)) → length (admitted patterns (marked_since world since)) < 2 ^ 32
+      → IsListing (paths_of (admitted patterns (marked_since world since)))
+  changes_listing since patterns few =
+      let named = listing (changes (now world).generation since (now world).sequence world.past) in
+      let texts = named_texts name world since is spellable in
+      let same : paths_of (admitted patterns (marked_since world since)) ≡ filter (admits patterns) named =
+      marked_paths patterns named (λ path. mark_of path (now world).generation since (now world).sequence world.opening world.past) in
+      let count = paths_len (admitted patterns (marked_since world since)) in
+      let short : length (filter (admits patterns) named) < 2 ^ 32 = omega (arith, few, count, ap length same) in
+      subst IsListing (sym same)
+      (admitted_listing patterns named texts (fin_keys_rise (changes (now world).generation since (now world).sequence world.past)) short)
+
+  changes_spelled : (query : Query) (since : ℕ) (patterns : List (List ℕ)) → IsQuery query
+      → SpellsReply (reply_bytes (polled world query since patterns None)) (polled world query since patterns None)
+  changes_spelled query since patterns asked =
+      bounded_spelled query (ChangesAre query (position_of (now world)) (admitted patterns (marked_since world since))) asked
+      (λ small.
+      let long = changes_len query (position_of (now world)) (admitted patterns (marked_since world since)) in
+      let few = marked_few (admitted patterns (marked_since world since)) in
+      (asked, position_text (now world) present, changes_listing since patterns (omega (arith, small, long, few))))
+
+  polled_spelled : (query : Query) (since : ℕ) (patterns : List (List ℕ)) (fault : Option SinceFault) → IsQuery query → OfCause fault
+      → SpellsReply (reply_bytes (polled world query since patterns fault)) (polled world query since patterns fault)
+  polled_spelled query since patterns None asked fits = changes_spelled query since patterns asked
+  polled_spelled query since patterns (Some fault) asked fits = refused_spelled query (cause_of fault) asked fits
+
+  status_text : (position : Position) → OfCause (status_of world position)
+  status_text position =
+      let low = floor_fits world is.legal in
+      let high = present.sequence in
+      status_cause (now world).generation (now world).sequence (floor_of world) position present.generation high (omega (arith, low, high))
+
+pub reply_spelled : RepliesAreSpelled
+reply_spelled name world (Basis query patterns) is spellable asked = basis_spelled name world is spellable query patterns asked.0
+reply_spelled name world (Fetch query path) is spellable asked = content_spelled name world is spellable query path asked.0 asked.1
+reply_spelled name world (Poll query position patterns) is spellable asked =
+    polled_spelled name world is spellable query position.sequence patterns (status_of world position) asked.0 (status_text name world is spellable position)

@@ -1,9 +1,0 @@
-use Rattle.std.proofs.Common.{◌≡◌, ◌++◌, length, take}
-use Rattle.std.specs.List.{flat_map}
-use Rattle.std.specs.Int.{w32, to_be_bytes}
-use Rattle.eden_messages.specs.Spells.{text_bytes}
-use Rattle.eden_query.proofs.encoding.put_paths.Given as goal
-
-abbrev pub invariant-loop-path : goal.invariant-loop-path
-invariant-loop-path l =
-    l.out.items ≡ l.fn.out.items ++ (to_be_bytes w32 (length l.paths) ++ flat_map text_bytes (take l.path-index l.paths))

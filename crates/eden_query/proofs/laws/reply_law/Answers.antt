@@ -1,8 +1,0 @@
-use Rattle.eden_query.proofs.BodyLaws.{reply_read, reply_spelled}
-use Rattle.eden_query.proofs.laws.reply_law.Goals as goal
-
-pub returns-clause-decoded : goal.returns-clause-decoded
-returns-clause-decoded c = reply_read
-
-pub returns-clause-encoded : goal.returns-clause-encoded
-returns-clause-encoded c = λ body reply bytes read. reply_spelled body reply bytes read

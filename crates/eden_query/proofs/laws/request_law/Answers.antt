@@ -1,8 +1,0 @@
-use Rattle.eden_query.proofs.BodyLaws.{request_read, request_spelled}
-use Rattle.eden_query.proofs.laws.request_law.Goals as goal
-
-pub returns-clause-decoded : goal.returns-clause-decoded
-returns-clause-decoded c = request_read
-
-pub returns-clause-encoded : goal.returns-clause-encoded
-returns-clause-encoded c = λ body request bytes read. request_spelled body request bytes read

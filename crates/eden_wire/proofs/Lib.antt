@@ -1,0 +1,5 @@
+mod Loops
+mod Numbers
+mod FieldLaws
+mod BodyLaws
+mod Lists

@@ -1,0 +1,162 @@
+-- Steps of reading, and the numbers and texts that are read and written.
+use Rattle.std.proofs.Common.{◌≡◌, ℕ, suc, ◌+◌, ◌^◌, ◌<◌, ◌≤◌, Bool, true, false, ◌||◌, cond, ltb, eqb, List, [], ◌∷◌, ◌++◌, length, get_or, take, drop, Result, Ok, Err, refl, sym, ap, subst, ◌∙◌, append_assoc, arith, inl, inr}
+use Rattle.std.specs.Int.{Width, w16, w32, w64, byte_len, from_be_bytes, to_be_bytes}
+use Rattle.std.proofs.lemmas.Bool.{cases_lt, ltb-false, le-ltb, eqb-false, eqb-true, ne_eqb, or_from}
+use Rattle.std.proofs.lemmas.List.{take_at, drop_at, take-append-drop, length-append, length-take, get_or-drop, get_or-take, get_or_past, nil_from_length}
+use Rattle.std.proofs.lemmas.Nat.{be_bytes_2, be_bytes_4, be_bytes_8, from_be_bytes-to_be_bytes_2, from_be_bytes-to_be_bytes_4, from_be_bytes-to_be_bytes_8}
+use Rattle.eden_ids.specs.Texts.{AreBytes}
+use Rattle.eden_messages.specs.Spells.{text_bytes}
+use Rattle.eden_messages.proofs.Spelling.{IsText}
+use Rattle.eden_wire.specs.declared.fault.DecodeFault.{DecodeFault}
+use Rattle.eden_wire.specs.declared.fault.DecodeFault.TheVariants.{CutShort, BadField, Trailing}
+use Rattle.eden_wire.specs.Reading.{◌>>=◌, byte_at, number_at, text_at, ended}
+
+-- ---- bytes
+
+abbrev pub IsBytes : List ℕ → Type 0
+IsBytes bytes = (i : ℕ) → get_or bytes i 0 < 256
+
+pub IsBytes-drop : (n : ℕ) (bytes : List ℕ) → IsBytes bytes → IsBytes (drop n bytes)
+IsBytes-drop n bytes h i = rw get_or-drop (h (n + i))
+
+pub IsBytes-take : (n : ℕ) (bytes : List ℕ) → IsBytes bytes → IsBytes (take n bytes)
+IsBytes-take n bytes h i =
+    elim (cases_lt i n) [
+      | inl lt ↦ rw (get_or-take n bytes i 0 lt) (h i)
+      | inr le ↦ rw (get_or_past (take n bytes) i 0 (omega (arith, length-take n bytes))) (omega arith)
+    ]
+
+pub IsBytes-rest : (b : ℕ) (bytes : List ℕ) → IsBytes (b ∷ bytes) → IsBytes bytes
+IsBytes-rest b bytes h i = h (suc i)
+
+pub bytes_are : (bytes : List ℕ) → IsBytes bytes → AreBytes bytes
+bytes_are [] h = tt
+bytes_are (b ∷ bytes) h = (h 0, bytes_are bytes (IsBytes-rest b bytes h))
+
+-- ---- steps
+
+-- the value of a step that did not fail
+pub bind_ok : {A B : Type 0} (r : Result A DecodeFault) (f : A → Result B DecodeFault) (y : B) → (r >>= f) ≡ Ok y → (x : A) × (r ≡ Ok x) × (f x ≡ Ok y)
+bind_ok (Ok x) f y e = (x, refl, e)
+bind_ok (Err d) f y e = absurd cc
+
+-- a test for a fault that did not fail
+pub guard_ok : {A : Type 0} (b : Bool) (d : DecodeFault) (r : Result A DecodeFault) (y : A) → cond b (Err d) r ≡ Ok y → (b ≡ false) × (r ≡ Ok y)
+guard_ok true d r y e = absurd cc
+guard_ok false d r y e = (refl, e)
+
+-- a test that held
+pub held_ok : {A : Type 0} (b : Bool) (r : Result A DecodeFault) (d : DecodeFault) (y : A) → cond b r (Err d) ≡ Ok y → (b ≡ true) × (r ≡ Ok y)
+held_ok true r d y e = (refl, e)
+held_ok false r d y e = absurd cc
+
+abbrev done : {A : Type 0} → A → Result A DecodeFault
+done x = Ok x
+
+pub ok_is : {A : Type 0} (x y : A) → done x ≡ done y → x ≡ y
+ok_is x y e = cc
+
+-- what holds of the value that was made holds of the one that was given
+pub along : {A : Type 0} (P : A → Type 0) (made x : A) → done made ≡ done x → P made → P x
+along P made x e p = subst P (ok_is made x e) p
+
+-- what a reader took from the front
+pub record Takes (bytes text rest : List ℕ) : Type 0 where
+  pub parts : bytes ≡ text ++ rest
+  pub rest_fits : IsBytes rest
+
+pub Takes-then : (a x b y c : List ℕ) → Takes a x b → Takes b y c → Takes a (x ++ y) c
+Takes-then a x b y c p q = record { parts = p.parts ∙ ap (λ (t : List ℕ). x ++ t) q.parts ∙ sym (append_assoc x y c); rest_fits = q.rest_fits }
+
+pub byte_takes : (bytes : List ℕ) (x : ℕ × List ℕ) → IsBytes bytes → byte_at bytes ≡ Ok x → Takes bytes (x.0 ∷ []) x.1 × (x.0 < 256)
+byte_takes [] x fits e = absurd cc
+byte_takes (b ∷ bytes) x fits e =
+    along (λ (y : ℕ × List ℕ). Takes (b ∷ bytes) (y.0 ∷ []) y.1 × (y.0 < 256)) (b, bytes) x e
+    (record { parts = refl; rest_fits = IsBytes-rest b bytes fits }, fits 0)
+
+-- ---- numbers
+
+pub record IsWide (w : Width) (limit : ℕ) : Type 0 where
+  pub len : (n : ℕ) → length (to_be_bytes w n) ≡ byte_len w
+  pub back : (bytes : List ℕ) → length bytes ≡ byte_len w → IsBytes bytes → to_be_bytes w (from_be_bytes w bytes) ≡ bytes
+  pub again : (n : ℕ) → n < limit → from_be_bytes w (to_be_bytes w n) ≡ n
+  pub below : (bytes : List ℕ) → IsBytes bytes → from_be_bytes w bytes < limit
+
+pub wide16 : IsWide w16 (2 ^ 16)
+wide16 = record {
+  len = λ n. refl;
+  back = λ bytes len fits. be_bytes_2 bytes _ len fits refl;
+  again = λ n lt. from_be_bytes-to_be_bytes_2 n lt;
+  below = λ bytes fits. omega (arith, fits 0, fits 1);
+}
+
+pub wide32 : IsWide w32 (2 ^ 32)
+wide32 = record {
+  len = λ n. refl;
+  back = λ bytes len fits. be_bytes_4 bytes _ len fits refl;
+  again = λ n lt. from_be_bytes-to_be_bytes_4 n lt;
+  below = λ bytes fits. omega (arith, fits 0, fits 1, fits 2, fits 3);
+}
+
+pub wide64 : IsWide w64 (2 ^ 64)
+wide64 = record {
+  len = λ n. refl;
+  back = λ bytes len fits. be_bytes_8 bytes _ len fits refl;
+  again = λ n lt. from_be_bytes-to_be_bytes_8 n lt;
+  below = λ bytes fits. omega (arith, fits 0, fits 1, fits 2, fits 3, fits 4, fits 5, fits 6, fits 7);
+}
+
+pub number_takes : (w : Width) (limit : ℕ) (wide : IsWide w limit) (bytes : List ℕ) (x : ℕ × List ℕ) → IsBytes bytes → number_at w bytes ≡ Ok x
+    → Takes bytes (to_be_bytes w x.0) x.1 × (x.0 < limit)
+number_takes w limit wide bytes x fits e =
+    let front = take (byte_len w) bytes in
+    let g = guard_ok (ltb (length bytes) (byte_len w)) CutShort (Ok (from_be_bytes w front, drop (byte_len w) bytes)) x e in
+    let long : byte_len w ≤ length bytes = ltb-false _ _ g.0 in
+    let back : to_be_bytes w (from_be_bytes w front) ≡ front = wide.back front (omega (arith, length-take (byte_len w) bytes)) (IsBytes-take (byte_len w) bytes fits) in
+    along (λ (y : ℕ × List ℕ). Takes bytes (to_be_bytes w y.0) y.1 × (y.0 < limit)) (from_be_bytes w front, drop (byte_len w) bytes) x g.1
+    (record { parts = rw back (sym (take-append-drop (byte_len w) bytes)); rest_fits = IsBytes-drop (byte_len w) bytes fits }, wide.below front (IsBytes-take (byte_len w) bytes fits))
+
+pub number_again : (w : Width) (limit : ℕ) (wide : IsWide w limit) (n : ℕ) (rest : List ℕ) → n < limit → number_at w (to_be_bytes w n ++ rest) ≡ Ok (n, rest)
+number_again w limit wide n rest lt =
+    let len = wide.len n in
+    let long : ltb (length (to_be_bytes w n ++ rest)) (byte_len w) ≡ false = le-ltb _ _ (omega (arith, length-append (to_be_bytes w n) rest)) in
+    rw (long, take_at (to_be_bytes w n) rest (byte_len w) len, drop_at (to_be_bytes w n) rest (byte_len w) len, wide.again n lt) refl
+
+-- ---- texts
+
+some_of : (n : ℕ) → eqb n 0 ≡ false → 0 < n
+some_of n e = let ne : n ≡ 0 → ⊥ = eqb-false n 0 e in omega arith
+
+pub text_takes : (limit : ℕ) (bytes : List ℕ) (x : List ℕ × List ℕ) → IsBytes bytes → text_at limit bytes ≡ Ok x
+    → Takes bytes (text_bytes x.0) x.1 × AreBytes x.0
+unfolding text_at
+text_takes limit bytes x fits e =
+    let b = bind_ok (number_at w16 bytes) (λ n. cond (eqb n.0 0 || ltb limit n.0) (Err BadField) (cond (ltb (length n.1) n.0) (Err CutShort) (Ok (take n.0 n.1, drop n.0 n.1)))) x e in
+    let n = b.0 in
+    let t = number_takes w16 (2 ^ 16) wide16 bytes n fits b.1 in
+    let g = guard_ok (eqb n.0 0 || ltb limit n.0) BadField (cond (ltb (length n.1) n.0) (Err CutShort) (Ok (take n.0 n.1, drop n.0 n.1))) x b.2 in
+    let h = guard_ok (ltb (length n.1) n.0) CutShort (Ok (take n.0 n.1, drop n.0 n.1)) x g.1 in
+    let long : n.0 ≤ length n.1 = ltb-false _ _ h.0 in
+    let len : length (take n.0 n.1) ≡ n.0 = omega (arith, length-take n.0 n.1) in
+    let second : Takes n.1 (take n.0 n.1) (drop n.0 n.1) = record { parts = sym (take-append-drop n.0 n.1); rest_fits = IsBytes-drop n.0 n.1 t.0.rest_fits } in
+    let both = Takes-then bytes (to_be_bytes w16 n.0) n.1 (take n.0 n.1) (drop n.0 n.1) t.0 second in
+    let whole : Takes bytes (text_bytes (take n.0 n.1)) (drop n.0 n.1) = subst (λ (k : ℕ). Takes bytes (to_be_bytes w16 k ++ take n.0 n.1) (drop n.0 n.1)) (sym len) both in
+    along (λ (p : List ℕ × List ℕ). Takes bytes (text_bytes p.0) p.1 × AreBytes p.0) (take n.0 n.1, drop n.0 n.1) x h.1
+    (whole, bytes_are (take n.0 n.1) (IsBytes-take n.0 n.1 t.0.rest_fits))
+
+pub text_again : (limit : ℕ) (text rest : List ℕ) → limit < 2 ^ 16 → IsText limit text → text_at limit (text_bytes text ++ rest) ≡ Ok (text, rest)
+unfolding text_at
+text_again limit text rest small is =
+    let some : eqb (length text) 0 ≡ false = ne_eqb _ _ (omega (arith, is.some)) in
+    let few : ltb limit (length text) ≡ false = le-ltb _ _ is.few in
+    let in_limit : (eqb (length text) 0 || ltb limit (length text)) ≡ false = or_from _ _ some few in
+    let long : ltb (length (text ++ rest)) (length text) ≡ false = le-ltb _ _ (omega (arith, length-append text rest)) in
+    ap (text_at limit) (append_assoc (to_be_bytes w16 (length text)) text rest)
+    ∙ rw (number_again w16 (2 ^ 16) wide16 (length text) (text ++ rest) (omega (arith, is.few)), in_limit, long, take_at text rest (length text) refl, drop_at text rest (length text) refl) refl
+
+-- ---- the end
+
+pub ended_ok : {A : Type 0} (message : A) (rest : List ℕ) (y : A) → ended message rest ≡ Ok y → (message ≡ y) × (rest ≡ [])
+ended_ok message rest y e =
+    let h = held_ok (eqb (length rest) 0) (Ok message) Trailing y e in
+    (ok_is message y h.1, nil_from_length rest (eqb-true _ _ h.0))

@@ -1,0 +1,10 @@
+use Rattle.std.proofs.Common.{◌≡◌, ◌-◌, None}
+use Rattle.eden_wire.specs.Reading.{paths_at}
+use Rattle.eden_wire.specs.internal.Listing.{last_path}
+use Rattle.eden_wire.proofs.Loops.{with_front}
+use Rattle.eden_wire.proofs.decoding.paths_of.Given as goal
+
+-- what was read, and what is still to be read, is all of it
+abbrev pub invariant-loop : goal.invariant-loop
+invariant-loop l =
+    with_front l.list.items (paths_at (l.count - l.counter) (last_path l.list.items) l.rest) ≡ paths_at l.count None l.bytes

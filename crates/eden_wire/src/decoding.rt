@@ -1,0 +1,289 @@
+ghost use Rattle.std.specs.Prelude.{◌≡◌, None, Ok, IfOk};
+ghost use Rattle.eden_messages.specs.declared.message.Request.{Request};
+ghost use Rattle.eden_messages.specs.declared.message.Reply.{Reply};
+ghost use Rattle.eden_messages.specs.Spells.{SpellsRequest, SpellsReply};
+ghost use Rattle.eden_wire.specs.Reading.{Gives, tag_at, is_above, next_at, paths_at, path_listing_at, marked_at, list_at, listing_at, basis_at, poll_at, fetch_at, based_at, changes_at, held_at, refused_at, read_request, read_reply};
+ghost use Rattle.eden_wire.specs.internal.Listing.{last_marked, last_path};
+
+use crate::fault::DecodeFault;
+use crate::fields::{
+    byte_of, cause_of, content_of, filter_of, mark_of, path_of, position_of, query_of, u32_of,
+};
+use eden_frames::BODY_LIMIT;
+use eden_history::Marked;
+use eden_ids::{Path, Sequence};
+use eden_messages::{Reply, Request};
+use std::alloc::Global;
+
+/// The tag that stands behind the version.
+#[tactic(auto, unfolding(crate::specs::Reading::tag_at))]
+fn tag_of(body: &[u8]) -> Result<(u8, &[u8]), DecodeFault>
+    ensures { Gives (λ x. (x.0, x.1.now)) result (tag_at body.now) }
+{
+    if body.len() > BODY_LIMIT {
+        return Err(DecodeFault::TooLarge);
+    }
+    let (version, rest) = byte_of(body)?;
+    if version != 1 {
+        return Err(DecodeFault::Version);
+    }
+    byte_of(rest)
+}
+
+/// Whether the path is above the last of these.
+fn is_above_last(marked: &[Marked], path: &Path) -> bool
+    ensures { result ≡ is_above (last_marked marked.now) path.now }
+{
+    match marked.last() {
+        None => true,
+        Some(last) => last.path < *path,
+    }
+}
+
+/// A path that may come after these.
+#[tactic(auto, unfolding(crate::specs::Reading::next_at))]
+fn next_of<'a>(
+    alloc: Global,
+    before: &[Path],
+    bytes: &'a [u8],
+) -> Result<(Path, &'a [u8]), DecodeFault>
+    ensures { Gives (λ x. (x.0, x.1.now)) result (next_at (last_path before.now) bytes.now) }
+{
+    let (path, rest) = path_of(alloc, bytes)?;
+    let above = match before.last() {
+        None => true,
+        Some(last) => *last < path,
+    };
+    if !above {
+        return Err(DecodeFault::BadField);
+    }
+    Ok((path, rest))
+}
+
+/// So many paths, of which each is above the one before it. No room is kept for a count that was only read.
+fn paths_of(alloc: Global, count: u32, bytes: &[u8]) -> Result<(Vec<Path>, &[u8]), DecodeFault>
+    ensures { Gives (λ x. (x.0.items, x.1.now)) result (paths_at count None bytes.now) }
+{
+    let mut list = Vec::new(alloc);
+    let mut rest = bytes;
+    for _ in 0..count {
+        let (path, after) = next_of(alloc, list.as_slice(), rest)?;
+        match list.push(path) {
+            Ok(()) => {}
+            Err(_) => return Err(DecodeFault::NoMemory),
+        }
+        rest = after;
+    }
+    Ok((list, rest))
+}
+
+#[tactic(auto, unfolding(crate::specs::Reading::path_listing_at))]
+fn path_listing_of(alloc: Global, bytes: &[u8]) -> Result<(Sequence<Path>, &[u8]), DecodeFault>
+    ensures { Gives (λ x. (x.0, x.1.now)) result (path_listing_at bytes.now) }
+{
+    let (count, rest) = u32_of(bytes)?;
+    let (list, rest) = paths_of(alloc, count, rest)?;
+    Ok((Sequence::from_vec(list), rest))
+}
+
+/// A marked path that may come after these.
+#[tactic(auto, unfolding(crate::specs::Reading::marked_at))]
+fn marked_of<'a>(
+    alloc: Global,
+    before: &[Marked],
+    bytes: &'a [u8],
+) -> Result<(Marked, &'a [u8]), DecodeFault>
+    ensures { Gives (λ x. (x.0, x.1.now)) result (marked_at (last_marked before.now) bytes.now) }
+{
+    let (mark, rest) = mark_of(bytes)?;
+    let (path, rest) = path_of(alloc, rest)?;
+    if !is_above_last(before, &path) {
+        return Err(DecodeFault::BadField);
+    }
+    Ok((Marked { mark, path }, rest))
+}
+
+/// So many marked paths, of which each is above the one before it. No room is kept for a count that was only read.
+fn list_of(alloc: Global, count: u32, bytes: &[u8]) -> Result<(Vec<Marked>, &[u8]), DecodeFault>
+    ensures { Gives (λ x. (x.0.items, x.1.now)) result (list_at count None bytes.now) }
+{
+    let mut list = Vec::new(alloc);
+    let mut rest = bytes;
+    for _ in 0..count {
+        let (marked, after) = marked_of(alloc, list.as_slice(), rest)?;
+        match list.push(marked) {
+            Ok(()) => {}
+            Err(_) => return Err(DecodeFault::NoMemory),
+        }
+        rest = after;
+    }
+    Ok((list, rest))
+}
+
+#[tactic(auto, unfolding(crate::specs::Reading::listing_at))]
+fn listing_of(alloc: Global, bytes: &[u8]) -> Result<(Sequence<Marked>, &[u8]), DecodeFault>
+    ensures { Gives (λ x. (x.0, x.1.now)) result (listing_at bytes.now) }
+{
+    let (count, rest) = u32_of(bytes)?;
+    let (list, rest) = list_of(alloc, count, rest)?;
+    Ok((Sequence::from_vec(list), rest))
+}
+
+#[tactic(auto, unfolding(crate::specs::Reading::basis_at))]
+fn basis_of(alloc: Global, bytes: &[u8]) -> Result<Request, DecodeFault>
+    ensures { Gives (λ request. request) result (basis_at bytes.now) }
+{
+    let (query, rest) = query_of(bytes)?;
+    let (filter, rest) = filter_of(alloc, rest)?;
+    if !rest.is_empty() {
+        return Err(DecodeFault::Trailing);
+    }
+    Ok(Request::Basis { query, filter })
+}
+
+#[tactic(auto, unfolding(crate::specs::Reading::fetch_at))]
+fn fetch_of(alloc: Global, bytes: &[u8]) -> Result<Request, DecodeFault>
+    ensures { Gives (λ request. request) result (fetch_at bytes.now) }
+{
+    let (query, rest) = query_of(bytes)?;
+    let (path, rest) = path_of(alloc, rest)?;
+    if !rest.is_empty() {
+        return Err(DecodeFault::Trailing);
+    }
+    Ok(Request::Fetch { query, path })
+}
+
+#[tactic(auto, unfolding(crate::specs::Reading::poll_at))]
+fn poll_of(alloc: Global, bytes: &[u8]) -> Result<Request, DecodeFault>
+    ensures { Gives (λ request. request) result (poll_at bytes.now) }
+{
+    let (query, rest) = query_of(bytes)?;
+    let (since, rest) = position_of(rest)?;
+    let (filter, rest) = filter_of(alloc, rest)?;
+    if !rest.is_empty() {
+        return Err(DecodeFault::Trailing);
+    }
+    Ok(Request::Poll {
+        query,
+        since,
+        filter,
+    })
+}
+
+#[tactic(auto, unfolding(crate::specs::Reading::based_at))]
+fn based_of(alloc: Global, bytes: &[u8]) -> Result<Reply, DecodeFault>
+    ensures { Gives (λ reply. reply) result (based_at bytes.now) }
+{
+    let (query, rest) = query_of(bytes)?;
+    let (position, rest) = position_of(rest)?;
+    let (paths, rest) = path_listing_of(alloc, rest)?;
+    if !rest.is_empty() {
+        return Err(DecodeFault::Trailing);
+    }
+    Ok(Reply::BasisIs {
+        query,
+        position,
+        paths,
+    })
+}
+
+#[tactic(auto, unfolding(crate::specs::Reading::held_at))]
+fn held_of(alloc: Global, bytes: &[u8]) -> Result<Reply, DecodeFault>
+    ensures { Gives (λ reply. reply) result (held_at bytes.now) }
+{
+    let (query, rest) = query_of(bytes)?;
+    let (position, rest) = position_of(rest)?;
+    let (path, rest) = path_of(alloc, rest)?;
+    let (content, rest) = content_of(alloc, rest)?;
+    if !rest.is_empty() {
+        return Err(DecodeFault::Trailing);
+    }
+    Ok(Reply::ContentIs {
+        query,
+        position,
+        path,
+        content,
+    })
+}
+
+#[tactic(auto, unfolding(crate::specs::Reading::changes_at))]
+fn changes_of(alloc: Global, bytes: &[u8]) -> Result<Reply, DecodeFault>
+    ensures { Gives (λ reply. reply) result (changes_at bytes.now) }
+{
+    let (query, rest) = query_of(bytes)?;
+    let (target, rest) = position_of(rest)?;
+    let (marked, rest) = listing_of(alloc, rest)?;
+    if !rest.is_empty() {
+        return Err(DecodeFault::Trailing);
+    }
+    Ok(Reply::ChangesAre {
+        query,
+        target,
+        marked,
+    })
+}
+
+#[tactic(auto, unfolding(crate::specs::Reading::refused_at))]
+fn refused_of(bytes: &[u8]) -> Result<Reply, DecodeFault>
+    ensures { Gives (λ reply. reply) result (refused_at bytes.now) }
+{
+    let (query, rest) = query_of(bytes)?;
+    let (cause, rest) = cause_of(rest)?;
+    if !rest.is_empty() {
+        return Err(DecodeFault::Trailing);
+    }
+    Ok(Reply::Refused { query, cause })
+}
+
+#[tactic(auto, unfolding(crate::specs::Reading::read_request))]
+fn request_of(alloc: Global, body: &[u8]) -> Result<Request, DecodeFault>
+    ensures { Gives (λ request. request) result (read_request body.now) }
+{
+    let (tag, rest) = tag_of(body)?;
+    match tag {
+        0x01 => basis_of(alloc, rest),
+        0x02 => poll_of(alloc, rest),
+        0x03 => fetch_of(alloc, rest),
+        _ => Err(DecodeFault::BadTag),
+    }
+}
+
+#[tactic(auto, unfolding(crate::specs::Reading::read_reply))]
+fn reply_of(alloc: Global, body: &[u8]) -> Result<Reply, DecodeFault>
+    ensures { Gives (λ reply. reply) result (read_reply body.now) }
+{
+    let (tag, rest) = tag_of(body)?;
+    match tag {
+        0x81 => based_of(alloc, rest),
+        0x82 => changes_of(alloc, rest),
+        0x83 => held_of(alloc, rest),
+        0x84 => refused_of(rest),
+        _ => Err(DecodeFault::BadTag),
+    }
+}
+
+/// Reads the body of a request: exactly the bodies that spell one are read.
+///
+/// A body longer than 16,777,216 bytes is `TooLarge`. Then the first fault from the left is told: `CutShort` where the body
+/// ends inside a field, `Version` and `BadTag` for its first two bytes, `BadField` for a value that may not stand in a field,
+/// and `Trailing` for a byte after the last field. `NoMemory` may stand in place of any answer where a growth was refused.
+pub fn decode_request(alloc: Global, body: &[u8]) -> Result<Request, DecodeFault>
+    ensures spelled { IfOk result (λ request. SpellsRequest body.now request) }
+    ensures all { (request : Request) → SpellsRequest body.now request → Gives (λ r. r) result (Ok request) }
+    // Which fault it is.
+    ensures exact { Gives (λ request. request) result (read_request body.now) }
+{
+    request_of(alloc, body)
+}
+
+/// Reads the body of a reply: exactly the bodies that spell one are read.
+///
+/// The faults are those of `decode_request`, in the same order. A path that isn't above the one before it is `BadField`.
+pub fn decode_reply(alloc: Global, body: &[u8]) -> Result<Reply, DecodeFault>
+    ensures spelled { IfOk result (λ reply. SpellsReply body.now reply) }
+    ensures all { (reply : Reply) → SpellsReply body.now reply → Gives (λ r. r) result (Ok reply) }
+    // Which fault it is.
+    ensures exact { Gives (λ reply. reply) result (read_reply body.now) }
+{
+    reply_of(alloc, body)
+}

@@ -1,0 +1,248 @@
+ghost use Rattle.std.specs.Prelude.{◌≡◌, map};
+ghost use Rattle.std.specs.Int.{w16, w32, w64};
+ghost use Rattle.eden_wire.specs.Reading.{Gives, byte_at, number_at, text_at, query_at, root_at, position_at, path_of, path_at, patterns_at, filter_of, filter_at, mark_of_byte, mark_at, kind_of_byte, bytes_at, content_at, cause_of, cause_at};
+
+use crate::fault::DecodeFault;
+use bytes::Buf;
+use eden_globs::{Filter, FilterFault};
+use eden_history::{Mark, Position};
+use eden_ids::{Content, Id, Kind, Path, PathFault, Sequence};
+use eden_messages::{Cause, Query};
+use std::alloc::Global;
+
+/// A byte, and the bytes after it. Each reader below gives a field in this way, or the first fault in it.
+pub(crate) fn byte_of(bytes: &[u8]) -> Result<(u8, &[u8]), DecodeFault>
+    ensures { Gives (λ x. (x.0, x.1.now)) result (byte_at bytes.now) }
+{
+    let mut rest = bytes;
+    let byte = rest.try_get_u8()?;
+    Ok((byte, rest))
+}
+
+fn u16_of(bytes: &[u8]) -> Result<(u16, &[u8]), DecodeFault>
+    ensures { Gives (λ x. (x.0, x.1.now)) result (number_at w16 bytes.now) }
+{
+    let mut rest = bytes;
+    let number = rest.try_get_u16()?;
+    Ok((number, rest))
+}
+
+pub(crate) fn u32_of(bytes: &[u8]) -> Result<(u32, &[u8]), DecodeFault>
+    ensures { Gives (λ x. (x.0, x.1.now)) result (number_at w32 bytes.now) }
+{
+    let mut rest = bytes;
+    let number = rest.try_get_u32()?;
+    Ok((number, rest))
+}
+
+fn u64_of(bytes: &[u8]) -> Result<(u64, &[u8]), DecodeFault>
+    ensures { Gives (λ x. (x.0, x.1.now)) result (number_at w64 bytes.now) }
+{
+    let mut rest = bytes;
+    let number = rest.try_get_u64()?;
+    Ok((number, rest))
+}
+
+/// Bytes behind their count, of which there are at least one and at most `limit`.
+#[tactic(auto, unfolding(crate::specs::Reading::text_at))]
+fn text_of(limit: u16, bytes: &[u8]) -> Result<(&[u8], &[u8]), DecodeFault>
+    ensures { Gives (λ x. (x.0.now, x.1.now)) result (text_at limit bytes.now) }
+{
+    let (count, rest) = u16_of(bytes)?;
+    if count == 0 || count > limit {
+        return Err(DecodeFault::BadField);
+    }
+    let count = count as usize;
+    if rest.len() < count {
+        return Err(DecodeFault::CutShort);
+    }
+    Ok(rest.split_at(count))
+}
+
+#[tactic(auto, unfolding(crate::specs::Reading::query_at))]
+pub(crate) fn query_of(bytes: &[u8]) -> Result<(Query, &[u8]), DecodeFault>
+    ensures { Gives (λ x. (x.0, x.1.now)) result (query_at bytes.now) }
+{
+    let (mirror, rest) = u64_of(bytes)?;
+    let (life, rest) = u64_of(rest)?;
+    let (number, rest) = u64_of(rest)?;
+    let query = Query {
+        mirror,
+        life,
+        number,
+    };
+    Ok((query, rest))
+}
+
+fn root_of(bytes: &[u8]) -> Result<(Id, &[u8]), DecodeFault>
+    ensures { Gives (λ x. (x.0, x.1.now)) result (root_at bytes.now) }
+{
+    let mut rest = bytes;
+    let mut root = [0; 20];
+    rest.try_copy_to_slice(&mut root)?;
+    Ok((Id(root), rest))
+}
+
+#[tactic(auto, unfolding(crate::specs::Reading::position_at))]
+pub(crate) fn position_of(bytes: &[u8]) -> Result<(Position, &[u8]), DecodeFault>
+    ensures { Gives (λ x. (x.0, x.1.now)) result (position_at bytes.now) }
+{
+    let (generation, rest) = u64_of(bytes)?;
+    let (sequence, rest) = u64_of(rest)?;
+    let (root, rest) = root_of(rest)?;
+    let position = Position {
+        generation,
+        sequence,
+        root,
+    };
+    Ok((position, rest))
+}
+
+fn parsed_path(alloc: Global, text: &[u8]) -> Result<Path, DecodeFault>
+    ensures { Gives (λ path. path) result (path_of text.now) }
+{
+    match Path::parse(alloc, text) {
+        Ok(path) => Ok(path),
+        Err(PathFault::NoMemory) => Err(DecodeFault::NoMemory),
+        Err(_) => Err(DecodeFault::BadField),
+    }
+}
+
+#[tactic(auto, unfolding(crate::specs::Reading::path_at))]
+pub(crate) fn path_of(alloc: Global, bytes: &[u8]) -> Result<(Path, &[u8]), DecodeFault>
+    ensures { Gives (λ x. (x.0, x.1.now)) result (path_at bytes.now) }
+{
+    let (text, rest) = text_of(1024, bytes)?;
+    Ok((parsed_path(alloc, text)?, rest))
+}
+
+fn parsed_filter(alloc: Global, patterns: &[&[u8]]) -> Result<Filter, DecodeFault>
+    ensures { Gives (λ filter. filter) result (filter_of (map (λ p. p.now) patterns.now)) }
+{
+    match Filter::parse(alloc, patterns) {
+        Ok(filter) => Ok(filter),
+        Err(FilterFault::NoMemory) => Err(DecodeFault::NoMemory),
+        Err(_) => Err(DecodeFault::BadField),
+    }
+}
+
+/// So many patterns, where they stand in the bytes.
+fn patterns_of(alloc: Global, count: u8, bytes: &[u8]) -> Result<(Vec<&[u8]>, &[u8]), DecodeFault>
+    ensures { Gives (λ x. (map (λ p. p.now) x.0.items, x.1.now)) result (patterns_at count bytes.now) }
+{
+    let mut patterns = Vec::new(alloc);
+    let mut rest = bytes;
+    for _ in 0..count {
+        let (pattern, after) = text_of(256, rest)?;
+        match patterns.push(pattern) {
+            Ok(()) => {}
+            Err(_) => return Err(DecodeFault::NoMemory),
+        }
+        rest = after;
+    }
+    Ok((patterns, rest))
+}
+
+#[tactic(auto, unfolding(crate::specs::Reading::filter_at))]
+pub(crate) fn filter_of(alloc: Global, bytes: &[u8]) -> Result<(Filter, &[u8]), DecodeFault>
+    ensures { Gives (λ x. (x.0, x.1.now)) result (filter_at bytes.now) }
+{
+    let (count, rest) = byte_of(bytes)?;
+    if count > 32 {
+        return Err(DecodeFault::BadField);
+    }
+    let (patterns, rest) = patterns_of(alloc, count, rest)?;
+    Ok((parsed_filter(alloc, patterns.as_slice())?, rest))
+}
+
+fn mark_of_byte(byte: u8) -> Result<Mark, DecodeFault>
+    ensures { result ≡ mark_of_byte byte }
+{
+    match byte {
+        1 => Ok(Mark::Created),
+        2 => Ok(Mark::Removed),
+        3 => Ok(Mark::Changed),
+        4 => Ok(Mark::Root),
+        _ => Err(DecodeFault::BadField),
+    }
+}
+
+#[tactic(auto, unfolding(crate::specs::Reading::mark_at))]
+pub(crate) fn mark_of(bytes: &[u8]) -> Result<(Mark, &[u8]), DecodeFault>
+    ensures { Gives (λ x. (x.0, x.1.now)) result (mark_at bytes.now) }
+{
+    let (byte, rest) = byte_of(bytes)?;
+    Ok((mark_of_byte(byte)?, rest))
+}
+
+fn kind_of_byte(byte: u8) -> Result<Kind, DecodeFault>
+    ensures { result ≡ kind_of_byte byte }
+{
+    match byte {
+        1 => Ok(Kind::Plain),
+        2 => Ok(Kind::Exec),
+        3 => Ok(Kind::Link),
+        _ => Err(DecodeFault::BadField),
+    }
+}
+
+/// The bytes of a file behind their count. None is copied before all of them are there.
+#[tactic(auto, unfolding(crate::specs::Reading::bytes_at))]
+fn bytes_of(bytes: &[u8]) -> Result<(&[u8], &[u8]), DecodeFault>
+    ensures { Gives (λ x. (x.0.now, x.1.now)) result (bytes_at bytes.now) }
+{
+    let (count, rest) = u32_of(bytes)?;
+    let len = count as usize;
+    if len > Content::LIMIT {
+        return Err(DecodeFault::BadField);
+    }
+    if rest.len() < len {
+        return Err(DecodeFault::CutShort);
+    }
+    Ok(rest.split_at(len))
+}
+
+/// A file, or the lack of one.
+#[tactic(auto, unfolding(crate::specs::Reading::content_at))]
+pub(crate) fn content_of(
+    alloc: Global,
+    bytes: &[u8],
+) -> Result<(Option<Content>, &[u8]), DecodeFault>
+    ensures { Gives (λ x. (x.0, x.1.now)) result (content_at bytes.now) }
+{
+    let (byte, rest) = byte_of(bytes)?;
+    if byte == 0 {
+        return Ok((None, rest));
+    }
+    let kind = kind_of_byte(byte)?;
+    let (held, rest) = bytes_of(rest)?;
+    let content = Content {
+        kind,
+        bytes: Sequence::from_vec(held.to_vec(alloc)?),
+    };
+    Ok((Some(content), rest))
+}
+
+fn cause_by(byte: u8, value: u64) -> Result<Cause, DecodeFault>
+    ensures { result ≡ cause_of byte value }
+{
+    match byte {
+        1 => Ok(Cause::Stale(value)),
+        2 => Ok(Cause::Ahead(value)),
+        3 => Ok(Cause::Truncated(value)),
+        _ if value == 0 => Ok(Cause::TooLarge),
+        _ => Err(DecodeFault::BadField),
+    }
+}
+
+#[tactic(auto, unfolding(crate::specs::Reading::cause_at))]
+pub(crate) fn cause_of(bytes: &[u8]) -> Result<(Cause, &[u8]), DecodeFault>
+    ensures { Gives (λ x. (x.0, x.1.now)) result (cause_at bytes.now) }
+{
+    let (byte, rest) = byte_of(bytes)?;
+    if byte == 0 || byte > 4 {
+        return Err(DecodeFault::BadField);
+    }
+    let (value, rest) = u64_of(rest)?;
+    Ok((cause_by(byte, value)?, rest))
+}

@@ -1,0 +1,113 @@
+//! Messages, their lengths and their lists.
+
+use eden_globs::Filter;
+use eden_history::{Mark, Marked, Position, SinceFault};
+use eden_ids::{Id, Path, Sequence};
+use eden_messages::{Cause, Query, Reply, Request, admitted};
+use std::alloc::Global;
+use std::test::Fail;
+
+/// The query and the position of the known frames in docs/formats.md.
+fn known() -> (Query, Position) {
+    let (mirror, life, number) = (1, 1, 1);
+    let (generation, sequence, root) = (7, 1, Id::ZERO);
+    let query = Query {
+        mirror,
+        life,
+        number,
+    };
+    let place = Position {
+        generation,
+        sequence,
+        root,
+    };
+    (query, place)
+}
+
+fn path(alloc: Global, text: &str) -> Result<Path, Fail> {
+    Ok(Path::parse(alloc, text.as_bytes())?)
+}
+
+/// The lengths are those with which the known frames begin.
+#[test]
+fn requests_have_their_lengths(rt: HostRuntime) -> Result<(), Fail> {
+    let alloc = rt.alloc();
+    let (query, since) = known();
+    let basis = Request::Basis {
+        query,
+        filter: Filter::all(alloc),
+    };
+    let poll = Request::Poll {
+        query,
+        since,
+        filter: Filter::all(alloc),
+    };
+    let fetch = Request::Fetch {
+        query,
+        path: path(alloc, "a")?,
+    };
+    assert_eq!(rt; basis.copy()?.body_len(), 0x1b);
+    assert_eq!(rt; poll.copy()?.body_len(), 0x3f);
+    assert_eq!(rt; fetch.copy()?.body_len(), 0x1d);
+    Ok(())
+}
+
+#[test]
+fn replies_have_their_lengths(rt: HostRuntime) -> Result<(), Fail> {
+    let alloc = rt.alloc();
+    let (query, position) = known();
+    let mut replies = Vec::new(alloc);
+    let basis = Reply::BasisIs {
+        query,
+        position,
+        paths: Sequence::new(alloc),
+    };
+    replies.push((basis, 0x42))?;
+    let changes = Reply::ChangesAre {
+        query,
+        target: position,
+        marked: Sequence::new(alloc),
+    };
+    replies.push((changes, 0x42))?;
+    let content = Reply::ContentIs {
+        query,
+        position,
+        path: path(alloc, "a")?,
+        content: None,
+    };
+    replies.push((content, 0x42))?;
+    let ahead = Reply::Refused {
+        query,
+        cause: Cause::of(SinceFault::Ahead(1))?,
+    };
+    replies.push((ahead, 0x23))?;
+    for (reply, len) in replies.iter() {
+        assert_eq!(rt; reply.body_len(), Some(*len));
+        assert!(rt; reply.copy()?.bounded(query) == *reply);
+    }
+    Ok(())
+}
+
+#[test]
+fn a_filter_admits_some_of_the_marked(rt: HostRuntime) -> Result<(), Fail> {
+    let alloc = rt.alloc();
+    let mut marked = Vec::new(alloc);
+    for (at, mark) in [
+        ("a", Mark::Created),
+        ("b/c", Mark::Removed),
+        ("b/d", Mark::Changed),
+    ] {
+        marked.push(Marked {
+            mark,
+            path: path(alloc, at)?,
+        })?;
+    }
+    let filter = Filter::parse(alloc, &[b"*/d".as_slice()])?;
+    let list = admitted(alloc, Sequence::from_vec(marked), &filter)?.into_vec();
+    let last = Marked {
+        mark: Mark::Changed,
+        path: path(alloc, "b/d")?,
+    };
+    assert!(rt; list.as_slice() == [last].as_slice());
+    Ok(())
+}

@@ -1,0 +1,150 @@
+#!/usr/bin/env python3
+"""Prints docs/trust.md: for each promise, which definitions its clauses stand on, found by following names.
+
+    docs/trust.py > docs/trust.md
+
+A definition counts where a clause names it, or another one that counts does. Its lines are those of its paragraph, comments among them.
+Definitions of the standard library and declared types (structs and enums of src/) are not counted.
+"""
+import glob
+import os
+import re
+
+os.chdir(os.path.join(os.path.dirname(os.path.abspath(__file__)), ".."))
+
+# each promise: its crate, and the functions whose clauses say it
+PROMISES = [
+    ("after every schedule a mirror is told (`schedule_law`)", "eden_headline", ["schedule_law"]),
+    ("what changed since (`range_since`, `expand`)", "eden_accumulate eden_ranges", ["range_since", "expand"]),
+    ("what a change does (`write` and its kin, `apply`)", "eden_accumulate", ["write", "remove", "rename", "reset", "flush", "remount", "apply"]),
+    ("a checkout (`plan`, `checkout`)", "eden_checkout eden_accumulate", ["plan", "checkout"]),
+    ("a journal (`add_file`, `add_root`, `flush`)", "eden_journal", ["add_file", "add_root", "flush"]),
+    ("two commits' difference (`diff`)", "eden_treediff", ["diff"]),
+    ("the store (`put_blob`, `put_tree`, `put_commit`, `lookup`, `list`)", "eden_objects", ["put_blob", "put_tree", "put_commit", "lookup", "list"]),
+    ("ids (`GitNaming::id_of`)", "eden_ids", ["git_name"]),
+    ("messages as bytes (`encode_request`, `encode_reply`, `decode_request`, `decode_reply`)", "eden_wire", ["encode_request", "encode_reply", "decode_request", "decode_reply", "request_law", "reply_law"]),
+    ("a mirror (`begin`, `deliver`, `round_law`)", "eden_mirror", ["begin", "deliver", "round_law"]),
+    ("replies have a spelling (`reply_spelling_law`), and frames are answered (`serve`)", "eden_messages eden_query", ["reply_spelling_law", "serve"]),
+    ("an audit (`audit`)", "eden_audit", ["audit"]),
+    ("a script (`run`)", "eden_edend", ["run"]),
+]
+
+HEADER = re.compile(r"^(?:abbrev |unfoldable |opaque )?(?:pub )?(?:record |data )?([^\s:({]+)")
+USE = re.compile(r"^\s*(?:ghost )?use (Rattle\.[\w.]+)(?:\.\{([^}]*)\}| as (\w+))?;?\s*$")
+WORD = re.compile(r"[^\s(){}\[\],;]+")
+
+
+def imports(text):
+    """The names that a file brings in, each with its module and its name there; and the modules that it names by another word."""
+    names, modules = {}, {}
+    for line in text.splitlines():
+        use = USE.match(line)
+        if not use:
+            continue
+        module, listed, alias = use.groups()
+        if listed is not None:
+            for item in listed.split(","):
+                first, _, other = item.strip().partition(" as ")
+                names[(other or first).strip()] = (module, first.strip())
+        elif alias:
+            modules[alias] = module
+        else:
+            front, _, last = module.rpartition(".")
+            names[last] = (front, last)
+    return names, modules
+
+
+class Definitions:
+    def __init__(self):
+        self.at = {}        # (module, name) -> (file, place of its paragraph)
+        self.paragraphs = {}        # (file, place) -> text
+        self.scope = {}        # file -> imports
+        self.module = {}        # file -> module
+        for file in sorted(glob.glob("crates/*/specs/**/*.antt", recursive=True)):
+            self.read(file)
+
+    def read(self, file):
+        parts = file[:-len(".antt")].split("/")
+        module = ".".join(["Rattle", parts[1], "specs"] + parts[3:])
+        text = open(file).read()
+        self.scope[file], self.module[file] = imports(text), module
+        for place, paragraph in enumerate(re.split(r"\n\s*\n", text)):
+            self.paragraphs[file, place] = paragraph
+            for line in paragraph.splitlines():
+                if re.match(r"(abbrev|unfoldable|opaque|pub) ", line) and not line.startswith("pub mod"):
+                    self.at.setdefault((module, HEADER.match(line)[1]), (file, place))
+
+    def resolve(self, word, names, modules, module):
+        front, _, last = word.rpartition(".")
+        if front in modules and (modules[front], last) in self.at:
+            return self.at[modules[front], last]
+        for name in (word, word.split(".")[0]):
+            if name in names and names[name] in self.at:
+                return self.at[names[name]]
+            if (module, name) in self.at:
+                return self.at[module, name]
+        return None
+
+    def reached(self, text, names, modules, module=None):
+        """The paragraphs on which this text stands."""
+        found, todo = set(), [(text, names, modules, module)]
+        while todo:
+            text, names, modules, module = todo.pop()
+            bare = "\n".join(line for line in text.splitlines() if not line.lstrip().startswith(("--", "//", "use ", "ghost use ")))
+            for word in set(WORD.findall(bare)):
+                place = self.resolve(word.strip("◌"), names, modules, module) or self.resolve(word, names, modules, module)
+                if place and place not in found:
+                    found.add(place)
+                    file = place[0]
+                    todo.append((self.paragraphs[place], *self.scope[file], self.module[file]))
+        return found
+
+
+def clauses(crate, function):
+    """The contracts of a crate's public functions of this name, with the imports of their files."""
+    for file in sorted(glob.glob(f"crates/{crate}/src/**/*.rt", recursive=True)):
+        text = open(file).read()
+        for head in re.finditer(rf"^\s*(?:pub )?fn {function}\b", text, re.M):
+            end = re.search(r"^\s*\{|\{\}\s*$|;\s*$", text[head.start():], re.M)
+            contract = text[head.start():head.start() + end.start()] if end else ""
+            if "ensures" in contract:
+                yield contract, imports(text)
+        # what an implementation of a trait says it is
+        for head in re.finditer(rf"^\s*ghost \w+ = \{{[^}}]*\b{function}\b[^}}]*\}};$", text, re.M):
+            yield head[0], imports(text)
+
+
+def lines(definitions, places):
+    return sum(1 for place in places for line in definitions.paragraphs[place].splitlines() if line.strip() and not line.startswith("use "))
+
+
+def count(definitions, places):
+    names = [name for name, place in definitions.at.items() if place in places]
+    return len(names), lines(definitions, places), len({file for file, _ in places})
+
+
+def main():
+    definitions = Definitions()
+    print("# What must be trusted, promise by promise\n")
+    print("Made by `docs/trust.py`, which follows names from the clauses of each call. Beside these a reader trusts the declared types that they name,")
+    print("the standard library's definitions, and what README.md lists. Definitions that are shared count at each promise.\n")
+    print("| promise | definitions | lines, comments among them | files |\n|---|---|---|---|")
+    everything, where = set(), []
+    for told, crates, functions in PROMISES:
+        places = set()
+        for crate in crates.split():
+            for function in functions:
+                for contract, (names, modules) in clauses(crate, function):
+                    places |= definitions.reached(contract, names, modules)
+        everything |= places
+        where.append((told, places))
+        print("| %s | %d | %d | %d |" % (told, *count(definitions, places)))
+    print("| **all of them** | %d | %d | %d |" % count(definitions, everything))
+    told, places = where[0]
+    print(f"\n## Where they stand: {told}\n\n| file | definitions | lines |\n|---|---|---|")
+    for file in sorted({file for file, _ in places}):
+        here = {place for place in places if place[0] == file}
+        print("| %s | %d | %d |" % (file[len("crates/"):], *count(definitions, here)[:2]))
+
+
+main()
