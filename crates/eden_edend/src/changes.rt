@@ -5,7 +5,7 @@ ghost use Rattle.eden_ids.specs.Paths.{path_fault};
 ghost use Rattle.eden_history.specs.declared.change.Change.TheVariants as change;
 ghost use Rattle.eden_history.specs.Worlds.{WorldState};
 ghost use Rattle.eden_accumulate.specs.Mounts.{StandsFor};
-ghost use Rattle.eden_script.specs.Fronts.{KeepsFront};
+ghost use Rattle.eden_ids.specs.Fronts.{KeepsFront};
 ghost use Rattle.eden_script.specs.Labels.{bound};
 ghost use Rattle.eden_script.specs.ScriptText as script;
 ghost use Rattle.eden_edend.specs.internal.Told.{MountTells, PathOrRefusal};

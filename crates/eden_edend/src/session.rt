@@ -1,7 +1,7 @@
 //! A session of a script: the objects, the mount once there is one, and what each line makes of them.
 
 ghost use Rattle.std.specs.Prelude.{◌≡◌, List, Option, None, Some, OnOk, IfOk, option_and_then};
-ghost use Rattle.eden_script.specs.Fronts.{KeepsFront};
+ghost use Rattle.eden_ids.specs.Fronts.{KeepsFront};
 ghost use Rattle.eden_script.specs.Words.{words_of};
 ghost use Rattle.eden_objects.specs.Objects.{Held};
 ghost use Rattle.eden_history.specs.Worlds.{WorldState};

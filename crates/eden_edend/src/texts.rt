@@ -1,7 +1,7 @@
 //! What the lines of a script print of positions, and of what changes came to.
 
 ghost use Rattle.std.specs.Prelude.{◌≡◌, ◌≢◌, ◌++◌, OnOk, Err};
-ghost use Rattle.eden_script.specs.Fronts.{KeepsFront};
+ghost use Rattle.eden_ids.specs.Fronts.{KeepsFront};
 ghost use Rattle.eden_script.specs.ScriptText.{root_text, position_text, at_text, refused_text, change_fault_text, changes_text, conflicts_text, answer_text};
 ghost use Rattle.eden_edend.specs.internal.Told.{answer_made, answer_checked};
 

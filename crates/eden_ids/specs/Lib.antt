@@ -5,3 +5,4 @@ pub mod Hex
 pub mod Naming
 pub mod Columns
 pub mod Texts
+pub mod Fronts

@@ -1,7 +1,7 @@
-//! The ids, paths and contents that every other crate speaks of.
+//! The ids, paths, contents and whole file maps that every other crate speaks of.
 //!
 //! ```rust
-//! use eden_ids::{GitNaming, Naming, Path};
+//! use eden_ids::{Content, Files, GitNaming, Kind, Naming, Path, Sequence};
 //!
 //! let file = Path::parse(alloc, b"src/lib.rs".as_slice())?;
 //! let directory = Path::parse(alloc, b"src".as_slice())?;
@@ -10,6 +10,12 @@
 //! // The id that Git gives a file of these bytes.
 //! let id = GitNaming.id_of(b"blob".as_slice(), b"hello\n".as_slice());
 //! assert!(rt; id.to_hex().as_slice() == b"ce013625030ba8dba906f756967f9e9ca394464a".as_slice());
+//!
+//! // A map of one file.
+//! let mut files = Files::new(alloc);
+//! let content = Content { kind: Kind::Plain, bytes: Sequence::new(alloc) };
+//! files.insert(file.copy()?, content)?;
+//! assert!(rt; files.get(&file).is_some());
 //! ```
 #![tactic(auto)]
 
@@ -19,6 +25,7 @@ pub use crate::content::{Content, Kind};
 pub use crate::file_tree::{
     FileTree, clashes_any, has_file, has_file_above, is_same_at, is_same_file, is_same_kind,
 };
+pub use crate::files::Files;
 pub use crate::hex_text::{HexFault, hex_law, hex_text_law};
 pub use crate::id::Id;
 pub use crate::laws::{file_map_law, path_set_law};
@@ -33,6 +40,7 @@ mod at_path;
 mod column;
 mod content;
 mod file_tree;
+mod files;
 mod hex_text;
 mod id;
 mod laws;

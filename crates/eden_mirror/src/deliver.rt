@@ -7,9 +7,8 @@ ghost use Rattle.eden_messages.specs.Mirrors.Round.{Idle};
 
 use crate::awaited::Awaited;
 use crate::mirror::{Mirror, Round};
-use eden_files::Files;
 use eden_history::{Marked, Position};
-use eden_ids::{Content, NoMemory, Path};
+use eden_ids::{Content, Files, NoMemory, Path};
 use eden_messages::{Cause, Outcome, Query, Reply};
 
 impl Mirror {

@@ -6,10 +6,9 @@ ghost use Rattle.eden_ids.specs.FileMaps.{file_at, paths};
 ghost use Rattle.eden_messages.specs.Mirrors.{begun, has_number, is_idle, list_request, new_mirror, next_requests, outstanding_of, query_numbered, refiltered};
 
 use crate::awaited::Awaited;
-use eden_files::Files;
 use eden_globs::Filter;
 use eden_history::Position;
-use eden_ids::{Content, NoMemory, Path};
+use eden_ids::{Content, Files, NoMemory, Path};
 use eden_messages::{Query, Request};
 use std::alloc::Global;
 use std::marker::Model;
@@ -59,7 +58,7 @@ pub struct Mirror {
 
 impl Model for Mirror {
     ghost use Rattle.std.specs.Coded.{codes};
-    ghost use Rattle.eden_files.specs.contracts.files.Files as held;
+    ghost use Rattle.eden_ids.specs.contracts.files.Files as held;
     ghost use Rattle.eden_messages.specs.Mirrors.{MirrorState};
     ghost use Rattle.eden_mirror.specs.internal.Rounds.{round_of};
 

@@ -2,7 +2,7 @@
 use Rattle.std.proofs.Common.{◌≡◌, ℕ, ◌≤◌, List, [], ◌++◌, Result, length, take, drop, sym, ap, ◌∙◌, arith, append-nil, take-append-drop}
 use Rattle.std.specs.Prelude.{OnOk, OnErr, Ok, Err}
 use Rattle.std.proofs.lemmas.List.{take-append-le, take_all, length-take}
-use Rattle.eden_script.specs.Fronts.{BeginsWith, KeepsFront}
+use Rattle.eden_ids.specs.Fronts.{BeginsWith, KeepsFront}
 
 -- what begins with a front is at least as long
 fits : (front text : List ℕ) → BeginsWith front text → length front ≤ length text

@@ -1,5 +1,4 @@
 pub mod Escapes
-pub mod Fronts
 pub mod LabelWords
 pub mod Labels
 pub mod Laws

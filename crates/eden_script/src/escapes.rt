@@ -2,7 +2,7 @@ ghost use Rattle.std.specs.Prelude.{◌≡◌, ◌++◌, length, take, map, Matc
 ghost use Rattle.std.specs.List.{flat_map};
 ghost use Rattle.std.specs.Option.{option_map, option_copied};
 ghost use Rattle.eden_script.specs.Escapes.{meaning_of, unescaped, escaped_byte, escaped};
-ghost use Rattle.eden_script.specs.Fronts.{KeepsFront};
+ghost use Rattle.eden_ids.specs.Fronts.{KeepsFront};
 ghost use Rattle.eden_script.specs.internal.Runs.{IsPlain, EndsPlain, HasNoBackslash, HasBackslashAt};
 
 use bstr::ByteSlice;

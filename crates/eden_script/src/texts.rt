@@ -6,7 +6,7 @@ ghost use Rattle.std.specs.Prelude.{◌≡◌, ◌++◌, ◌∷◌, [], length, 
 ghost use Rattle.std.specs.Fmt.{decimal};
 ghost use Rattle.std.specs.List.{flat_map};
 ghost use Rattle.hex.specs.Hex.{encode_lower};
-ghost use Rattle.eden_script.specs.Fronts.{KeepsFront};
+ghost use Rattle.eden_ids.specs.Fronts.{KeepsFront};
 ghost use Rattle.eden_script.specs.ScriptText.{ok_text, id_text, refused_text, put_fault_text, path_fault_text, change_fault_text, since_fault_text, filter_fault_text, mark_text, marked_text, path_text, paths_text, kind_text, content_text};
 
 use crate::escapes::{push_bytes, push_escaped};

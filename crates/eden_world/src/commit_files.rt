@@ -2,9 +2,8 @@ ghost use Rattle.std.specs.Prelude.{◌≡◌, [], IfOk, map};
 ghost use Rattle.eden_ids.specs.FileMaps.{file_at, paths};
 ghost use Rattle.eden_objects.specs.Files.{commit_files};
 
-use eden_files::Files;
 use eden_globs::Filter;
-use eden_ids::{Content, Id, Kind, Naming, NoMemory, Path};
+use eden_ids::{Content, Files, Id, Kind, Naming, NoMemory, Path};
 use eden_objects::{CommitFault, Store};
 use std::alloc::Global;
 

@@ -21,11 +21,11 @@
 
 pub use crate::row::{Event, Row};
 pub use crate::world::World;
-pub use eden_files::Files;
 pub use eden_headline::schedule_law;
 pub use eden_history::{
     Answer as Made, Change, ChangeFault, Mark, Marked, Mode, MountFault, Position, SinceFault,
 };
+pub use eden_ids::Files;
 pub use eden_messages::{Answer, Call, Cause, Query, Reply, Request};
 pub use eden_stream::{Counted, Faults};
 

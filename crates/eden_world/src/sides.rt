@@ -8,9 +8,8 @@ ghost use Rattle.eden_history.specs.Checkouts.{checked_out, clashes_dirty, confl
 ghost use Rattle.eden_world.specs.internal.Sides.{differs, is_unclean, wanted_at, AreAll, IsWithin};
 
 use crate::commit_files::files_of_commit;
-use eden_files::Files;
 use eden_history::Mode;
-use eden_ids::{Content, Id, Naming, NoMemory, Path, PathTable, Sequence};
+use eden_ids::{Content, Files, Id, Naming, NoMemory, Path, PathTable, Sequence};
 use eden_objects::Store;
 use std::alloc::Global;
 

@@ -1,7 +1,6 @@
 //! Whole file maps.
 
-use eden_files::Files;
-use eden_ids::{Content, Kind, Path, PathTable, Sequence};
+use eden_ids::{Content, FileTree, Files, Kind, Path, PathTable, Sequence, has_file_above};
 use std::alloc::Global;
 use std::test::Fail;
 
@@ -21,15 +20,15 @@ fn files_change_one_path_at_a_time(rt: HostRuntime) -> Result<(), Fail> {
     let below = Path::parse(alloc, b"a/b".as_slice())?;
     files.insert(below.copy()?, plain(alloc, "x")?)?;
     assert!(rt; files.has_file_below(&a));
-    assert!(rt; !files.has_file_above(&a));
-    assert!(rt; !files.has_file_above(&below));
+    assert!(rt; !has_file_above(&files, b"a".as_slice()));
+    assert!(rt; !has_file_above(&files, b"a/b".as_slice()));
     let copy = files.copy()?;
     files.remove(&below);
     assert!(rt; files.get(&below).is_none());
     assert!(rt; !files.has_file_below(&a));
     assert!(rt; copy.get(&below) == Some(&plain(alloc, "x")?));
     files.insert(a, plain(alloc, "y")?)?;
-    assert!(rt; files.has_file_above(&below));
+    assert!(rt; has_file_above(&files, b"a/b".as_slice()));
     Ok(())
 }
 

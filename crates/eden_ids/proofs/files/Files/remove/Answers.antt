@@ -1,7 +1,7 @@
 use Rattle.std.proofs.Common.{◌∙◌, ap}
 use Rattle.std.specs.FinMap as fin
 use Rattle.eden_ids.proofs.TreeMaps.{map_of-remove}
-use Rattle.eden_files.proofs.files.Files.remove.Goals as goal
+use Rattle.eden_ids.proofs.files.Files.remove.Goals as goal
 
 pub returns : goal.returns
 returns c =

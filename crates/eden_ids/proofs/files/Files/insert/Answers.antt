@@ -1,7 +1,7 @@
 use Rattle.std.proofs.Common.{◌∙◌, ap}
 use Rattle.std.specs.FinMap as fin
 use Rattle.eden_ids.proofs.TreeMaps.{map_of-insert}
-use Rattle.eden_files.proofs.files.Files.insert.Goals as goal
+use Rattle.eden_ids.proofs.files.Files.insert.Goals as goal
 
 pub returns-in-Ok-clause-ok : goal.returns-in-Ok-clause-ok
 returns-in-Ok-clause-ok c =

@@ -1,7 +1,7 @@
 use Rattle.std.proofs.Common.{sym, ◌∙◌, ap}
 use Rattle.eden_ids.specs.FileMaps.{paths}
 use Rattle.eden_ids.proofs.TreeMaps.{keys-map_of}
-use Rattle.eden_files.proofs.files.Files.paths.Goals as goal
+use Rattle.eden_ids.proofs.files.Files.paths.Goals as goal
 
 pub returns-clause-rest : goal.returns-clause-rest
 returns-clause-rest c =

@@ -1,12 +1,16 @@
-//! Whole file maps.
+//! Whole file maps: paths, each with a file, in byte order of the paths.
 
 ghost use Rattle.std.specs.Prelude.{◌≡◌, IfOk, OnOk, OnErr};
 ghost use Rattle.std.specs.Option.{option_copied};
 ghost use Rattle.std.specs.FinMap as fin;
 ghost use Rattle.std.specs.Map.Iter.{deref, ShowsInOrder};
-ghost use Rattle.eden_ids.specs.FileMaps.{file_at, no_files, has_file_above, has_file_below, path_set, paths, put_option, union};
+ghost use Rattle.eden_ids.specs.FileMaps.{file_at, no_files, path_set, paths, put_option, union};
 
-use eden_ids::{Content, NoMemory, Path, PathTable};
+use crate::content::{Content, Kind};
+use crate::file_tree::FileTree;
+use crate::memory::NoMemory;
+use crate::path::Path;
+use crate::path_table::PathTable;
 use std::alloc::Global;
 use std::collections::BTreeMap;
 use std::collections::btree_map::Keys;
@@ -101,20 +105,6 @@ impl Files {
         Ok(())
     }
 
-    /// Whether a file stands at a proper prefix of the path's components. The time grows with the map.
-    pub fn has_file_above(&self, path: &Path) -> bool
-        ensures { result ≡ has_file_above self.now path.now }
-    {
-        self.entries.keys().any(|top| path.is_below(top))
-    }
-
-    /// Whether files stand below the path. The time grows with the map.
-    pub fn has_file_below(&self, path: &Path) -> bool
-        ensures { result ≡ has_file_below self.now path.now }
-    {
-        self.entries.keys().any(|p| p.is_below(path))
-    }
-
     /// A map that is equal to this one. `NoMemory` comes where a growth was refused.
     pub fn copy(&self) -> Result<Files, NoMemory>
         ensures { IfOk result (λ files. files ≡ self.now) }
@@ -123,5 +113,25 @@ impl Files {
             Ok(entries) => Ok(Files { entries }),
             Err(_) => Err(NoMemory),
         }
+    }
+}
+
+impl FileTree for Files {
+    ghost files = { λ f. f };
+
+    /// The time grows with the map: it is asked for a path that is no `Path` of its own. Where there is one, `get` is quicker.
+    fn file(&self, path: &[u8]) -> Option<(Kind, &[u8])> {
+        for at in self.paths() {
+            if at.as_bytes() == path {
+                let content = self.get(at)?;
+                return Some((content.kind, content.bytes.as_slice()));
+            }
+        }
+        None
+    }
+
+    /// The time grows with the map.
+    fn has_file_below(&self, path: &Path) -> bool {
+        self.entries.keys().any(|p| p.is_below(path))
     }
 }

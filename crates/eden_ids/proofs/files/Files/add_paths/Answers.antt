@@ -1,7 +1,7 @@
 use Rattle.std.proofs.Common.{sym, ap, ◌∙◌}
 use Rattle.eden_ids.specs.FileMaps.{path_set, union}
 use Rattle.eden_ids.proofs.Tables.{union-more, union-none}
-use Rattle.eden_files.proofs.files.Files.add_paths.Goals as goal
+use Rattle.eden_ids.proofs.files.Files.add_paths.Goals as goal
 
 pub loop-path-preserved : goal.loop-path-preserved
 loop-path-preserved c =

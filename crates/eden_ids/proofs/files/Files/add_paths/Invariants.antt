@@ -1,6 +1,6 @@
 use Rattle.std.proofs.Common.{◌≡◌}
 use Rattle.eden_ids.specs.FileMaps.{path_set, paths, union}
-use Rattle.eden_files.proofs.files.Files.add_paths.Given as goal
+use Rattle.eden_ids.proofs.files.Files.add_paths.Given as goal
 
 -- the paths that are left, with what is there, are all of them with what was there
 abbrev pub invariant-loop-path : goal.invariant-loop-path
