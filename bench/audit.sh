@@ -6,8 +6,8 @@ set -e
 most=0
 . "$(dirname "$0")/begin.sh"
 
-cd "$(dirname "$0")/../crates/audit_times"
+cd "$(dirname "$0")/../crates/rig_audit"
 mkdir -p out
-building audit_times
+building rig_audit
 rt run > out/built 2>&1 || { cat out/built; exit 1; }
-for try in 1 2 3 4 5; do out/audit_times 2>&1 > /dev/null; done
+for try in 1 2 3 4 5; do out/rig_audit 2>&1 > /dev/null; done

@@ -7,7 +7,7 @@ most=0
 . "$(dirname "$0")/begin.sh"
 
 cd "$(dirname "$0")/.."
-for name in filter_times basis_times; do
+for name in rig_filters rig_basis; do
     mkdir -p "crates/$name/out"
     building "$name"
     (cd "crates/$name" && rt run) > "crates/$name/out/built" 2>&1 || { cat "crates/$name/out/built"; exit 1; }

@@ -7,11 +7,11 @@ most=0
 . "$(dirname "$0")/begin.sh"
 
 cd "$(dirname "$0")/.."
-mkdir -p crates/round_times/out
-building round_times
-(cd crates/round_times && rt run) > crates/round_times/out/built 2>&1 || { cat crates/round_times/out/built; exit 1; }
-rustc -C opt-level=3 bench/rounds.rs -o crates/round_times/out/plain
+mkdir -p crates/rig_rounds/out
+building rig_rounds
+(cd crates/rig_rounds && rt run) > crates/rig_rounds/out/built 2>&1 || { cat crates/rig_rounds/out/built; exit 1; }
+rustc -C opt-level=3 bench/rounds.rs -o crates/rig_rounds/out/plain
 echo "a mirror:"
-crates/round_times/out/round_times 2>&1 > /dev/null
+crates/rig_rounds/out/rig_rounds 2>&1 > /dev/null
 echo "plain tables:"
-crates/round_times/out/plain
+crates/rig_rounds/out/plain

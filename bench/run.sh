@@ -8,7 +8,7 @@ most=0
 
 cd "$(dirname "$0")/.."
 building eden_lanes
-(cd crates/eden_lanes_c && rt lib)
-rustc --edition 2021 -C opt-level=3 -C target-cpu=x86-64-v2 bench/lanes.rs -o crates/eden_lanes_c/out/lanes \
-    -C link-arg=crates/eden_lanes_c/out/libeden_lanes_c.a -C link-arg="${KIT:-/opt/rattle}/c/liblibc_c.a"
-crates/eden_lanes_c/out/lanes
+(cd crates/rig_lanes && rt lib)
+rustc --edition 2021 -C opt-level=3 -C target-cpu=x86-64-v2 bench/lanes.rs -o crates/rig_lanes/out/lanes \
+    -C link-arg=crates/rig_lanes/out/librig_lanes.a -C link-arg="${KIT:-/opt/rattle}/c/liblibc_c.a"
+crates/rig_lanes/out/lanes

@@ -6,7 +6,7 @@
 #
 # usage: tests-with-git/compare.sh [SEED]
 #
-# It needs git, and the programs edend and beside_git, which `rt run` builds where they are not built yet. With HOW=try, `rt try` runs
+# It needs git, and the programs edend and rig_git, which `rt run` builds where they are not built yet. With HOW=try, `rt try` runs
 # both, without a proof. What it makes lies in a folder of its own, which it takes away again.
 set -euo pipefail
 
@@ -84,7 +84,7 @@ done >> "$work/script"
 } > "$work/ids"
 
 # The ids of a script.
-[ "$how" = try ] || building edend and beside_git
+[ "$how" = try ] || building edend and rig_git
 (cd "$root/crates/edend" && rt "$how" -- run < "$work/script") > "$work/printed"
 grep '^id ' "$work/printed" | cut -d ' ' -f 2 > "$work/printed-ids"
 cmp "$work/ids" "$work/printed-ids"
@@ -100,7 +100,7 @@ refused=$(grep -c '^refused' "$work/printed" || true)
     done
 } > "$work/listed-by-git"
 git cat-file --batch < "$work/ids" > "$work/batch"
-(cd "$root/crates/beside_git" && rt "$how" < "$work/batch") > "$work/listed"
+(cd "$root/crates/rig_git" && rt "$how" < "$work/batch") > "$work/listed"
 cmp "$work/listed-by-git" "$work/listed"
 
 echo "$(wc -l < "$work/ids") ids and $(grep -c '^commit ' "$work/listed") listings are those of Git, \

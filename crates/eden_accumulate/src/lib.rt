@@ -1,6 +1,6 @@
 //! A mount: a working copy of a commit, and the journal of what changed in it.
 //!
-//! Its tests stand in `eden_beside`, where it goes through the same changes as the plain, slow program.
+//! Its tests stand in `test_beside`, where it goes through the same changes as the plain, slow program.
 //!
 //! ```rust
 //! use eden_accumulate::Mount;

@@ -1,5 +1,0 @@
-use Rattle.std.proofs.Common.{◌≡◌, length}
-use Rattle.eden_lanes_c.proofs.column_of.Given as given
-
-abbrev pub invariant-loop-row : given.invariant-loop-row
-invariant-loop-row l = length l.column ≡ l.row

@@ -1,0 +1,199 @@
+//! Answers by an echoing teller over devices that give and take little at a time.
+ghost use Rattle.eden_frames.specs.FrameAnswers.{AnswersBody, answers_story};
+ghost use Rattle.test_devices.specs.Echoes.{echoed};
+
+use super::{Endless, Sink, Source};
+use eden_frames::{FrameFault, Frames, ServeFault, tell_frames};
+use eden_stream::{Answer, Counted, Faults, Teller};
+use std::alloc::Global;
+use std::test::*;
+
+// Gives each body back with an LF behind it, and can't read one that begins
+// with `!`.
+#[derive(Drop)]
+struct Echo;
+
+fn echo_body(body: &[u8], text: &mut Vec<u8>) -> Answer<FrameFault>
+    ensures { AnswersBody echoed body.now text.old.items text.new.items result }
+{
+    if matches!(body, [b'!', ..]) {
+        return Answer::Fault(FrameFault::BadTag);
+    }
+    match text.extend_from_slice(body) {
+        Ok(()) => match text.push(b'\n') {
+            Ok(()) => Answer::Told,
+            Err(_) => Answer::NoMemory,
+        },
+        Err(_) => Answer::NoMemory,
+    }
+}
+
+impl Teller<Frames, (), FrameFault> for Echo {
+    ghost story = { λ _ _ _. answers_story echoed };
+
+    #[tactic(auto, using(eden_frames::proofs::Replying::answers_tell))]
+    fn tell(&self, _server: &mut (), body: &[u8], text: &mut Vec<u8>) -> Answer<FrameFault> {
+        echo_body(body, text)
+    }
+
+    ghost lawful = { λ _ _ _. record { passes = λ _ _ _ silent _. absurd silent; stops = λ _ _ told. told } };
+}
+
+// Serves what the source gives, and gives how it ended.
+fn serve(alloc: Global, source: &mut Source<'_>, sink: &mut Sink) -> Result<u64, ServeFault> {
+    tell_frames(
+        alloc,
+        &mut Counted::new(source),
+        &mut Counted::new(sink),
+        &Echo,
+        &mut (),
+    )
+}
+
+// A stream, the replies to its frames, and how its serving ends.
+#[derive(Drop)]
+struct Case {
+    stream: &'static [u8],
+    text: &'static [u8],
+    end: Result<u64, ServeFault>,
+}
+
+fn make_case(stream: &'static [u8], text: &'static [u8], end: Result<u64, ServeFault>) -> Case {
+    Case { stream, text, end }
+}
+
+fn refuse(number: u64, fault: FrameFault) -> Result<u64, ServeFault> {
+    Err(ServeFault::Frame { number, fault })
+}
+
+fn cases() -> [Case; 11] {
+    let short = FrameFault::CutShort;
+    let large = FrameFault::TooLarge;
+    let bad = FrameFault::BadTag;
+    [
+        make_case(b"", b"", Ok(0)),
+        make_case(b"\0\0\0\x01a\0\0\0\x02bc", b"a\nbc\n", Ok(2)),
+        make_case(b"\0\0\0\0\0\0\0\0\0\0\0\x01a", b"\n\na\n", Ok(3)),
+        make_case(b"\0", b"", refuse(1, short)),
+        make_case(b"\0\0\0\x01a\0\0\0", b"a\n", refuse(2, short)),
+        make_case(b"\0\0\0\x01a\0\0\0\x02b", b"a\n", refuse(2, short)),
+        make_case(b"\0\0\0\x01a\x01\0\0\0!", b"a\n", refuse(2, short)),
+        make_case(b"\0\0\0\x01a\x01\0\0\x01", b"a\n", refuse(2, large)),
+        make_case(b"\xff\xff\xff\xffa\0\0\0\x01a", b"", refuse(1, large)),
+        make_case(b"\0\0\0\x01!\0\0\0\x01a", b"", refuse(1, bad)),
+        make_case(b"\0\0\0\x01a\0\0\0\x02!b\0\0\0", b"a\n", refuse(2, bad)),
+    ]
+}
+
+#[test]
+fn pieces_of_frames_do_not_matter(rt: HostRuntime) {
+    for case in &cases() {
+        for most in [usize::MAX, 1, 2] {
+            for cut in 0..=case.stream.len() {
+                for interrupts in [false, true] {
+                    let mut source = Source::new(case.stream);
+                    source.most = most;
+                    source.cut = cut;
+                    source.interrupts = interrupts;
+                    let mut sink = Sink::new(rt.alloc());
+                    sink.interrupts = interrupts;
+                    assert_eq!(rt; serve(rt.alloc(), &mut source, &mut sink), case.end);
+                    assert_eq!(rt; sink.bytes.as_slice(), case.text);
+                }
+            }
+        }
+    }
+}
+
+// How a frame ends whose body has `count` bytes, with how long its reply is,
+// where a read gives at most `most` bytes.
+fn serve_long(
+    alloc: Global,
+    length: &[u8],
+    count: usize,
+    most: usize,
+) -> Result<(Result<u64, ServeFault>, usize), Fail> {
+    let body = vec![in alloc; b'a'; count]?;
+    let mut stream = Vec::new(alloc);
+    stream.extend_from_slice(length)?;
+    stream.extend_from_slice(&body)?;
+    let mut source = Source::new(&stream);
+    source.most = most;
+    let mut sink = Sink::new(alloc);
+    let outcome = serve(alloc, &mut source, &mut sink);
+    Ok((outcome, sink.bytes.len()))
+}
+
+#[test]
+fn a_body_has_at_most_16777216_bytes(rt: HostRuntime) -> Result<(), Fail> {
+    for most in [usize::MAX, 100] {
+        let served = serve_long(rt.alloc(), b"\x01\0\0\0", 16_777_216, most)?;
+        assert_eq!(rt; served, (Ok(1), 16_777_217));
+    }
+    Ok(())
+}
+
+#[test]
+fn many_frames_are_answered(rt: HostRuntime) -> Result<(), Fail> {
+    let stream = vec![in rt.alloc(); 0; 800_000]?;
+    let mut sink = Sink::new(rt.alloc());
+    let outcome = serve(rt.alloc(), &mut Source::new(&stream), &mut sink);
+    assert_eq!(rt; outcome, Ok(200_000));
+    assert_eq!(rt; sink.bytes.len(), 200_000);
+    Ok(())
+}
+
+#[test]
+fn a_failed_reader_leaves_the_whole_frames(rt: HostRuntime) -> Result<(), Fail> {
+    let stream = b"\0\0\0\x01a\0\0\0\x01b";
+    for (fails_at, text) in [
+        (0, b"".as_slice()),
+        (4, b"".as_slice()),
+        (5, b"a\n".as_slice()),
+        (9, b"a\n".as_slice()),
+        (10, b"a\nb\n".as_slice()),
+    ] {
+        let mut source = Source::new(stream);
+        source.cut = fails_at;
+        source.fails_at = fails_at;
+        let mut sink = Sink::new(rt.alloc());
+        let outcome = serve(rt.alloc(), &mut source, &mut sink);
+        assert_eq!(rt; outcome, Err(ServeFault::Read));
+        assert_eq!(rt; sink.bytes.as_slice(), text, "at {fails_at}");
+    }
+    Ok(())
+}
+
+#[test]
+fn a_failed_writer_has_a_part_of_the_replies(rt: HostRuntime) -> Result<(), Fail> {
+    let stream = b"\0\0\0\x01a\0\0\0\x02bc\0\0\0\x01!";
+    let text = b"a\nbc\n";
+    for fails_at in 0..text.len() {
+        for most in [usize::MAX, 1, 3] {
+            let mut sink = Sink::new(rt.alloc());
+            sink.full_at = fails_at;
+            sink.most = most;
+            let outcome = serve(rt.alloc(), &mut Source::new(stream), &mut sink);
+            assert_eq!(rt; outcome, Err(ServeFault::Write));
+            assert_eq!(rt; sink.bytes.as_slice(), &text[..fails_at]);
+        }
+    }
+    Ok(())
+}
+
+#[test]
+fn endless_frames_spend_the_reads(rt: HostRuntime) -> Result<(), Fail> {
+    let mut reader = Counted::new(Endless::new(&[0]));
+    let mut sink = Sink::new(rt.alloc());
+    let outcome = tell_frames(
+        rt.alloc(),
+        &mut reader,
+        &mut Counted::new(&mut sink),
+        &Echo,
+        &mut (),
+    );
+    assert_eq!(rt; outcome, Err(ServeFault::TurnsSpent));
+    assert_eq!(rt; reader.calls(), 1_000_000);
+    assert_eq!(rt; sink.bytes.len(), 250_000);
+    Ok(())
+}
