@@ -29,6 +29,7 @@ use Rattle.eden_history.proofs.RenameLaws.{first-none}
 use Rattle.eden_accumulate.specs.Mounts.{Follows, IsRefusal, Refuses, State, StandsFor, files_of, number_fault}
 use Rattle.eden_accumulate.proofs.Histories.{answer-refused, event_of, grown, history-flushed, history-remounted}
 use Rattle.eden_accumulate.proofs.Standing.{IsPresent, has_number, number-left, number-out, refusal-free, refusal-numbered, log_recorded, made_stands}
+use Rattle.eden_history.proofs.LegalFiles.{allowed_files}
 
 -- a mount by its parts
 abbrev pub state : List Held → WorkCopy → journal.Log → State
@@ -77,10 +78,6 @@ file_stands held old new log more mount view world h change e stays allowed happ
       log = log_recorded world change more (File delta) e is
           (subst (λ r. journal.StandsFor more (recorded (history_of world) r (File delta))) (sym stays) (grows (history_of world) h-old.log));
     })
-
-allowed_files : (commits : Commits) (row : Row) (change : Change) → refusal commits row change ≡ None → change_fault commits row change ≡ None
-unfolding refusal
-allowed_files commits row change e = (first-none (change_fault commits row change) _ e).0
 
 -- the files of the mount are the row's
 pub files_are : (held : List Held) (old : WorkCopy) (log : journal.Log) (mount : State) → state held old log ≡ mount → (world : WorldState) → StandsFor mount world

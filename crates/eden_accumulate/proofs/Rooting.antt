@@ -32,6 +32,7 @@ use Rattle.eden_accumulate.specs.Mounts.{Follows, IsRefusal, State, StandsFor}
 use Rattle.eden_accumulate.proofs.Histories.{event_of}
 use Rattle.eden_accumulate.proofs.Standing.{IsPresent, log_recorded, made_stands}
 use Rattle.eden_accumulate.proofs.Changing.{files_are, state}
+use Rattle.eden_history.proofs.LegalFiles.{allowed_files}
 
 -- whether there is such a commit
 pub commit-fault : (mount : State) (world : WorldState) → StandsFor mount world → (commit : Id) → commit_fault (commit_map mount.held commit) ≡ commit_fault (commits_of world commit)
@@ -152,15 +153,11 @@ there_by : (found : Option FileMap) → commit_fault found ≡ None → found �
 there_by None free gone = let bad : ◌≡◌ {A = Option ChangeFault} (Some NoCommit) None = free in cc
 there_by (Some files) free gone = let bad : ◌≡◌ {A = Option FileMap} (Some files) None = gone in cc
 
-free_of : (commits : Commits) (row : Row) (change : Change) → refusal commits row change ≡ None → change_fault commits row change ≡ None
-unfolding refusal
-free_of commits row change e = (first-none (change_fault commits row change) _ e).0
-
 pub commit_judged : {held seen : List Held} {old : WorkCopy} {log : journal.Log} {mount : State} (change : Change) (commit : Id) → state held old log ≡ mount → seen ≡ held
     → IsPresent (state held old log) → IsRefusal mount change None
     → ((commits : Commits) (row : Row) → change_fault commits row change ≡ commit_fault (commits commit)) → commit_map seen commit ≡ None → ⊥
 commit_judged {held} {seen} {old} {log} {mount} change commit view there present judged asks gone =
     let world = present.0 in
     let h : StandsFor mount world = subst (λ m. StandsFor m world) view present.1 in
-    there_by (commits_of world commit) (sym (asks (commits_of world) (now world)) ∙ free_of (commits_of world) (now world) change (sym (judged world h)))
+    there_by (commits_of world commit) (sym (asks (commits_of world) (now world)) ∙ allowed_files (commits_of world) (now world) change (sym (judged world h)))
     (ap (λ held. commit_map held commit) (sym (there ∙ present.1.held)) ∙ gone)

@@ -7,7 +7,7 @@ use Rattle.std.specs.FinMap as fin
 use Rattle.eden_globs.specs.Filters.{admits}
 use Rattle.eden_ids.specs.declared.content.Content.{Content}
 use Rattle.eden_ids.specs.FileMaps.{FileMap, PathSet, file_at, has, path_set, paths, put_option, same_path}
-use Rattle.eden_ids.proofs.FileMapLemmas.{file_at-insert, file_at-remove, has-listing, has-path_set, has-union, has-where, same_path-is}
+use Rattle.eden_ids.proofs.FileMapLemmas.{file_at-insert, file_at-remove, has-listing, has-path_set, has-union, has-where, same_path-is, put_option-at}
 use Rattle.eden_ids.proofs.Sifted.{listing_of}
 use Rattle.eden_ids.proofs.TreeMaps.{listing-same}
 use Rattle.eden_objects.specs.Objects.{Held}
@@ -31,10 +31,6 @@ abbrev pub among : List ℕ → List (List ℕ) → Bool
 among p ps = list_any (λ q. same_path p q) ps
 
 -- ---- a file map with marks
-
-put_at : (files : FileMap) (path : List ℕ) (file : Option Content) (p : List ℕ) → file_at (put_option files path file) p ≡ cond (same_path p path) file (file_at files p)
-put_at files path None p = file_at-remove files path p
-put_at files path (Some file) p = file_at-insert files path file p
 
 marks-are : (b : Bool) → is_some (mark b) ≡ b
 marks-are true = refl
@@ -65,7 +61,7 @@ marked_at patterns wanted files (t ∷ ts) p =
     by false without with = without
     by true without with =
         with
-        ∙ ap (λ f. cond (among p (said_to patterns wanted ts)) wanted (is_some f)) (put_at files t.0 (mark wanted) p)
+        ∙ ap (λ f. cond (among p (said_to patterns wanted ts)) wanted (is_some f)) (put_option-at files t.0 (mark wanted) p)
         ∙ first-mark wanted (same_path p t.0) (among p (said_to patterns wanted ts)) (file_at files p)
 
 -- of an admitted path the admitted ones say what all do

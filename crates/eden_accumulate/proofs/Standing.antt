@@ -27,10 +27,10 @@ use Rattle.eden_history.specs.Recorded.{delta_of, deltas, starts}
 use Rattle.eden_history.specs.Outcome.{answer_at, answer_of, change_fault, is_event, next_files, next_root, refusal, takes_number, world_after}
 use Rattle.eden_history.specs.Spellable.{IsChange}
 use Rattle.eden_history.proofs.Steps.{has-number}
-use Rattle.eden_history.proofs.LegalFiles.{world_opens}
+use Rattle.eden_history.proofs.LegalFiles.{world_opens, next_row_files}
 use Rattle.eden_history.proofs.Spelled.{spellable_grows, spellable_opens}
 use Rattle.eden_accumulate.specs.Mounts.{begun_at, Follows, IsRefusal, Refuses, State, StandsFor, files_of, number_fault}
-use Rattle.eden_accumulate.proofs.Histories.{after-event, after-nothing, answer-allowed, answer-refused, event_of, files-made, generation-kept, grown, grown_world, head_is, history-recorded, root-made}
+use Rattle.eden_accumulate.proofs.Histories.{after-event, after-nothing, answer-allowed, answer-refused, event_of, generation-kept, grown, grown_world, head_is, history-recorded, root-made}
 
 -- ---- the present
 
@@ -160,7 +160,7 @@ made_stands mount world change next h =
       held = h.held ∙ h.stood.held;
       fits = h.fits;
       root = h.root ∙ sym (root-made (commits_of world) (now world) change);
-      files = h.files ∙ sym (files-made (commits_of world) (now world) change);
+      files = h.files ∙ sym (next_row_files (commits_of world) (now world) change);
       log = h.log;
       is_world = grown_world world change h.allowed h.happens h.stood.is_world;
       spellable = spellable_grows world (event_of world change) h.stood.spellable h.text;

@@ -17,6 +17,7 @@ use Rattle.eden_workcopy.specs.declared.work.WorkCopy.{WorkCopy}
 use Rattle.eden_ids.proofs.Sifted.{listing_of}
 use Rattle.eden_history.specs.declared.change.Mode.{Mode}
 use Rattle.eden_history.specs.declared.change.Mode.TheVariants.{Normal, Dry, Force}
+use Rattle.std.proofs.Math.Bool.{or-false}
 
 -- the paths on which two commits differ
 pub differing : (a b : Option FileMap) (ps : List (List ℕ)) → differences a b ≡ Some ps → ps ≡ listing (differ (files_of a) (files_of b))
@@ -74,11 +75,7 @@ made_fits held mode start next work root target ok texts fits begun same files =
 
 -- a set that nothing is added to
 union_nothing : (s : PathSet) → union s no_paths ≡ s
-union_nothing s = same_path_set (union s no_paths) s (λ q. has-union s no_paths q ∙ ap (λ b. has s q || b) (has-none q) ∙ or_false (has s q))
-  where
-    or_false : (b : Bool) → (b || false) ≡ b
-    or_false true = refl
-    or_false false = refl
+union_nothing s = same_path_set (union s no_paths) s (λ q. has-union s no_paths q ∙ ap (λ b. has s q || b) (has-none q) ∙ or-false (has s q))
 
 -- the paths of two lists, added to no path
 pub both_listed : (mode : Mode) (before after ps : List (List ℕ)) (late first second third : PathSet) → (mode ≡ Dry → ⊥) → after ≡ listing late

@@ -3,19 +3,16 @@ use Rattle.std.proofs.Common.{◌≡◌, ℕ, suc, zero, ◌+◌, ◌<◌, Bool,
 use Rattle.std.specs.List.{list_any, slice_index_or}
 use Rattle.eden_ids.specs.declared.content.Content.{Content}
 use Rattle.eden_ids.specs.FileMaps.{FileMap, file_at, has, listing, differ, put_option, same_file, same_path}
-use Rattle.eden_ids.proofs.FileMapLemmas.{file_at-insert, file_at-remove, has-differ, has-listing, same_file-is, same_file_map, same_path-is}
+use Rattle.eden_ids.proofs.FileMapLemmas.{file_at-insert, file_at-remove, has-differ, has-listing, same_file-is, same_file_map, same_path-is, put_option-at}
 use Rattle.eden_history.specs.Checkouts.{checked_out, conflicts, is_clean, rule_of}
 use Rattle.eden_history.proofs.CheckoutLaws.{file_at-checked_out, force_elsewhere, has-conflicts, normal_elsewhere}
 use Rattle.eden_history.specs.declared.change.Mode.{Mode}
 use Rattle.eden_history.specs.declared.change.Mode.TheVariants.{Normal, Dry, Force}
-
-pub put_at : (m : FileMap) (k : List ℕ) (f : Option Content) (p : List ℕ) → file_at (put_option m k f) p ≡ cond (same_path p k) f (file_at m p)
-put_at m k None p = file_at-remove m k p
-put_at m k (Some f) p = file_at-insert m k f p
+use Rattle.std.proofs.lemmas.Bool.{not-false}
 
 -- to put what stands there changes nothing
 pub put_same : (m : FileMap) (p : List ℕ) (f : Option Content) → same_file (file_at m p) f ≡ true → m ≡ put_option m p f
-put_same m p f e = same_file_map m (put_option m p f) (λ q. by q (same_path q p) refl ∙ sym (put_at m p f q))
+put_same m p f e = same_file_map m (put_option m p f) (λ q. by q (same_path q p) refl ∙ sym (put_option-at m p f q))
   where
     by : (q : List ℕ) (b : Bool) → same_path q p ≡ b → file_at m q ≡ cond (same_path q p) f (file_at m q)
     by q true s = ap (file_at m) (same_path-is q p s) ∙ same_file-is (file_at m p) f e ∙ sym (ap (λ b. cond b f (file_at m q)) s)
@@ -42,7 +39,7 @@ pub settled_more : (rule : List ℕ → Option Content) (old m n : FileMap) (ps 
     → n ≡ put_option m p f → f ≡ rule p → Settled rule old (take i ps) m → Settled rule old (take (i + 1) ps) n
 settled_more rule old m n ps i p f within is put file so_far q =
     ap (λ k. file_at k q) put
-    ∙ put_at m p f q
+    ∙ put_option-at m p f q
     ∙ ap (cond (same_path q p) f) (so_far q)
     ∙ by (same_path q p) refl
     ∙ ap (λ b. cond b (rule q) (file_at old q)) (sym (ap (λ k. list_any (λ r. same_path q r) (take k ps)) (add-one i) ∙ any_suc (λ r. same_path q r) ps i p within is))
@@ -59,18 +56,14 @@ settled_more rule old m n ps i p f within is put file so_far q =
 
 -- ---- what is settled at the dirty paths and at the conflicts is what the checkout makes
 
-not_false : (b : Bool) → not b ≡ false → b ≡ true
-not_false true e = refl
-not_false false e = absurd (cc)
-
 -- elsewhere the rule says what the target holds
 pub rule_elsewhere : (mode : Mode) (work root target : FileMap) (p : List ℕ) → (mode ≡ Dry → ⊥) → has (differ work root) p ≡ false → has (conflicts work root target) p ≡ false
     → rule_of mode work root target p ≡ file_at target p
 rule_elsewhere Dry work root target p kept clean none = absurd (kept refl)
 rule_elsewhere Normal work root target p kept clean none =
-    normal_elsewhere work root target p (not_false (is_clean work root p) (sym (has-differ work root p) ∙ clean)) (sym (has-conflicts work root target p) ∙ none)
+    normal_elsewhere work root target p (not-false (is_clean work root p) (sym (has-differ work root p) ∙ clean)) (sym (has-conflicts work root target p) ∙ none)
 rule_elsewhere Force work root target p kept clean none =
-    force_elsewhere work root target p (not_false (is_clean work root p) (sym (has-differ work root p) ∙ clean))
+    force_elsewhere work root target p (not-false (is_clean work root p) (sym (has-differ work root p) ∙ clean))
 
 pub all_settled : (mode : Mode) (work root target start middle end : FileMap) (dirty twice : List (List ℕ)) → (mode ≡ Dry → ⊥)
     → dirty ≡ listing (differ work root) → twice ≡ listing (conflicts work root target) → start ≡ target

@@ -5,7 +5,10 @@
 //! ```rust
 //! use eden_frames::{FrameFault, ServeFault};
 //!
-//! let fault = ServeFault::Frame { number: 2, fault: FrameFault::TooLarge };
+//! let fault = ServeFault::Frame {
+//!     number: 2,
+//!     fault: FrameFault::TooLarge,
+//! };
 //! assert!(rt; format!(in alloc; "{fault}")?.as_bytes() == b"frame 2: TooLarge".as_slice());
 //! ```
 #![tactic(auto)]

@@ -13,11 +13,7 @@ use Rattle.eden_ids.specs.Sameness.{same_bytes}
 use Rattle.eden_git.specs.Trees.{Entry, key, key_of}
 use Rattle.eden_git.specs.Starts.{AreInOrder, first_from, is_before}
 use Rattle.eden_git.specs.Directories.{dir_if, dir_named, file_if, file_named, or_later}
-
-less_is : (o : Ordering) → is_lt o ≡ true → o ≡ Less
-less_is Less h = refl
-less_is Equal h = cc h
-less_is Greater h = cc h
+use Rattle.eden_ids.proofs.ByteOrder.{is_less}
 
 not_less : (o : Ordering) → o ≡ ordering_reverse o → is_lt o ≡ false
 not_less Less h = cc h
@@ -30,7 +26,7 @@ irreflexive k = not_less (slice_cmp nat_cmp k k) (nat_list_cmp_total.antisymm k 
 -- the entries before one that stands before a key do so too
 
 before_too : (w k : List ℕ) (e : Entry) → slice_cmp nat_cmp k (key e) ≡ Less → is_before w (Some e) ≡ true → is_lt (slice_cmp nat_cmp k w) ≡ true
-before_too w k e lower before = ap is_lt (nat_list_cmp_total.trans k (key e) w lower (less_is (slice_cmp nat_cmp (key e) w) before))
+before_too w k e lower before = ap is_lt (nat_list_cmp_total.trans k (key e) w lower (is_less (slice_cmp nat_cmp (key e) w) before))
 
 later_before : (w k : List ℕ) (es : List Entry) (row : ℕ) → AllByRecursion (λ y. slice_cmp nat_cmp k y ≡ Less) (map key es)
     → is_before w (slice_get es row) ≡ true → is_lt (slice_cmp nat_cmp k w) ≡ true

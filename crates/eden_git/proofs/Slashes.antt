@@ -6,6 +6,7 @@ use Rattle.std.specs.List.{list_any}
 use Rattle.eden_ids.specs.Paths.{lies_below}
 use Rattle.eden_ids.specs.Sameness.{same_bytes}
 use Rattle.eden_git.specs.Trees.{cut, before_more, is_name}
+use Rattle.std.proofs.Math.Bool.{and-false, and_assoc}
 
 abbrev pub has_slash : List ℕ → Bool
 has_slash bytes = list_any (λ b. nat_eq b 47) bytes
@@ -65,14 +66,6 @@ cut_first byte (x ∷ rest) c r h = elim (cases_Bool (nat_eq x byte)) [
 pub cut_some : (p c r : List ℕ) → cut 47 p ≡ Some (c, r) → (p ≡ c ++ 47 ∷ r) × (has_slash c ≡ false)
 cut_some p c r h = cut_first 47 p c r h
 
-and_false : (a : Bool) → (a && false) ≡ false
-and_false true = refl
-and_false false = refl
-
-pub and_assoc : (a b c : Bool) → (a && b) && c ≡ a && (b && c)
-and_assoc true b c = refl
-and_assoc false b c = refl
-
 turned : (x y : ℕ) → nat_eq x y ≡ nat_eq y x
 turned = nat_eq_equiv.symm
 
@@ -81,13 +74,13 @@ pub not_under : (name p q : List ℕ) → has_slash p ≡ false → same_bytes (
 not_under [] [] q free = refl
 not_under (n ∷ name) [] q free = refl
 not_under [] (x ∷ p) q free = ap (λ b. b && same_bytes q p) (turned 47 x ∙ (or_parts _ _ free).0)
-not_under (n ∷ name) (x ∷ p) q free = ap (λ b. nat_eq n x && b) (not_under name p q (or_parts _ _ free).1) ∙ and_false (nat_eq n x)
+not_under (n ∷ name) (x ∷ p) q free = ap (λ b. nat_eq n x && b) (not_under name p q (or_parts _ _ free).1) ∙ and-false (nat_eq n x)
 
 pub not_slashed : (name c r : List ℕ) → has_slash name ≡ false → same_bytes name (c ++ 47 ∷ r) ≡ false
 not_slashed [] [] r free = refl
 not_slashed [] (x ∷ c) r free = refl
 not_slashed (n ∷ name) [] r free = ap (λ b. b && same_bytes name r) (or_parts _ _ free).0
-not_slashed (n ∷ name) (x ∷ c) r free = ap (λ b. nat_eq n x && b) (not_slashed name c r (or_parts _ _ free).1) ∙ and_false (nat_eq n x)
+not_slashed (n ∷ name) (x ∷ c) r free = ap (λ b. nat_eq n x && b) (not_slashed name c r (or_parts _ _ free).1) ∙ and-false (nat_eq n x)
 
 -- two paths are equal where their first names and what follows are
 pub same_under : (name c q r : List ℕ) → has_slash name ≡ false → has_slash c ≡ false → same_bytes (name ++ 47 ∷ q) (c ++ 47 ∷ r) ≡ (same_bytes name c && same_bytes q r)
@@ -102,7 +95,7 @@ pub name_not_below : (name top : List ℕ) → has_slash name ≡ false → lies
 name_not_below [] [] free = refl
 name_not_below [] (t ∷ top) free = refl
 name_not_below (n ∷ name) [] free = ap (λ b. b && true) (turned 47 n ∙ (or_parts _ _ free).0)
-name_not_below (n ∷ name) (t ∷ top) free = ap (λ b. nat_eq t n && b) (name_not_below name top (or_parts _ _ free).1) ∙ and_false (nat_eq t n)
+name_not_below (n ∷ name) (t ∷ top) free = ap (λ b. nat_eq t n && b) (name_not_below name top (or_parts _ _ free).1) ∙ and-false (nat_eq t n)
 
 -- what stands below a name
 pub below_name : (name top q : List ℕ) → has_slash name ≡ false → has_slash top ≡ false → lies_below (name ++ 47 ∷ q) top ≡ same_bytes name top

@@ -5,6 +5,7 @@ use Rattle.std.specs.Global.{Vec}
 use Rattle.std.specs.Bool.{Decides}
 use Rattle.std.specs.Cmp.Lexicographic.{pointwise, pointwise_decides, bytes_decides}
 use Rattle.eden_globs.specs.Filters.{lists}
+use Rattle.eden_ids.proofs.Alike.{paths_decide}
 
 -- vectors are compared by what they hold
 pub lists_compared : (a b : List (Vec ℕ)) → pointwise (λ v w. pointwise nat_eq v.items w.items) a b ≡ pointwise (pointwise nat_eq) (lists a) (lists b)
@@ -12,6 +13,3 @@ lists_compared [] [] = refl
 lists_compared [] (w ∷ ws) = refl
 lists_compared (v ∷ vs) [] = refl
 lists_compared (v ∷ vs) (w ∷ ws) = ap (λ r. pointwise nat_eq v.items w.items && r) (lists_compared vs ws)
-
-pub filter_decides : (a b : List (List ℕ)) → Decides (pointwise (pointwise nat_eq) a b) (a ≡ b)
-filter_decides = pointwise_decides bytes_decides

@@ -7,17 +7,15 @@ use Rattle.eden_ids.specs.Sameness.{same_bytes}
 use Rattle.eden_globs.specs.Filters.{admits, first_then, is_any_names, is_none_left, is_plain, name_matches, path_matches, pattern_admits, some_rest}
 use Rattle.eden_globs.proofs.Entering.{first_part}
 use Rattle.eden_globs.proofs.Splitting.{here, later}
-
-one_alone : (b : Bool) → (b || false) ≡ b
-one_alone true = refl
-one_alone false = refl
+use Rattle.std.proofs.Math.Bool.{or-false}
+use Rattle.eden_ids.proofs.ByteOrder.{begins_with_none}
 
 all_rests : (names : List (List ℕ)) → some_rest (path_matches []) names ≡ true
 all_rests [] = refl
 all_rests (n ∷ names) = all_rests names
 
 pub any_admits : (path : List ℕ) → admits (codes "**" ∷ []) path ≡ true
-any_admits path = one_alone (pattern_admits (codes "**") path) ∙ all_rests (components path)
+any_admits path = or-false (pattern_admits (codes "**") path) ∙ all_rests (components path)
 
 -- ---- a byte that stands for itself, before other bytes
 
@@ -138,13 +136,9 @@ alone (b ∷ pattern) (c ∷ path) plain =
     at_byte b pattern parts.0 parts.1.0 bytes.0 bytes.1 bytes.2 parts.1.1.0 parts.1.1.1 c path ∙ ap (λ t. nat_eq b c && t) (alone pattern path bytes.3)
 
 pub itself_alone : (pattern path : List ℕ) → is_plain pattern ≡ true → admits (pattern ∷ []) path ≡ same_bytes pattern path
-itself_alone pattern path plain = one_alone (pattern_admits pattern path) ∙ alone pattern path plain
+itself_alone pattern path plain = or-false (pattern_admits pattern path) ∙ alone pattern path plain
 
 -- ---- the pattern with `/**` behind it
-
-starts_none : (bytes : List ℕ) → starts_with nat_eq bytes [] ≡ true
-starts_none [] = refl
-starts_none (b ∷ bytes) = refl
 
 turned : (c : ℕ) → nat_eq c 47 ≡ true → nat_eq 47 c ≡ true
 turned c = grind arith
@@ -158,7 +152,7 @@ rest_after c path = by (nat_eq c 47) refl
     by : (t : Bool) → nat_eq c 47 ≡ t → pattern_admits (codes "/**") (c ∷ path) ≡ (nat_eq 47 c && starts_with nat_eq path [])
     by true e =
         ap (path_matches (components (codes "/**"))) (here c path e) ∙ all_rests (components path)
-        ∙ sym (ap (λ t. t && starts_with nat_eq path []) (turned c e) ∙ starts_none path)
+        ∙ sym (ap (λ t. t && starts_with nat_eq path []) (turned c e) ∙ begins_with_none path)
     by false e =
         ap (path_matches (components (codes "/**"))) (later c path e ∙ ap (onto_first c) (first_part path).1.1)
         ∙ sym (ap (λ t. t && starts_with nat_eq path []) (turned_not c e))
@@ -182,4 +176,4 @@ with_rest (b ∷ pattern) (c ∷ path) plain =
     ∙ parted (nat_eq b c) (same_bytes pattern path) (lies_below path pattern)
 
 pub itself_and_below : (pattern path : List ℕ) → is_plain pattern ≡ true → admits ((pattern ++ codes "/**") ∷ []) path ≡ (same_bytes pattern path || lies_below path pattern)
-itself_and_below pattern path plain = one_alone (pattern_admits (pattern ++ codes "/**") path) ∙ with_rest pattern path plain
+itself_and_below pattern path plain = or-false (pattern_admits (pattern ++ codes "/**") path) ∙ with_rest pattern path plain

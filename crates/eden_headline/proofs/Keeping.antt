@@ -2,7 +2,7 @@
 -- have had.
 use Rattle.std.proofs.Common.{◌≡◌, ℕ, ◌<◌, ◌≤◌, ◌⊎◌, inl, inr, Bool, true, false, cond, not, List, [], ◌∷◌, Option, Some, None, refl, sym, ap, subst, ◌∙◌, arith}
 use Rattle.std.specs.Prelude.{if◌then◌else◌}
-use Rattle.std.proofs.lemmas.Bool.{or_parts}
+use Rattle.std.proofs.lemmas.Bool.{or_parts, not-false}
 use Rattle.std.specs.FinMap as fin
 use Rattle.eden_ids.specs.declared.content.Content.{Content}
 use Rattle.eden_ids.specs.FileMaps.{FileMap, differ, file_at, has, listing, path_set, same_file, same_path, union}
@@ -21,7 +21,7 @@ use Rattle.eden_history.specs.Legal.{AreMade, IsLegal}
 use Rattle.eden_history.specs.Changes.{changes, named_if}
 use Rattle.eden_history.specs.Rows.{IsPlace, IsRow, IsRowOf, Stands}
 use Rattle.eden_history.specs.declared.position.Position.{Position}
-use Rattle.eden_history.proofs.CheckoutLaws.{has-unclean}
+use Rattle.eden_history.proofs.CheckoutLaws.{has-unclean, same_where}
 use Rattle.eden_history.proofs.Following.{Follows, IsNotAfter, counted, earlier, event_follows}
 use Rattle.eden_history.proofs.Ranges.{changes_more}
 use Rattle.eden_history.proofs.Steps.{is_made}
@@ -47,13 +47,6 @@ rename_kept files old new p from to = by (same_bytes old new) (file_at files old
     by false None = refl
     by false (Some file) = insert_kept (fin.remove files old) new file p to ∙ remove_kept files old p from
 
-alike : (f g : FileMap) (p : List ℕ) → has (differ f g) p ≡ false → file_at f p ≡ file_at g p
-alike f g p none = same_file-is (file_at f p) (file_at g p) (turned (same_file (file_at f p) (file_at g p)) (sym (has-differ f g p) ∙ none))
-  where
-    turned : (b : Bool) → not b ≡ false → b ≡ true
-    turned true e = refl
-    turned false e = cc
-
 -- of a checkout, whatever it makes of the files
 checkout_kept : (work root next target : FileMap) (p : List ℕ) → has (path_set (listing (union (unclean work root next target) (differ root target)))) p ≡ false
     → file_at next p ≡ file_at work p
@@ -61,7 +54,7 @@ checkout_kept work root next target p none =
     let both = or_parts _ _ (sym (has-union (unclean work root next target) (differ root target) p)
     ∙ ap (λ s. has s p) (sym (path_set-listing (union (unclean work root next target) (differ root target)))) ∙ none) in
     let sides = or_parts _ _ (sym (has-unclean work root next target p) ∙ both.0) in
-    alike next target p sides.1 ∙ sym (alike root target p both.1) ∙ sym (alike work root p sides.0)
+    same_where next target p sides.1 ∙ sym (same_where root target p both.1) ∙ sym (same_where work root p sides.0)
 
 next_kept : (commits : Commits) (row : Row) (change : Change) (p : List ℕ) → has (path_set (named commits row change (next_row commits row change))) p ≡ false
     → file_at (next_row commits row change).files p ≡ file_at row.files p

@@ -25,6 +25,8 @@ use Rattle.eden_messages.specs.Mirrors.Round.{Idle, Asked, Gathering}
 use Rattle.eden_history.specs.Rows.{IsPlace, Stands}
 use Rattle.eden_messages.specs.Spells.{paths_of}
 use Rattle.eden_headline.proofs.Telling.{BasisTells, IsTrueOf, PollTells}
+use Rattle.std.proofs.Math.Bool.{and-false}
+use Rattle.eden_messages.proofs.Spelling.{queries_equal}
 
 -- ---- what a mirror keeps
 
@@ -89,14 +91,11 @@ unfolding since_of
 list_since query None patterns = refl
 list_since query (Some place) patterns = refl
 
-one_query : (q r : Query) → q.mirror ≡ r.mirror → q.life ≡ r.life → q.number ≡ r.number → q ≡ r
-one_query q r m l n = λ i. record { mirror = m i; life = l i; number = n i }
-
 query_same : (q r : Query) → same_query q r ≡ true → q ≡ r
 query_same q r e =
     let last = and_parts _ _ e in
     let first = and_parts _ _ last.0 in
-    one_query q r (eqb-true _ _ first.0) (eqb-true _ _ first.1) (eqb-true _ _ last.1)
+    queries_equal q r (eqb-true _ _ first.0) (eqb-true _ _ first.1) (eqb-true _ _ last.1)
 
 fetches_alike : (query : Query) (ps : List (List ℕ)) → AllByRecursion (λ r. query_of r ≡ query) (map (λ path. Fetch query path) ps)
 fetches_alike query [] = tt
@@ -308,17 +307,13 @@ content_sound world sent id m asked target position awaited path content is good
     (record {
       asks = good.asks;
       reached = good.reached;
-      outside = λ p out. among_without p path awaited ∙ ap (λ b. not (same_path p path) && b) (good.outside p out) ∙ and_false (not (same_path p path));
+      outside = λ p out. among_without p path awaited ∙ ap (λ b. not (same_path p path) && b) (good.outside p out) ∙ and-false (not (same_path p path));
       gathered = λ p wanted none.
           subst (Stands world target.generation target.sequence p) (sym (put_option-at m.files path content p))
           (by target.generation target.sequence p refl (omega arith) (same_path p path) refl (λ apart. good.gathered p wanted (left p apart none)));
       later = good.later;
     })
   where
-    and_false : (b : Bool) → (b && false) ≡ false
-    and_false true = refl
-    and_false false = refl
-
     unwanted : (p : List ℕ) → admits m.patterns p ≡ false → (b : Bool) → same_path p path ≡ b → cond b content (file_at m.files p) ≡ None
     unwanted p out true e =
         absurd (let bad : true ≡ false = sym there ∙ ap (λ q. is_among q awaited) (sym (same_path-is p path e)) ∙ good.outside p out in cc)

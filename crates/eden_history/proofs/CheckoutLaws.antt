@@ -3,61 +3,37 @@ use Rattle.std.proofs.Common.{◌≡◌, ℕ, Bool, true, false, cond, not, ◌&
 use Rattle.std.specs.Prelude.{IsSome}
 use Rattle.std.specs.List.{list_any}
 use Rattle.std.specs.FinMap as fin
-use Rattle.std.proofs.lemmas.Bool.{and_parts}
+use Rattle.std.proofs.lemmas.Bool.{and_parts, not-false}
 use Rattle.eden_ids.specs.declared.content.Content.{Content}
 use Rattle.eden_ids.specs.Paths.{clashes, lies_below}
 use Rattle.eden_ids.specs.FileMaps.{FileMap, PathSet, IsFileMap, file_at, paths, same_file, same_path, differ, path_set, has, clashes_any}
-use Rattle.eden_ids.proofs.FileMapLemmas.{file_at-tabulate, has-append, has-differ, has-path_set, has-union, same_file-is, same_file-refl, same_path-is, same_path-refl}
+use Rattle.eden_ids.proofs.FileMapLemmas.{file_at-tabulate, has-append, has-differ, has-path_set, has-union, same_file-is, same_file-refl, same_path-is, same_path-refl, unlisted, has-where, held}
 use Rattle.eden_history.specs.declared.change.Mode.{Mode}
 use Rattle.eden_history.specs.declared.change.Mode.TheVariants.{Normal, Dry, Force}
 use Rattle.eden_history.specs.Checkouts.{is_clean, clashes_dirty, is_blocked, paths_of_all, normal_rule, normal_files, force_rule, force_files, rule_of, checked_out, is_conflict, conflicts, unclean}
+use Rattle.std.proofs.Math.Bool.{or-true, or_comm}
+use Rattle.eden_ids.proofs.TreeQuestions.{any_some, any_witness}
 
 -- ---- tests of lists of paths
-
-or_true : (b : Bool) → (b || true) ≡ true
-or_true true = refl
-or_true false = refl
 
 by_two : (b : Bool) → (b ≡ true → false ≡ true) → b ≡ false
 by_two true h = absurd (let bad : false ≡ true = h refl in cc)
 by_two false h = refl
 
--- a path that is listed and passes
-pub any_holds : (test : List ℕ → Bool) (ks : List (List ℕ)) (p : List ℕ) → list_any (λ q. same_path p q) ks ≡ true → test p ≡ true → list_any test ks ≡ true
-any_holds test [] p listed e = absurd (cc)
-any_holds test (k ∷ ks) p listed e =
-    elim (same_path p k) as (λ b. same_path p k ≡ b → (b || list_any (λ q. same_path p q) ks) ≡ true → (test k || list_any test ks) ≡ true) [
-      | true ↦ λ s _. ap (λ b. b || list_any test ks) (ap test (sym (same_path-is p k s)) ∙ e)
-      | false ↦ λ s more. ap (λ b. test k || b) (any_holds test ks p more e) ∙ or_true (test k)
-    ] refl listed
-
--- where none passes, a path that is listed does not
-pub none_holds : (test : List ℕ → Bool) (ks : List (List ℕ)) (p : List ℕ) → list_any test ks ≡ false → list_any (λ q. same_path p q) ks ≡ true → test p ≡ false
-none_holds test ks p none listed = by_two (test p) (λ e. sym none ∙ any_holds test ks p listed e)
-
--- where some path passes, here is one
-pub any_found : (test : List ℕ → Bool) (ks : List (List ℕ)) → list_any test ks ≡ true → (p : List ℕ) × (list_any (λ q. same_path p q) ks ≡ true) × (test p ≡ true)
-any_found test [] e = absurd (cc)
-any_found test (k ∷ ks) e =
-    elim (test k) as (λ b. test k ≡ b → (b || list_any test ks) ≡ true → (p : List ℕ) × (list_any (λ q. same_path p q) (k ∷ ks) ≡ true) × (test p ≡ true)) [
-      | true ↦ λ t _. (k, ap (λ b. b || list_any (λ q. same_path k q) ks) (same_path-refl k), t)
-      | false ↦ λ t more. let found = any_found test ks more in (found.0, ap (λ b. same_path found.0 k || b) found.1 ∙ or_true (same_path found.0 k), found.2)
-    ] refl e
-
 -- ---- at each path
 
-held : (m : FileMap) (p : List ℕ) → has (path_set (paths m)) p ≡ is_some (file_at m p)
-held m p = has-path_set (paths m) p ∙ sym (fin.contains_key-keys m p)
+stands_in : (m : FileMap) (p : List ℕ) → has (path_set (paths m)) p ≡ is_some (file_at m p)
+stands_in m p = has-path_set (paths m) p ∙ sym (fin.contains_key-keys m p)
 
 has-all : (work root target : FileMap) (p : List ℕ)
     → has (path_set (paths_of_all work root target)) p ≡ (is_some (file_at work p) || (is_some (file_at root p) || is_some (file_at target p)))
 has-all work root target p =
     has-append (paths work) (paths root ++ paths target) p
-    ∙ ap (λ b. b || has (path_set (paths root ++ paths target)) p) (held work p)
+    ∙ ap (λ b. b || has (path_set (paths root ++ paths target)) p) (stands_in work p)
     ∙ ap (λ b. is_some (file_at work p) || b)
     (has-append (paths root) (paths target) p
-    ∙ ap (λ b. b || has (path_set (paths target)) p) (held root p)
-    ∙ ap (λ b. is_some (file_at root p) || b) (held target p))
+    ∙ ap (λ b. b || has (path_set (paths target)) p) (stands_in root p)
+    ∙ ap (λ b. is_some (file_at root p) || b) (stands_in target p))
 
 listed_in_all : (work root target : FileMap) (p : List ℕ)
     → list_any (λ q. same_path p q) (paths_of_all work root target) ≡ (is_some (file_at work p) || (is_some (file_at root p) || is_some (file_at target p)))
@@ -101,15 +77,6 @@ file_at-checked_out Normal work root target p = file_at-normal work root target 
 file_at-checked_out Dry work root target p = refl
 file_at-checked_out Force work root target p = file_at-force work root target p
 
-has-where : (s : PathSet) (test : List ℕ → Bool) (p : List ℕ) → has (fin.retain_keys s test) p ≡ (test p && has s p)
-has-where s test p =
-    ap is_some (fin.get-retain_keys s test p (λ x e. ap test (sym (fin.slice_cmp-IsAntisymmetric fin.nat_cmp-IsAntisymmetric p x e))))
-    ∙ of_cond (test p) (fin.get s p)
-  where
-    of_cond : (b : Bool) (x : Option (Unit {0})) → is_some (cond b x None) ≡ (b && is_some x)
-    of_cond true x = refl
-    of_cond false x = refl
-
 -- the conflicts have each path that is one
 pub has-conflicts : (work root target : FileMap) (p : List ℕ) → has (conflicts work root target) p ≡ is_conflict work root target p
 unfolding conflicts
@@ -137,25 +104,17 @@ has-unclean work root next target p = has-union (differ work root) (differ next 
 -- ---- no two paths clash
 
 clashes_turned : (p q : List ℕ) → clashes p q ≡ clashes q p
-clashes_turned p q = turned (lies_below p q) (lies_below q p)
-  where
-    turned : (a b : Bool) → (a || b) ≡ (b || a)
-    turned true b = sym (or_true b)
-    turned false true = refl
-    turned false false = refl
-
-in_map : (m : FileMap) (p : List ℕ) → IsSome (file_at m p) → list_any (λ q. same_path p q) (paths m) ≡ true
-in_map m p h = sym (fin.contains_key-keys m p) ∙ h
+clashes_turned p q = or_comm (lies_below p q) (lies_below q p)
 
 -- a path that clashes with no dirty one at which a file stands
 apart_from_dirty : (work root : FileMap) (p q : List ℕ) → clashes_dirty work root p ≡ false → is_clean work root q ≡ false → IsSome (file_at work q) → clashes p q ≡ false
 apart_from_dirty work root p q none dirty here =
     by_two (clashes p q)
-    (λ e. sym (none_holds (λ r. clashes p r && not (is_clean work root r)) (paths work) q none (in_map work q here))
+    (λ e. sym (unlisted (λ r. clashes p r && not (is_clean work root r)) (paths work) q none (held work q here))
     ∙ ap (λ b. b && not (is_clean work root q)) e ∙ ap not dirty)
 
 apart_from_any : (m : FileMap) (p q : List ℕ) → clashes_any m p ≡ false → IsSome (file_at m q) → clashes p q ≡ false
-apart_from_any m p q none here = none_holds (λ r. clashes p r) (paths m) q none (in_map m q here)
+apart_from_any m p q none here = unlisted (λ r. clashes p r) (paths m) q none (held m q here)
 
 -- the files after a normal checkout are a file map
 pub normal_no_clash : (work root target : FileMap) → IsFileMap work → IsFileMap target → IsFileMap (normal_files work root target)
@@ -213,7 +172,7 @@ clash_is_new work root target p ok clean blocked =
         let parts = and_parts (is_some (file_at target p)) (clashes_dirty work root p) blocked in
         let here : is_some (file_at work p) ≡ true =
         ap is_some (same_file-is (file_at work p) (file_at root p) clean ∙ same_file-is (file_at root p) (file_at target p) same) ∙ parts.0 in
-        let found = any_found (λ q. clashes p q && not (is_clean work root q)) (paths work) parts.1 in
+        let found = any_witness (λ q. clashes p q && not (is_clean work root q)) (paths work) parts.1 in
         let there : is_some (file_at work found.0) ≡ true = fin.contains_key-keys work found.0 ∙ found.1 in
         let clashing = and_parts (clashes p found.0) (not (is_clean work root found.0)) found.2 in
         let bad : true ≡ false = sym clashing.0 ∙ ok p found.0 here there in
@@ -232,12 +191,8 @@ conflict_differs work root target p ok e = cases (is_clean work root p) refl e
 pub conflicts_in_differ : (work root target : FileMap) (p : List ℕ) → IsFileMap work → has (conflicts work root target) p ≡ true → has (differ root target) p ≡ true
 conflicts_in_differ work root target p ok e = conflict_differs work root target p ok (sym (has-conflicts work root target p) ∙ e)
 
-same_where : (f g : FileMap) (p : List ℕ) → has (differ f g) p ≡ false → file_at f p ≡ file_at g p
-same_where f g p e = same_file-is (file_at f p) (file_at g p) (not_false (same_file (file_at f p) (file_at g p)) (sym (has-differ f g p) ∙ e))
-  where
-    not_false : (b : Bool) → not b ≡ false → b ≡ true
-    not_false true h = refl
-    not_false false h = absurd (cc)
+pub same_where : (f g : FileMap) (p : List ℕ) → has (differ f g) p ≡ false → file_at f p ≡ file_at g p
+same_where f g p e = same_file-is (file_at f p) (file_at g p) (not-false (same_file (file_at f p) (file_at g p)) (sym (has-differ f g p) ∙ e))
 
 -- a clean path that is no conflict becomes the target's
 pub normal_elsewhere : (work root target : FileMap) (p : List ℕ) → is_clean work root p ≡ true → is_conflict work root target p ≡ false

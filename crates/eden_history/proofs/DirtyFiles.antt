@@ -13,7 +13,8 @@ use Rattle.eden_ids.proofs.Sifted.{listing_of}
 use Rattle.eden_ids.proofs.TreeMaps.{listing-same}
 use Rattle.eden_history.specs.Checkouts.{is_clean, clashes_dirty}
 use Rattle.eden_history.specs.DirtyFiles.{dirty_files}
-use Rattle.eden_history.proofs.CheckoutLaws.{any_holds, any_found}
+use Rattle.std.proofs.lemmas.Bool.{and_parts}
+use Rattle.eden_ids.proofs.TreeQuestions.{any_some, any_witness}
 
 pub file_at-dirty : (work root : FileMap) (p : List ℕ) → file_at (dirty_files work root) p ≡ cond (not (is_clean work root p)) (file_at work p) None
 file_at-dirty work root p =
@@ -89,31 +90,26 @@ by_both true b f g = sym (f refl)
 by_both false true f g = g refl
 by_both false false f g = refl
 
-split : (a b : Bool) → (a && b) ≡ true → (a ≡ true) × (b ≡ true)
-split true true e = (refl, refl)
-split true false e = absurd (cc)
-split false b e = absurd (cc)
-
 -- to clash with a dirty path at which a file stands is to clash with a dirty file
 pub clashes-dirty_files : (work root : FileMap) (p : List ℕ) → clashes_dirty work root p ≡ clashes_any (dirty_files work root) p
 clashes-dirty_files work root p = by_both _ _ there back
   where
     there : clashes_dirty work root p ≡ true → clashes_any (dirty_files work root) p ≡ true
     there e =
-        let found = any_found (λ q. clashes p q && not (is_clean work root q)) (paths work) e in
-        let parts = split (clashes p found.0) (not (is_clean work root found.0)) found.2 in
+        let found = any_witness (λ q. clashes p q && not (is_clean work root q)) (paths work) e in
+        let parts = and_parts (clashes p found.0) (not (is_clean work root found.0)) found.2 in
         let here : is_some (file_at work found.0) ≡ true = fin.contains_key-keys work found.0 ∙ found.1 in
-        any_holds (λ q. clashes p q) (paths (dirty_files work root)) found.0
+        any_some (λ q. clashes p q) (paths (dirty_files work root)) found.0
         (sym (fin.contains_key-keys (dirty_files work root) found.0) ∙ is_dirty_file work root found.0
         ∙ ap (λ b. b && not (is_clean work root found.0)) here ∙ parts.1)
         parts.0
 
     back : clashes_any (dirty_files work root) p ≡ true → clashes_dirty work root p ≡ true
     back e =
-        let found = any_found (λ q. clashes p q) (paths (dirty_files work root)) e in
+        let found = any_witness (λ q. clashes p q) (paths (dirty_files work root)) e in
         let here : is_some (file_at (dirty_files work root) found.0) ≡ true = fin.contains_key-keys (dirty_files work root) found.0 ∙ found.1 in
-        let parts = split (is_some (file_at work found.0)) (not (is_clean work root found.0)) (sym (is_dirty_file work root found.0) ∙ here) in
-        any_holds (λ q. clashes p q && not (is_clean work root q)) (paths work) found.0
+        let parts = and_parts (is_some (file_at work found.0)) (not (is_clean work root found.0)) (sym (is_dirty_file work root found.0) ∙ here) in
+        any_some (λ q. clashes p q && not (is_clean work root q)) (paths work) found.0
         (sym (fin.contains_key-keys work found.0) ∙ parts.0)
         (ap (λ b. b && not (is_clean work root found.0)) found.2 ∙ parts.1)
 
@@ -128,8 +124,8 @@ none_clashes work root ps p is none = by (clashes_dirty work root p) refl
     by : (b : Bool) → clashes_dirty work root p ≡ b → b ≡ false
     by false e = refl
     by true e =
-        let found = any_found (λ q. clashes p q && not (is_clean work root q)) (paths work) e in
-        let dirty = (split (clashes p found.0) (not (is_clean work root found.0)) found.2).1 in
+        let found = any_witness (λ q. clashes p q && not (is_clean work root q)) (paths work) e in
+        let dirty = (and_parts (clashes p found.0) (not (is_clean work root found.0)) found.2).1 in
         absurd (let bad : true ≡ false = sym dirty ∙ ap not (clean_unless_listed work root ps found.0 is ∙ ap (λ qs. not (list_any (λ q. same_path found.0 q) qs)) (no_length ps none)) in cc)
 
 -- the paths of the dirty files stand in byte order

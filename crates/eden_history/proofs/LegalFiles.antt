@@ -46,7 +46,7 @@ pub allowed_files : (commits : Commits) (row : Row) (change : Change) → refusa
 unfolding refusal
 allowed_files commits row change e = (first-none (change_fault commits row change) _ e).0
 
-next_row_files : (commits : Commits) (row : Row) (change : Change) → (next_row commits row change).files ≡ next_files commits row change
+pub next_row_files : (commits : Commits) (row : Row) (change : Change) → (next_row commits row change).files ≡ next_files commits row change
 unfolding next_row
 next_row_files commits row change = refl
 

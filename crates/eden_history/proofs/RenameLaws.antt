@@ -11,7 +11,7 @@ use Rattle.eden_history.specs.declared.change.ChangeFault.{ChangeFault}
 use Rattle.eden_history.specs.declared.change.ChangeFault.TheVariants.{NotADirectory, IsADirectory}
 use Rattle.eden_history.specs.Renames.{absent_fault, moved, place_fault, rename_fault, renamed, write_fault}
 use Rattle.eden_ids.specs.Sameness.{same_bytes}
-use Rattle.eden_history.proofs.CheckoutLaws.{any_found, any_holds}
+use Rattle.eden_ids.proofs.TreeQuestions.{any_some, any_witness}
 
 pub first-none : (a b : Option ChangeFault) → option_or a b ≡ None → (a ≡ None) × (b ≡ None)
 first-none None b e = (refl, e)
@@ -44,8 +44,8 @@ still_none m k test none = by (list_any test (paths (fin.remove m k))) refl
 
     by : (b : Bool) → list_any test (paths (fin.remove m k)) ≡ b → b ≡ false
     by true e =
-        let found = any_found test (paths (fin.remove m k)) e in
-        sym (any_holds test (paths m) found.0 (before found.0 found.1) found.2) ∙ none
+        let found = any_witness test (paths (fin.remove m k)) e in
+        sym (any_some test (paths m) found.0 (before found.0 found.1) found.2) ∙ none
     by false e = refl
 
 moved_fits : (m : FileMap) (old new : List ℕ) (file : Option Content) → IsFileMap m → has_file_above m new ≡ false → has_file_below m new ≡ false → IsFileMap (moved m old new file)

@@ -10,6 +10,7 @@ use Rattle.eden_ids.specs.FileMaps.{same_path}
 use Rattle.eden_ids.specs.Sameness.{same_bytes}
 use Rattle.eden_ids.proofs.ByteOrder.{IsPlaceOf, is_less, order, parted}
 use Rattle.eden_ids.proofs.FileMapLemmas.{same_path-bytes, same_path-turned}
+use Rattle.std.proofs.Math.Bool.{or-false}
 
 pub each_itself : (ps : List (List ℕ)) → map (λ p. p) ps ≡ ps
 each_itself [] = refl
@@ -31,10 +32,6 @@ after_all k p (q ∷ ps) before after = (nat_list_cmp_total.trans k p q before a
 not_before : (k p : List ℕ) → is_lt (order p k) ≡ true → same_path k p ≡ false
 not_before k p before = ap is_eq (nat_list_cmp_total.antisymm k p ∙ ap ordering_reverse (is_less (order p k) before))
 
-or_false : (b : Bool) → (b || false) ≡ b
-or_false true = refl
-or_false false = refl
-
 later : (k p : List ℕ) (ps : List (List ℕ)) (i : ℕ) → IsPlaceOf (λ p. p) k (p ∷ ps) (suc i) → IsPlaceOf (λ p. p) k ps i
 later k p ps i point = ((λ j d low high. point.0 (suc j) d (omega arith) (omega arith)), (λ j d low high. point.1 (suc j) d (omega arith) (omega arith)))
 
@@ -46,7 +43,7 @@ listed_at k [] i d rise point within = absurd (omega arith)
 listed_at k (p ∷ ps) zero d rise point within = by (order k p) refl
   where
     by : (o : Ordering) → order k p ≡ o → (same_path k p || list_any (λ q. same_path k q) ps) ≡ same_path k p
-    by Less e = ap (λ b. same_path k p || b) (none_after k ps (after_all k p ps e rise.0)) ∙ or_false (same_path k p)
+    by Less e = ap (λ b. same_path k p || b) (none_after k ps (after_all k p ps e rise.0)) ∙ or-false (same_path k p)
     by Equal e = ap (λ o. is_eq o || list_any (λ q. same_path k q) ps) e ∙ sym (ap is_eq e)
     by Greater e =
         let before : is_lt (order p k) ≡ true = ap is_lt (nat_list_cmp_total.antisymm p k ∙ ap ordering_reverse e) in

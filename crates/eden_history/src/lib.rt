@@ -3,12 +3,13 @@
 //! The definitions stand in `specs/`, one to a file, and every other crate proves its code against them.
 //!
 //! ```rust
-//! use eden_history::{Change, Mode};
-//! use eden_ids::Id;
+//! use eden_history::Change;
+//! use eden_ids::Path;
 //!
 //! // A change is a value: what it does to a mount is said by `specs/Outcome.antt`, and no code here makes it.
-//! let change = Change::Checkout { commit: Id::ZERO, mode: Mode::Normal };
-//! assert!(rt; matches!(change.copy()?, Change::Checkout { mode: Mode::Normal, .. }));
+//! let path = Path::parse(alloc, b"notes".as_slice())?;
+//! let change = Change::Remove { path };
+//! assert_eq!(rt; change.copy()?, change);
 //! ```
 #![tactic(auto)]
 

@@ -2,10 +2,7 @@
 use Rattle.std.proofs.Common.{◌≡◌, ℕ, Bool, true, false, ◌&&◌, nat_eq, List, [], ◌∷◌, ◌++◌, length, drop, refl, ap, sym, ◌∙◌}
 use Rattle.std.specs.List.{starts_with}
 use Rattle.eden_ids.specs.Paths.{lies_below}
-
-and_assoc : (a b c : Bool) → (a && b) && c ≡ a && (b && c)
-and_assoc true b c = refl
-and_assoc false b c = refl
+use Rattle.std.proofs.Math.Bool.{and_assoc}
 
 pub starts_with-append : (xs top bs : List ℕ) → starts_with nat_eq xs (top ++ bs) ≡ (starts_with nat_eq xs top && starts_with nat_eq (drop (length top) xs) bs)
 starts_with-append [] [] bs = refl

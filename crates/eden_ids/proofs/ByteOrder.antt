@@ -103,7 +103,7 @@ lt_then a b ys =
 slash : (y : ℕ) → (nat_eq 47 y && true) ≡ (not (nat_lt y 47) && nat_lt y 48)
 slash y = grind (arith, nat_tests)
 
-begins_with_none : (ys : List ℕ) → starts_with nat_eq ys [] ≡ true
+pub begins_with_none : (ys : List ℕ) → starts_with nat_eq ys [] ≡ true
 begins_with_none [] = refl
 begins_with_none (y ∷ ys) = refl
 

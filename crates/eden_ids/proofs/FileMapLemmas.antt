@@ -3,7 +3,7 @@ use Rattle.std.proofs.Common.{◌≡◌, ◌≢◌, ℕ, Bool, true, false, cond
 use Rattle.std.proofs.lemmas.Slice.Eq.{bytes_eq-Decides}
 use Rattle.std.proofs.lemmas.List.{drop_all}
 use Rattle.std.proofs.lemmas.List.Folds.{list_any-append}
-use Rattle.std.proofs.lemmas.Bool.{and_parts, or_parts}
+use Rattle.std.proofs.lemmas.Bool.{and_parts, or_from, or_parts}
 use Rattle.std.specs.declared.cmp.Ordering.TheVariants.{Equal}
 use Rattle.std.specs.Prelude.{IsTrue, IsSome}
 use Rattle.std.specs.Ordering.{nat_cmp, is_eq}
@@ -19,8 +19,9 @@ use Rattle.eden_ids.specs.Paths.{clashes, lies_below}
 use Rattle.eden_ids.specs.Sameness.{same_bytes}
 use Rattle.eden_ids.proofs.Below.{below_in_steps}
 use Rattle.eden_ids.specs.FileMaps.{FileMap, no_files, file_at, paths, PathSet, has, listing, no_paths, path_set, union, same_path, same_kind, same_file, differ, put_option, tabulate, has_file_above, has_file_below, IsFileMap}
+use Rattle.std.proofs.Math.Bool.{and-false}
 
-same_order : (p q : List ℕ) → slice_cmp nat_cmp p q ≡ Equal → p ≡ q
+pub same_order : (p q : List ℕ) → slice_cmp nat_cmp p q ≡ Equal → p ≡ q
 same_order = slice_cmp-IsAntisymmetric nat_cmp-IsAntisymmetric
 
 pub same_path-refl : (p : List ℕ) → same_path p p ≡ true
@@ -64,7 +65,7 @@ file_at-remove_other m k p apart = file_at-remove m k p ∙ ap (λ b. cond b Non
 pub same_file_map : (m n : FileMap) → ((p : List ℕ) → file_at m p ≡ file_at n p) → m ≡ n
 same_file_map = fin.same_map nat_list_cmp_total same_order
 
-unit_is : (x y : Option (Unit {0})) → is_some x ≡ is_some y → x ≡ y
+pub unit_is : (x y : Option (Unit {0})) → is_some x ≡ is_some y → x ≡ y
 unit_is None None e = refl
 unit_is None (Some y) e = cc
 unit_is (Some x) None e = cc
@@ -74,7 +75,7 @@ unit_is (Some x) (Some y) e = refl
 pub same_path_set : (s t : PathSet) → ((p : List ℕ) → has s p ≡ has t p) → s ≡ t
 same_path_set s t h = fin.same_map nat_list_cmp_total same_order s t (λ p. unit_is _ _ (h p))
 
-some_cond : (b : Bool) (x : Option (Unit {0})) → is_some (cond b (Some tt) x) ≡ (b || is_some x)
+pub some_cond : (b : Bool) (x : Option (Unit {0})) → is_some (cond b (Some tt) x) ≡ (b || is_some x)
 some_cond true x = refl
 some_cond false x = refl
 
@@ -133,7 +134,7 @@ bytes_same xs ys e = (bytes_eq-Decides xs ys).0 e
 pub bytes_itself : (xs : List ℕ) → same_bytes xs xs ≡ true
 bytes_itself xs = (bytes_eq-Decides xs xs).1 refl
 
-same_content : (f g : Content) → f.kind ≡ g.kind → f.bytes ≡ g.bytes → f ≡ g
+pub same_content : (f g : Content) → f.kind ≡ g.kind → f.bytes ≡ g.bytes → f ≡ g
 same_content f g k b = λ i. record { kind = k i; bytes = b i }
 
 pub same_file-is : (f g : Option Content) → same_file f g ≡ true → f ≡ g
@@ -147,14 +148,6 @@ same_file-is (Some f) (Some g) e =
 pub same_file-refl : (f : Option Content) → same_file f f ≡ true
 same_file-refl None = refl
 same_file-refl (Some f) = ap (λ b. b && same_bytes f.bytes f.bytes) (same_kind-refl f.kind) ∙ bytes_itself f.bytes
-
-true_or : (b : Bool) → (b || true) ≡ true
-true_or true = refl
-true_or false = refl
-
-not_of : (b : Bool) → not b ≡ true → b ≡ false
-not_of true e = cc
-not_of false e = refl
 
 -- a path on which two maps differ is a path of one of them
 among : (f g : FileMap) (p : List ℕ) → same_file (file_at f p) (file_at g p) ≡ false → has (path_set (paths f ++ paths g)) p ≡ true
@@ -225,11 +218,7 @@ file_at-tabulate (q ∷ ps) rule p =
 -- ---- no clash
 
 pub lies_below-itself : (p : List ℕ) → lies_below p p ≡ false
-lies_below-itself p = below_in_steps p p ∙ ap (λ xs. starts_with nat_eq p p && starts_with nat_eq xs (47 ∷ [])) (drop_all (length p) p (omega arith)) ∙ and_false (starts_with nat_eq p p)
-  where
-    and_false : (b : Bool) → (b && false) ≡ false
-    and_false true = refl
-    and_false false = refl
+lies_below-itself p = below_in_steps p p ∙ ap (λ xs. starts_with nat_eq p p && starts_with nat_eq xs (47 ∷ [])) (drop_all (length p) p (omega arith)) ∙ and-false (starts_with nat_eq p p)
 
 -- where no path of a list passes a test, one of the list does not
 pub unlisted : (test : List ℕ → Bool) (ks : List (List ℕ)) (p : List ℕ) → list_any test ks ≡ false → list_any (λ q. same_path p q) ks ≡ true → test p ≡ false
@@ -257,14 +246,11 @@ pub IsFileMap-insert : (m : FileMap) (k : List ℕ) (f : Content) → IsFileMap 
 IsFileMap-insert m k f ok above below p q hp hq =
     cases (same_path p k) (same_path q k) refl refl (subst IsSome (file_at-insert m k f p) hp) (subst IsSome (file_at-insert m k f q) hq)
   where
-    none : (a b : Bool) → a ≡ false → b ≡ false → (a || b) ≡ false
-    none a b x y = ap (λ c. c || b) x ∙ y
-
     cases : (a b : Bool) → same_path p k ≡ a → same_path q k ≡ b → IsSome (cond a (Some f) (file_at m p)) → IsSome (cond b (Some f) (file_at m q)) → clashes p q ≡ false
     cases true true sp sq x y =
-        ap (λ r. clashes r q) (same_path-is p k sp) ∙ ap (λ r. clashes k r) (same_path-is q k sq) ∙ none _ _ (lies_below-itself k) (lies_below-itself k)
-    cases true false sp sq x y = ap (λ r. clashes r q) (same_path-is p k sp) ∙ none _ _ (not_above m k q above y) (not_below m k q below y)
-    cases false true sp sq x y = ap (λ r. clashes p r) (same_path-is q k sq) ∙ none _ _ (not_below m k p below x) (not_above m k p above x)
+        ap (λ r. clashes r q) (same_path-is p k sp) ∙ ap (λ r. clashes k r) (same_path-is q k sq) ∙ or_from _ _ (lies_below-itself k) (lies_below-itself k)
+    cases true false sp sq x y = ap (λ r. clashes r q) (same_path-is p k sp) ∙ or_from _ _ (not_above m k q above y) (not_below m k q below y)
+    cases false true sp sq x y = ap (λ r. clashes p r) (same_path-is q k sq) ∙ or_from _ _ (not_below m k p below x) (not_above m k p above x)
     cases false false sp sq x y = ok p q x y
 
 pub IsFileMap-remove : (m : FileMap) (k : List ℕ) → IsFileMap m → IsFileMap (fin.remove m k)

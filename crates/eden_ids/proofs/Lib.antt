@@ -8,6 +8,7 @@ pub mod ColumnLemmas
 pub mod Sifted
 pub mod Tables
 pub mod Texts
+pub mod Fronts
 pub mod Members
 pub mod TextLemmas
 pub mod Alike

@@ -4,14 +4,11 @@ use Rattle.std.specs.List.{list_any}
 use Rattle.std.specs.Cmp.Lexicographic.{nat_list_cmp_total}
 use Rattle.std.specs.FinMap as fin
 use Rattle.eden_ids.specs.FileMaps.{PathSet, has, no_paths, path_set, same_path, union}
-use Rattle.eden_ids.proofs.FileMapLemmas.{has-append, has-none, has-path_set, has-union, same_path_set}
+use Rattle.eden_ids.proofs.FileMapLemmas.{has-append, has-none, has-path_set, has-union, same_path_set, some_cond}
+use Rattle.std.proofs.Math.Bool.{or-false}
 
 pub has-insert : (t : PathSet) (p q : List ℕ) → has (fin.insert t p tt) q ≡ (same_path q p || has t q)
-has-insert t p q = ap is_some (fin.get-insert nat_list_cmp_total t p tt q) ∙ one (same_path q p) (fin.get t q)
-  where
-    one : (b : Bool) (o : Option (Unit {0})) → is_some (cond b (Some tt) o) ≡ (b || is_some o)
-    one true o = refl
-    one false o = refl
+has-insert t p q = ap is_some (fin.get-insert nat_list_cmp_total t p tt q) ∙ some_cond (same_path q p) (fin.get t q)
 
 union_next : (a b c : Bool) → ((a || b) || c) ≡ (b || (a || c))
 union_next true true c = refl
@@ -37,15 +34,11 @@ or-assoc true b c d = refl
 or-assoc false true c d = refl
 or-assoc false false c d = refl
 
-or-none : (b : Bool) → (b || false) ≡ b
-or-none true = refl
-or-none false = refl
-
 -- the paths of three lists
 pub union_three : (ps qs rs : List (List ℕ)) → union (path_set ps) (union (path_set qs) (union (path_set rs) no_paths)) ≡ path_set (ps ++ (qs ++ rs))
 union_three ps qs rs = same_path_set _ _ (λ p.
     has-union (path_set ps) _ p
     ∙ ap (λ b. has (path_set ps) p || b) (has-union (path_set qs) _ p
-    ∙ ap (λ b. has (path_set qs) p || b) (has-union (path_set rs) no_paths p ∙ ap (λ b. has (path_set rs) p || b) (has-none p) ∙ or-none (has (path_set rs) p))
+    ∙ ap (λ b. has (path_set qs) p || b) (has-union (path_set rs) no_paths p ∙ ap (λ b. has (path_set rs) p || b) (has-none p) ∙ or-false (has (path_set rs) p))
     ∙ sym (has-append qs rs p))
     ∙ sym (has-append ps (qs ++ rs) p))

@@ -15,26 +15,10 @@ use Rattle.std.specs.FinMap.Entries.{below_all, by_order}
 use Rattle.std.specs.FinMap.{FinMap, find, put, is_sorted, slice_cmp-IsAntisymmetric, nat_cmp-IsAntisymmetric}
 use Rattle.eden_ids.specs.FileMaps.{PathSet, has, listing, path_set}
 use Rattle.eden_ids.proofs.FileMapLemmas.{same_path_set, has-path_set}
+use Rattle.eden_ids.proofs.ByteOrder.{both, first, second, less}
 
 abbrev order : List ℕ → List ℕ → Ordering
 order = slice_cmp nat_cmp
-
-both : (a b : Bool) → T a → T b → T (a && b)
-both true b p q = q
-both false b p q = absurd p
-
-first : (a b : Bool) → T (a && b) → T a
-first true b p = tt
-first false b p = p
-
-second : (a b : Bool) → T (a && b) → T b
-second true b p = p
-second false b p = absurd p
-
-less : (r : Ordering) → T (is_lt r) → r ≡ Less
-less Less p = refl
-less Equal p = absurd p
-less Greater p = absurd p
 
 no_length : {A : Type 0} (es : List A) → length es ≡ 0 → es ≡ []
 no_length [] e = refl

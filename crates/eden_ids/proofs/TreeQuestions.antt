@@ -9,6 +9,7 @@ use Rattle.eden_ids.specs.declared.content.Content.{Content}
 use Rattle.eden_ids.specs.Paths.{clashes, lies_below}
 use Rattle.eden_ids.specs.FileMaps.{FileMap, clashes_any, file_at, has_file_above, has_file_below, lent, paths, same_path}
 use Rattle.eden_ids.proofs.FileMapLemmas.{held, same_path-is, same_path-refl}
+use Rattle.std.proofs.Math.Bool.{or-true}
 
 -- a file is lent where one stands
 pub some_lent : (seen : Option (Kind × Bor (List ℕ))) (file : Option Content) → lent seen ≡ file → is_some seen ≡ is_some file
@@ -17,17 +18,13 @@ some_lent (Some x) file is = ap is_some is
 
 -- ---- tests of the paths of a list
 
-true_or : (b : Bool) → (b || true) ≡ true
-true_or true = refl
-true_or false = refl
-
 -- a path of the list that passes
 pub any_some : (test : List ℕ → Bool) (ks : List (List ℕ)) (p : List ℕ) → list_any (λ q. same_path p q) ks ≡ true → test p ≡ true → list_any test ks ≡ true
 any_some test [] p listed e = absurd (cc)
 any_some test (k ∷ ks) p listed e =
     elim (same_path p k) as (λ b. same_path p k ≡ b → (b || list_any (λ q. same_path p q) ks) ≡ true → (test k || list_any test ks) ≡ true) [
       | true ↦ λ s _. ap (λ b. b || list_any test ks) (ap test (sym (same_path-is p k s)) ∙ e)
-      | false ↦ λ s more. ap (λ b. test k || b) (any_some test ks p more e) ∙ true_or (test k)
+      | false ↦ λ s more. ap (λ b. test k || b) (any_some test ks p more e) ∙ or-true (test k)
     ] refl listed
 
 -- no path of the list passes
@@ -35,7 +32,7 @@ pub any_none : (test : List ℕ → Bool) (ks : List (List ℕ)) → ((p : List 
 any_none test [] h = refl
 any_none test (k ∷ ks) h =
     ap (λ b. b || list_any test ks) (h k (ap (λ b. b || list_any (λ q. same_path k q) ks) (same_path-refl k)))
-    ∙ any_none test ks (λ p listed. h p (ap (λ b. same_path p k || b) listed ∙ true_or (same_path p k)))
+    ∙ any_none test ks (λ p listed. h p (ap (λ b. same_path p k || b) listed ∙ or-true (same_path p k)))
 
 -- the path of the list that passes
 pub any_witness : (test : List ℕ → Bool) (ks : List (List ℕ)) → list_any test ks ≡ true → (p : List ℕ) × (list_any (λ q. same_path p q) ks ≡ true) × (test p ≡ true)
@@ -43,7 +40,7 @@ any_witness test [] e = absurd (cc)
 any_witness test (k ∷ ks) e =
     elim (test k) as (λ b. test k ≡ b → (b || list_any test ks) ≡ true → (p : List ℕ) × (list_any (λ q. same_path p q) (k ∷ ks) ≡ true) × (test p ≡ true)) [
       | true ↦ λ t _. (k, ap (λ b. b || list_any (λ q. same_path k q) ks) (same_path-refl k), t)
-      | false ↦ λ t more. let found = any_witness test ks more in (found.0, ap (λ b. same_path found.0 k || b) found.1 ∙ true_or (same_path found.0 k), found.2)
+      | false ↦ λ t more. let found = any_witness test ks more in (found.0, ap (λ b. same_path found.0 k || b) found.1 ∙ or-true (same_path found.0 k), found.2)
     ] refl e
 
 -- ---- a file above a path

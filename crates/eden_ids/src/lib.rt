@@ -13,7 +13,10 @@
 //!
 //! // A map of one file.
 //! let mut files = Files::new(alloc);
-//! let content = Content { kind: Kind::Plain, bytes: Sequence::new(alloc) };
+//! let content = Content {
+//!     kind: Kind::Plain,
+//!     bytes: Sequence::new(alloc),
+//! };
 //! files.insert(file.copy()?, content)?;
 //! assert!(rt; files.get(&file).is_some());
 //! ```

@@ -5,6 +5,7 @@ use Rattle.std.specs.Cmp.Lexicographic.{pointwise}
 use Rattle.std.proofs.lemmas.List.{append-nil, take_more, length-take-le}
 use Rattle.std.proofs.Math.Seq.{take-add}
 use Rattle.eden_lanes.specs.Rows.{differ_from}
+use Rattle.std.proofs.lemmas.Bool.{and_parts}
 
 -- more elements of each list
 differ_from-append : {A : Type 0} (same : A → A → Bool) (k : ℕ) (xs ys us vs : List A) → length xs ≡ length ys
@@ -45,14 +46,10 @@ among-one same n xs ys c d first second =
     ∙ ap (λ k. among same n xs ys ++ (cond (same (get_or xs n c) (get_or ys n d)) [] (k ∷ []) ++ [])) place
     ∙ ap (λ (ns : List ℕ). among same n xs ys ++ ns) (append-nil (cond (same (get_or xs n c) (get_or ys n d)) [] (n ∷ []))))
 
-pub and_true : (s t : Bool) → (s && t) ≡ true → (s ≡ true) × (t ≡ true)
-and_true true t both = (refl, both)
-and_true false t both = cc
-
 -- no row differs where all are the same
 pub differ_from-same : {A : Type 0} (same : A → A → Bool) (k : ℕ) (us vs : List A) → pointwise same us vs ≡ true → differ_from same k us vs ≡ []
 differ_from-same same k [] vs equal = refl
 differ_from-same same k (u ∷ us) [] equal = refl
 differ_from-same same k (u ∷ us) (v ∷ vs) equal =
-    let both = and_true (same u v) (pointwise same us vs) equal in
+    let both = and_parts (same u v) (pointwise same us vs) equal in
     rw both.0 (differ_from-same same (k + 1) us vs both.1)

@@ -10,6 +10,7 @@ use Rattle.eden_ids.specs.Columns.{IsOfItsWords, word}
 use Rattle.eden_ids.specs.Sameness.{same_id}
 use Rattle.eden_lanes.specs.internal.Masks.{lanes_of, same_word}
 use Rattle.eden_lanes.proofs.Words.{words_tell}
+use Rattle.std.proofs.lemmas.Bool.{or_parts}
 
 -- a comparison of words, lane by lane
 abbrev pub equal_lanes : List ℕ → List ℕ → List ℕ
@@ -108,15 +109,11 @@ and_false : (s t : Bool) → s ≡ false → (s && t) ≡ false
 and_false true t is = cc
 and_false false t is = refl
 
-or_false : (s t : Bool) → (s || t) ≡ false → (s ≡ false) × (t ≡ false)
-or_false true t none = cc
-or_false false t none = (refl, none)
-
 -- no row holds an id where none has its first word
 seldom : (id : Id) (vs : List Id) → IsOfItsWords id → Each1 IsOfItsWords vs → list_any (same_word 0 id) vs ≡ false → list_any (same_id id) vs ≡ false
 seldom id [] whole each none = refl
 seldom id (v ∷ vs) whole each none =
-    let parts = or_false (same_word 0 id v) (list_any (same_word 0 id) vs) none in
+    let parts = or_parts (same_word 0 id v) (list_any (same_word 0 id) vs) none in
     let other : same_id id v ≡ false = sym (words_tell id v whole each.0) ∙ rw parts.0 refl in
     rw (other, seldom id vs whole each.1 parts.1) refl
 

@@ -13,6 +13,7 @@
 //!     before.push(Id([row; 20]))?;
 //!     after.push(Id([if row == 8 { 255 } else { row }; 20]))?;
 //! }
+//! assert_eq!(rt; before.len(), after.len());
 //! assert!(rt; differ_rows(alloc, &before, &after)?.as_slice() == [8].as_slice());
 //! assert_eq!(rt; find_row(&after, Id([255; 20])), Some(8));
 //! ```

@@ -4,7 +4,6 @@ use Rattle.std.specs.Bool.{Decides}
 use Rattle.std.specs.Cmp.Lexicographic.{bytes_decides}
 use Rattle.std.proofs.lemmas.Bool.Decides.{Decides-and, Decides-like}
 use Rattle.eden_ids.proofs.Alike.{found_decides, paths_decide}
-use Rattle.eden_globs.proofs.Alike.{filter_decides}
 use Rattle.eden_history.proofs.Alike.{change_decides, marks_decide, position_decides}
 use Rattle.eden_messages.specs.declared.call.Answer.{Answer}
 use Rattle.eden_messages.specs.declared.call.Answer.TheVariants as answer
@@ -31,10 +30,10 @@ cause_decides a b = search rules
 
 pub request_decides : (a b : Request) → Decides (request.ghosts.eq a b) (a ≡ b)
 request_decides (Basis q f) (Basis r g) =
-    Decides-like _ (λ (h : (q ≡ r) × (f ≡ g)). λ i. Basis (h.0 i) (h.1 i)) (λ e. ((cc), (cc))) (Decides-and _ _ (query_decides q r) (filter_decides f g))
+    Decides-like _ (λ (h : (q ≡ r) × (f ≡ g)). λ i. Basis (h.0 i) (h.1 i)) (λ e. ((cc), (cc))) (Decides-and _ _ (query_decides q r) (paths_decide f g))
 request_decides (Poll q p f) (Poll r o g) =
     Decides-like _ (λ (h : (q ≡ r) × ((p ≡ o) × (f ≡ g))). λ i. Poll (h.0 i) (h.1.0 i) (h.1.1 i)) (λ e. ((cc), ((cc), (cc))))
-    (Decides-and _ _ (query_decides q r) (Decides-and _ _ (position_decides p o) (filter_decides f g)))
+    (Decides-and _ _ (query_decides q r) (Decides-and _ _ (position_decides p o) (paths_decide f g)))
 request_decides (Fetch q a) (Fetch r b) =
     Decides-like _ (λ (h : (q ≡ r) × (a ≡ b)). λ i. Fetch (h.0 i) (h.1 i)) (λ e. ((cc), (cc))) (Decides-and _ _ (query_decides q r) (bytes_decides a b))
 request_decides a b = search rules

@@ -1,6 +1,6 @@
 -- Every reply of a spellable world has a spelling.
 use Rattle.std.proofs.Common.{◌≡◌, ℕ, ◌+◌, ◌^◌, ◌<◌, ◌≤◌, Bool, true, false, cond, not, nat_eq, nat_lt, List, [], ◌∷◌, map, length, Option, Some, None, refl, sym, ap, subst, ◌∙◌, length-append, arith}
-use Rattle.std.specs.Prelude.{filter, if◌then◌else◌}
+use Rattle.std.specs.Prelude.{filter, if◌then◌else◌, IfOk, Result, Ok, Err}
 use Rattle.std.proofs.lemmas.Bool.{ltb-false}
 use Rattle.std.proofs.lemmas.List.Concat.{flat_map-cons}
 use Rattle.std.proofs.lemmas.List.Elements.{All-filter, All-from_recursion, recursion_from_All}
@@ -203,3 +203,9 @@ reply_spelled name world (Basis query patterns) is spellable asked = basis_spell
 reply_spelled name world (Fetch query path) is spellable asked = content_spelled name world is spellable query path asked.0 asked.1
 reply_spelled name world (Poll query position patterns) is spellable asked =
     polled_spelled name world is spellable query position.sequence patterns (status_of world position) asked.0 (status_text name world is spellable position)
+
+-- so has what a call gives, where that is the right reply
+pub spelled_as : {E : Type 0} (result : Result Reply E) (right : Reply) → IfOk result (λ reply. reply ≡ right) → SpellsReply (reply_bytes right) right
+    → IfOk result (λ reply. SpellsReply (reply_bytes reply) reply)
+spelled_as (Ok reply) right is spells = subst (λ r. SpellsReply (reply_bytes r) r) (sym is) spells
+spelled_as (Err fault) right is spells = tt

@@ -26,6 +26,7 @@ use Rattle.eden_messages.specs.declared.message.Reply.{Reply}
 use Rattle.eden_messages.specs.declared.message.Reply.TheVariants.{BasisIs, ChangesAre, ContentIs, Refused}
 use Rattle.eden_ids.specs.Texts.{IsContentText, IsPathText}
 use Rattle.eden_messages.specs.Spells.{query_bytes, IsQuery, position_bytes, IsPosition, text_bytes, filter_bytes, mark_byte, IsListing, paths_bytes, marked_bytes, list_bytes, paths_of, kind_byte, content_bytes, IsValue, cause_bytes, IsCause, request_bytes, IsRequest, reply_bytes, IsReply}
+use Rattle.eden_ids.proofs.FileMapLemmas.{same_content}
 
 -- ---- fronts of one length
 
@@ -55,7 +56,7 @@ cons_same m n x y e = (cc, cc)
 
 -- ---- fields
 
-queries_equal : (p q : Query) → p.mirror ≡ q.mirror → p.life ≡ q.life → p.number ≡ q.number → p ≡ q
+pub queries_equal : (p q : Query) → p.mirror ≡ q.mirror → p.life ≡ q.life → p.number ≡ q.number → p ≡ q
 queries_equal p q one two three =
     let mirror : ℕ → Query = λ m. record { mirror = m; life = p.life; number = p.number } in
     let life : ℕ → Query = λ l. record { mirror = q.mirror; life = l; number = p.number } in
@@ -236,19 +237,13 @@ kind_back Plain = refl
 kind_back Exec = refl
 kind_back Link = refl
 
-contents_equal : (c d : Content) → c.kind ≡ d.kind → c.bytes ≡ d.bytes → c ≡ d
-contents_equal c d one two =
-    let kind : Kind → Content = λ k. record { kind = k; bytes = c.bytes } in
-    let bytes : List ℕ → Content = λ b. record { kind = d.kind; bytes = b } in
-    ap kind one ∙ ap bytes two
-
-same_content : (c d : Content) (x y : List ℕ) → IsContentText c → IsContentText d → content_bytes (Some c) ++ x ≡ content_bytes (Some d) ++ y → (c ≡ d) × (x ≡ y)
-same_content c d x y is also e =
+one_content : (c d : Content) (x y : List ℕ) → IsContentText c → IsContentText d → content_bytes (Some c) ++ x ≡ content_bytes (Some d) ++ y → (c ≡ d) × (x ≡ y)
+one_content c d x y is also e =
     let a = cons_same (kind_byte c.kind) (kind_byte d.kind) ((to_be_bytes w32 (length c.bytes) ++ c.bytes) ++ x) ((to_be_bytes w32 (length d.bytes) ++ d.bytes) ++ y) e in
     let b = same32 (length c.bytes) (length d.bytes) (c.bytes ++ x) (d.bytes ++ y) (omega (arith, is.few)) (omega (arith, also.few))
     (sym (append_assoc (to_be_bytes w32 (length c.bytes)) c.bytes x) ∙ a.1 ∙ append_assoc (to_be_bytes w32 (length d.bytes)) d.bytes y) in
     let f = same_front c.bytes d.bytes x y b.0 b.1 in
-    (contents_equal c d (sym (kind_back c.kind) ∙ ap kind_of a.0 ∙ kind_back d.kind) f.0, f.1)
+    (same_content c d (sym (kind_back c.kind) ∙ ap kind_of a.0 ∙ kind_back d.kind) f.0, f.1)
 
 no_kind : (kind : Kind) → 0 ≡ kind_byte kind → ⊥
 no_kind Plain e = omega (arith, e)
@@ -260,7 +255,7 @@ same_value None None x y is also e = (refl, (cons_same 0 0 x y e).1)
 same_value None (Some d) x y is also e = absurd (no_kind d.kind (cons_same 0 (kind_byte d.kind) x ((to_be_bytes w32 (length d.bytes) ++ d.bytes) ++ y) e).0)
 same_value (Some c) None x y is also e = absurd (no_kind c.kind (sym (cons_same (kind_byte c.kind) 0 ((to_be_bytes w32 (length c.bytes) ++ c.bytes) ++ x) y e).0))
 same_value (Some c) (Some d) x y is also e =
-    let s = same_content c d x y is also e in
+    let s = one_content c d x y is also e in
     (ap (λ (z : Content). Some z) s.0, s.1)
 
 -- ---- causes

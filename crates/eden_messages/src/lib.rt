@@ -8,8 +8,15 @@
 //! use eden_globs::Filter;
 //! use eden_messages::{Query, Request};
 //!
-//! let query = Query { mirror: 1, life: 1, number: 1 };
-//! let request = Request::Basis { query, filter: Filter::all(alloc) };
+//! let query = Query {
+//!     mirror: 1,
+//!     life: 1,
+//!     number: 1,
+//! };
+//! let request = Request::Basis {
+//!     query,
+//!     filter: Filter::all(alloc),
+//! };
 //! // A version, a tag, three numbers of eight bytes, and how many patterns there are.
 //! assert_eq!(rt; request.body_len(), 26 + 1);
 //! ```

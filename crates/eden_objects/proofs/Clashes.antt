@@ -15,6 +15,7 @@ use Rattle.eden_objects.specs.Closed.{HasTree, IsClosed, NamesDiffer}
 use Rattle.eden_git.proofs.Slashes.{has_slash, name_has_none, name_not_below, below_name, below_under}
 use Rattle.eden_objects.proofs.Lookup.{turn}
 use Rattle.eden_objects.proofs.ByTrees.{IsStep, by_trees}
+use Rattle.std.proofs.Math.Bool.{or_comm}
 
 abbrev pub IsApart : List ℕ → List Row → Type 0
 IsApart p rows = AllByRecursion (λ row. clashes p row.0 ≡ false) rows
@@ -95,12 +96,6 @@ clash_step rows depth reach es dirs keys names differ = by es dirs names differ
 pub none_clash : (held : List Held) → IsClosed held → (id : Id) → HasTree held id → NoneClash (tree_rows held id)
 none_clash = by_trees (λ rows depth reach. NoneClash rows) clash_step
 
-or_turned : (a b : Bool) → (a || b) ≡ (b || a)
-or_turned true true = refl
-or_turned true false = refl
-or_turned false true = refl
-or_turned false false = refl
-
 clash_itself : (p q : List ℕ) → p ≡ q → clashes p q ≡ false
 clash_itself p q e = ap (clashes p) (sym e) ∙ or_from _ _ (lies_below-itself p) (lies_below-itself p)
 
@@ -123,7 +118,7 @@ found_do_not_clash (row ∷ rows) p q all first second = elim (cases_Bool (same_
     | inr g ↦ ap (λ a. clashes a q) (sym here) ∙ found_apart row.0 q rows all.0 (ap is_some (sym (is_here q row rows g)) ∙ second)
   ]
   | inr f ↦ let later : is_some (find_row p rows) ≡ true = ap is_some (sym (is_here p row rows f)) ∙ first in elim (cases_Bool (same_bytes row.0 q)) [
-    | inl u ↦ or_turned (lies_below p q) (lies_below q p) ∙ ap (λ a. clashes a p) (sym ((bytes_eq-Decides row.0 q).0 u)) ∙ found_apart row.0 p rows all.0 later
+    | inl u ↦ or_comm (lies_below p q) (lies_below q p) ∙ ap (λ a. clashes a p) (sym ((bytes_eq-Decides row.0 q).0 u)) ∙ found_apart row.0 p rows all.0 later
     | inr g ↦ found_do_not_clash rows p q all.1 later (ap is_some (sym (is_here q row rows g)) ∙ second)
   ]
 ]

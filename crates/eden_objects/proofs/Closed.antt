@@ -15,13 +15,10 @@ use Rattle.eden_objects.specs.Commits.{Row, rows_of_kind, entry_rows, entries_ro
 use Rattle.eden_git.specs.Commits.{tree_named}
 use Rattle.eden_objects.specs.Puts.{word_wanted}
 use Rattle.eden_objects.specs.Closed.{IsHeld, HasTree, IsTree, IsSound, IsClosed}
+use Rattle.eden_objects.proofs.Tables.{same_id-is}
 
 id_with : List ℕ → Id
 id_with bytes = record { 0 = bytes }
-
-pub same_id-is : (a b : Id) → same_id a b ≡ true → a ≡ b
-unfolding id_with
-same_id-is a b h = ap id_with ((bytes_eq-Decides a.0 b.0).0 h)
 
 pub same_id-refl : (a : Id) → same_id a a ≡ true
 same_id-refl a = (bytes_eq-Decides a.0 a.0).1 refl

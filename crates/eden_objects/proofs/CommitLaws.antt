@@ -23,17 +23,7 @@ use Rattle.eden_objects.proofs.Fitting.{fitting_law}
 use Rattle.eden_objects.proofs.Clashes.{NoneClash, none_clash}
 use Rattle.eden_objects.proofs.Blobs.{all_blobs}
 use Rattle.eden_objects.proofs.Maps.{map_of, file_at-map_of, paths-map_of, IsFileMap-map_of}
-
-pub same_word-is : (w v : Word) → same_word w v ≡ true → w ≡ v
-same_word-is Blob Blob h = refl
-same_word-is Tree Tree h = refl
-same_word-is Commit Commit h = refl
-same_word-is Blob Tree h = absurd (cc)
-same_word-is Blob Commit h = absurd (cc)
-same_word-is Tree Blob h = absurd (cc)
-same_word-is Tree Commit h = absurd (cc)
-same_word-is Commit Blob h = absurd (cc)
-same_word-is Commit Tree h = absurd (cc)
+use Rattle.eden_objects.proofs.Refusals.{same_word-is}
 
 -- a commit that is held has a tree
 pub commit-tree : (held : List Held) → IsClosed held → (commit : Id) (h : Held) (rows : List Row) → find commit held ≡ Some h → rows_held held (Some h) ≡ Some rows

@@ -1,6 +1,6 @@
 -- A tree without a fault is one that a store may hold.
 use Rattle.std.proofs.Common.{◌≡◌, sym, refl, ℕ, zero, suc, ◌≤◌, Bool, true, false, not, List, [], ◌∷◌, map, length, Option, Some, None, Result, Ok, Err, Ordering, Less, Equal, Greater, arith}
-use Rattle.std.proofs.lemmas.Bool.{or_parts}
+use Rattle.std.proofs.lemmas.Bool.{or_parts, not-false}
 use Rattle.std.specs.Ordering.{nat_cmp, is_lt}
 use Rattle.std.specs.Cmp.Lexicographic.{slice_cmp, nat_list_cmp_total}
 use Rattle.std.specs.List.{AllByRecursion, list_any}
@@ -16,6 +16,7 @@ use Rattle.eden_objects.specs.Puts.{entries_fault, entry_fault, fault_after, fir
 use Rattle.eden_objects.specs.Closed.{IsHeld, IsTree, NamesDiffer}
 use Rattle.eden_objects.proofs.Refusals.{entry_held}
 use Rattle.eden_git.proofs.Reading.{name_read, read_shorter}
+use Rattle.eden_ids.proofs.ByteOrder.{is_less}
 
 -- what an entry without a fault has beside its object
 
@@ -27,10 +28,6 @@ not_so : (t : Bool) (fault : PutFault) → if_so t fault ≡ None → t ≡ fals
 not_so true fault h = cc h
 not_so false fault h = refl
 
-not_false : (t : Bool) → not t ≡ false → t ≡ true
-not_false true h = refl
-not_false false h = cc h
-
 new_name : (held : List Held) (earlier : List Entry) (e : Entry) → entry_fault held earlier e ≡ None
     → list_any (λ f. same_bytes f.name e.name) earlier ≡ false
 new_name held earlier e h =
@@ -40,12 +37,7 @@ new_name held earlier e h =
 above : (held : List Held) (earlier : List Entry) (e : Entry) → entry_fault held earlier e ≡ None → is_above e earlier ≡ true
 above held earlier e h =
     let rest = (first_none (if_so (list_any (λ f. same_bytes f.name e.name) earlier) Duplicate) _ h).1 in
-    not_false (is_above e earlier) (not_so (not (is_above e earlier)) OutOfOrder (first_none (if_so (not (is_above e earlier)) OutOfOrder) _ rest).0)
-
-less_is : (o : Ordering) → is_lt o ≡ true → o ≡ Less
-less_is Less h = refl
-less_is Equal h = cc h
-less_is Greater h = cc h
+    not-false (is_above e earlier) (not_so (not (is_above e earlier)) OutOfOrder (first_none (if_so (not (is_above e earlier)) OutOfOrder) _ rest).0)
 
 -- the keys are above that of the last of the earlier entries
 abbrev AreAbove : List Entry → List Entry → Type 0
@@ -85,7 +77,7 @@ all_above : (earlier : List Entry) (e : Entry) (es : List Entry) → is_above e 
     → AllByRecursion (λ k. slice_cmp nat_cmp (key e) k ≡ Less) (map key es) → AreAbove earlier (e ∷ es)
 all_above [] e es h all = tt
 all_above (before ∷ earlier) e es h all =
-    let less = less_is (slice_cmp nat_cmp (key before) (key e)) h in
+    let less = is_less (slice_cmp nat_cmp (key before) (key e)) h in
     (less, further before e es less all)
 
 sound_more : (held : List Held) (earlier : List Entry) (e : Entry) (es : List Entry) → entry_fault held earlier e ≡ None

@@ -11,7 +11,7 @@ pub mod CommitTexts
 pub mod Naming
 pub mod FilesOf
 pub mod Grown
-mod Tables
+pub mod Tables
 mod Putting
 pub mod TreeOf
 pub mod WalkSteps

@@ -32,7 +32,7 @@ refused CutShort held other = (refl, refl)
 refused BadCommit held other = (refl, refl)
 refused NoMemory held other = absurd (other refl)
 
-same_word-is : (a b : Word) → same_word a b ≡ true → a ≡ b
+pub same_word-is : (a b : Word) → same_word a b ≡ true → a ≡ b
 same_word-is Blob Blob h = refl
 same_word-is Tree Tree h = refl
 same_word-is Commit Commit h = refl

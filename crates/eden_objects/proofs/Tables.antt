@@ -19,8 +19,8 @@ use Rattle.eden_git.specs.Trees.{Entry, entries_of}
 use Rattle.eden_objects.specs.Trees.{tree_fold, entries_depth, entries_reach}
 use Rattle.eden_objects.specs.Closed.{IsClosed, IsSound, IsTree, AllNamed}
 use Rattle.eden_objects.specs.Small.{AreSmall, IsSmall}
-use Rattle.eden_objects.proofs.CommitLaws.{same_word-is}
 use Rattle.eden_objects.specs.Contents.{held_of, option_held, helds, IsOutlined, Measures, AreMeasured, TellsOutline, TellsTree}
+use Rattle.eden_objects.proofs.Refusals.{same_word-is}
 
 pub same_id-is : (a b : Id) → same_id a b ≡ true → a ≡ b
 same_id-is a b h = ap (λ bytes. record { 0 = bytes }) (same_text a.0 b.0 (sym h))

@@ -11,7 +11,7 @@ use Rattle.eden_objects.specs.Commits.{rows_named, rows_held, commit_rows}
 use Rattle.eden_objects.specs.Closed.{HasTree, IsClosed}
 use Rattle.eden_objects.specs.Walks.{tree_seen}
 use Rattle.eden_objects.proofs.Closed.{commit_in}
-use Rattle.eden_objects.proofs.CommitLaws.{same_word-is}
+use Rattle.eden_objects.proofs.Refusals.{same_word-is}
 
 named_if : (held : List Held) (t : Bool) (o : Option Id) → cond t (rows_named held o) None ≡ rows_named held (cond t o None)
 named_if held true o = refl

@@ -16,22 +16,21 @@ use Rattle.std.specs.FinMap.{find, is_sorted, slice_cmp-IsAntisymmetric, nat_cmp
 use Rattle.std.specs.FinMap.Entries.{below_all, same_entries}
 use Rattle.eden_ids.specs.FileMaps.{listing, path_set, same_path}
 use Rattle.eden_ids.specs.Sameness.{same_bytes}
-use Rattle.eden_ids.proofs.FileMapLemmas.{bytes_same, has-listing, has-path_set, same_path-bytes, same_path-is}
-use Rattle.eden_ids.proofs.ByteOrder.{both, first, second}
+use Rattle.eden_ids.proofs.FileMapLemmas.{bytes_same, has-listing, has-path_set, same_path-bytes, same_path-is, same_order}
+use Rattle.eden_ids.proofs.ByteOrder.{both, first, second, less}
 use Rattle.eden_history.specs.declared.touches.Touch.{Touch}
 use Rattle.eden_history.specs.Touches.{TouchMap, first_before, untouched}
 use Rattle.eden_history.proofs.Touched.{get-touched}
 use Rattle.eden_ranges.specs.declared.names.Mention.{Mention}
 use Rattle.eden_ranges.specs.internal.Mentions.{told}
 use Rattle.eden_ranges.specs.internal.Names.{Mentioned, changes_in, joined, kept, noted, settled, settled_from, touched_if}
+use Rattle.std.proofs.Math.Bool.{or-false, or_assoc}
+use Rattle.eden_ranges.proofs.Noting.{told_pushed}
 
 -- ---- paths in order
 
 abbrev order : List ℕ → List ℕ → Ordering
 order = slice_cmp nat_cmp
-
-same_order : (p q : List ℕ) → order p q ≡ Equal → p ≡ q
-same_order = slice_cmp-IsAntisymmetric nat_cmp-IsAntisymmetric
 
 turned : (p q : List ℕ) → order p q ≡ ordering_reverse (order q p)
 turned p q = let laws : IsTotalOrder order = nat_list_cmp_total in laws.antisymm p q
@@ -162,14 +161,6 @@ get-touched_if t p (Some touch) q = get-touched t p touch.before touch.after q �
     by true e = one (fin.get t p) ∙ ap (λ r. joined (fin.get t r) (Some touch)) (sym (same_path-is q p e))
     by false e = refl
 
-or_none : (b : Bool) → (b || false) ≡ b
-or_none true = refl
-or_none false = refl
-
-or_assoc : (a b c : Bool) → ((a || b) || c) ≡ (a || (b || c))
-or_assoc true b c = refl
-or_assoc false b c = refl
-
 one_known : (b c : Bool) (g v : Option Touch) → (b ≡ false → g ≡ None)
     → ◌≡◌ {A = Option (Option Touch)} (cond c (Some (joined (flat (cond b (Some g) None)) v)) (cond b (Some g) None)) (cond (b || c) (Some (cond c (joined g v) g)) None)
 one_known true true g v none = refl
@@ -179,7 +170,7 @@ one_known false false g v none = refl
 
 known : (q : List ℕ) (ms : List Mentioned) (t : TouchMap) (b : Bool) → (b ≡ false → fin.get t q ≡ None)
     → come_to q ms (cond b (Some (fin.get t q)) None) ≡ cond (b || list_any (λ p. same_path q p) (map (λ m. m.0) ms)) (Some (fin.get (noted ms t) q)) None
-known q [] t b none = ap (λ c. cond c (Some (fin.get t q)) None) (sym (or_none b))
+known q [] t b none = ap (λ c. cond c (Some (fin.get t q)) None) (sym (or-false b))
 known q (m ∷ ms) t b none =
     ap (come_to q ms) (one_known b (same_path q m.0) (fin.get t q) m.1 none
     ∙ ap (λ o. cond (b || same_path q m.0) (Some o) None) (sym (get-touched_if t m.0 m.1 q)))
@@ -290,10 +281,6 @@ whole_list : {X : Type 0} (xs : List X) → drop 0 xs ≡ xs
 whole_list [] = refl
 whole_list (x ∷ xs) = refl
 
-told_pushed : (xs : List Mention) (x : Mention) → map told (xs ++ x ∷ []) ≡ map told xs ++ told x ∷ []
-told_pushed [] x = refl
-told_pushed (y ∷ xs) x = ap (λ ms. told y ∷ ms) (told_pushed xs x)
-
 -- what is done, and what is made of the others behind the one at hand
 abbrev pub Settles : List Mention → Mention → List Mention → List Mentioned → Type 0
 Settles done m others whole = map told done ++ settled_from m.path.now m.touch (map told others) ≡ whole
@@ -356,12 +343,7 @@ sorted-changes (m ∷ ms) h = by m.1 (sorted-changes ms (second _ _ h))
 not_among : (q : List ℕ) (ms : List Mentioned) → T (below_all order q ms) → find order q ms ≡ None
 not_among q [] h = refl
 not_among q (m ∷ ms) h =
-    ap (λ b. cond b (Some m.1) (find order q ms)) (apart q m.0 (is_less (order q m.0) (first _ _ h))) ∙ not_among q ms (second _ _ h)
-  where
-    is_less : (o : Ordering) → T (is_lt o) → o ≡ Less
-    is_less Less h = refl
-    is_less Equal h = absurd h
-    is_less Greater h = absurd h
+    ap (λ b. cond b (Some m.1) (find order q ms)) (apart q m.0 (less (order q m.0) (first _ _ h))) ∙ not_among q ms (second _ _ h)
 
 find-changes : (q : List ℕ) (ms : List Mentioned) → T (is_sorted order ms) → find order q (changes_in ms) ≡ flat (find order q ms)
 find-changes q [] h = refl

@@ -13,7 +13,7 @@ use Rattle.std.proofs.lemmas.List.Elements.{filter-append}
 use Rattle.std.proofs.lemmas.List.Folds.{list_any-append}
 use Rattle.eden_ids.specs.declared.id.Id.{Id}
 use Rattle.eden_ids.specs.FileMaps.{PathSet, has, listing, path_set, same_path, union}
-use Rattle.eden_ids.proofs.FileMapLemmas.{has-none, has-path_set, has-union, same_path-refl, same_path-turned, same_path_set}
+use Rattle.eden_ids.proofs.FileMapLemmas.{has-none, has-path_set, has-union, same_path-refl, same_path-turned, same_path_set, unit_is}
 use Rattle.eden_journal.specs.declared.touch.FileTouch.{FileTouch}
 use Rattle.eden_journal.specs.declared.delta.Delta.{Delta}
 use Rattle.eden_journal.specs.declared.delta.Delta.TheVariants.{File, Root}
@@ -40,6 +40,7 @@ use Rattle.eden_ranges.proofs.Numbered.{none_counted}
 use Rattle.eden_ranges.proofs.Along.{along, newer, none_newer, one_newer}
 use Rattle.eden_ranges.proofs.Named.{plain_root}
 use Rattle.eden_ranges.proofs.Relisted.{is_true}
+use Rattle.std.proofs.Math.Bool.{and-false}
 
 -- ---- a table, by its paths
 
@@ -57,12 +58,6 @@ bare_below p (e ∷ es) = ap (λ b. is_lt (slice_cmp nat_cmp p e.0) && b) (bare_
 bare_sorted : (es : List Entry) → is_sorted (slice_cmp nat_cmp) (bare es) ≡ is_sorted (slice_cmp nat_cmp) es
 bare_sorted [] = refl
 bare_sorted (e ∷ es) = λ i. bare_below e.0 es i && bare_sorted es i
-
-unit_is : (x y : Option (Unit {0})) → is_some x ≡ is_some y → x ≡ y
-unit_is None None e = refl
-unit_is None (Some y) e = cc
-unit_is (Some x) None e = cc
-unit_is (Some x) (Some y) e = refl
 
 bare_found : (q : List ℕ) (es : List Entry) → is_some (find (slice_cmp nat_cmp) q (bare es)) ≡ is_some (find (slice_cmp nat_cmp) q es)
 bare_found q [] = refl
@@ -295,16 +290,12 @@ not_eq a b lt = by (nat_eq b a) refl
     by true e = absurd (let same = eqb-true b a e in omega arith)
     by false e = refl
 
-and_false : (b : Bool) → (b && false) ≡ false
-and_false true = refl
-and_false false = refl
-
 -- a later row has not
 row_before : (generation since : ℕ) (opening : Row) (event : Event) (past : List Event) → since < event.row.sequence
     → row_at generation since opening (event ∷ past) ≡ row_at generation since opening past
 row_before generation since opening event past lt =
     ap (λ b. if (event.row.generation == generation) && b then event.row else row_at generation since opening past) (not_eq since event.row.sequence lt)
-    ∙ ap (λ b. if b then event.row else row_at generation since opening past) (and_false (event.row.generation == generation))
+    ∙ ap (λ b. if b then event.row else row_at generation since opening past) (and-false (event.row.generation == generation))
 
 late_roots : (commits : Commits) (generation since until : ℕ) (opening : Row) (past : List Event) → AreMade commits opening past
     → (last_row opening past).generation ≡ generation → (last_row opening past).sequence ≡ since → TellsRoots generation since until opening past

@@ -10,7 +10,11 @@
 //! let mut journal = Journal::new(alloc, 7, Id::ZERO, 1000);
 //! let delta = FileDelta::created(Path::parse(alloc, b"notes".as_slice())?);
 //! assert_eq!(rt; journal.add_file(&delta), Ok(2));
-//! let mounted = Position { generation: 7, sequence: 1, root: Id::ZERO };
+//! let mounted = Position {
+//!     generation: 7,
+//!     sequence: 1,
+//!     root: Id::ZERO,
+//! };
 //! let range = accumulate(alloc, &journal, &mounted)?;
 //! let store = Store::new(alloc, GitNaming);
 //! assert_eq!(rt; expand(alloc, &store, &range)?.len(), 1);

@@ -12,7 +12,8 @@ use Rattle.eden_objects.proofs.Rising.{IsBelow}
 use Rattle.eden_treediff.specs.Merges.{merge_row, merge_rows, same_row}
 use Rattle.eden_treediff.specs.Laws.{MergesRise, Rise}
 use Rattle.eden_treediff.proofs.Blocks.{order}
-use Rattle.eden_treediff.proofs.Exact.{below_more, is_path}
+use Rattle.eden_treediff.proofs.Exact.{below_more}
+use Rattle.eden_ids.proofs.FileMapLemmas.{same_order}
 
 abbrev Above : List ℕ → List (List ℕ) → Type 0
 Above q ps = AllByRecursion (λ p. slice_cmp nat_cmp q p ≡ Less) ps
@@ -50,7 +51,7 @@ rising_step r rs h rest (s ∷ ss) rise =
     → IsStrictlySortedBy (slice_cmp nat_cmp) (by_order o (r.0 ∷ merge_rows rs (s ∷ ss)) (cond (same_row r s) (merge_rows rs ss) (r.0 ∷ merge_rows rs ss)) (s.0 ∷ merge_row r (merge_rows rs) ss))) [
       | Less ↦ λ less. (above_merge r.0 rs (s ∷ ss) h (less, below_more r.0 s.0 ss less rise.0), rest (s ∷ ss) rise)
       | Equal ↦ λ same.
-          let later : IsBelow r.0 ss = subst (λ p. IsBelow p ss) (sym (is_path r.0 s.0 same)) rise.0 in
+          let later : IsBelow r.0 ss = subst (λ p. IsBelow p ss) (sym (same_order r.0 s.0 same)) rise.0 in
           rises_cond (same_row r s) _ _ (rest ss rise.1) (above_merge r.0 rs ss h later, rest ss rise.1)
       | Greater ↦ λ above.
           let less : order s.0 r.0 ≡ Less = nat_list_cmp_total.antisymm s.0 r.0 ∙ ap ordering_reverse above in

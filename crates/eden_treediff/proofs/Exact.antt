@@ -21,14 +21,10 @@ use Rattle.eden_objects.proofs.Maps.{same_test}
 use Rattle.eden_treediff.specs.Merges.{merge_row, merge_rows, paths_of, same_found, same_row}
 use Rattle.eden_treediff.specs.Laws.{MergesTell, SameMerge, Rise}
 use Rattle.eden_treediff.proofs.Blocks.{order}
-
-pub kind_same : (k : Kind) → same_kind k k ≡ true
-kind_same Plain = refl
-kind_same Exec = refl
-kind_same Link = refl
+use Rattle.eden_ids.proofs.FileMapLemmas.{same_kind-refl, same_order}
 
 pub row_same : (r : Row) → same_row r r ≡ true
-row_same r = (λ i. kind_same r.1 i && same_id-refl r.2 i)
+row_same r = (λ i. same_kind-refl r.1 i && same_id-refl r.2 i)
 
 pub same_law : SameMerge
 same_law [] = refl
@@ -38,9 +34,6 @@ same_law (r ∷ rs) =
 
 abbrev pub has : List ℕ → List (List ℕ) → Bool
 has p ps = list_any (λ q. same_path p q) ps
-
-pub is_path : (p q : List ℕ) → order p q ≡ Equal → p ≡ q
-is_path = slice_cmp-IsAntisymmetric nat_cmp-IsAntisymmetric
 
 of_order : (o : Ordering) → is_eq o ≡ true → o ≡ Equal
 of_order Equal h = refl
@@ -99,10 +92,10 @@ abbrev pub Tells : List ℕ → List Row → List Row → List (List ℕ) → Ty
 Tells p rs ss ps = has p ps ≡ not (same_found (find_row p rs) (find_row p ss))
 
 at_first : (p q : List ℕ) (rs : List Row) → IsBelow q rs → same_path p q ≡ true → find_row p rs ≡ None
-at_first p q rs h t = ap (λ z. find_row z rs) (is_path p q (of_order (order p q) t)) ∙ not_found q rs h
+at_first p q rs h t = ap (λ z. find_row z rs) (same_order p q (of_order (order p q) t)) ∙ not_found q rs h
 
 path_as : (p q r : List ℕ) → order q r ≡ Equal → same_path p q ≡ same_path p r
-path_as p q r h = ap (same_path p) (is_path q r h)
+path_as p q r h = ap (same_path p) (same_order q r h)
 
 exact_step : (p : List ℕ) (r : Row) (rs : List Row) → IsBelow r.0 rs → ((zs : List Row) → Rise zs → Tells p rs zs (merge_rows rs zs))
     → (ss : List Row) → Rise ss → Tells p (r ∷ rs) ss (merge_row r (merge_rows rs) ss)

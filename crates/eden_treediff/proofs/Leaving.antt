@@ -14,10 +14,10 @@ use Rattle.eden_treediff.specs.Merges.{merge_rows}
 use Rattle.eden_treediff.specs.internal.Merging.{IsLeftOut, Rests}
 use Rattle.eden_treediff.specs.internal.Pairs.{Next, is_changed, next_pair, same_mode}
 use Rattle.eden_treediff.specs.internal.Walks.{IsSide, side_depth, side_entries, side_rows, wanted_behind}
-use Rattle.eden_treediff.proofs.Exact.{kind_same}
 use Rattle.eden_treediff.proofs.Legal.{AreLegal, legal_after, legal_begins}
 use Rattle.eden_treediff.proofs.Settling.{same_goes_on}
 use Rattle.eden_treediff.proofs.Steps.{IsWay, all_merged, here, is_next, merge_entries, one_more, skipped, unchanged, way_begins, way_goes_on}
+use Rattle.eden_ids.proofs.FileMapLemmas.{same_kind-refl}
 
 -- what the walk knows where these entries are left: what is to be found beside what was found, whether all so far is the same, and
 -- that the entries are those of trees
@@ -28,7 +28,7 @@ Stands held m n test front target done whole same rests =
 
 mode_itself : (kind : Option Kind) → same_mode kind kind ≡ true
 mode_itself None = refl
-mode_itself (Some kind) = kind_same kind
+mode_itself (Some kind) = same_kind-refl kind
 
 same_entry : (e : Entry) → is_changed (Some e) (Some e) ≡ false
 same_entry e = λ i. not (mode_itself e.kind i && same_id-refl e.id i)

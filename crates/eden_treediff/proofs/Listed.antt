@@ -22,13 +22,14 @@ use Rattle.eden_ids.specs.Sameness.{same_bytes, same_id}
 use Rattle.eden_objects.specs.Commits.{Row, commit_map, find_row, map_of_rows}
 use Rattle.eden_objects.specs.Closed.{IsHeld, AllNamed}
 use Rattle.eden_objects.specs.Walks.{content_found}
-use Rattle.eden_objects.proofs.Closed.{find-here, find-there, same_id-is}
+use Rattle.eden_objects.proofs.Closed.{find-here, find-there}
 use Rattle.eden_objects.proofs.CommitLaws.{rows_blobs, rows_rise}
 use Rattle.eden_objects.proofs.Maps.{map_of, file_at-map_of}
 use Rattle.eden_treediff.specs.Merges.{differences, merge_rows, same_found}
 use Rattle.eden_treediff.specs.Laws.{MergesAreDifferences, Rise}
 use Rattle.eden_treediff.proofs.Exact.{exact_law}
 use Rattle.eden_treediff.proofs.Ascending.{ascending_law}
+use Rattle.eden_objects.proofs.Tables.{same_id-is}
 
 -- an object's id is its name
 name_of : (name : List ℕ → List ℕ → Id) (held : List Held) → AllNamed name held → (id : Id) (h : Held) → find id held ≡ Some h → name (word_text h.word) h.payload ≡ id

@@ -19,14 +19,18 @@ use Rattle.eden_objects.specs.Trees.{entries_depth, tree_depth}
 use Rattle.eden_objects.specs.Commits.{Row, under, rows_of_kind, entry_rows, entries_rows, tree_rows}
 use Rattle.eden_objects.specs.Puts.{word_wanted}
 use Rattle.eden_objects.specs.Closed.{IsHeld, HasTree}
-use Rattle.eden_objects.proofs.Closed.{child_below, later_below, same_id-is}
+use Rattle.eden_objects.proofs.Closed.{child_below, later_below}
 use Rattle.eden_objects.proofs.Rising.{file_entries, all_dir}
 use Rattle.eden_git.proofs.Slashes.{has_slash, name_has_none}
 use Rattle.eden_treediff.specs.Merges.{merge_rows}
 use Rattle.eden_treediff.specs.internal.Pairs.{Directory, Next, next_of_both, next_pair, is_changed, same_mode, name_of, directory, directory_of}
 use Rattle.eden_treediff.specs.internal.Walks.{IsSide, side_rows, side_depth}
 use Rattle.eden_treediff.proofs.Blocks.{order, below, AllBelow, merge_blocks, merge_under}
-use Rattle.eden_treediff.proofs.Exact.{is_path, same_law}
+use Rattle.eden_treediff.proofs.Exact.{same_law}
+use Rattle.eden_objects.proofs.Tables.{same_id-is}
+use Rattle.std.proofs.Math.Bool.{or-true}
+use Rattle.eden_ids.proofs.FileMapLemmas.{same_kind-is, same_order}
+use Rattle.std.proofs.lemmas.Bool.{not-true}
 
 -- what is left of a tree's entries
 abbrev pub IsRest : List Held → List Entry → Type 0
@@ -60,7 +64,7 @@ both_next e f es fs h g =
     elim (order (key e) (key f)) as (λ o. order (key e) (key f) ≡ o → IsNext (e ∷ es) (f ∷ fs) (by_order o (Some e, None, es, f ∷ fs) (Some e, Some f, es, fs) (None, Some f, e ∷ es, fs))) [
       | Less ↦ λ less. (refl, refl, tt, (less, all_above (key e) (key f) (map key fs) less g), tt)
       | Equal ↦ λ same.
-          let one : key e ≡ key f = is_path (key e) (key f) same in
+          let one : key e ≡ key f = same_order (key e) (key f) same in
           (refl, refl, one, subst (λ p. AllByRecursion (λ k. slice_cmp nat_cmp p k ≡ Less) (map key fs)) (sym one) g, subst (λ p. AllByRecursion (λ k. slice_cmp nat_cmp p k ≡ Less) (map key es)) one h)
       | Greater ↦ λ above.
           let less : order (key f) (key e) ≡ Less = nat_list_cmp_total.antisymm (key f) (key e) ∙ ap ordering_reverse above in
@@ -159,11 +163,7 @@ merge_next held rows es fs next left right is =
 
 pub slashed : (n : List ℕ) → has_slash (n ++ 47 ∷ []) ≡ true
 slashed [] = refl
-slashed (x ∷ n) = ap (λ b. nat_eq x 47 || b) (slashed n) ∙ or_true (nat_eq x 47)
-  where
-    or_true : (b : Bool) → (b || true) ≡ true
-    or_true true = refl
-    or_true false = refl
+slashed (x ∷ n) = ap (λ b. nat_eq x 47 || b) (slashed n) ∙ or-true (nat_eq x 47)
 
 not_slashed : (n m : List ℕ) → is_name n ≡ true → n ≡ m ++ 47 ∷ [] → ⊥
 not_slashed n m name is = let bad : false ≡ true = sym (name_has_none n name) ∙ ap has_slash is ∙ slashed m in absurd (cc)
@@ -175,20 +175,9 @@ one_name n m (Some k) (Some l) name names is = is
 one_name n m None (Some l) name names is = absurd (not_slashed m n names (sym is))
 one_name n m (Some k) None name names is = absurd (not_slashed n m name is)
 
-kind_is : (k l : Kind) → same_kind k l ≡ true → k ≡ l
-kind_is Plain Plain h = refl
-kind_is Exec Exec h = refl
-kind_is Link Link h = refl
-kind_is Plain Exec h = absurd (cc)
-kind_is Plain Link h = absurd (cc)
-kind_is Exec Plain h = absurd (cc)
-kind_is Exec Link h = absurd (cc)
-kind_is Link Plain h = absurd (cc)
-kind_is Link Exec h = absurd (cc)
-
 mode_is : (k l : Option Kind) → same_mode k l ≡ true → k ≡ l
 mode_is None None h = refl
-mode_is (Some k) (Some l) h = ap Some (kind_is k l h)
+mode_is (Some k) (Some l) h = ap Some (same_kind-is k l h)
 mode_is None (Some l) h = absurd (cc)
 mode_is (Some k) None h = absurd (cc)
 
@@ -223,11 +212,7 @@ files_changed n m (Some k) None i j below behind a b name names is h g = absurd 
 files_changed n m (Some k) (Some l) i j below behind a b name names is h g =
     ap (λ q. by_order (order n q) (n ∷ q ∷ []) (cond (same_kind k l && same_id i j) [] (n ∷ [])) (q ∷ n ∷ [])) (sym is)
     ∙ ap (λ o. by_order o (n ∷ n ∷ []) (cond (same_kind k l && same_id i j) [] (n ∷ [])) (n ∷ n ∷ [])) (tied_itself nat_list_cmp_total n)
-    ∙ ap (λ b. cond b [] (n ∷ [])) (not_true (same_kind k l && same_id i j) g)
-  where
-    not_true : (t : Bool) → not t ≡ true → t ≡ false
-    not_true true h = absurd (cc)
-    not_true false h = refl
+    ∙ ap (λ b. cond b [] (n ∷ [])) (not-true (same_kind k l && same_id i j) g)
 
 pub file_changed : (rows : Id → List Row) (o p : Option Entry) → Meet o p → OfEntry (λ e. is_name e.name ≡ true) o → OfEntry (λ e. is_name e.name ≡ true) p → is_changed o p ≡ true → directory o p ≡ None
     → merge_rows (rows_of_entry rows o) (rows_of_entry rows p) ≡ name_of o p ∷ []

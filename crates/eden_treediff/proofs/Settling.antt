@@ -11,7 +11,6 @@ use Rattle.std.specs.Cmp.{Equal-is}
 use Rattle.eden_ids.specs.declared.id.Id.{Id}
 use Rattle.eden_objects.specs.Objects.{Held}
 use Rattle.eden_git.specs.Trees.{Entry}
-use Rattle.eden_objects.proofs.Closed.{same_id-is}
 use Rattle.eden_treediff.specs.declared.settled.Settled.{Settled}
 use Rattle.eden_treediff.specs.Merges.{merge_rows}
 use Rattle.eden_treediff.specs.internal.Pairs.{next_pair}
@@ -19,6 +18,7 @@ use Rattle.eden_treediff.specs.internal.Settled.{AreSettled, HoldSame, is_known,
 use Rattle.eden_treediff.specs.internal.Walks.{same_side, side_rows, wanted_behind}
 use Rattle.eden_treediff.proofs.Exact.{same_law}
 use Rattle.eden_treediff.proofs.Steps.{merge_entries}
+use Rattle.eden_objects.proofs.Tables.{same_id-is}
 
 side_is : (a b : Option Id) → same_side a b ≡ true → a ≡ b
 side_is None None h = refl

@@ -18,9 +18,6 @@ empty_side held commit t = ap (λ b. cond b (Some []) (rows_held held (find comm
 pub side_rows_are : (held : List Held) (commit tree : Id) → same_id commit zero_id ≡ false → Some tree ≡ tree_seen (find commit held) → commit_rows held commit ≡ Some (side_rows held (Some tree))
 side_rows_are held commit tree f is = seen_rows held commit (Some tree) f is
 
-pub side_held : (held : List Held) (commit tree : Id) → IsClosed held → Some tree ≡ tree_seen (find commit held) → HasTree held tree
-side_held held commit tree closed is = seen_tree held commit tree closed is
-
 pub no_side : (held : List Held) (commit : Id) → same_id commit zero_id ≡ false → None ≡ tree_seen (find commit held) → commit_rows held commit ≡ None
 no_side held commit f is = seen_rows held commit None f is
 

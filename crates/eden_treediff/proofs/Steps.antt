@@ -13,7 +13,7 @@ use Rattle.eden_objects.specs.Trees.{entries_depth, tree_depth}
 use Rattle.eden_objects.specs.Commits.{entries_rows, tree_rows}
 use Rattle.eden_objects.specs.Closed.{IsClosed}
 use Rattle.eden_objects.proofs.WalkSteps.{rows_here, tree_here}
-use Rattle.eden_objects.proofs.Gathering.{depth_here, inside as lies_inside}
+use Rattle.eden_objects.proofs.Gathering.{depth_here, inside as lies_inside, left}
 use Rattle.eden_treediff.specs.Merges.{merge_rows}
 use Rattle.eden_treediff.specs.internal.Pairs.{Directory, Next, directory, is_changed, name_of, next_pair}
 use Rattle.eden_treediff.specs.internal.Walks.{IsSide, behind, side_depth, side_entries, side_rows, wanted_behind}
@@ -157,7 +157,3 @@ pub directory_left : (held : List Held) (m n : ℕ) (es fs : List Entry) (next :
 directory_left held m n es fs next d test front target done way is dir outside so_far =
     directory_walked held m n es fs next d test front (front ++ d.0 ++ 47 ∷ []) target done done way is dir refl so_far
     (sym (ap (λ ps. done ++ ps) (none_wanted test (front ++ d.0) (merge_rows (side_rows held d.1) (side_rows held d.2)) outside) ∙ append-nil done))
-
--- the bytes before the name are there again
-pub left : (front inner name : List ℕ) → inner ≡ front ++ name ++ 47 ∷ [] → take (length front) inner ≡ front
-left front inner name is = ap (take (length front)) (is ∙ append_assoc front name (47 ∷ [])) ∙ take-append_seam front (name ++ 47 ∷ [])

@@ -12,7 +12,7 @@ use eden_objects::{CommitFault, NoCommit, Store};
 use std::alloc::Global;
 
 /// The tree of a commit, of which the empty commit has none.
-#[tactic(auto, using(crate::proofs::Sides::empty_side, crate::proofs::Sides::side_rows_are, crate::proofs::Sides::side_held, crate::proofs::Sides::no_side))]
+#[tactic(auto, using(crate::proofs::Sides::empty_side, crate::proofs::Sides::side_rows_are, eden_objects::proofs::TreeOf::seen_tree, crate::proofs::Sides::no_side))]
 fn side_of<N: Naming + Drop>(store: &Store<N>, commit: Id) -> Result<Option<Id>, NoCommit>
     ensures { IsSideOf store.now commit result }
 {

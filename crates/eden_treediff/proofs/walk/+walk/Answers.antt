@@ -12,9 +12,10 @@ use Rattle.eden_treediff.proofs.Blocks.{below}
 use Rattle.eden_treediff.proofs.Legal.{entered_legal, found_legal, legal_after}
 use Rattle.eden_treediff.proofs.Leaving.{begins, left_out}
 use Rattle.eden_treediff.proofs.Settling.{all_walked, known_same, known_sides, none_inside, nothing_left, other_from, same_goes_on, settled_more, some_path}
-use Rattle.eden_treediff.proofs.Steps.{is_next, merge_entries, way_goes_on, here, one_file, one_more, skipped, unchanged, file_found, directory_is, directory_left, directory_walked, left}
+use Rattle.eden_treediff.proofs.Steps.{is_next, merge_entries, way_goes_on, here, one_file, one_more, skipped, unchanged, file_found, directory_is, directory_left, directory_walked}
 use Rattle.eden_treediff.proofs.walk.+walk.Goals.{then-same_side-via-then-same_side, then-same_side-via-else-same_side+then-has}
 use Rattle.eden_treediff.proofs.walk.+walk.Goals as goal
+use Rattle.eden_objects.proofs.Gathering.{left}
 
 pub pairs-init : goal.pairs-init
 pairs-init g t c =
