@@ -1,5 +1,5 @@
 -- Entries in blocks, seen as one list.
-use Rattle.std.proofs.Common.{◌≡◌, ℕ, suc, zero, ◌+◌, ◌<◌, ◌≤◌, true, false, cond, not, T, List, [], ◌∷◌, ◌++◌, take, drop, length, Option, Some, None, refl, sym, ap, subst, ◌∙◌, arith, append_assoc, vec_len, add-one}
+use Rattle.std.proofs.Common.{◌≡◌, ℕ, suc, zero, ◌+◌, ◌<◌, ◌≤◌, Bool, true, false, cond, not, is_some, T, List, [], ◌∷◌, ◌++◌, take, drop, length, Option, Some, None, refl, sym, ap, subst, ◌∙◌, arith, append_assoc, vec_len, add-one}
 use Rattle.std.proofs.lemmas.List.{append-nil}
 use Rattle.std.specs.declared.cmp.Ordering.TheVariants.{Less, Equal, Greater}
 use Rattle.std.specs.Ordering.{is_lt, is_le, is_eq}
@@ -8,7 +8,10 @@ use Rattle.std.specs.List.{insert, remove, slice_index_or, slice_set}
 use Rattle.std.specs.List.Sorted.{IsPartitionPoint, IsPartitionedBy}
 use Rattle.std.specs.FinMap as fin
 use Rattle.std.specs.FinMap.{find, put, is_sorted}
-use Rattle.std.specs.FinMap.Entries.{below_all, by_order}
+use Rattle.std.specs.FinMap.Entries.{below_all, by_order, length-put, length_without}
+use Rattle.std.specs.Cmp.Lexicographic.{nat_list_cmp_total}
+use Rattle.std.specs.Int.{from_bool}
+use Rattle.std.specs.Option.{is_none}
 use Rattle.eden_ids.specs.FileMaps.{same_path}
 use Rattle.eden_ids.specs.declared.content.Content.{Content}
 use Rattle.eden_ids.proofs.ByteOrder.{both, first, less, second}
@@ -378,30 +381,34 @@ flat_taken bs i b within is = ap (λ n. flat (take n bs)) (add-one i) ∙ by bs 
 
 -- ---- how many entries there are
 
-pub count_put : (k : List ℕ) (v : Option Content) (es : List Entry) → length (put by_bytes k v es) ≤ length es + 1
-count_put k v [] = omega arith
-count_put k v (x ∷ xs) =
-    let rest = count_put k v xs in
-    elim (by_bytes k x.0) as (λ r. length (by_order r ((k, v) ∷ x ∷ xs) ((x.0, v) ∷ xs) (x ∷ put by_bytes k v xs)) ≤ suc (length xs) + 1) [
-      | Less ↦ omega arith
-      | Equal ↦ omega arith
-      | Greater ↦ omega (arith, rest)
-    ]
+-- one more, where the path is new
+pub counted_put : (k : List ℕ) (v : Option Content) (es fs : List Entry) (new : Bool) → Rising es → fs ≡ put by_bytes k v es → new ≡ is_none (find by_bytes k es)
+    → length fs ≡ length es + from_bool new
+counted_put k v es fs new h is told =
+    ap length is ∙ length-put by_bytes nat_list_cmp_total k v es h ∙ by (is_some (find by_bytes k es)) ∙ ap (λ b. length es + from_bool b) (sym told)
+  where
+    by : (b : Bool) → cond b (length es) (length es + 1) ≡ length es + from_bool (not b)
+    by true = omega arith
+    by false = refl
 
-pub count_put_over : (k : List ℕ) (v w : Option Content) (es : List Entry) → Rising es → find by_bytes k es ≡ Some w → length (put by_bytes k v es) ≤ length es
-count_put_over k v w [] h is = absurd (cc)
-count_put_over k v w (x ∷ xs) h is =
-    elim (by_bytes k x.0) as (λ r. by_bytes k x.0 ≡ r → length (by_order r ((k, v) ∷ x ∷ xs) ((x.0, v) ∷ xs) (x ∷ put by_bytes k v xs)) ≤ suc (length xs)) [
-      | Less ↦ λ p.
-          let none : find by_bytes k (x ∷ xs) ≡ None = none_above k (x ∷ xs) (both _ _ (is_less k x.0 p) (below_later k x.0 xs (is_less k x.0 p) (first _ _ h))) in
-          let bad : Some w ≡ None = sym is ∙ none in absurd (cc)
-      | Equal ↦ λ p. omega arith
-      | Greater ↦ λ p.
-          let rest = count_put_over k v w xs (second _ _ h) (sym (ap (λ r. cond (is_eq r) (Some x.1) (find by_bytes k xs)) p) ∙ is) in omega (arith, rest)
-    ] refl
+-- one fewer, where the path was there
+pub counted_without : (k : List ℕ) (es fs : List Entry) (there : Bool) → Rising es → fs ≡ without k es → there ≡ is_some (find by_bytes k es)
+    → from_bool there + length fs ≡ length es
+counted_without k es fs there h is told =
+    ap (λ b. from_bool b + length fs) told ∙ ap (λ n. from_bool (is_some (find by_bytes k es)) + n) (ap length is)
+    ∙ by (is_some (find by_bytes k es)) (length (without k es))
+    ∙ length_without by_bytes nat_list_cmp_total k es h
+  where
+    by : (b : Bool) (n : ℕ) → from_bool b + n ≡ cond b 1 0 + n
+    by true n = refl
+    by false n = refl
 
-pub count_without : (k : List ℕ) (es : List Entry) → length (without k es) ≤ length es
-count_without k [] = omega arith
-count_without k (x ∷ xs) =
-    let rest = count_without k xs in
-    elim (same_path k x.0) as (λ b. length (cond (not b) (x ∷ without k xs) (without k xs)) ≤ suc (length xs)) [ true ↦ omega (arith, rest) | false ↦ omega (arith, rest) ]
+-- the count stays below a limit, where a new path finds room
+pub still_below : (new : Bool) (count limit : ℕ) → count + 1 < limit → (new ≡ true → count + 2 < limit) → count + from_bool new + 1 < limit
+still_below true count limit below room = let more = room refl in omega (arith, more)
+still_below false count limit below room = omega (arith, below)
+
+-- nothing is said of a new path
+pub not_found : (o : Option (Option Content)) (new : Bool) → new ≡ is_none o → new ≡ true → o ≡ None
+not_found None new is added = refl
+not_found (Some file) new is added = absurd (let bad : false ≡ true = sym is ∙ added in cc)

@@ -7,7 +7,7 @@ use Rattle.std.specs.Cmp.Lexicographic.{slice_cmp, nat_list_cmp_total}
 use Rattle.std.specs.FinMap as fin
 use Rattle.eden_ids.specs.declared.content.Content.{Content}
 use Rattle.eden_ids.specs.FileMaps.{FileMap, file_at, same_file, same_path, differ, has, listing, path_set, put_option}
-use Rattle.eden_ids.proofs.FileMapLemmas.{same_path-is, same_path-refl, same_file-is, same_file_map, file_at-insert, file_at-remove, has-differ, has-listing}
+use Rattle.eden_ids.proofs.FileMapLemmas.{same_path-is, same_path-refl, same_file-is, same_file_map, file_at-insert, file_at-remove, has-differ, has-listing, put_option-at}
 use Rattle.eden_objects.specs.Files.{files_of}
 use Rattle.eden_objects.specs.declared.fault.CommitFault.{CommitFault}
 use Rattle.eden_objects.specs.declared.fault.CommitFault.TheVariants.{NoCommit, NoMemory}
@@ -17,24 +17,21 @@ use Rattle.eden_workcopy.specs.Layers.{Layer, Entry, over}
 use Rattle.eden_workcopy.proofs.Overs.{over-nothing}
 use Rattle.eden_workcopy.proofs.Touched.{has-touched}
 use Rattle.eden_workcopy.proofs.Works.{file_below}
+use Rattle.std.proofs.lemmas.Bool.{not-false}
 
 -- ---- one path
 
 pub same_here : (wanted files : FileMap) (p : List ℕ) → same_file (file_at wanted p) (file_at files p) ≡ true → Agrees wanted files p
 same_here wanted files p e = sym (same_file-is (file_at wanted p) (file_at files p) e)
 
-pub at_put : (files : FileMap) (p : List ℕ) (file : Option Content) (q : List ℕ) → file_at (put_option files p file) q ≡ cond (same_path q p) file (file_at files q)
-at_put files p None q = file_at-remove files p q
-at_put files p (Some f) q = file_at-insert files p f q
-
 pub put_here : (wanted before after : FileMap) (p : List ℕ) (file : Option Content) → after ≡ put_option before p file → file ≡ file_at wanted p → Agrees wanted after p
 put_here wanted before after p file is file_is =
-    ap (λ m. file_at m p) is ∙ at_put before p file p ∙ ap (λ b. cond b file (file_at before p)) (same_path-refl p) ∙ file_is
+    ap (λ m. file_at m p) is ∙ put_option-at before p file p ∙ ap (λ b. cond b file (file_at before p)) (same_path-refl p) ∙ file_is
 
 pub put_nearer : (wanted before after : FileMap) (p : List ℕ) (file : Option Content) → after ≡ put_option before p file → file ≡ file_at wanted p → IsNearer wanted before after
 put_nearer wanted before after p file is file_is q agrees =
     ap (λ m. file_at m q) is
-    ∙ at_put before p file q
+    ∙ put_option-at before p file q
     ∙ (elim (same_path q p) as (λ b. same_path q p ≡ b → cond b file (file_at before q) ≡ file_at wanted q) [
       | true ↦ λ e. file_is ∙ ap (file_at wanted) (sym (same_path-is q p e))
       | false ↦ λ e. agrees
@@ -135,12 +132,8 @@ same_files base target next layer nothing ps is none touched differing nearer =
     here p true e below =
         at_all (over base layer) next ps p (ap (list_any (λ q. same_path p q)) is ∙ sym (has-listing (differ base target) p) ∙ e) differing
     here p false e below =
-        let same : same_file (file_at base p) (file_at target p) ≡ true = unsaid _ (sym (has-differ base target p) ∙ e) in
+        let same : same_file (file_at base p) (file_at target p) ≡ true = not-false _ (sym (has-differ base target p) ∙ e) in
         nearer p (ap (λ l. file_at (over target l) p) none ∙ ap (λ m. file_at m p) (over-nothing target) ∙ sym (same_file-is (file_at base p) (file_at target p) same) ∙ sym below)
-      where
-        unsaid : (b : Bool) → not b ≡ false → b ≡ true
-        unsaid true e = refl
-        unsaid false e = absurd (cc)
 
     at : (p : List ℕ) (o : Option (Option Content)) → fin.get layer p ≡ o → Agrees (over base layer) next p
     at p None e = here p (has (differ base target) p) refl (file_below base layer p e)

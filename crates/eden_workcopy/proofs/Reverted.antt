@@ -7,13 +7,12 @@ use Rattle.eden_ids.specs.declared.content.Content.{Content}
 use Rattle.eden_ids.specs.FileMaps.{FileMap, IsFileMap, file_at, same_path, put_option, has_file_above, has_file_below}
 use Rattle.eden_ids.specs.Texts.{AreTexts}
 use Rattle.eden_ids.proofs.TextLemmas.{texts_insert, texts_remove}
-use Rattle.eden_ids.proofs.FileMapLemmas.{same_path-is, same_file_map, IsFileMap-insert, IsFileMap-remove}
+use Rattle.eden_ids.proofs.FileMapLemmas.{same_path-is, same_file_map, IsFileMap-insert, IsFileMap-remove, put_option-at}
 use Rattle.eden_history.specs.Renames.{place_fault}
 use Rattle.eden_workcopy.specs.Layers.{Layer, or_below, over}
 use Rattle.eden_workcopy.specs.Reverts.{revert_fault}
 use Rattle.eden_workcopy.proofs.Overs.{file_at-over}
 use Rattle.eden_workcopy.proofs.Works.{place_free}
-use Rattle.eden_workcopy.proofs.Rerooted.{at_put}
 
 -- a path that takes the file of another map
 pub texts_put : (files other : FileMap) (path : List ℕ) → AreTexts files → AreTexts other → AreTexts (put_option files path (file_at other path))
@@ -31,7 +30,7 @@ over-forgotten base layer after k is =
     file_at-over base (fin.remove layer k) p
     ∙ ap (λ o. or_below o (file_at base p)) (fin.get-remove nat_list_cmp_total layer k p)
     ∙ by p (same_path p k) refl
-    ∙ sym (at_put (over base layer) k (file_at base k) p))
+    ∙ sym (put_option-at (over base layer) k (file_at base k) p))
   where
     by : (p : List ℕ) (b : Bool) → same_path p k ≡ b → or_below (cond b None (fin.get layer p)) (file_at base p) ≡ cond (same_path p k) (file_at base k) (file_at (over base layer) p)
     by p true e = ap (file_at base) (same_path-is p k e) ∙ ap (λ b. cond b (file_at base k) (file_at (over base layer) p)) (sym e)

@@ -28,6 +28,8 @@ use Rattle.eden_workcopy.specs.declared.work.WorkCopy.{WorkCopy}
 use Rattle.eden_workcopy.specs.Meanings.{means, FitsIn}
 use Rattle.eden_workcopy.specs.Layers.{Layer, Entry, or_below, over}
 use Rattle.eden_workcopy.proofs.Overs.{file_at-over, over-nothing, over-insert, over-remove, over-move, here_below, left_below}
+use Rattle.std.proofs.lemmas.Bool.{or_parts}
+use Rattle.eden_history.proofs.Committed.{commit_unmapped}
 
 pub some_rows : (held : List Held) (o : Option (List Row)) → is_some o ≡ true → map_of_rows held o ≡ Some (files_of (map_of_rows held o))
 some_rows held None e = absurd (cc)
@@ -48,9 +50,6 @@ new_fits held root layer closed small e is =
 none_of : (held : List Held) (o : Option (List Row)) → is_some o ≡ false → map_of_rows held o ≡ None
 none_of held None e = refl
 none_of held (Some rows) e = absurd (cc)
-
-pub no_commit : (held : List Held) (root : Id) → is_some (commit_rows held root) ≡ false → commit_map held root ≡ None
-no_commit held root e = none_of held (commit_rows held root) e
 
 -- a commit that is there has rows to list
 pub listed_there : (held : List Held) (root : Id) (test : List ℕ → Bool) → rows_where test (commit_rows held root) ≡ None → IsSome (commit_map held root) → ⊥
@@ -93,13 +92,9 @@ no_entry q p f (x ∷ es) is none =
     elim (same_path q x.0) as (λ b. same_path q x.0 ≡ b → cond b (Some x.1) (fin.find (slice_cmp nat_cmp) q es) ≡ Some (Some f) → lies_below q p ≡ false) [
       | true ↦ λ s it.
           let value : x.1 ≡ Some f = cc in
-          ap (λ r. lies_below r p) (same_path-is q x.0 s) ∙ sym (ap (λ o. is_some o && lies_below x.0 p) value) ∙ (neither _ _ none).0
-      | false ↦ λ s it. no_entry q p f es it (neither _ _ none).1
+          ap (λ r. lies_below r p) (same_path-is q x.0 s) ∙ sym (ap (λ o. is_some o && lies_below x.0 p) value) ∙ (or_parts _ _ none).0
+      | false ↦ λ s it. no_entry q p f es it (or_parts _ _ none).1
     ] refl is
-  where
-    neither : (a b : Bool) → (a || b) ≡ false → (a ≡ false) × (b ≡ false)
-    neither true b h = absurd (cc)
-    neither false b h = (refl, h)
 
 as_many : (test : List ℕ → Bool) (es : List Entry) → length (filter (λ e. test e.0) es) ≡ length (filter test (map (λ e. e.0) es))
 as_many test [] = refl

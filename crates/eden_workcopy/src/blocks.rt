@@ -1,8 +1,8 @@
 //! Entries in byte order of their paths, cut into blocks: what is put in moves the entries of one block alone.
 
-ghost use Rattle.std.specs.Prelude.{◌≡◌, ◌∷◌, ◌<◌, ◌≤◌, [], T, None, Some, filter, not, drop, length, IfOk, OnOk, OnErr};
+ghost use Rattle.std.specs.Prelude.{◌≡◌, ◌∷◌, ◌<◌, ◌≤◌, [], T, None, Some, filter, not, drop, length, IfOk, OnOk, OnErr, is_some};
 ghost use Rattle.std.specs.FinMap.{is_sorted, put, find};
-ghost use Rattle.std.specs.Option.{option_copied};
+ghost use Rattle.std.specs.Option.{is_none, option_copied};
 ghost use Rattle.eden_ids.specs.FileMaps.{same_path};
 ghost use Rattle.eden_workcopy.specs.Layers.{by_bytes, place};
 ghost use Rattle.eden_workcopy.specs.internal.Blocks.{flat, spot, begins_by, AllFilled};
@@ -119,45 +119,49 @@ fn begin(blocks: &mut Vec<Block>, path: Path, file: Option<Content>) -> Result<(
     Ok(())
 }
 
-/// Puts an entry in its place, in that of the path's earlier entry if there is one. `NoMemory` changes nothing, and comes only where there
-/// is no earlier one.
+/// Puts an entry in its place, in that of the path's earlier entry if there is one, and tells whether there was none. `NoMemory` changes
+/// nothing, and comes only where there is no earlier one.
 pub(crate) fn put_in(
     blocks: &mut Vec<Block>,
     path: Path,
     file: Option<Content>,
-) -> Result<(), NoMemory>
+) -> Result<bool, NoMemory>
     requires sorted { T (is_sorted by_bytes (flat blocks.old.items)) }
     requires filled { AllFilled blocks.old.items }
     ensures ok { OnOk result (flat blocks.new.items ≡ put by_bytes path file (flat blocks.old.items)) }
+    ensures added { IfOk result (λ is_new. is_new ≡ is_none (find by_bytes path (flat blocks.old.items))) }
     ensures err { OnErr result (flat blocks.new.items ≡ flat blocks.old.items) }
     ensures filled { AllFilled blocks.new.items }
     ensures absent { OnErr result (find by_bytes path (flat blocks.old.items) ≡ None) }
 {
     if blocks.is_empty() {
-        return begin(blocks, path, file);
+        begin(blocks, path, file)?;
+        return Ok(true);
     }
     let at = spot(blocks, path.as_bytes());
-    put(&mut blocks[at], path, file)?;
+    let is_new = put(&mut blocks[at], path, file)?;
     cut(blocks, at);
-    Ok(())
+    Ok(is_new)
 }
 
-/// Takes the entry of a path out, if there is one. It takes no memory.
-pub(crate) fn take_out_of(blocks: &mut Vec<Block>, path: &[u8])
+/// Takes the entry of a path out, if there is one, and tells whether there was. It takes no memory.
+pub(crate) fn take_out_of(blocks: &mut Vec<Block>, path: &[u8]) -> bool
     requires sorted { T (is_sorted by_bytes (flat blocks.old.items)) }
     requires filled { AllFilled blocks.old.items }
     ensures left { flat blocks.new.items ≡ filter (λ e. not (same_path path.now e.0)) (flat blocks.old.items) }
     ensures filled { AllFilled blocks.new.items }
+    ensures there { result ≡ is_some (find by_bytes path.now (flat blocks.old.items)) }
 {
     let at = spot(blocks, path);
     if at >= blocks.len() {
-        return;
+        return false;
     }
     let block = &mut blocks[at];
-    take_out(block, path);
+    let was_there = take_out(block, path);
     if block.is_empty() {
         blocks.remove(at);
     }
+    was_there
 }
 
 /// A block with the same entries.

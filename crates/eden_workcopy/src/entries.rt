@@ -1,4 +1,5 @@
-ghost use Rattle.std.specs.Prelude.{◌≡◌, filter, not, T, Some, None, OnOk, OnErr, option_copied};
+ghost use Rattle.std.specs.Prelude.{◌≡◌, filter, not, T, Some, None, IfOk, OnOk, OnErr, is_some, option_copied};
+ghost use Rattle.std.specs.Option.{is_none};
 ghost use Rattle.std.specs.Ordering.{is_lt};
 ghost use Rattle.std.specs.FinMap.{is_sorted, put, find};
 ghost use Rattle.eden_ids.specs.FileMaps.{same_path};
@@ -45,16 +46,17 @@ pub(crate) fn told<'a>(
     }
 }
 
-/// Puts an entry in its place, in that of the path's earlier entry if there is one. `NoMemory` changes nothing, and comes only where
-/// there is no earlier one.
+/// Puts an entry in its place, in that of the path's earlier entry if there is one, and tells whether there was none. `NoMemory` changes
+/// nothing, and comes only where there is no earlier one.
 #[tactic(auto, using(crate::proofs::Placing::still_sorted, crate::proofs::Placing::not_told))]
 pub(crate) fn put(
     entries: &mut Vec<(Path, Option<Content>)>,
     path: Path,
     file: Option<Content>,
-) -> Result<(), NoMemory>
+) -> Result<bool, NoMemory>
     requires { T (is_sorted by_bytes entries.old.items) }
     ensures ok { OnOk result (entries.new.items ≡ put by_bytes path file entries.old.items) }
+    ensures added { IfOk result (λ is_new. is_new ≡ is_none (find by_bytes path entries.old.items)) }
     ensures err { OnErr result (entries.new.items ≡ entries.old.items) }
     ensures sorted { T (is_sorted by_bytes entries.new.items) }
     ensures absent { OnErr result (find by_bytes path entries.old.items ≡ None) }
@@ -62,23 +64,26 @@ pub(crate) fn put(
     let at = place(entries, path.as_bytes());
     if is_there(entries, at, path.as_bytes()) {
         entries[at] = (path, file);
-        return Ok(());
+        return Ok(false);
     }
     let Ok(_) = entries.insert(at, (path, file)) else {
         return Err(NoMemory);
     };
-    Ok(())
+    Ok(true)
 }
 
-/// Takes the entry of a path out, if there is one. It takes no memory.
+/// Takes the entry of a path out, if there is one, and tells whether there was. It takes no memory.
 #[tactic(auto, using(crate::proofs::Placing::sorted_without))]
-pub(crate) fn take_out(entries: &mut Vec<(Path, Option<Content>)>, path: &[u8])
+pub(crate) fn take_out(entries: &mut Vec<(Path, Option<Content>)>, path: &[u8]) -> bool
     requires { T (is_sorted by_bytes entries.old.items) }
     ensures left { entries.new.items ≡ filter (λ e. not (same_path path.now e.0)) entries.old.items }
     ensures sorted { T (is_sorted by_bytes entries.new.items) }
+    ensures there { result ≡ is_some (find by_bytes path.now entries.old.items) }
 {
     let at = place(entries, path);
     if is_there(entries, at, path) {
         entries.remove(at);
+        return true;
     }
+    false
 }

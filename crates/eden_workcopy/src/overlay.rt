@@ -1,4 +1,4 @@
-ghost use Rattle.std.specs.Prelude.{◌≡◌, ◌+◌, ◌^◌, ◌<◌, None, Some, IfOk, OnOk, OnErr, drop, length, option_copied};
+ghost use Rattle.std.specs.Prelude.{◌≡◌, ◌+◌, ◌^◌, ◌<◌, true, false, None, Some, IfOk, OnOk, OnErr, drop, length, option_copied};
 ghost use Rattle.std.specs.FinMap as fin;
 ghost use Rattle.eden_workcopy.specs.Layers.{place};
 
@@ -12,15 +12,16 @@ use std::marker::Model;
 #[derive(Drop)]
 pub(crate) struct Overlay {
     blocks: Vec<Block>,
-    /// No fewer than there are entries, so that these can be counted.
-    most: usize,
+    /// How many entries there are, in all blocks together.
+    count: usize,
 }
 
-/// There are no more entries than so many.
+/// There are no more entries than so many, so that one more than there are is a number too. No memory reaches as far, though the lengths of
+/// the blocks alone don't show it.
 const MOST: usize = usize::MAX - 1;
 
 impl Model for Overlay {
-    ghost use Rattle.std.specs.Prelude.{T, ◌+◌, ◌^◌, ◌<◌, ◌≤◌, length};
+    ghost use Rattle.std.specs.Prelude.{◌≡◌, T, ◌+◌, ◌^◌, ◌<◌, length};
     ghost use Rattle.std.specs.Coded.{coded_list, coded_ℕ, coded_option};
     ghost use Rattle.std.specs.FinMap as fin;
     ghost use Rattle.eden_ids.specs.contracts.content.Content as content;
@@ -34,7 +35,7 @@ impl Model for Overlay {
     ghost view = { λ o. fin.from_sorted (flat o.blocks.items) };
 
     ghost invariant = { λ o. T (fin.is_sorted by_bytes (flat o.blocks.items)) × AllFilled o.blocks.items
-        × (length (flat o.blocks.items) ≤ o.most) × (o.most + 1 < 2 ^ 64) };
+        × (length (flat o.blocks.items) ≡ o.count) × (o.count + 1 < 2 ^ 64) };
 }
 
 impl Overlay {
@@ -45,7 +46,7 @@ impl Overlay {
     {
         Overlay {
             blocks: Vec::new(alloc),
-            most: 0,
+            count: 0,
         }
     }
 
@@ -76,21 +77,28 @@ impl Overlay {
         *self.blocks.allocator()
     }
 
+    /// Whether a path would be one more than may be.
+    fn is_too_many(&self, path: &[u8]) -> bool
+        ensures new { result ≡ true → fin.get self.now path.now ≡ None }
+        ensures room { result ≡ false → fin.get self.now path.now ≡ None → length (fin.entries self.now) + 2 < 2 ^ 64 }
+    {
+        if self.count < MOST {
+            return false;
+        }
+        self.get(path).is_none()
+    }
+
     /// Says what stands at a path. `NoMemory` changes nothing, and comes only where nothing was said of the path.
     pub(crate) fn set(&mut self, path: Path, file: Option<Content>) -> Result<(), NoMemory>
         ensures ok { OnOk result (self.new ≡ fin.insert self.old path file) }
         ensures err { OnErr result (self.new ≡ self.old) }
         ensures absent { OnErr result (fin.get self.old path ≡ None) }
     {
-        if self.most < MOST {
-            put_in(&mut self.blocks, path, file)?;
-            self.most += 1;
-            return Ok(());
-        }
-        let Some(_) = told_in(self.blocks.as_slice(), path.as_bytes()) else {
+        if self.is_too_many(path.as_bytes()) {
             return Err(NoMemory);
-        };
-        put_in(&mut self.blocks, path, file)?;
+        }
+        let is_new = put_in(&mut self.blocks, path, file)?;
+        self.count += usize::from(is_new);
         Ok(())
     }
 
@@ -98,7 +106,8 @@ impl Overlay {
     pub(crate) fn forget(&mut self, path: &[u8])
         ensures { self.new ≡ fin.remove self.old path.now }
     {
-        take_out_of(&mut self.blocks, path);
+        let was_there = take_out_of(&mut self.blocks, path);
+        self.count -= usize::from(was_there);
     }
 
     /// Says that no file stands at one path, and what stands at another. `NoMemory` changes nothing.
@@ -132,7 +141,7 @@ impl Overlay {
         let blocks = copy_all(&self.blocks)?;
         Ok(Overlay {
             blocks,
-            most: self.most,
+            count: self.count,
         })
     }
 }

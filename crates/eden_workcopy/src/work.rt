@@ -30,7 +30,7 @@ impl WorkCopy {
     /// A working copy that holds the files of a commit.
     ///
     /// `NoCommit` comes where the id is no commit's. It takes no memory.
-    #[tactic(auto, using(crate::proofs::Works::new_files, crate::proofs::Works::new_fits, crate::proofs::Works::no_commit))]
+    #[tactic(auto, using(crate::proofs::Works::new_files, crate::proofs::Works::new_fits, eden_history::proofs::Committed::commit_unmapped))]
     pub fn new<N: Naming + Drop>(
         alloc: Global,
         store: &Store<N>,

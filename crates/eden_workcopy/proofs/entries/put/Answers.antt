@@ -1,6 +1,7 @@
-use Rattle.std.proofs.Common.{◌≡◌, true, false, subst, ap, ◌∙◌, arith}
+use Rattle.std.proofs.Common.{◌≡◌, true, false, subst, sym, ap, ◌∙◌, arith}
+use Rattle.std.specs.Option.{is_none}
 use Rattle.eden_workcopy.specs.Layers.{place, IsThere}
-use Rattle.eden_workcopy.proofs.Placing.{put_over, put_beside, place_within, still_sorted}
+use Rattle.eden_workcopy.proofs.Placing.{put_over, put_beside, place_within, still_sorted, told_there, not_told}
 use Rattle.eden_workcopy.proofs.entries.put.Goals as goal
 
 pub returns-then-is_there-clause-ok : goal.returns-then-is_there-clause-ok
@@ -13,6 +14,30 @@ returns-then-is_there-clause-ok c =
     (subst (λ es. IsThere c.is_there.result c.as_bytes-2.result.now es c.place-at.result) c.deref-2.ensures.value c.is_there.ensures)) in
     put_over c.args.path c.args.file c.args.entries.now.items c.place-at.result
     (c.place-at.ensures ∙ ap (λ p. place p c.deref.result.now) place_path ∙ ap (place c.args.path) c.deref.ensures.value) there
+
+pub returns-then-is_there-clause-added : goal.returns-then-is_there-clause-added
+returns-then-is_there-clause-added c =
+    let path : c.as_bytes-2.result.now ≡ c.args.path = c.as_bytes-2.ensures.bytes in
+    let place_path : c.as_bytes.result.now ≡ c.args.path = c.as_bytes.ensures.bytes in
+    let there : IsThere true c.args.path c.args.entries.now.items c.place-at.result =
+    subst (λ b. IsThere b c.args.path c.args.entries.now.items c.place-at.result) c.if-is_there.true
+    (subst (λ p. IsThere c.is_there.result p c.args.entries.now.items c.place-at.result) path
+    (subst (λ es. IsThere c.is_there.result c.as_bytes-2.result.now es c.place-at.result) c.deref-2.ensures.value c.is_there.ensures)) in
+    let is : c.place-at.result ≡ place c.args.path c.args.entries.now.items =
+    c.place-at.ensures ∙ ap (λ p. place p c.deref.result.now) place_path ∙ ap (place c.args.path) c.deref.ensures.value in
+    sym (ap is_none (told_there c.args.path c.args.entries.now.items (subst (IsThere true c.args.path c.args.entries.now.items) is there)).1)
+
+pub returns-clause-added : goal.returns-clause-added
+returns-clause-added c =
+    let path : c.as_bytes-2.result.now ≡ c.args.path = c.as_bytes-2.ensures.bytes in
+    let place_path : c.as_bytes.result.now ≡ c.args.path = c.as_bytes.ensures.bytes in
+    let apart : IsThere false c.args.path c.args.entries.now.items c.place-at.result =
+    subst (λ b. IsThere b c.args.path c.args.entries.now.items c.place-at.result) c.if-is_there.false
+    (subst (λ p. IsThere c.is_there.result p c.args.entries.now.items c.place-at.result) path
+    (subst (λ es. IsThere c.is_there.result c.as_bytes-2.result.now es c.place-at.result) c.deref-2.ensures.value c.is_there.ensures)) in
+    let is : c.place-at.result ≡ place c.args.path c.args.entries.now.items =
+    c.place-at.ensures ∙ ap (λ p. place p c.deref.result.now) place_path ∙ ap (place c.args.path) c.deref.ensures.value in
+    sym (ap is_none (not_told c.args.path c.args.entries.now.items c.requires (subst (IsThere false c.args.path c.args.entries.now.items) is apart)))
 
 pub insert-requires : goal.insert-requires
 insert-requires c =
