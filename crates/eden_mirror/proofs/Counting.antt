@@ -83,6 +83,17 @@ pub ignores_others : (m : MirrorState) → IgnoresOthers m
 unfolding delivered
 ignores_others m g reply e = round_ignores m m.round reply g e
 
+-- whatever the round is, a content that does not count does nothing
+pub content_ignored : (m : MirrorState) (query : Query) (position : Position) (path : List ℕ) (content : Option Content)
+    → counts_in m.round (ContentIs query position path content) ≡ false → (m, Ignored) ≡ delivered m (ContentIs query position path content)
+unfolding delivered
+content_ignored m query position path content e = by m.round e
+  where
+    by : (round : Round) → counts_in round (ContentIs query position path content) ≡ false → (m, Ignored) ≡ delivered_in m round (ContentIs query position path content)
+    by Idle e = refl
+    by (Asked request) e = refl
+    by (Gathering asked target awaited) e = sym (ap (λ b. taken_if b m (fetched m asked target awaited path content)) e)
+
 idle_ignores : (m : MirrorState) (round : Round) (reply : Reply) → round ≡ Idle → delivered_in m round reply ≡ (m, Ignored)
 idle_ignores m Idle (BasisIs query position paths) e = refl
 idle_ignores m Idle (ChangesAre query position marked) e = refl

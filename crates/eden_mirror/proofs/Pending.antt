@@ -1,10 +1,11 @@
 -- What the table of awaited paths says as it is filled, marked and swept.
-use Rattle.std.proofs.Common.{◌≡◌, ℕ, suc, Bool, true, false, cond, not, ◌||◌, List, [], ◌∷◌, ◌++◌, map, filter, length, Option, Some, None, refl, sym, ap, subst, ◌∙◌, ◌+◌, arith}
+use Rattle.std.proofs.Common.{◌≡◌, ℕ, suc, Bool, true, false, cond, not, ◌||◌, List, [], ◌∷◌, ◌++◌, map, filter, length, Option, Some, None, is_some, refl, sym, ap, subst, ◌∙◌, ◌+◌, arith}
 use Rattle.std.proofs.lemmas.Bool.{or_parts}
 use Rattle.std.proofs.lemmas.List.{append-nil}
-use Rattle.std.specs.List.{AllByRecursion, IsDistinct}
+use Rattle.std.specs.List.{AllByRecursion, IsDistinct, position}
 use Rattle.std.specs.Map.{keys_of, lookup, set_value}
-use Rattle.indexmap.specs.IndexMap.{insert_entry}
+use Rattle.indexmap.specs.IndexMap.{insert_entry, set_value_at}
+use Rattle.indexmap.proofs.MapLemmas.{Found-position, insert_entry-first, some_index}
 use Rattle.eden_ids.specs.Sameness.{same_bytes}
 use Rattle.eden_ids.specs.FileMaps.{same_path}
 use Rattle.eden_ids.proofs.FileMapLemmas.{same_path-is, same_path-bytes, same_path-turned}
@@ -160,6 +161,25 @@ is_among-pending k es h = found k es (subst (λ t. IsDistinct t (keys_of es)) te
 
 pub pending-set_value : (k : List ℕ) (es : Entries) → IsDistinct same_bytes (keys_of es) → pending (set_value (same_bytes k) es true) ≡ without k (pending es)
 pending-set_value k es h = ap (λ t. pending (set_value (t k) es true)) tests ∙ marked k es (subst (λ t. IsDistinct t (keys_of es)) tests h)
+
+-- at a key that is there a new value is put by `insert` as by a write
+insert_there : (k : List ℕ) (es : Entries) → is_some (lookup (same_bytes k) es) ≡ true → insert_entry same_bytes es k true ≡ set_value (same_bytes k) es true
+insert_there k [] there = absurd (cc)
+insert_there k (e ∷ es) there = by (same_bytes k e.0) there (insert_there k es)
+  where
+    by : (b : Bool) → is_some (cond b (Some e.1) (lookup (same_bytes k) es)) ≡ true
+        → (is_some (lookup (same_bytes k) es) ≡ true → insert_entry same_bytes es k true ≡ set_value (same_bytes k) es true)
+        → cond b ((e.0, true) ∷ es) (e ∷ insert_entry same_bytes es k true) ≡ cond b ((e.0, true) ∷ es) (e ∷ set_value (same_bytes k) es true)
+    by true h rest = refl
+    by false h rest = ap (λ fs. e ∷ fs) (rest h)
+
+-- a path that is marked at its place is awaited no longer
+pub pending-marked : (k : List ℕ) (es : Entries) (i : ℕ) → IsDistinct same_bytes (keys_of es) → position (same_bytes k) (keys_of es) ≡ Some i
+    → pending (set_value_at es i true) ≡ without k (pending es)
+pending-marked k es i h at =
+    ap pending (sym (insert_entry-first same_bytes k true es i (Found-position (same_bytes k) es i at).first)
+    ∙ insert_there k es (sym (some_index (same_bytes k) es) ∙ ap is_some at))
+    ∙ pending-set_value k es h
 
 pub pending_distinct : (es : Entries) → IsDistinct same_bytes (keys_of es) → AreDistinct (pending es)
 pending_distinct es h = distinct_pending es (subst (λ t. IsDistinct t (keys_of es)) tests h)

@@ -1,15 +1,18 @@
 //! The paths whose contents are awaited.
 
-ghost use Rattle.std.specs.Prelude.{◌≡◌, false, length, map, nat_eq, IfOk, OnOk};
-ghost use Rattle.indexmap.specs.IndexMap.{insert_entry};
+ghost use Rattle.std.specs.Prelude.{◌≡◌, false, if◌then◌else◌, length, map, nat_eq, is_some, Some, IfSome, IfOk, OnOk, OnErr};
+ghost use Rattle.std.specs.List.{IsDistinct};
+ghost use Rattle.std.specs.Map.{keys_of};
+ghost use Rattle.indexmap.specs.IndexMap.{index_of_by, insert_entry};
+ghost use Rattle.eden_ids.specs.FileMaps.{put_option};
 ghost use Rattle.eden_ids.specs.Sameness.{same_bytes};
-ghost use Rattle.eden_mirror.specs.internal.Pending.{AreDistinct};
+ghost use Rattle.eden_mirror.specs.internal.Pending.{AreDistinct, pending};
 ghost use Rattle.eden_messages.specs.declared.message.Request.TheVariants.{Fetch};
 ghost use Rattle.eden_messages.specs.Mirrors.{distinct, is_among, without};
 ghost use Rattle.eden_messages.specs.Spells.{paths_of};
 
 use eden_history::Marked;
-use eden_ids::{NoMemory, Path};
+use eden_ids::{Content, Files, NoMemory, Path};
 use eden_messages::{Query, Request};
 use indexmap::IndexMap;
 use std::alloc::Global;
@@ -48,6 +51,30 @@ fn add(paths: &mut IndexMap<Path, bool>, path: &Path) -> Result<(), NoMemory>
     Ok(())
 }
 
+/// Where a path stands in a table, if it is there and not answered.
+fn place(paths: &IndexMap<Path, bool>, path: &Path) -> Option<usize>
+    requires { IsDistinct same_bytes (keys_of paths.now.entries) }
+    ensures awaited { is_some result ≡ is_among path.now (pending paths.now.entries) }
+    ensures there { IfSome result (λ at. index_of_by (same_bytes path.now) paths.now ≡ Some at) }
+{
+    let (at, _, answered) = paths.get_full(path)?;
+    if *answered { None } else { Some(at) }
+}
+
+/// Puts a file at a path that is given away, or takes the one there away. `NoMemory` changes nothing.
+fn put(files: &mut Files, path: Path, file: Option<Content>) -> Result<(), NoMemory>
+    ensures ok { OnOk result (files.new ≡ put_option files.old path file) }
+    ensures err { OnErr result (files.new ≡ files.old) }
+{
+    match file {
+        Some(content) => files.insert(path, content),
+        None => {
+            files.remove(&path);
+            Ok(())
+        }
+    }
+}
+
 impl Awaited {
     /// All paths of a list, each where it stands first.
     pub(crate) fn of_paths(alloc: Global, listed: &[Path]) -> Result<Awaited, NoMemory>
@@ -84,25 +111,31 @@ impl Awaited {
     pub(crate) fn has(&self, path: &Path) -> bool
         ensures { result ≡ is_among path.now self.now }
     {
-        match self.paths.get(path) {
-            Some(answered) => !*answered,
-            None => false,
-        }
+        place(&self.paths, path).is_some()
     }
 
-    /// Takes a path out, if it is awaited. It takes no memory.
-    pub(crate) fn answer(&mut self, path: &Path)
-        ensures { self.new ≡ without path.now self.old }
+    /// Puts a content at its path and takes the path out, if it is awaited, and tells whether it was. The path is looked for once. `NoMemory`
+    /// changes nothing.
+    pub(crate) fn answer(
+        &mut self,
+        files: &mut Files,
+        path: Path,
+        content: Option<Content>,
+    ) -> Result<bool, NoMemory>
+        ensures told { IfOk result (λ was_awaited. was_awaited ≡ is_among path self.old) }
+        ensures left { IfOk result (λ was_awaited. self.new ≡ (if was_awaited then without path self.old else self.old)) }
+        ensures files { IfOk result (λ was_awaited. files.new ≡ (if was_awaited then put_option files.old path content else files.old)) }
+        ensures awaited_still { OnErr result (self.new ≡ self.old) }
+        ensures no_file { OnErr result (files.new ≡ files.old) }
     {
-        if !self.has(path) {
-            return;
-        }
-        let Some(answered) = self.paths.get_mut(path) else {
-            unreachable!()
+        let Some(at) = place(&self.paths, &path) else {
+            return Ok(false);
         };
-        *answered = true;
+        put(files, path, content)?;
+        self.paths[at] = true;
         self.left -= 1;
         self.sweep();
+        Ok(true)
     }
 
     /// Takes the marked paths out of the table where they are more than half of it.

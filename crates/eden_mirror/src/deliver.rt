@@ -1,15 +1,26 @@
 //! What a mirror makes of a reply.
 
-ghost use Rattle.std.specs.Prelude.{◌≡◌, Some, IfOk, OnErr};
+ghost use Rattle.std.specs.Prelude.{◌≡◌, ◌==◌, ◌&&◌, nat_le, Option, Some, IfOk, OnErr};
+ghost use Rattle.eden_ids.specs.declared.content.Content.{Content};
 ghost use Rattle.eden_messages.specs.declared.message.Reply.TheVariants.{BasisIs, ChangesAre, ContentIs, Refused};
-ghost use Rattle.eden_messages.specs.Mirrors.{delivered, gathers, query_numbered};
+ghost use Rattle.eden_messages.specs.Mirrors.{delivered, gathers, query_numbered, same_query};
 ghost use Rattle.eden_messages.specs.Mirrors.Round.{Idle};
+ghost use Rattle.eden_mirror.specs.Counting.{counts_in};
 
 use crate::awaited::Awaited;
 use crate::mirror::{Mirror, Round};
 use eden_history::{Marked, Position};
 use eden_ids::{Content, Files, NoMemory, Path};
 use eden_messages::{Cause, Outcome, Query, Reply};
+
+/// Whether a content under a question and at a position is one for the round that asked a question and has a target.
+fn is_of_round(asked: Query, target: Position, query: Query, position: Position) -> bool
+    ensures { result ≡ (same_query query asked && position.generation == target.generation && nat_le target.sequence position.sequence) }
+{
+    query == asked
+        && position.generation == target.generation
+        && position.sequence >= target.sequence
+}
 
 impl Mirror {
     /// Ends the round at its target.
@@ -76,9 +87,50 @@ impl Mirror {
         Ok(self.gather(target, awaited))
     }
 
+    /// Whether a content counts in the round that is under way.
+    fn counts(&self, query: Query, position: Position, path: &Path) -> bool
+        ensures { (content : Option Content) → result ≡ counts_in self.now.round (ContentIs query position path.now content) }
+    {
+        match &self.round {
+            Round::Gathering { target, awaited } => {
+                is_of_round(self.query(), *target, query, position) && awaited.has(path)
+            }
+            _ => false,
+        }
+    }
+
     /// Takes the content of a path.
     #[tactic(auto, unfolding(eden_messages::specs::Mirrors::delivered))]
     fn take_content(
+        &mut self,
+        query: Query,
+        position: Position,
+        path: Path,
+        content: Option<Content>,
+    ) -> Result<Outcome, NoMemory>
+        ensures ok { IfOk result (λ outcome. (self.new, outcome) ≡ delivered self.old (ContentIs query position path content)) }
+        ensures err { OnErr result (self.new ≡ self.old) }
+    {
+        let asked = self.query();
+        let Round::Gathering { target, awaited } = &mut self.round else {
+            return Ok(Outcome::Ignored);
+        };
+        let target = *target;
+        if !is_of_round(asked, target, query, position) {
+            return Ok(Outcome::Ignored);
+        }
+        if !awaited.answer(&mut self.files, path, content)? {
+            return Ok(Outcome::Ignored);
+        }
+        if awaited.is_empty() {
+            return Ok(self.place_at(target));
+        }
+        Ok(Outcome::Taken)
+    }
+
+    /// Takes the content of a path that is lent, of which a copy is made where it counts.
+    #[tactic(auto, unfolding(eden_messages::specs::Mirrors::delivered))]
+    fn take_lent(
         &mut self,
         query: Query,
         position: Position,
@@ -88,23 +140,11 @@ impl Mirror {
         ensures ok { IfOk result (λ outcome. (self.new, outcome) ≡ delivered self.old (ContentIs query position path.now content.now)) }
         ensures err { OnErr result (self.new ≡ self.old) }
     {
-        let asked = self.query();
-        let Round::Gathering { target, awaited } = &mut self.round else {
-            return Ok(Outcome::Ignored);
-        };
-        let target = *target;
-        if query != asked || position.generation != target.generation {
+        if !self.counts(query, position, path) {
             return Ok(Outcome::Ignored);
         }
-        if position.sequence < target.sequence || !awaited.has(path) {
-            return Ok(Outcome::Ignored);
-        }
-        self.files.put(path, Content::copy_of(content)?)?;
-        awaited.answer(path);
-        if awaited.is_empty() {
-            return Ok(self.place_at(target));
-        }
-        Ok(Outcome::Taken)
+        let content = Content::copy_of(content)?;
+        self.take_content(query, position, path.copy()?, content)
     }
 
     /// Takes a refusal of the list. It takes no memory.
@@ -154,8 +194,26 @@ impl Mirror {
                 position,
                 path,
                 content,
-            } => self.take_content(*query, *position, path, content),
+            } => self.take_lent(*query, *position, path, content),
             Reply::Refused { query, cause } => Ok(self.take_refusal(*query, *cause)),
+        }
+    }
+
+    /// Takes a reply that is given away, as `deliver` takes one that is lent. A content moves into the mirror, and no copy of it is made.
+    ///
+    /// `NoMemory` comes where a growth was refused, and changes nothing: what the reply told is still outstanding, and can be asked again.
+    pub fn deliver_owned(&mut self, reply: Reply) -> Result<Outcome, NoMemory>
+        ensures ok { IfOk result (λ outcome. (self.new, outcome) ≡ delivered self.old reply) }
+        ensures err { OnErr result (self.new ≡ self.old) }
+    {
+        match reply {
+            Reply::ContentIs {
+                query,
+                position,
+                path,
+                content,
+            } => self.take_content(query, position, path, content),
+            other => self.deliver(&other),
         }
     }
 }

@@ -93,17 +93,17 @@ fn contents(alloc: Global, paths: &[Path], order: Order) -> Result<Vec<Reply>, N
     Ok(replies)
 }
 
-/// Delivers the replies, and gives the outcome of the last one.
-fn deliver_all(mirror: &mut Mirror, replies: &[Reply]) -> Result<Outcome, NoMemory> {
+/// Gives the replies to the mirror, as a client does that decoded them, and gives the outcome of the last one.
+fn deliver_all(mirror: &mut Mirror, replies: Vec<Reply>) -> Result<Outcome, NoMemory> {
     let mut last = Outcome::Ignored;
     for reply in replies {
-        last = mirror.deliver(reply)?;
+        last = mirror.deliver_owned(reply)?;
     }
     Ok(last)
 }
 
 /// How a round with a list and the contents ends, and what processor time it takes.
-fn one_round(rt: &HostRuntime, list: &Reply, replies: &[Reply]) -> Result<(Outcome, Duration)> {
+fn one_round(rt: &HostRuntime, list: &Reply, replies: Vec<Reply>) -> Result<(Outcome, Duration)> {
     let mut mirror = Mirror::new(rt.alloc(), 1, 1, Filter::all(rt.alloc()));
     mirror.begin()?;
     let start = rt.thread_cpu_time()?;
@@ -112,11 +112,12 @@ fn one_round(rt: &HostRuntime, list: &Reply, replies: &[Reply]) -> Result<(Outco
     Ok((outcome, rt.thread_cpu_time()?.saturating_sub(start)))
 }
 
-/// How such rounds end, and the least time that one takes, in nanoseconds.
-fn least(rt: &HostRuntime, list: &Reply, replies: &[Reply]) -> Result<(Outcome, u64)> {
+/// How rounds with a list of these paths end, and the least time that one takes, in nanoseconds.
+fn least(rt: &HostRuntime, list: &Reply, paths: &[Path], order: Order) -> Result<(Outcome, u64)> {
     let mut least = u64::MAX;
     let mut last = Outcome::Ignored;
     for _ in 0..TRIES {
+        let replies = contents(rt.alloc(), paths, order)?;
         let (outcome, time) = one_round(rt, list, replies)?;
         let nanoseconds = u64::from(time.subsec_nanos());
         least = least.min(
@@ -132,13 +133,12 @@ fn least(rt: &HostRuntime, list: &Reply, replies: &[Reply]) -> Result<(Outcome, 
 /// Measures rounds of so many paths whose contents come in this order.
 fn measure(rt: &HostRuntime, count: usize, order: Order) -> Result<()> {
     let paths = paths(rt.alloc(), count)?;
-    let replies = contents(rt.alloc(), paths.as_slice(), order)?;
     let list = Reply::BasisIs {
         query: QUERY,
         position: PLACE,
-        paths: Sequence::from_vec(paths),
+        paths: Sequence::from_vec(paths.clone()?),
     };
-    let (outcome, time) = least(rt, &list, replies.as_slice())?;
+    let (outcome, time) = least(rt, &list, paths.as_slice(), order)?;
     let each = time.checked_div(count as u64).unwrap_or(0);
     println!(rt; "{count} paths {}: {outcome:?}", order.name())?;
     eprintln!(rt; "{count} paths {}: {each} ns a path", order.name())?;
