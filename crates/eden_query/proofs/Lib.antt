@@ -1,3 +1,4 @@
 mod ReplyFits
 mod Telling
 mod Asking
+mod Spelled

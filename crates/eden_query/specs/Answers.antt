@@ -1,14 +1,16 @@
 -- What a world answers to the body of a frame.
-use Rattle.std.specs.Prelude.{ℕ, List, Result, Ok, Err}
+use Rattle.std.specs.Prelude.{◌≡◌, ℕ, List, Result, Ok, Err}
+use Rattle.eden_ids.specs.Texts.{AreBytes}
 use Rattle.eden_wire.specs.declared.fault.DecodeFault.{DecodeFault}
 use Rattle.eden_wire.specs.declared.fault.DecodeFault.TheVariants as decode
 use Rattle.eden_wire.specs.Reading.{read_request}
 use Rattle.eden_frames.specs.declared.fault.FrameFault.{FrameFault}
 use Rattle.eden_frames.specs.declared.fault.FrameFault.TheVariants as frame
+use Rattle.eden_messages.specs.declared.message.Reply.{Reply}
 use Rattle.eden_messages.specs.declared.message.Request.{Request}
 use Rattle.eden_history.specs.Worlds.{WorldState}
 use Rattle.eden_messages.specs.Replies.{reply_of}
-use Rattle.eden_messages.specs.Spells.{reply_bytes}
+use Rattle.eden_messages.specs.Spells.{SpellsReply, reply_bytes}
 use Rattle.eden_frames.specs.Frames as frames
 
 -- a body's fault is its frame's; no body is read as a want of memory
@@ -28,3 +30,8 @@ answered world (Err fault) = Err (frame_fault fault)
 -- the frame of the right reply to the request that the body spells, or the first fault of a body that spells none
 abbrev pub answer_to : WorldState → List ℕ → Result (List ℕ) FrameFault
 answer_to world body = answered world (read_request body)
+
+-- whatever body is answered, the answer is the frame of a body that spells a reply
+abbrev pub AnswersAreSpelled : WorldState → Type 0
+AnswersAreSpelled world = (body answer : List ℕ) → AreBytes body → answer_to world body ≡ Ok answer
+    → (reply : Reply) × (answer ≡ frames.frame (reply_bytes reply)) × SpellsReply (reply_bytes reply) reply

@@ -3,14 +3,17 @@
 ghost use Rattle.std.specs.Prelude.{◌≡◌, ◌≢◌, ◌≤◌, [], length, true, false, is_some, IfOk, IfErr, OnOk};
 ghost use Rattle.eden_objects.specs.Commits.{commit_map};
 ghost use Rattle.eden_accumulate.specs.Snapshots.{shown_to};
+ghost use Rattle.eden_messages.specs.Replies.{bounded};
 ghost use Rattle.eden_messages.specs.Spells.{reply_bytes};
+ghost use Rattle.eden_messages.specs.declared.message.Reply.TheVariants as ReplyIs;
 ghost use Rattle.eden_query.specs.Raws.{is_answerable, patterns_of, told};
 
 use crate::raw::Raw;
 use eden_accumulate::Snapshot;
 use eden_globs::Filter;
+use eden_history::Position;
 use eden_ids::{Content, Naming, NoMemory, Path, Sequence};
-use eden_messages::{Reply, Request};
+use eden_messages::{Query, Reply, Request};
 use eden_objects::{CommitFault, Store};
 use eden_ranges::expand_admitted;
 use std::alloc::Global;
@@ -26,6 +29,19 @@ fn listed<N: Naming + Drop>(
     ensures fault { IfErr result (λ fault. fault ≢ CommitFault.NoMemory → is_some (commit_map store.now snapshot.now.position.root) ≡ false) }
 {
     Ok(Sequence::from_vec(snapshot.files(store, filter)?))
+}
+
+/// The reply that tells a file, or the lack of one.
+fn content_reply(query: Query, position: Position, path: Path, content: Option<Content>) -> Reply
+    ensures { result ≡ bounded query (ReplyIs.ContentIs query position path content) }
+{
+    let reply = Reply::ContentIs {
+        query,
+        position,
+        path,
+        content,
+    };
+    reply.bounded(query)
 }
 
 /// The reply to a request that a mount was asked, with the request's filter and the mount's objects. The mount isn't needed any more.
@@ -66,18 +82,33 @@ pub fn answer<N: Naming + Drop>(
             Ok(reply.bounded(*query))
         }
         Raw::Held(query, position, path, content) => {
-            let reply = Reply::ContentIs {
-                query: *query,
-                position: *position,
-                path: path.copy()?,
-                content: Content::copy_of(content)?,
-            };
-            Ok(reply.bounded(*query))
+            let content = Content::copy_of(content)?;
+            Ok(content_reply(*query, *position, path.copy()?, content))
         }
         Raw::Refused(query, cause) => Ok(Reply::Refused {
             query: *query,
             cause: *cause,
         }),
+    }
+}
+
+/// The reply that `answer` gives. A file that was held is moved into it.
+#[tactic(auto, using(crate::proofs::ReplyFits::bounded_fits))]
+fn answered<N: Naming + Drop>(
+    alloc: Global,
+    raw: Raw,
+    store: &Store<N>,
+    filter: &Filter,
+) -> Result<Reply, CommitFault>
+    ensures reply { IfOk result (λ reply. reply ≡ told store.now filter.now raw) }
+    ensures fits { IfOk result (λ reply. length (reply_bytes reply) ≤ 16777216) }
+    ensures fault { IfErr result (λ fault. fault ≢ CommitFault.NoMemory → is_answerable (commit_map store.now) raw ≡ false) }
+{
+    match raw {
+        Raw::Held(query, position, path, content) => {
+            Ok(content_reply(query, position, path, content))
+        }
+        other => answer(alloc, &other, store, filter),
     }
 }
 
@@ -94,22 +125,22 @@ fn filter_of<'a>(request: &'a Request, everything: &'a Filter) -> &'a Filter
 }
 
 /// The reply to a request for which a server held this, over the objects that the server had then or has since. The server isn't needed any
-/// more.
+/// more, and a file that was held is moved into the reply.
 ///
 /// `NoMemory` comes where a growth was refused.
 pub fn answer_request<N: Naming + Drop>(
     alloc: Global,
-    raw: &Raw,
+    raw: Raw,
     store: &Store<N>,
     request: &Request,
 ) -> Result<Reply, NoMemory>
-    requires { is_answerable (commit_map store.now) raw.now ≡ true }
-    ensures reply { IfOk result (λ reply. reply ≡ told store.now (patterns_of request.now) raw.now) }
+    requires { is_answerable (commit_map store.now) raw ≡ true }
+    ensures reply { IfOk result (λ reply. reply ≡ told store.now (patterns_of request.now) raw) }
     ensures fits { IfOk result (λ reply. length (reply_bytes reply) ≤ 16777216) }
 {
     let everything = Filter::all(alloc);
     let filter = filter_of(request, &everything);
-    match answer(alloc, raw, store, filter) {
+    match answered(alloc, raw, store, filter) {
         Ok(reply) => Ok(reply),
         // The commits are there that it takes.
         Err(CommitFault::NoCommit) => unreachable!(),

@@ -13,12 +13,17 @@
 //!
 //! let store = Arc::new(alloc, Store::new(alloc, GitNaming))?;
 //! let mut mount = Mount::mount(alloc, store, Id::ZERO, 7, 1000)?;
-//! let query = Query { mirror: 1, life: 1, number: 1 };
+//! let query = Query {
+//!     mirror: 1,
+//!     life: 1,
+//!     number: 1,
+//! };
 //! let path = Path::parse(alloc, b"a".as_slice())?;
 //! let frame = encode_request(alloc, &Request::Fetch { query, path })?;
 //! let mut replies = Counted::new(Vec::new(alloc));
 //! let mut requests = Counted::new(frame.as_slice());
-//! assert_eq!(rt; serve(alloc, &mut requests, &mut replies, &mut mount), Ok(1));
+//! let served = serve(alloc, &mut requests, &mut replies, &mut mount);
+//! assert_eq!(rt; served, Ok(1));
 //! ```
 #![tactic(auto)]
 
@@ -28,8 +33,8 @@ pub use crate::served::Served;
 pub use crate::serving::{fault_of_frame, reply_to, serve};
 pub use eden_frames::{BODY_LIMIT, FrameFault, ServeFault, tell_frames};
 pub use eden_wire::{
-    DecodeFault, EncodeFault, decode_reply, decode_request, encode_reply, encode_request,
-    reply_law, request_law,
+    DecodeFault, EncodeFault, append_reply, decode_reply, decode_request, encode_reply,
+    encode_request, reply_law, request_law,
 };
 
 mod answering;

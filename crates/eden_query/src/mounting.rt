@@ -89,6 +89,8 @@ impl<N: Naming + Drop> Served<N> for Mount<N> {
 
     ghost stands_for = { λ mount world. StandsFor mount world };
 
+    ghost spelled = { λ _ _ stands. (stands.is_world, stands.spellable) };
+
     ghost held = { λ mount. mount.held };
 
     ghost stored = { λ _. None };

@@ -7,6 +7,8 @@ ghost use Rattle.eden_objects.specs.Commits.{commit_map};
 ghost use Rattle.eden_history.specs.declared.answer.Answer.{Answer};
 ghost use Rattle.eden_history.specs.declared.change.Change.{Change};
 ghost use Rattle.eden_messages.specs.declared.message.Request.{Request};
+ghost use Rattle.eden_history.specs.Legal.{IsSomeWorld};
+ghost use Rattle.eden_history.specs.Spellable.{IsSpellable};
 ghost use Rattle.eden_history.specs.Worlds.{WorldState};
 ghost use Rattle.eden_query.specs.declared.raw.Raw.{Raw};
 ghost use Rattle.eden_messages.specs.Replies.{reply_of};
@@ -28,6 +30,9 @@ use std::sync::Arc;
 pub trait Served<N: Naming + Drop> {
     // The histories whose present it is.
     ghost stands_for: { Self → WorldState → Type 0 };
+
+    // Each such history is one, and whatever is asked of it, the reply has a spelling.
+    ghost spelled: { (server : Self) (world : WorldState) → stands_for server world → IsSomeWorld world × IsSpellable world };
 
     // The objects under it.
     ghost held: { Self → List Held };

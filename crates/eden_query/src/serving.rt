@@ -6,9 +6,9 @@ ghost use Rattle.eden_frames.specs.FrameEnds.{Serves};
 ghost use Rattle.eden_frames.specs.FrameTellings.{EndsTelling};
 ghost use Rattle.eden_history.specs.Worlds.{WorldState};
 ghost use Rattle.eden_messages.specs.Replies.{reply_of};
-ghost use Rattle.eden_messages.specs.Spells.{reply_bytes};
+ghost use Rattle.eden_messages.specs.Spells.{SpellsReply, reply_bytes};
 ghost use Rattle.eden_stream.specs.Counts.{Rose, RoseBy};
-ghost use Rattle.eden_query.specs.Answers.{answer_to, frame_fault};
+ghost use Rattle.eden_query.specs.Answers.{AnswersAreSpelled, answer_to, frame_fault};
 ghost use Rattle.eden_query.specs.Raws.{patterns_of, told};
 ghost use Rattle.eden_query.specs.Servers.{raised};
 ghost use Rattle.eden_query.specs.Servings.{serving_story};
@@ -19,9 +19,9 @@ use crate::answering::answer_request;
 use crate::served::Served;
 use eden_frames::{FrameFault, Frames, ServeFault, tell_frames};
 use eden_ids::{Naming, NoMemory};
-use eden_messages::{Reply, Request};
+use eden_messages::{Reply, Request, request_text_law};
 use eden_stream::{Answer, CountedRead, CountedWrite, Teller};
-use eden_wire::{DecodeFault, EncodeFault, decode_request, encode_reply};
+use eden_wire::{DecodeFault, append_reply, decode_request};
 use std::alloc::Global;
 use std::marker::PhantomData;
 
@@ -60,6 +60,7 @@ pub fn reply_to<N: Naming + Drop, T: Served<N>>(
 ) -> Result<Reply, NoMemory>
     ensures reply { IfOk result (λ reply. (world : WorldState) → T.stands_for server.old world → reply ≡ reply_of world request.now) }
     ensures fits { IfOk result (λ reply. length (reply_bytes reply) ≤ 16777216) }
+    ensures spelled { IfOk result (λ reply. SpellsReply (reply_bytes reply) reply) }
     ensures stands { (world : WorldState) → T.stands_for server.old world → T.stands_for server.new world }
     ensures held { T.held server.new ≡ T.held server.old }
     ensures given { IfOk result (λ reply. (raw : Raw) × T.hold_gives server.old caller request.now raw server.new
@@ -67,12 +68,14 @@ pub fn reply_to<N: Naming + Drop, T: Served<N>>(
     ensures noted { OnOk result (T.stored server.new ≡ raised (T.stored server.old)) }
     ensures left { OnErr result ((server.new ≡ server.old) ⊎ ((raw : Raw) × T.hold_gives server.old caller request.now raw server.new)) }
 {
+    request_text_law(request);
     let raw = server.hold(caller, request)?;
     let store = server.store();
-    answer_request(store.allocator(), &raw, store, request)
+    answer_request(store.allocator(), raw, store, request)
 }
 
 /// What the server answers to a body.
+#[tactic(auto, using(eden_ids::proofs::Fronts::kept))]
 fn answer_body<N: Naming + Drop, T: Served<N>>(
     server: &mut T,
     body: &[u8],
@@ -97,13 +100,7 @@ fn answer_body<N: Naming + Drop, T: Served<N>>(
         Ok(reply) => reply,
         Err(_) => return Answer::NoMemory,
     };
-    let frame = match encode_reply(alloc, &reply) {
-        Ok(frame) => frame,
-        // What is replied fits a frame.
-        Err(EncodeFault::TooLarge) => unreachable!(),
-        Err(EncodeFault::NoMemory) => return Answer::NoMemory,
-    };
-    match text.extend_from_slice(frame.as_slice()) {
+    match append_reply(text, &reply) {
         Ok(()) => Answer::Told,
         Err(_) => Answer::NoMemory,
     }
@@ -146,6 +143,7 @@ pub fn serve<N: Naming + Drop, T: Served<N>, R: CountedRead, W: CountedWrite>(
 ) -> Result<u64, ServeFault>
     ensures ends { (world : WorldState) → T.stands_for server.old world
         → Serves (answer_to world) (R.remaining reader.old) (R.remaining reader.new) (W.contents writer.old) (W.contents writer.new) result }
+    ensures spelled { (world : WorldState) → T.stands_for server.old world → AnswersAreSpelled world }
     ensures stands { (world : WorldState) → T.stands_for server.old world → T.stands_for server.new world }
     ensures asks { EndsTelling (serving_story T.stands_for T.hold_gives 0 server.old server.new) (R.remaining reader.old) (R.remaining reader.new)
         (W.contents writer.old) (W.contents writer.new) result }

@@ -9,7 +9,7 @@ use bstr::ByteSlice;
 use std::alloc::{AllocError, Global};
 
 /// Appends the bytes as they are. Where memory runs out the text stays as it was.
-#[tactic(auto, using(crate::proofs::Growing::grown_keeps))]
+#[tactic(auto, using(eden_ids::proofs::Fronts::grown_keeps))]
 pub fn push_bytes(text: &mut Vec<u8>, bytes: &[u8]) -> Result<(), AllocError>
     ensures ok { OnOk result (text.new.items ≡ text.old.items ++ bytes.now) }
     ensures err { OnErr result (text.new.items ≡ text.old.items) }
@@ -21,7 +21,7 @@ pub fn push_bytes(text: &mut Vec<u8>, bytes: &[u8]) -> Result<(), AllocError>
 /// Appends the bytes escaped, as one word: a backslash as `\\`, a line feed as `\n`, a space as
 /// `\s`, any other byte as it is, and `\e` where there are no bytes. Where memory runs out the text
 /// stays as it was.
-#[tactic(auto, unfolding(crate::specs::Escapes::escaped), using(crate::proofs::Growing::grown_keeps))]
+#[tactic(auto, unfolding(crate::specs::Escapes::escaped), using(eden_ids::proofs::Fronts::grown_keeps))]
 pub fn push_escaped(text: &mut Vec<u8>, bytes: &[u8]) -> Result<(), AllocError>
     ensures ok { OnOk result (text.new.items ≡ text.old.items ++ escaped bytes.now) }
     ensures err { OnErr result (text.new.items ≡ text.old.items) }

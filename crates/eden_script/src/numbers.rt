@@ -27,7 +27,7 @@ pub fn number(word: &[u8]) -> Option<u64>
 }
 
 /// Appends the decimal text of `n`. Where memory runs out the text stays as it was.
-#[tactic(auto, using(crate::proofs::Growing::grown_keeps))]
+#[tactic(auto, using(eden_ids::proofs::Fronts::grown_keeps))]
 pub fn push_number(text: &mut Vec<u8>, n: u64) -> Result<(), AllocError>
     ensures ok { OnOk result (text.new.items ≡ text.old.items ++ decimal n) }
     ensures err { OnErr result (text.new.items ≡ text.old.items) }

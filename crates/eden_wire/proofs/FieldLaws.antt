@@ -24,12 +24,13 @@ use Rattle.eden_messages.specs.declared.message.Query.{Query}
 use Rattle.eden_messages.specs.declared.message.Cause.{Cause}
 use Rattle.eden_messages.specs.declared.message.Cause.TheVariants as causes
 use Rattle.eden_ids.specs.Texts.{AreBytes, IsPathText}
+use Rattle.eden_ids.proofs.Texts.{bytes_are}
 use Rattle.eden_messages.specs.Spells.{query_bytes, IsQuery, position_bytes, IsPosition, text_bytes, filter_bytes, IsFilterText, IsBelowFirst, Ascends, IsListing, paths_bytes, mark_byte, marked_bytes, list_bytes, paths_of, kind_byte, content_bytes, IsValue, cause_bytes, IsCause}
 use Rattle.eden_messages.proofs.Spelling.{IsText, path_text, filter_fits}
 use Rattle.eden_wire.specs.declared.fault.DecodeFault.{DecodeFault}
 use Rattle.eden_wire.specs.declared.fault.DecodeFault.TheVariants.{CutShort, BadField}
 use Rattle.eden_wire.specs.Reading.{◌>>=◌, byte_at, number_at, text_at, query_at, root_at, position_at, path_of, path_at, patterns_at, filter_of, filter_at, mark_of_byte, mark_at, is_above, next_at, items_at, path_listing_at, marked_at, listing_at, kind_of_byte, bytes_at, content_at, cause_of, cause_at}
-use Rattle.eden_wire.proofs.Numbers.{IsBytes, IsBytes-take, IsBytes-drop, bytes_are, bind_ok, guard_ok, held_ok, ok_is, along, Takes, Takes-then, byte_takes, wide32, wide64, number_takes, number_again, text_takes, text_again}
+use Rattle.eden_wire.proofs.Numbers.{IsBytes, IsBytes-take, IsBytes-drop, bind_ok, guard_ok, held_ok, ok_is, along, Takes, Takes-then, byte_takes, wide32, wide64, number_takes, number_again, text_takes, text_again}
 
 -- ---- queries
 

@@ -1,5 +1,6 @@
 mod Loops
 mod Numbers
 mod FieldLaws
-mod BodyLaws
+pub mod BodyLaws
 mod Lists
+mod Written

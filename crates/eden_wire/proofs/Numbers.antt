@@ -5,6 +5,7 @@ use Rattle.std.proofs.lemmas.Bool.{cases_lt, ltb-false, le-ltb, eqb-false, eqb-t
 use Rattle.std.proofs.lemmas.List.{take_at, drop_at, take-append-drop, length-append, length-take, get_or-drop, get_or-take, get_or_past, nil_from_length}
 use Rattle.std.proofs.lemmas.Nat.{be_bytes_2, be_bytes_4, be_bytes_8, from_be_bytes-to_be_bytes_2, from_be_bytes-to_be_bytes_4, from_be_bytes-to_be_bytes_8}
 use Rattle.eden_ids.specs.Texts.{AreBytes}
+use Rattle.eden_ids.proofs.Texts.{bytes_are}
 use Rattle.eden_messages.specs.Spells.{text_bytes}
 use Rattle.eden_messages.proofs.Spelling.{IsText}
 use Rattle.eden_wire.specs.declared.fault.DecodeFault.{DecodeFault}
@@ -28,10 +29,6 @@ IsBytes-take n bytes h i =
 
 pub IsBytes-rest : (b : ℕ) (bytes : List ℕ) → IsBytes (b ∷ bytes) → IsBytes bytes
 IsBytes-rest b bytes h i = h (suc i)
-
-pub bytes_are : (bytes : List ℕ) → IsBytes bytes → AreBytes bytes
-bytes_are [] h = tt
-bytes_are (b ∷ bytes) h = (h 0, bytes_are bytes (IsBytes-rest b bytes h))
 
 -- ---- steps
 

@@ -1,13 +1,10 @@
 -- Reading and spelling undo each other.
-use Rattle.std.specs.Prelude.{◌≡◌, ℕ, ◌<◌, List, slice_index, Ok}
+use Rattle.std.specs.Prelude.{◌≡◌, ℕ, List, Ok}
+use Rattle.eden_ids.specs.Texts.{AreBytes}
 use Rattle.eden_wire.specs.Reading.{read_request, read_reply}
 use Rattle.eden_messages.specs.declared.message.Reply.{Reply}
 use Rattle.eden_messages.specs.declared.message.Request.{Request}
 use Rattle.eden_messages.specs.Spells.{SpellsRequest, SpellsReply}
-
--- numbers below 256, as a slice of bytes has them
-abbrev pub AreBytes : List ℕ → Type 0
-AreBytes bytes = (k : ℕ) → slice_index bytes k < 256
 
 -- the body that spells a request is read as that request: what was encoded is decoded to the same
 abbrev pub RequestsAreReadBack : Type 0

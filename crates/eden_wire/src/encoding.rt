@@ -1,5 +1,5 @@
 ghost use Rattle.std.specs.Prelude.{◌≡◌, ◌≢◌, ◌<◌, ◌≤◌, ◌^◌, ◌↔◌, ◌++◌, ◌∷◌, List, ℕ, length, Err, OnOk, IfOk};
-ghost use Rattle.std.specs.Int.{w32, to_be_bytes};
+ghost use Rattle.eden_ids.specs.Fronts.{KeepsFront};
 ghost use Rattle.eden_messages.specs.Spells.{query_bytes, position_bytes, text_bytes, filter_bytes, paths_bytes, mark_byte, marked_bytes, list_bytes, kind_byte, content_bytes, cause_bytes, request_bytes, reply_bytes, SpellsRequest, SpellsReply};
 ghost use Rattle.eden_frames.specs.Frames.{frame};
 
@@ -11,16 +11,29 @@ use eden_ids::{Content, Kind, Path};
 use eden_messages::{Cause, Query, Reply, Request, request_text_law};
 use std::alloc::{AllocError, Global};
 
+/// Puts the bytes behind the others.
+#[tactic(auto, using(eden_ids::proofs::Fronts::grown_keeps))]
+fn put_bytes(out: &mut Vec<u8>, bytes: &[u8]) -> Result<(), AllocError>
+    ensures told { OnOk result (out.new.items ≡ out.old.items ++ bytes.now) }
+    ensures front { KeepsFront out.old.items out.new.items }
+{
+    out.extend_from_slice(bytes)
+}
+
+#[tactic(auto, using(eden_ids::proofs::Fronts::grown_keeps))]
 fn put_query(out: &mut Vec<u8>, query: &Query) -> Result<(), AllocError>
-    ensures { OnOk result (out.new.items ≡ out.old.items ++ query_bytes query.now) }
+    ensures told { OnOk result (out.new.items ≡ out.old.items ++ query_bytes query.now) }
+    ensures front { KeepsFront out.old.items out.new.items }
 {
     out.put_u64(query.mirror)?;
     out.put_u64(query.life)?;
     out.put_u64(query.number)
 }
 
+#[tactic(auto, using(eden_ids::proofs::Fronts::grown_keeps))]
 fn put_position(out: &mut Vec<u8>, position: &Position) -> Result<(), AllocError>
-    ensures { OnOk result (out.new.items ≡ out.old.items ++ position_bytes position.now) }
+    ensures told { OnOk result (out.new.items ≡ out.old.items ++ position_bytes position.now) }
+    ensures front { KeepsFront out.old.items out.new.items }
 {
     out.put_u64(position.generation)?;
     out.put_u64(position.sequence)?;
@@ -29,10 +42,11 @@ fn put_position(out: &mut Vec<u8>, position: &Position) -> Result<(), AllocError
 
 fn put_text(out: &mut Vec<u8>, text: &[u8]) -> Result<(), AllocError>
     requires { length text.now < 2 ^ 16 }
-    ensures { OnOk result (out.new.items ≡ out.old.items ++ text_bytes text.now) }
+    ensures told { OnOk result (out.new.items ≡ out.old.items ++ text_bytes text.now) }
+    ensures front { KeepsFront out.old.items out.new.items }
 {
-    out.put_u16(text.len() as u16)?;
-    out.put_slice(text)
+    put_bytes(out, &(text.len() as u16).to_be_bytes())?;
+    put_bytes(out, text)
 }
 
 #[tactic(auto, using(eden_messages::proofs::Filters::patterns_few, eden_messages::proofs::Filters::patterns_short))]
@@ -59,24 +73,27 @@ fn byte_of_mark(mark: Mark) -> u8
 }
 
 fn put_marked(out: &mut Vec<u8>, marked: &Marked) -> Result<(), AllocError>
-    ensures { OnOk result (out.new.items ≡ out.old.items ++ marked_bytes marked.now) }
+    ensures told { OnOk result (out.new.items ≡ out.old.items ++ marked_bytes marked.now) }
+    ensures front { KeepsFront out.old.items out.new.items }
 {
-    out.put_u8(byte_of_mark(marked.mark))?;
+    put_bytes(out, &[byte_of_mark(marked.mark)])?;
     put_path(out, &marked.path)
 }
 
 #[tactic(auto, using(eden_messages::proofs::Spelling::path_few))]
 fn put_path(out: &mut Vec<u8>, path: &Path) -> Result<(), AllocError>
-    ensures { OnOk result (out.new.items ≡ out.old.items ++ text_bytes path.now) }
+    ensures told { OnOk result (out.new.items ≡ out.old.items ++ text_bytes path.now) }
+    ensures front { KeepsFront out.old.items out.new.items }
 {
     put_text(out, path.as_bytes())
 }
 
 fn put_paths(out: &mut Vec<u8>, paths: &[Path]) -> Result<(), AllocError>
     requires { length paths.now < 2 ^ 32 }
-    ensures { OnOk result (out.new.items ≡ out.old.items ++ paths_bytes paths.now) }
+    ensures told { OnOk result (out.new.items ≡ out.old.items ++ paths_bytes paths.now) }
+    ensures front { KeepsFront out.old.items out.new.items }
 {
-    out.put_u32(paths.len() as u32)?;
+    put_bytes(out, &(paths.len() as u32).to_be_bytes())?;
     for path in paths {
         put_path(out, path)?;
     }
@@ -85,9 +102,10 @@ fn put_paths(out: &mut Vec<u8>, paths: &[Path]) -> Result<(), AllocError>
 
 fn put_list(out: &mut Vec<u8>, list: &[Marked]) -> Result<(), AllocError>
     requires { length list.now < 2 ^ 32 }
-    ensures { OnOk result (out.new.items ≡ out.old.items ++ list_bytes list.now) }
+    ensures told { OnOk result (out.new.items ≡ out.old.items ++ list_bytes list.now) }
+    ensures front { KeepsFront out.old.items out.new.items }
 {
-    out.put_u32(list.len() as u32)?;
+    put_bytes(out, &(list.len() as u32).to_be_bytes())?;
     for marked in list {
         put_marked(out, marked)?;
     }
@@ -106,18 +124,20 @@ fn byte_of_kind(kind: Kind) -> u8
 
 fn put_content(out: &mut Vec<u8>, content: &Option<Content>) -> Result<(), AllocError>
     requires { length (content_bytes content.now) ≤ 16777216 }
-    ensures { OnOk result (out.new.items ≡ out.old.items ++ content_bytes content.now) }
+    ensures told { OnOk result (out.new.items ≡ out.old.items ++ content_bytes content.now) }
+    ensures front { KeepsFront out.old.items out.new.items }
 {
     let Some(content) = content else {
-        return out.put_u8(0);
+        return put_bytes(out, &[0]);
     };
-    out.put_u8(byte_of_kind(content.kind))?;
-    out.put_u32(content.bytes.len() as u32)?;
-    out.put_slice(content.bytes.as_slice())
+    put_bytes(out, &[byte_of_kind(content.kind)])?;
+    put_bytes(out, &(content.bytes.len() as u32).to_be_bytes())?;
+    put_bytes(out, content.bytes.as_slice())
 }
 
 fn put_cause(out: &mut Vec<u8>, cause: Cause) -> Result<(), AllocError>
-    ensures { OnOk result (out.new.items ≡ out.old.items ++ cause_bytes cause) }
+    ensures told { OnOk result (out.new.items ≡ out.old.items ++ cause_bytes cause) }
+    ensures front { KeepsFront out.old.items out.new.items }
 {
     let (byte, value) = match cause {
         Cause::Stale(generation) => (1, generation),
@@ -125,56 +145,53 @@ fn put_cause(out: &mut Vec<u8>, cause: Cause) -> Result<(), AllocError>
         Cause::Truncated(floor) => (3, floor),
         Cause::TooLarge => (4, 0),
     };
-    out.put_u8(byte)?;
-    out.put_u64(value)
+    put_bytes(out, &[byte])?;
+    put_bytes(out, &value.to_be_bytes())
 }
 
-/// A frame up to its query, with room for the rest. The length is one that was computed from the whole message.
-fn begun(alloc: Global, len: u32, tag: u8, query: &Query) -> Result<Vec<u8>, AllocError>
-    ensures { IfOk result (λ out. out.items ≡ to_be_bytes w32 len ++ (1 ∷ tag ∷ query_bytes query.now)) }
+/// What each body begins with: the version, the tag and the query.
+#[tactic(auto, using(eden_ids::proofs::Fronts::grown_keeps))]
+fn put_head(out: &mut Vec<u8>, tag: u8, query: &Query) -> Result<(), AllocError>
+    ensures told { OnOk result (out.new.items ≡ out.old.items ++ (1 ∷ tag ∷ query_bytes query.now)) }
+    ensures front { KeepsFront out.old.items out.new.items }
 {
-    let mut out = Vec::with_capacity(alloc, 4 + len as usize)?;
-    out.put_u32(len)?;
     out.put_u8(1)?;
     out.put_u8(tag)?;
-    put_query(&mut out, query)?;
-    Ok(out)
+    put_query(out, query)?;
+    Ok(())
 }
 
-#[tactic(auto, unfolding(eden_frames::specs::Frames::frame))]
-fn write_request(alloc: Global, request: &Request) -> Result<Vec<u8>, AllocError>
-    ensures { IfOk result (λ out. out.items ≡ frame (request_bytes request.now)) }
+fn put_request(out: &mut Vec<u8>, request: &Request) -> Result<(), AllocError>
+    ensures { OnOk result (out.new.items ≡ out.old.items ++ request_bytes request.now) }
 {
-    let len = request.body_len();
     match request {
         Request::Basis { query, filter } => {
-            let mut out = begun(alloc, len, 0x01, query)?;
-            put_filter(&mut out, filter)?;
-            Ok(out)
+            put_head(out, 0x01, query)?;
+            put_filter(out, filter)?;
+            Ok(())
         }
         Request::Poll {
             query,
             since,
             filter,
         } => {
-            let mut out = begun(alloc, len, 0x02, query)?;
-            put_position(&mut out, since)?;
-            put_filter(&mut out, filter)?;
-            Ok(out)
+            put_head(out, 0x02, query)?;
+            put_position(out, since)?;
+            put_filter(out, filter)?;
+            Ok(())
         }
         Request::Fetch { query, path } => {
-            let mut out = begun(alloc, len, 0x03, query)?;
-            put_path(&mut out, path)?;
-            Ok(out)
+            put_head(out, 0x03, query)?;
+            put_path(out, path)?;
+            Ok(())
         }
     }
 }
 
-#[tactic(auto, unfolding(eden_frames::specs::Frames::frame))]
-fn write_reply(alloc: Global, len: u32, reply: &Reply) -> Result<Vec<u8>, AllocError>
-    requires len { len ≡ length (reply_bytes reply.now) }
-    requires small { len ≤ 16777216 }
-    ensures { IfOk result (λ out. out.items ≡ frame (reply_bytes reply.now)) }
+fn put_reply(out: &mut Vec<u8>, reply: &Reply) -> Result<(), AllocError>
+    requires { length (reply_bytes reply.now) ≤ 16777216 }
+    ensures told { OnOk result (out.new.items ≡ out.old.items ++ reply_bytes reply.now) }
+    ensures front { KeepsFront out.old.items out.new.items }
 {
     match reply {
         Reply::BasisIs {
@@ -182,20 +199,20 @@ fn write_reply(alloc: Global, len: u32, reply: &Reply) -> Result<Vec<u8>, AllocE
             position,
             paths,
         } => {
-            let mut out = begun(alloc, len, 0x81, query)?;
-            put_position(&mut out, position)?;
-            put_paths(&mut out, paths.as_slice())?;
-            Ok(out)
+            put_head(out, 0x81, query)?;
+            put_position(out, position)?;
+            put_paths(out, paths.as_slice())?;
+            Ok(())
         }
         Reply::ChangesAre {
             query,
             target,
             marked,
         } => {
-            let mut out = begun(alloc, len, 0x82, query)?;
-            put_position(&mut out, target)?;
-            put_list(&mut out, marked.as_slice())?;
-            Ok(out)
+            put_head(out, 0x82, query)?;
+            put_position(out, target)?;
+            put_list(out, marked.as_slice())?;
+            Ok(())
         }
         Reply::ContentIs {
             query,
@@ -203,16 +220,16 @@ fn write_reply(alloc: Global, len: u32, reply: &Reply) -> Result<Vec<u8>, AllocE
             path,
             content,
         } => {
-            let mut out = begun(alloc, len, 0x83, query)?;
-            put_position(&mut out, position)?;
-            put_path(&mut out, path)?;
-            put_content(&mut out, content)?;
-            Ok(out)
+            put_head(out, 0x83, query)?;
+            put_position(out, position)?;
+            put_path(out, path)?;
+            put_content(out, content)?;
+            Ok(())
         }
         Reply::Refused { query, cause } => {
-            let mut out = begun(alloc, len, 0x84, query)?;
-            put_cause(&mut out, *cause)?;
-            Ok(out)
+            put_head(out, 0x84, query)?;
+            put_cause(out, *cause)?;
+            Ok(())
         }
     }
 }
@@ -220,6 +237,7 @@ fn write_reply(alloc: Global, len: u32, reply: &Reply) -> Result<Vec<u8>, AllocE
 /// The frame of a request: four bytes of length, and the body that spells it. Each request has such a body, which is never too long.
 ///
 /// `NoMemory` comes where a growth was refused.
+#[tactic(auto, unfolding(eden_frames::specs::Frames::frame))]
 pub fn encode_request(alloc: Global, request: &Request) -> Result<Vec<u8>, EncodeFault>
     ensures read_back { IfOk result (λ bytes. (body : List ℕ) × SpellsRequest body request.now × (bytes.items ≡ frame body)) }
     ensures spelled { (body : List ℕ) → SpellsRequest body request.now → IfOk result (λ bytes. bytes.items ≡ frame body) }
@@ -227,11 +245,29 @@ pub fn encode_request(alloc: Global, request: &Request) -> Result<Vec<u8>, Encod
     ensures fits { result ≢ Err EncodeFault.TooLarge }
 {
     request_text_law(request);
-    let _ = request.body_len();
-    match write_request(alloc, request) {
-        Ok(bytes) => Ok(bytes),
-        Err(_) => Err(EncodeFault::NoMemory),
-    }
+    let len = request.body_len();
+    let mut frame = Vec::with_capacity(alloc, 4 + len as usize)?;
+    put_bytes(&mut frame, &len.to_be_bytes())?;
+    put_request(&mut frame, request)?;
+    Ok(frame)
+}
+
+/// Writes the frame of a reply behind a text: four bytes of length, and the body that spells it, which is the only thing that is written.
+///
+/// `AllocError` comes where a growth was refused. A part of the frame may stand at the text's end then, and what stood before it is as it was.
+#[tactic(auto, unfolding(eden_frames::specs::Frames::frame))]
+pub fn append_reply(text: &mut Vec<u8>, reply: &Reply) -> Result<(), AllocError>
+    requires fits { length (reply_bytes reply.now) ≤ 16777216 }
+    ensures exact { OnOk result (text.new.items ≡ text.old.items ++ frame (reply_bytes reply.now)) }
+    ensures front { KeepsFront text.old.items text.new.items }
+{
+    let start = text.len();
+    put_bytes(text, &[0; 4])?;
+    let body = text.len();
+    put_reply(text, reply)?;
+    let len = (text.len() - body) as u32;
+    text[start..body].copy_from_slice(&len.to_be_bytes());
+    Ok(())
 }
 
 /// The frame of a reply: four bytes of length, and the body that spells it.
@@ -247,8 +283,7 @@ pub fn encode_reply(alloc: Global, reply: &Reply) -> Result<Vec<u8>, EncodeFault
     let Some(len) = reply.body_len() else {
         return Err(EncodeFault::TooLarge);
     };
-    match write_reply(alloc, len, reply) {
-        Ok(bytes) => Ok(bytes),
-        Err(_) => Err(EncodeFault::NoMemory),
-    }
+    let mut frame = Vec::with_capacity(alloc, 4 + len as usize)?;
+    append_reply(&mut frame, reply)?;
+    Ok(frame)
 }

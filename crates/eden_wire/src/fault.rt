@@ -13,6 +13,17 @@ pub enum EncodeFault {
     NoMemory,
 }
 
+impl From<AllocError> for EncodeFault {
+    ghost use Rattle.std.specs.Prelude.{◌≡◌};
+    ghost use Rattle.eden_wire.specs.declared.fault.EncodeFault.TheVariants.{NoMemory};
+
+    ghost from_gives = { λ _ fault. fault ≡ NoMemory };
+
+    fn from(_fault: AllocError) -> EncodeFault {
+        EncodeFault::NoMemory
+    }
+}
+
 /// Why a body spells no message. A body that is too long is told as such; else it is read field by field, and the first
 /// fault is told.
 #[derive(Clone, Copy, Debug, PartialEq, Eq, Error)]

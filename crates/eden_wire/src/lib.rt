@@ -8,17 +8,24 @@
 //! use eden_messages::{Query, Request};
 //! use eden_wire::{DecodeFault, decode_request, encode_request};
 //!
-//! let query = Query { mirror: 1, life: 1, number: 1 };
+//! let query = Query {
+//!     mirror: 1,
+//!     life: 1,
+//!     number: 1,
+//! };
 //! let path = Path::parse(alloc, b"a".as_slice())?;
 //! let frame = encode_request(alloc, &Request::Fetch { query, path })?;
 //! // Four bytes of length, and then the body.
-//! assert!(rt; matches!(decode_request(alloc, &frame.as_slice()[4..])?, Request::Fetch { .. }));
-//! assert!(rt; matches!(decode_request(alloc, b"\x02\x03".as_slice()), Err(DecodeFault::Version)));
+//! assert_eq!(rt; frame.len(), 4 + 29);
+//! let request = decode_request(alloc, &frame.as_slice()[4..])?;
+//! assert!(rt; matches!(request, Request::Fetch { .. }));
+//! let fault = decode_request(alloc, b"\x02\x03".as_slice());
+//! assert!(rt; matches!(fault, Err(DecodeFault::Version)));
 //! ```
 #![tactic(auto)]
 
 pub use crate::decoding::{decode_reply, decode_request};
-pub use crate::encoding::{encode_reply, encode_request};
+pub use crate::encoding::{append_reply, encode_reply, encode_request};
 pub use crate::fault::{DecodeFault, EncodeFault};
 pub use crate::laws::{reply_law, request_law};
 

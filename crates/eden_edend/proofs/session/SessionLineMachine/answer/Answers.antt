@@ -1,5 +1,5 @@
 use Rattle.std.proofs.Common.{refl, sym, ◌∙◌}
-use Rattle.eden_script.proofs.Growing.{kept}
+use Rattle.eden_ids.proofs.Fronts.{kept}
 use Rattle.eden_edend.proofs.LineAnswers.{refuses_unread, takes_command}
 use Rattle.eden_edend.proofs.session.SessionLineMachine.answer.Goals as goal
 

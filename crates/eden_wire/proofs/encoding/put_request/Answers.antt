@@ -1,0 +1,13 @@
+use Rattle.std.proofs.Common.{◌∷◌, ◌++◌}
+use Rattle.eden_messages.specs.Spells.{filter_bytes, position_bytes, query_bytes}
+use Rattle.eden_wire.proofs.Written.{behind}
+use Rattle.eden_wire.proofs.encoding.put_request.Goals as goal
+
+pub returns-in_ok-put_filter-in-Poll : goal.returns-in_ok-put_filter-in-Poll
+returns-in_ok-put_filter-in-Poll c =
+    let poll = c.in-Poll in
+    let since = position_bytes poll.since in
+    let filter = filter_bytes poll.filter in
+    let new = c.put_filter-in-Poll.new.out.items in
+    let rest = behind c.put_head-in-Poll.new.out.items since filter c.put_position.new.out.items new c.in_ok-put_position-in-Poll.ensures.told c.in_ok-put_filter-in-Poll.ensures in
+    rw poll.is (behind c.args.out.now.items (1 ∷ 2 ∷ query_bytes poll.query) (since ++ filter) c.put_head-in-Poll.new.out.items new c.in_ok-put_head-in-Poll.ensures.told rest)
