@@ -1,4 +1,5 @@
 mod Listed
 mod Tabulating
 mod SideLaws
+mod Marking
 mod Walk

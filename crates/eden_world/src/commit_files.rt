@@ -1,9 +1,11 @@
+//! Whole file maps of what a tree of files holds.
+
 ghost use Rattle.std.specs.Prelude.{◌≡◌, [], IfOk, map};
-ghost use Rattle.eden_ids.specs.FileMaps.{file_at, paths};
+ghost use Rattle.eden_ids.specs.FileMaps.{file_at, lent, paths, tabulate};
 ghost use Rattle.eden_objects.specs.Files.{commit_files};
 
 use eden_globs::Filter;
-use eden_ids::{Content, Files, Id, Kind, Naming, NoMemory, Path};
+use eden_ids::{Content, FileTree, Files, Id, Kind, Naming, NoMemory, Path};
 use eden_objects::{CommitFault, Store};
 use std::alloc::Global;
 
@@ -35,22 +37,55 @@ fn rows_of<N: Naming + Drop>(
     }
 }
 
-/// The file of a commit at a path, in memory of its own.
-fn file_of<N: Naming + Drop>(
+/// The paths of a commit's files, in byte order; none where the id is no commit's.
+fn paths_of_commit<N: Naming + Drop>(
     alloc: Global,
     store: &Store<N>,
     commit: Id,
-    path: &Path,
-) -> Result<Option<Content>, NoMemory>
-    ensures { IfOk result (λ file. file ≡ file_at (commit_files store.now commit) path.now) }
+) -> Result<Vec<Path>, NoMemory>
+    ensures { IfOk result (λ list. list.items ≡ paths (commit_files store.now commit)) }
 {
-    match store.file(commit, path.as_bytes()) {
+    let rows = rows_of(alloc, store, commit)?;
+    let mut list = Vec::new(alloc);
+    for row in rows.iter() {
+        list.push(row.0.copy()?)?;
+    }
+    Ok(list)
+}
+
+/// A file in memory of its own, or none.
+pub(crate) fn copied(
+    alloc: Global,
+    file: Option<(Kind, &[u8])>,
+) -> Result<Option<Content>, NoMemory>
+    ensures { IfOk result (λ copy. copy ≡ lent file.entry) }
+{
+    match file {
         Some((kind, bytes)) => Ok(Some(Content::from_bytes(alloc, kind, bytes)?)),
         None => Ok(None),
     }
 }
 
+/// What a tree holds at some paths. The last path is looked at first.
+#[tactic(auto, using(crate::proofs::Tabulating::begins, crate::proofs::Tabulating::goes_on))]
+pub(crate) fn files_at<T: FileTree>(
+    alloc: Global,
+    tree: &T,
+    paths: &[Path],
+) -> Result<Files, NoMemory>
+    ensures { IfOk result (λ files. files ≡ tabulate paths.now (file_at (T.files tree.now))) }
+{
+    let mut files = Files::new(alloc);
+    for place in (0..paths.len()).rev() {
+        let path = &paths[place];
+        let file = copied(alloc, tree.file(path.as_bytes()))?;
+        files.put(path, file)?;
+    }
+    Ok(files)
+}
+
 /// The files of a commit, all of them; none where the id is no commit's.
+#[tactic(auto, using(crate::proofs::Tabulating::tabulated_itself))]
 pub(crate) fn files_of_commit<N: Naming + Drop>(
     alloc: Global,
     store: &Store<N>,
@@ -58,11 +93,6 @@ pub(crate) fn files_of_commit<N: Naming + Drop>(
 ) -> Result<Files, NoMemory>
     ensures { IfOk result (λ files. files ≡ commit_files store.now commit) }
 {
-    let rows = rows_of(alloc, store, commit)?;
-    let mut files = Files::new(alloc);
-    for row in rows.iter() {
-        let file = file_of(alloc, store, commit, &row.0)?;
-        files.put(&row.0, file)?;
-    }
-    Ok(files)
+    let paths = paths_of_commit(alloc, store, commit)?;
+    files_at(alloc, &store.commit_files(commit), &paths)
 }

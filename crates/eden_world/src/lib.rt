@@ -1,6 +1,7 @@
 //! The plain, slow program that computes what a mount's definitions say: a mount with its whole history.
 //!
-//! It keeps whole file maps and looks at every path, so that it can be read beside the definitions in eden_history and eden_messages. The
+//! It keeps whole file maps and looks at every path and every event, so that it can be read beside the definitions in eden_history and
+//! eden_messages. What is asked of a single path, as why a change of it is refused, it asks eden_history's functions over trees of files. The
 //! programs that keep less are measured by it, and none of them stands on it. The plain types of which the definitions speak are handed on
 //! from here, what a change is answered with under the name `Made`, since `Answer` is what a caller is told of any call; and so are the
 //! counting devices, and eden_headline's law over the same definitions.
@@ -31,9 +32,9 @@ pub use eden_stream::{Counted, Faults};
 
 mod commit_files;
 mod events;
+mod marks;
 mod refusal;
 mod reply;
 mod row;
 mod sides;
-mod touches;
 mod world;
