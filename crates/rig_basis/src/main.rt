@@ -9,7 +9,6 @@ use anyhow::Result;
 use eden_accumulate::Mount;
 use eden_globs::Filter;
 use eden_ids::{GitNaming, Id};
-use test_kit::{commit_of, push_entry};
 use eden_messages::{Query, Request};
 use eden_objects::Store;
 use eden_query::{encode_request, serve};
@@ -17,6 +16,7 @@ use eden_stream::Counted;
 use std::alloc::Global;
 use std::sync::Arc;
 use std::time::{CpuClock, Duration};
+use test_kit::{commit_of, push_entry};
 
 /// How often each call is measured. The least time counts, since other work on the machine makes it longer and never shorter.
 const TRIES: usize = 20;

@@ -12,6 +12,8 @@ mod comparing;
 #[cfg(test)]
 mod filters_tests;
 #[cfg(test)]
+mod frames;
+#[cfg(test)]
 mod generated_tests;
 #[cfg(test)]
 mod lot;
@@ -19,6 +21,8 @@ mod lot;
 mod messages_tests;
 #[cfg(test)]
 mod mount_tests;
+#[cfg(test)]
+mod past;
 #[cfg(test)]
 mod scene;
 #[cfg(test)]

@@ -1,32 +1,18 @@
 //! What a mount replies to frames, beside what the world says.
 
 use crate::comparing::{Pair, Step};
+use crate::frames::replied;
 use crate::lot::Lot;
 use crate::stores::{Commits, family};
 use eden_globs::Filter;
 use eden_history::Position;
-use eden_messages::{Query, Reply, Request};
-use eden_query::{decode_reply, encode_request, serve};
-use eden_stream::Counted;
+use eden_messages::{Query, Request};
 use std::alloc::Global;
 use std::test::Fail;
 
-/// What a mount replies to a request, whose frame it is handed.
-fn replied(alloc: Global, pair: &mut Pair, request: &Request) -> Result<Reply, Fail> {
-    let frame = encode_request(alloc, request)?;
-    let mut written = Vec::new(alloc);
-    let mut reader = Counted::new(frame.as_slice());
-    let mut writer = Counted::new(&mut written);
-    let ended = serve(alloc, &mut reader, &mut writer, &mut pair.mount);
-    match (ended, written.as_slice().get(4..)) {
-        (Ok(1), Some(body)) => Ok(decode_reply(alloc, body)?),
-        _ => Err(Fail::new(format_args!("{request:?} is not answered"))),
-    }
-}
-
 /// That the mount replies to the request what the world says.
 fn same_reply(alloc: Global, pair: &mut Pair, step: &Step, request: &Request) -> Result<(), Fail> {
-    let told = replied(alloc, pair, request)?;
+    let told = replied(alloc, &mut pair.mount, request)?;
     let expected = pair.world.reply(request)?;
     if told == expected {
         return Ok(());

@@ -3,8 +3,8 @@
 use crate::stores::{Commits, path, sharing, two_commits};
 use eden_accumulate::{ChangeFault, Mode, Mount, expand};
 use eden_globs::Filter;
-use eden_history::{Answer, Change, Mark, Marked, Position};
-use eden_ids::{GitNaming, Kind, Sequence};
+use eden_history::{Answer, Change, Mark, Marked, Position, SinceFault};
+use eden_ids::{GitNaming, Id, Kind, Sequence};
 use eden_journal::Journal;
 use eden_workcopy::WorkCopy;
 use std::alloc::Global;
@@ -14,11 +14,11 @@ fn mount_first(alloc: Global, commits: &Commits<2>) -> Result<Mount<GitNaming>, 
     Ok(Mount::mount(alloc, commits.store.clone()?, commits.ids[0], 7, 1000)?)
 }
 
-/// A mount at the last number.
-fn last(alloc: Global, commits: &Commits<2>) -> Result<Mount<GitNaming>, Fail> {
+/// A mount of a commit at the last number, at which its journal begins.
+fn last(alloc: Global, commits: &Commits<2>, root: Id) -> Result<Mount<GitNaming>, Fail> {
     let store = commits.store.clone()?;
-    let work = WorkCopy::new(alloc, &store, commits.ids[0])?;
-    let journal = Journal::starting_at(alloc, 7, commits.ids[0], 1000, u64::MAX);
+    let work = WorkCopy::new(alloc, &store, root)?;
+    let journal = Journal::starting_at(alloc, 7, root, 1000, u64::MAX);
     Ok(Mount::from_parts(store, work, journal))
 }
 
@@ -26,7 +26,26 @@ fn last(alloc: Global, commits: &Commits<2>) -> Result<Mount<GitNaming>, Fail> {
 fn sequence_exhausted(rt: HostRuntime) -> Result<(), Fail> {
     let alloc = rt.alloc();
     let commits = two_commits(alloc)?;
-    let mut mount = last(alloc, &commits)?;
+    let mut mount = last(alloc, &commits, Id::ZERO)?;
+    let out = ChangeFault::SequenceExhausted;
+    let a = path(alloc, "a")?;
+    assert_eq!(rt; mount.write(&a, Kind::Plain, b"1".as_slice()), Err(out));
+    assert_eq!(rt; mount.read(&a), Err(ChangeFault::NoEntry));
+    assert!(rt; listed(alloc, &mount, &Filter::all(alloc))?.is_empty());
+    let mut place = mount.position();
+    assert_eq!(rt; place.sequence, u64::MAX);
+    assert!(rt; mount.changes_since(&place)?.marked.is_empty());
+    place.sequence = 5;
+    let fault = mount.changes_since(&place).err();
+    assert_eq!(rt; fault, Some(SinceFault::Truncated(u64::MAX)));
+    Ok(())
+}
+
+#[test]
+fn sequence_exhausted_over_files(rt: HostRuntime) -> Result<(), Fail> {
+    let alloc = rt.alloc();
+    let commits = two_commits(alloc)?;
+    let mut mount = last(alloc, &commits, commits.ids[0])?;
     let out = ChangeFault::SequenceExhausted;
     let a = path(alloc, "a")?;
     assert_eq!(rt; mount.write(&a, Kind::Plain, b"1".as_slice()), Err(out));

@@ -1,6 +1,8 @@
 //! A mount, mirrors of it, and every frame that was ever sent between them.
 
+use crate::frames::{asked, replied, reply_in, served};
 use crate::lot::PATHS;
+use crate::past::Past;
 use crate::stores::path;
 use eden_accumulate::Mount;
 use eden_globs::Filter;
@@ -8,8 +10,7 @@ use eden_history::{Change, Position, SinceFault};
 use eden_ids::{Content, GitNaming, Kind, Path};
 use eden_messages::{Cause, Query, Reply, Request};
 use eden_mirror::Mirror;
-use eden_query::{decode_reply, encode_request, serve};
-use eden_stream::Counted;
+use eden_world::World;
 use std::alloc::Global;
 use std::test::Fail;
 
@@ -54,13 +55,15 @@ pub(crate) struct Follower {
 }
 
 /// In how many states, after a step, a mirror had a place, had one at the head, held something else than the working copy, and then was
-/// refused what changed since.
+/// refused what changed since or was told it by a list; and how often two mirrors at the head held the same file.
 #[derive(Clone, Copy, Debug, PartialEq)]
 pub(crate) struct Tally {
     placed: u64,
     at_head: u64,
-    refused: u64,
     behind: u64,
+    refused: u64,
+    told: u64,
+    together: u64,
 }
 
 /// The kind and the bytes of a file.
@@ -69,27 +72,6 @@ type Seen<'a> = Option<(Kind, &'a [u8])>;
 fn seen(file: Option<&Content>) -> Seen<'_> {
     let content = file?;
     Some((content.kind, content.bytes.as_slice()))
-}
-
-/// What the mount writes to the bytes of one frame.
-fn served(alloc: Global, mount: &mut Mount<GitNaming>, frame: &[u8]) -> Result<Vec<u8>, Fail> {
-    let mut left = frame;
-    let mut written = Vec::new(alloc);
-    let mut reader = Counted::new(&mut left);
-    let mut writer = Counted::new(&mut written);
-    let ended = serve(alloc, &mut reader, &mut writer, mount);
-    if ended != Ok(1) {
-        return Err(Fail::new(format_args!("serving a frame ended {ended:?}")));
-    }
-    Ok(written)
-}
-
-/// The reply that a frame spells.
-fn reply_in(alloc: Global, frame: &[u8]) -> Result<Reply, Fail> {
-    match frame.get(4..) {
-        Some(body) => Ok(decode_reply(alloc, body)?),
-        None => Err(Fail::new("a reply without a length")),
-    }
 }
 
 /// Whether a reply to a poll lists a path, or refuses what was asked in a way by which the client learns that it is behind.
@@ -136,9 +118,12 @@ fn polled(
         since,
         filter,
     };
-    let frame = encode_request(alloc, &request)?;
-    let reply = served(alloc, mount, frame.as_slice())?;
-    reply_in(alloc, reply.as_slice())
+    replied(alloc, mount, &request)
+}
+
+/// One more, where this is so.
+fn count(number: &mut u64, so: bool) {
+    *number = number.saturating_add(u64::from(so));
 }
 
 impl Tally {
@@ -147,22 +132,33 @@ impl Tally {
         Tally {
             placed: 0,
             at_head: 0,
-            refused: 0,
             behind: 0,
+            refused: 0,
+            told: 0,
+            together: 0,
         }
     }
 
-    /// Whether there was some of each.
+    /// Whether there was some of each, but for lists that told a mirror what it lacks: over a journal that holds nothing there is none.
     pub(crate) fn has_all(&self) -> bool {
-        self.placed > 0 && self.at_head > 0 && self.behind > 0 && self.refused > 0
+        self.placed > 0
+            && self.at_head > 0
+            && self.behind > 0
+            && self.refused > 0
+            && self.together > 0
     }
 
-    /// One more state of a mirror with a place.
-    fn count(&mut self, at_head: bool, behind: bool, refused: bool) {
-        self.placed = self.placed.saturating_add(1);
-        self.at_head = self.at_head.saturating_add(u64::from(at_head));
-        self.refused = self.refused.saturating_add(u64::from(refused));
-        self.behind = self.behind.saturating_add(u64::from(behind));
+    /// Whether a list told a mirror what it lacks.
+    pub(crate) fn has_told(&self) -> bool {
+        self.told > 0
+    }
+
+    /// One more reply by which a mirror learned that it is behind.
+    fn count_reply(&mut self, reply: &Reply) {
+        let refused = matches!(reply, Reply::Refused { .. });
+        count(&mut self.behind, true);
+        count(&mut self.refused, refused);
+        count(&mut self.told, !refused);
     }
 }
 
@@ -192,6 +188,38 @@ impl Follower {
         Ok(list)
     }
 
+    /// Whether the mount was at its place, so that this is not ahead, and what it holds at each of the paths that it wants stood there then or
+    /// later.
+    fn is_of(&self, past: &Past, place: &Position, paths: &[Path]) -> bool {
+        past.has(place)
+            && paths.iter().all(|path| {
+                !self.filter.admits(path) || past.stood(place, path, self.mirror.get(path))
+            })
+    }
+
+    /// Whether it has the generation and the number of a position.
+    fn is_at(&self, now: &Position) -> bool {
+        match self.mirror.position() {
+            Some(place) => { (place.generation, place.sequence) == (now.generation, now.sequence) }
+            None => false,
+        }
+    }
+
+    /// Whether both hold the same at each of the paths that both want. The files that they hold there are counted.
+    fn agrees_with(&self, other: &Follower, paths: &[Path], tally: &mut Tally) -> bool {
+        for path in paths {
+            if !self.filter.admits(path) || !other.filter.admits(path) {
+                continue;
+            }
+            let held = self.mirror.get(path);
+            if held != other.mirror.get(path) {
+                return false;
+            }
+            count(&mut tally.together, held.is_some());
+        }
+        true
+    }
+
     /// That it holds as many files as the mount does at those of the paths that it wants.
     fn as_many(&self, mount: &Mount<GitNaming>, paths: &[Path]) -> Result<bool, Fail> {
         let mut wanted = 0usize;
@@ -204,10 +232,11 @@ impl Follower {
     }
 }
 
-/// All of it, and the paths at which there may be a file.
+/// All of it, a world that goes through the mount's changes, and the paths at which there may be a file.
 #[derive(Drop)]
 pub(crate) struct Scene {
     paths: Vec<Path>,
+    past: Past,
     pub(crate) mount: Mount<GitNaming>,
     pub(crate) followers: Vec<Follower>,
     pub(crate) sent: Vec<Sent>,
@@ -215,10 +244,11 @@ pub(crate) struct Scene {
 }
 
 impl Scene {
-    /// A mount, and a mirror for each filter, with nothing sent.
+    /// A mount, the world for which it stands, and a mirror for each filter, with nothing sent.
     pub(crate) fn fresh(
         alloc: Global,
         mount: Mount<GitNaming>,
+        world: World<GitNaming>,
         filters: Vec<Filter>,
     ) -> Result<Scene, Fail> {
         let mut followers = Vec::new(alloc);
@@ -233,6 +263,7 @@ impl Scene {
         }
         Ok(Scene {
             paths,
+            past: Past::opened(alloc, world)?,
             mount,
             followers,
             sent: Vec::new(alloc),
@@ -240,9 +271,19 @@ impl Scene {
         })
     }
 
+    /// The mount and the world make a change, or refuse it.
+    fn change(&mut self, change: &Change) -> Result<(), Fail> {
+        let told = self.mount.apply(change)?;
+        let expected = self.past.apply(change)?;
+        if told == expected && self.mount.position() == self.past.position() {
+            return Ok(());
+        }
+        Err(Fail::new(format_args!("the mount says {told:?}, and the world {expected:?}")))
+    }
+
     /// Sends a request.
     fn send(&mut self, alloc: Global, owner: usize, request: &Request) -> Result<(), Fail> {
-        let frame = encode_request(alloc, request)?;
+        let frame = asked(alloc, request)?;
         self.sent.push(Sent { owner, frame })?;
         Ok(())
     }
@@ -282,9 +323,7 @@ impl Scene {
     /// What the step says happens.
     pub(crate) fn happen(&mut self, alloc: Global, step: &Step) -> Result<(), Fail> {
         match step {
-            Step::Change(change) => {
-                self.mount.apply(change)?;
-            }
+            Step::Change(change) => self.change(change)?,
             Step::Begin(mirror) => {
                 if let Some(follower) = self.followers.get_mut(*mirror) {
                     follower.mirror.begin()?;
@@ -314,8 +353,25 @@ impl Scene {
         Ok(())
     }
 
-    /// What does not hold of a mirror with a place, though it is promised: the paths at which it is behind are among the changes since its
-    /// place, or the place is refused, and a poll since then tells so; and at the head it is behind nowhere and holds nothing else.
+    /// Whether each two mirrors at the head hold the same at the paths that both want.
+    fn agree_at_head(&self, tally: &mut Tally) -> bool {
+        let now = self.mount.position();
+        for one in &self.followers {
+            for other in &self.followers {
+                let both = one.mirror.id() < other.mirror.id()
+                    && one.is_at(&now)
+                    && other.is_at(&now);
+                if both && !one.agrees_with(other, self.paths.as_slice(), tally) {
+                    return false;
+                }
+            }
+        }
+        true
+    }
+
+    /// What does not hold of the mirrors with a place, though it is promised: the place was a position of the mount, and what the mirror
+    /// holds stood there then or later; the paths at which it is behind are among the changes since its place, or the place is refused,
+    /// and a poll since then tells so; at the head it is behind nowhere and holds nothing else, and agrees with others there.
     pub(crate) fn broken(
         &mut self,
         alloc: Global,
@@ -325,9 +381,11 @@ impl Scene {
             let Some(place) = follower.mirror.position() else {
                 continue;
             };
+            if !follower.is_of(&self.past, &place, self.paths.as_slice()) {
+                return Ok(Some("a place or a file that the mount never had"));
+            }
             let behind = follower.behind(alloc, &self.mount, self.paths.as_slice())?;
             // Where it is behind nowhere, nothing is promised of what is told.
-            let mut refused = false;
             if !behind.is_empty() {
                 if !is_covered(&self.mount, &place, behind.as_slice())? {
                     return Ok(Some("a path is not covered"));
@@ -336,15 +394,18 @@ impl Scene {
                 if !behind.iter().all(|path| tells(&reply, path)) {
                     return Ok(Some("a path is not told"));
                 }
-                refused = matches!(&reply, Reply::Refused { .. });
+                tally.count_reply(&reply);
             }
-            let now = self.mount.position();
-            let at_head = (place.generation, place.sequence) == (now.generation, now.sequence);
+            let at_head = follower.is_at(&self.mount.position());
             let as_many = follower.as_many(&self.mount, self.paths.as_slice())?;
             if at_head && !(behind.is_empty() && as_many) {
                 return Ok(Some("a mirror at the head holds other files"));
             }
-            tally.count(at_head, !behind.is_empty(), refused);
+            count(&mut tally.placed, true);
+            count(&mut tally.at_head, at_head);
+        }
+        if !self.agree_at_head(tally) {
+            return Ok(Some("two mirrors at the head hold other files"));
         }
         Ok(None)
     }

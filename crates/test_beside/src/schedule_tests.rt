@@ -4,6 +4,7 @@ use crate::scene::{Scene, Tally};
 use crate::schedule_lot::ScheduleLot;
 use crate::stores::{Commits, family};
 use eden_accumulate::Mount;
+use eden_world::World;
 use std::alloc::Global;
 use std::test::Fail;
 
@@ -16,12 +17,13 @@ fn follow(
     tally: &mut Tally,
 ) -> Result<(), Fail> {
     let mount = Mount::mount(alloc, commits.store.clone()?, commits.ids[1], 7, limit)?;
+    let world = World::mount(alloc, commits.store.clone()?, commits.ids[1], 7, limit)?;
     let mut lot = ScheduleLot::new(seed);
     let mut filters = Vec::new(alloc);
     for _ in 0..3 {
         filters.push(lot.filter(alloc)?)?;
     }
-    let mut scene = Scene::fresh(alloc, mount, filters)?;
+    let mut scene = Scene::fresh(alloc, mount, world, filters)?;
     for number in 0..60_u64 {
         let step = lot.step(alloc, &commits.ids, &scene)?;
         scene.happen(alloc, &step)?;
@@ -58,18 +60,21 @@ fn generated_schedules_with_two_deltas(rt: HostRuntime) -> Result<(), Fail> {
 
 #[test]
 fn generated_schedules_with_few_deltas(rt: HostRuntime) -> Result<(), Fail> {
-    assert!(rt; follow_forty(rt.alloc(), 400)?.has_all());
+    let tally = follow_forty(rt.alloc(), 400)?;
+    assert!(rt; tally.has_all() && tally.has_told());
     Ok(())
 }
 
 #[test]
 fn generated_schedules_with_many_deltas(rt: HostRuntime) -> Result<(), Fail> {
-    assert!(rt; follow_forty(rt.alloc(), 2000)?.has_all());
+    let tally = follow_forty(rt.alloc(), 2000)?;
+    assert!(rt; tally.has_all() && tally.has_told());
     Ok(())
 }
 
 #[test]
 fn generated_schedules_with_all_deltas(rt: HostRuntime) -> Result<(), Fail> {
-    assert!(rt; follow_forty(rt.alloc(), 1_000_000)?.has_all());
+    let tally = follow_forty(rt.alloc(), 1_000_000)?;
+    assert!(rt; tally.has_all() && tally.has_told());
     Ok(())
 }

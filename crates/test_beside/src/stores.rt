@@ -1,11 +1,11 @@
 //! Stores of commits for tests.
 
 use eden_ids::{GitNaming, Id, Path};
-use test_kit::{commit_of, push_entry};
 use eden_objects::Store;
 use std::alloc::Global;
 use std::sync::Arc;
 use std::test::Fail;
+use test_kit::{commit_of, push_entry};
 
 /// A store, and commits that it has.
 #[derive(Drop)]

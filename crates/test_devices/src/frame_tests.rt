@@ -6,6 +6,7 @@ use super::{Endless, Sink, Source};
 use eden_frames::{FrameFault, Frames, ServeFault, tell_frames};
 use eden_stream::{Answer, Counted, Faults, Teller};
 use std::alloc::Global;
+use std::io::Read;
 use std::test::*;
 
 // Gives each body back with an LF behind it, and can't read one that begins
@@ -39,15 +40,15 @@ impl Teller<Frames, (), FrameFault> for Echo {
     ghost lawful = { λ _ _ _. record { passes = λ _ _ _ silent _. absurd silent; stops = λ _ _ told. told } };
 }
 
-// Serves what the source gives, and gives how it ended.
-fn serve(alloc: Global, source: &mut Source<'_>, sink: &mut Sink) -> Result<u64, ServeFault> {
-    tell_frames(
-        alloc,
-        &mut Counted::new(source),
-        &mut Counted::new(sink),
-        &Echo,
-        &mut (),
-    )
+// How a service ended, and the calls of its reader.
+type End = (Result<u64, ServeFault>, u64);
+
+// Serves what the source gives. It has no clause: its callers compare values.
+fn told<R: Read + Drop>(alloc: Global, source: R, sink: &mut Sink) -> End {
+    let mut reader = Counted::new(source);
+    let mut writer = Counted::new(sink);
+    let end = tell_frames(alloc, &mut reader, &mut writer, &Echo, &mut ());
+    (end, reader.calls())
 }
 
 // A stream, the replies to its frames, and how its serving ends.
@@ -97,7 +98,7 @@ fn pieces_of_frames_do_not_matter(rt: HostRuntime) {
                     source.interrupts = interrupts;
                     let mut sink = Sink::new(rt.alloc());
                     sink.interrupts = interrupts;
-                    assert_eq!(rt; serve(rt.alloc(), &mut source, &mut sink), case.end);
+                    assert_eq!(rt; told(rt.alloc(), source, &mut sink).0, case.end);
                     assert_eq!(rt; sink.bytes.as_slice(), case.text);
                 }
             }
@@ -120,8 +121,8 @@ fn serve_long(
     let mut source = Source::new(&stream);
     source.most = most;
     let mut sink = Sink::new(alloc);
-    let outcome = serve(alloc, &mut source, &mut sink);
-    Ok((outcome, sink.bytes.len()))
+    let end = told(alloc, source, &mut sink);
+    Ok((end.0, sink.bytes.len()))
 }
 
 #[test]
@@ -137,15 +138,14 @@ fn a_body_has_at_most_16777216_bytes(rt: HostRuntime) -> Result<(), Fail> {
 fn many_frames_are_answered(rt: HostRuntime) -> Result<(), Fail> {
     let stream = vec![in rt.alloc(); 0; 800_000]?;
     let mut sink = Sink::new(rt.alloc());
-    let outcome = serve(rt.alloc(), &mut Source::new(&stream), &mut sink);
-    assert_eq!(rt; outcome, Ok(200_000));
+    let end = told(rt.alloc(), Source::new(&stream), &mut sink);
+    assert_eq!(rt; end.0, Ok(200_000));
     assert_eq!(rt; sink.bytes.len(), 200_000);
     Ok(())
 }
 
 #[test]
-fn a_failed_reader_leaves_the_whole_frames(rt: HostRuntime) -> Result<(), Fail> {
-    let stream = b"\0\0\0\x01a\0\0\0\x01b";
+fn failed_devices_leave_whole_frames_or_a_part_of_the_replies(rt: HostRuntime) -> Result<(), Fail> {
     for (fails_at, text) in [
         (0, b"".as_slice()),
         (4, b"".as_slice()),
@@ -153,28 +153,27 @@ fn a_failed_reader_leaves_the_whole_frames(rt: HostRuntime) -> Result<(), Fail> 
         (9, b"a\n".as_slice()),
         (10, b"a\nb\n".as_slice()),
     ] {
-        let mut source = Source::new(stream);
+        let mut source = Source::new(b"\0\0\0\x01a\0\0\0\x01b");
         source.cut = fails_at;
         source.fails_at = fails_at;
         let mut sink = Sink::new(rt.alloc());
-        let outcome = serve(rt.alloc(), &mut source, &mut sink);
-        assert_eq!(rt; outcome, Err(ServeFault::Read));
+        assert_eq!(rt;
+            told(rt.alloc(), source, &mut sink).0,
+            Err(ServeFault::Read)
+        );
         assert_eq!(rt; sink.bytes.as_slice(), text, "at {fails_at}");
     }
-    Ok(())
-}
-
-#[test]
-fn a_failed_writer_has_a_part_of_the_replies(rt: HostRuntime) -> Result<(), Fail> {
-    let stream = b"\0\0\0\x01a\0\0\0\x02bc\0\0\0\x01!";
     let text = b"a\nbc\n";
     for fails_at in 0..text.len() {
         for most in [usize::MAX, 1, 3] {
+            let source = Source::new(b"\0\0\0\x01a\0\0\0\x02bc\0\0\0\x01!");
             let mut sink = Sink::new(rt.alloc());
             sink.full_at = fails_at;
             sink.most = most;
-            let outcome = serve(rt.alloc(), &mut Source::new(stream), &mut sink);
-            assert_eq!(rt; outcome, Err(ServeFault::Write));
+            assert_eq!(rt;
+                told(rt.alloc(), source, &mut sink).0,
+                Err(ServeFault::Write)
+            );
             assert_eq!(rt; sink.bytes.as_slice(), &text[..fails_at]);
         }
     }
@@ -183,17 +182,9 @@ fn a_failed_writer_has_a_part_of_the_replies(rt: HostRuntime) -> Result<(), Fail
 
 #[test]
 fn endless_frames_spend_the_reads(rt: HostRuntime) -> Result<(), Fail> {
-    let mut reader = Counted::new(Endless::new(&[0]));
     let mut sink = Sink::new(rt.alloc());
-    let outcome = tell_frames(
-        rt.alloc(),
-        &mut reader,
-        &mut Counted::new(&mut sink),
-        &Echo,
-        &mut (),
-    );
-    assert_eq!(rt; outcome, Err(ServeFault::TurnsSpent));
-    assert_eq!(rt; reader.calls(), 1_000_000);
+    let end = told(rt.alloc(), Endless::new(&[0]), &mut sink);
+    assert_eq!(rt; end, (Err(ServeFault::TurnsSpent), 1_000_000));
     assert_eq!(rt; sink.bytes.len(), 250_000);
     Ok(())
 }

@@ -11,7 +11,7 @@
 //! source.most = 2;
 //! let mut place = [0; 4];
 //! assert_eq!(rt; source.read(&mut place)?, 2);
-//! let mut sink = Sink::new(rt.alloc());
+//! let mut sink = Sink::new(alloc);
 //! sink.write_all(&place[..2])?;
 //! assert_eq!(rt; sink.bytes.as_slice(), b"so".as_slice());
 //! ```

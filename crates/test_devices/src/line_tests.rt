@@ -6,6 +6,7 @@ ghost use Rattle.eden_stream.specs.Scripts.{IsScript, in_front};
 use super::{Endless, Sink, Source};
 use eden_stream::{Answered, Counted, Faults, LineMachine, RunFault, run_lines};
 use std::alloc::Global;
+use std::io::Read;
 use std::test::*;
 
 // Prints each line, and can't read one that begins with `!`.
@@ -36,14 +37,15 @@ impl LineMachine for Echo {
     ghost lawful = { λ _ script echoes. echoes.0 };
 }
 
-// Runs what the source gives, and gives how it ended.
-fn run(alloc: Global, source: &mut Source<'_>, sink: &mut Sink) -> Result<u64, RunFault> {
-    run_lines(
-        alloc,
-        &mut Counted::new(source),
-        &mut Counted::new(sink),
-        &mut Echo,
-    )
+// How a run ended, the faults and the calls of its reader, and the faults of its writer.
+type End = (Result<u64, RunFault>, u64, u64, u64);
+
+// Runs what the source gives. It has no clause: its callers compare values.
+fn told<R: Read + Drop>(alloc: Global, source: R, sink: &mut Sink) -> End {
+    let mut reader = Counted::new(source);
+    let mut writer = Counted::new(sink);
+    let end = run_lines(alloc, &mut reader, &mut writer, &mut Echo);
+    (end, reader.faults(), reader.calls(), writer.faults())
 }
 
 // A script, what its lines print, and how its run ends.
@@ -87,7 +89,7 @@ fn pieces_do_not_matter(rt: HostRuntime) {
                     source.interrupts = interrupts;
                     let mut sink = Sink::new(rt.alloc());
                     sink.interrupts = interrupts;
-                    assert_eq!(rt; run(rt.alloc(), &mut source, &mut sink), case.end);
+                    assert_eq!(rt; told(rt.alloc(), source, &mut sink).0, case.end);
                     assert_eq!(rt; sink.bytes.as_slice(), case.text);
                 }
             }
@@ -105,8 +107,8 @@ fn run_long(
     let mut script = vec![in alloc; first; count]?;
     script.extend_from_slice(end)?;
     let mut sink = Sink::new(alloc);
-    let outcome = run(alloc, &mut Source::new(&script), &mut sink);
-    Ok((outcome, sink.bytes.len()))
+    let end = told(alloc, Source::new(&script), &mut sink);
+    Ok((end.0, sink.bytes.len()))
 }
 
 #[test]
@@ -134,8 +136,9 @@ fn a_line_has_at_most_65536_bytes(rt: HostRuntime) -> Result<(), Fail> {
     Ok(())
 }
 
+// A reader fails in front of each byte, or a writer behind it, whatever it takes at once.
 #[test]
-fn a_failed_reader_leaves_the_whole_lines(rt: HostRuntime) -> Result<(), Fail> {
+fn failed_devices_leave_whole_lines_or_a_part_of_the_text(rt: HostRuntime) -> Result<(), Fail> {
     let script = b"a\nbc\n#\nd";
     for (fails_at, text) in [
         (0, b"".as_slice()),
@@ -149,38 +152,19 @@ fn a_failed_reader_leaves_the_whole_lines(rt: HostRuntime) -> Result<(), Fail> {
         let mut source = Source::new(script);
         source.cut = fails_at;
         source.fails_at = fails_at;
-        let mut reader = Counted::new(&mut source);
         let mut sink = Sink::new(rt.alloc());
-        let outcome = run_lines(
-            rt.alloc(),
-            &mut reader,
-            &mut Counted::new(&mut sink),
-            &mut Echo,
-        );
-        assert_eq!(rt; outcome, Err(RunFault::Read));
-        assert_eq!(rt; reader.faults(), 1);
+        let end = told(rt.alloc(), source, &mut sink);
+        assert_eq!(rt; (end.0, end.1, end.3), (Err(RunFault::Read), 1, 0));
         assert_eq!(rt; sink.bytes.as_slice(), text, "at {fails_at}");
     }
-    Ok(())
-}
-
-#[test]
-fn a_failed_writer_has_a_part_of_the_text(rt: HostRuntime) -> Result<(), Fail> {
     let text = b"a\nbc\nd\n";
     for fails_at in 0..text.len() {
         for most in [usize::MAX, 1, 3] {
             let mut sink = Sink::new(rt.alloc());
             sink.full_at = fails_at;
             sink.most = most;
-            let mut writer = Counted::new(&mut sink);
-            let outcome = run_lines(
-                rt.alloc(),
-                &mut Counted::new(&mut Source::new(b"a\nbc\nd\n!\n")),
-                &mut writer,
-                &mut Echo,
-            );
-            assert_eq!(rt; outcome, Err(RunFault::Write));
-            assert_eq!(rt; writer.faults(), 1);
+            let end = told(rt.alloc(), Source::new(b"a\nbc\nd\n!\n"), &mut sink);
+            assert_eq!(rt; (end.0, end.1, end.3), (Err(RunFault::Write), 0, 1));
             assert_eq!(rt; sink.bytes.as_slice(), &text[..fails_at]);
         }
     }
@@ -191,16 +175,9 @@ fn a_failed_writer_has_a_part_of_the_text(rt: HostRuntime) -> Result<(), Fail> {
 fn an_endless_reader_spends_the_reads(rt: HostRuntime) -> Result<(), Fail> {
     for byte in [b'#', b'\n'] {
         let bytes = [byte];
-        let mut reader = Counted::new(Endless::new(&bytes));
         let mut sink = Sink::new(rt.alloc());
-        let outcome = run_lines(
-            rt.alloc(),
-            &mut reader,
-            &mut Counted::new(&mut sink),
-            &mut Echo,
-        );
-        assert_eq!(rt; outcome, Err(RunFault::TurnsSpent));
-        assert_eq!(rt; reader.calls(), 1_000_000);
+        let end = told(rt.alloc(), Endless::new(&bytes), &mut sink);
+        assert_eq!(rt; end, (Err(RunFault::TurnsSpent), 0, 1_000_000, 0));
         assert!(rt; sink.bytes.is_empty());
     }
     Ok(())

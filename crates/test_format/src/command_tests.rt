@@ -1,20 +1,11 @@
 use eden_history::Mode;
-use eden_script::{Command, Label, words};
+use eden_script::{Command, Label, Word, words};
 use std::alloc::Global;
 use std::test::Fail;
 
-fn label(alloc: Global, text: &str) -> Result<Option<Label>, Fail> {
-    match words(alloc, text.as_bytes())? {
-        Some(mut words) => Ok(words.pop().and_then(Label::read)),
-        None => Ok(None),
-    }
-}
-
-fn label_to_bind(alloc: Global, text: &str) -> Result<Option<Label>, Fail> {
-    match words(alloc, text.as_bytes())? {
-        Some(mut words) => Ok(words.pop().and_then(Label::read_to_bind)),
-        None => Ok(None),
-    }
+/// The last word of a line.
+fn word(alloc: Global, line: &str) -> Result<Option<Word>, Fail> {
+    Ok(words(alloc, line.as_bytes())?.and_then(|mut words| words.pop()))
 }
 
 fn command(alloc: Global, line: &str) -> Result<Option<Command>, Fail> {
@@ -25,9 +16,9 @@ fn command(alloc: Global, line: &str) -> Result<Option<Command>, Fail> {
 }
 
 #[test]
-fn rows_of_the_table(rt: HostRuntime) -> Result<(), Fail> {
+fn rows_of_the_table_and_other_lines(rt: HostRuntime) -> Result<(), Fail> {
     let alloc = rt.alloc();
-    for line in [
+    let rows = [
         "blob l \\e",
         "tree l",
         "tree l 100644 README l2",
@@ -47,16 +38,8 @@ fn rows_of_the_table(rt: HostRuntime) -> Result<(), Fail> {
         "dirty",
         "read a",
         "since 7 1",
-    ] {
-        assert!(rt; command(alloc, line)?.is_some(), "{line}");
-    }
-    Ok(())
-}
-
-#[test]
-fn lines_of_no_row(rt: HostRuntime) -> Result<(), Fail> {
-    let alloc = rt.alloc();
-    for line in [
+    ];
+    let others = [
         "",
         "blob empty x",
         "tree l 100644 README",
@@ -74,7 +57,11 @@ fn lines_of_no_row(rt: HostRuntime) -> Result<(), Fail> {
         "dirty a",
         "read",
         "list a  b",
-    ] {
+    ];
+    for line in rows {
+        assert!(rt; command(alloc, line)?.is_some(), "{line}");
+    }
+    for line in others {
         assert!(rt; command(alloc, line)?.is_none(), "{line}");
     }
     Ok(())
@@ -109,10 +96,15 @@ fn labels(rt: HostRuntime) -> Result<(), Fail> {
         ("a_", false, false),
         ("\\e", false, false),
     ] {
-        assert_eq!(rt; label(alloc, text)?.is_some(), reads);
-        assert_eq!(rt; label_to_bind(alloc, text)?.is_some(), binds);
+        assert_eq!(rt; word(alloc, text)?.and_then(Label::read).is_some(), reads);
+        assert_eq!(rt;
+            word(alloc, text)?.and_then(Label::read_to_bind).is_some(),
+            binds
+        );
     }
-    match (label(alloc, "a")?, label(alloc, "ab")?) {
+    let first = word(alloc, "a")?.and_then(Label::read);
+    let second = word(alloc, "ab")?.and_then(Label::read);
+    match (first, second) {
         (Some(first), Some(second)) => {
             assert!(rt; first < second && first != second && first == first.clone()?);
             assert!(rt; !first.is_empty() && second.as_bytes() == b"ab".as_slice());

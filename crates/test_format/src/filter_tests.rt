@@ -2,18 +2,15 @@ use eden_globs::{Filter, FilterFault};
 use eden_ids::Path;
 use std::alloc::Global;
 use std::test::Fail;
+use test_kit::path;
 
 fn fault_of(alloc: Global, patterns: &[&[u8]]) -> Option<FilterFault> {
-    match Filter::parse(alloc, patterns) {
-        Ok(_) => None,
-        Err(fault) => Some(fault),
-    }
+    Filter::parse(alloc, patterns).err()
 }
 
-fn is_admitted(alloc: Global, pattern: &str, path: &str) -> Result<bool, Fail> {
+fn is_admitted(alloc: Global, pattern: &str, at: &str) -> Result<bool, Fail> {
     let filter = Filter::parse(alloc, &[pattern.as_bytes()])?;
-    let path = Path::parse(alloc, path.as_bytes())?;
-    Ok(filter.admits(&path))
+    Ok(filter.admits(&path(alloc, at)?))
 }
 
 #[test]
@@ -24,7 +21,7 @@ fn no_pattern_admits_every_path(rt: HostRuntime) -> Result<(), Fail> {
     let copy = filter.copy()?;
     assert_eq!(rt; copy.patterns().len(), 0);
     for text in ["x", "a/x", "a/b/x", ".h"] {
-        let path = Path::parse(alloc, text.as_bytes())?;
+        let path = path(alloc, text)?;
         assert!(rt; filter.admits(&path), "at {text}");
         assert!(rt; copy.admits(&path), "at {text}");
     }
@@ -116,12 +113,6 @@ fn directories(rt: HostRuntime) -> Result<(), Fail> {
     assert!(rt; is_entered(alloc, &two, b"b/c".as_slice())?);
     assert!(rt; !is_entered(alloc, &two, b"a/c".as_slice())?);
     assert!(rt; is_entered(alloc, &[], b"a/c".as_slice())?);
-    Ok(())
-}
-
-#[test]
-fn long_directories(rt: HostRuntime) -> Result<(), Fail> {
-    let alloc = rt.alloc();
     let longest = vec![in alloc; b'a'; 1024]?;
     assert!(rt; is_entered(alloc, &[b"a*/x".as_slice()], longest.as_slice())?);
     assert!(rt; !is_entered(alloc, &[b"b*/x".as_slice()], longest.as_slice())?);

@@ -6,76 +6,52 @@ use eden_ids::{Id, Kind};
 use std::alloc::Global;
 use std::cmp::Ordering;
 use std::test::Fail;
+use test_kit::push_entry;
 
-/// The bytes of two entries: an executable file `a.b` and a directory `a`.
-fn two_entries(alloc: Global) -> Result<Vec<u8>, Fail> {
-    let mut payload = b"100755 a.b\0".to_vec(alloc)?;
-    payload.extend_from_slice([1; 20].as_slice())?;
-    payload.extend_from_slice(b"40000 a\0".as_slice())?;
-    payload.extend_from_slice([2; 20].as_slice())?;
+/// An executable file, a directory and a link, each with the byte of which its id has twenty.
+const ENTRIES: [(&str, &str, Option<Kind>, u8); 3] = [
+    ("100755", "a.b", Some(Kind::Exec), 1),
+    ("40000", "a", None, 2),
+    ("120000", "a link", Some(Kind::Link), 3),
+];
+
+/// The bytes of the first of these entries, so many.
+fn first_entries(alloc: Global, count: usize) -> Result<Vec<u8>, Fail> {
+    let mut payload = Vec::new(alloc);
+    for (mode, name, _, byte) in ENTRIES.iter().take(count) {
+        push_entry(&mut payload, mode, name.as_bytes(), Id([*byte; 20]))?;
+    }
     Ok(payload)
 }
 
+// Behind them are bytes that are no entry, or none.
 #[test]
-fn entries_one_by_one(rt: HostRuntime) -> Result<(), Fail> {
-    let payload = two_entries(rt.alloc())?;
-    let first = next_entry(payload.as_slice());
-    let after = first.map_or(b"".as_slice(), |read| read.1);
-    let second = next_entry(after);
-    let end = second.map_or(b"x".as_slice(), |read| read.1);
-    assert_eq!(rt; first.map(|read| read.0.name), Some(b"a.b".as_slice()));
-    assert_eq!(rt; first.map(|read| read.0.kind), Some(Some(Kind::Exec)));
-    assert_eq!(rt; first.map(|read| read.0.id), Some(Id([1; 20])));
-    assert_eq!(rt; second.map(|read| read.0.name), Some(b"a".as_slice()));
-    assert_eq!(rt; second.map(|read| read.0.kind), Some(None));
-    assert_eq!(rt; second.map(|read| read.0.id), Some(Id([2; 20])));
-    assert!(rt; end.is_empty() && next_entry(end).is_none());
-    Ok(())
-}
-
-#[test]
-fn entries_by_rows(rt: HostRuntime) -> Result<(), Fail> {
-    let payload = two_entries(rt.alloc())?;
-    let payload = &payload[..payload.len().min(100)];
-    let columns = Columns::of(rt.alloc(), payload)?;
-    let rows = Rows::new(payload, &columns);
-    assert_eq!(rt; rows.len(), 2);
-    assert_eq!(rt;
-        rows.entry(0).map(|entry| entry.name),
-        Some(b"a.b".as_slice())
-    );
-    assert_eq!(rt;
-        rows.entry(1).map(|entry| entry.name),
-        Some(b"a".as_slice())
-    );
-    assert!(rt; rows.entry(2).is_none());
-    assert_eq!(rt;
-        rows.entry(0).map(|entry| entry.kind),
-        Some(Some(Kind::Exec))
-    );
-    assert_eq!(rt; rows.entry(1).map(|entry| entry.kind), Some(None));
-    assert_eq!(rt; rows.entry(0).map(|entry| entry.id), Some(Id([1; 20])));
-    assert_eq!(rt; rows.entry(1).map(|entry| entry.id), Some(Id([2; 20])));
-    assert_eq!(rt; rows.ids().len(), 2);
-    assert_eq!(rt; rows.ids().get(1), Some(Id([2; 20])));
-    assert_eq!(rt; rows.kinds(), [2, 0].as_slice());
-    Ok(())
-}
-
-#[test]
-fn rows_before_bytes_that_are_no_entry(rt: HostRuntime) -> Result<(), Fail> {
-    let mut payload = two_entries(rt.alloc())?;
-    payload.extend_from_slice(b"120000 a link\0".as_slice())?;
-    payload.extend_from_slice([3; 20].as_slice())?;
-    payload.extend_from_slice(b"100644 cut".as_slice())?;
-    let payload = &payload[..payload.len().min(200)];
-    let columns = Columns::of(rt.alloc(), payload)?;
-    let rows = Rows::new(payload, &columns);
-    assert_eq!(rt; rows.len(), 3);
-    let last = rows.entry(2);
-    assert_eq!(rt; last.map(|entry| entry.name), Some(b"a link".as_slice()));
-    assert_eq!(rt; last.map(|entry| entry.kind), Some(Some(Kind::Link)));
-    assert_eq!(rt; last.map(|entry| entry.id), Some(Id([3; 20])));
+fn entries_one_by_one_and_by_rows(rt: HostRuntime) -> Result<(), Fail> {
+    let alloc = rt.alloc();
+    for (count, behind) in [(2, ""), (3, "100644 cut")] {
+        let mut payload = first_entries(alloc, count)?;
+        payload.extend_from_slice(behind.as_bytes())?;
+        let payload = &payload[..payload.len().min(200)];
+        let columns = Columns::of(alloc, payload)?;
+        let rows = Rows::new(payload, &columns);
+        let mut left = payload;
+        for (row, (_, name, kind, byte)) in ENTRIES.iter().take(count).enumerate() {
+            let told = Some((name.as_bytes(), *kind, Id([*byte; 20])));
+            let next = next_entry(left);
+            left = next.map_or(b"".as_slice(), |read| read.1);
+            let one = next.map(|read| (read.0.name, read.0.kind, read.0.id));
+            assert!(rt; one == told, "{name}");
+            let one = rows
+                .entry(row)
+                .map(|entry| (entry.name, entry.kind, entry.id));
+            assert!(rt; one == told, "{name}");
+            assert_eq!(rt; rows.ids().get(row), Some(Id([*byte; 20])));
+        }
+        assert_eq!(rt; left, behind.as_bytes());
+        assert!(rt; next_entry(left).is_none() && rows.entry(count).is_none());
+        assert_eq!(rt; (rows.len(), rows.ids().len()), (count, count));
+        assert_eq!(rt; rows.kinds().get(..2), Some([2, 0].as_slice()));
+    }
     Ok(())
 }
 
@@ -83,10 +59,12 @@ fn rows_before_bytes_that_are_no_entry(rt: HostRuntime) -> Result<(), Fail> {
 fn files(alloc: Global, names: &str) -> Result<Vec<u8>, Fail> {
     let mut payload = Vec::new(alloc);
     for (place, name) in names.split(' ').enumerate().take(100) {
-        payload.extend_from_slice(b"100644 ".as_slice())?;
-        payload.extend_from_slice(name.as_bytes())?;
-        payload.push(0)?;
-        payload.extend_from_slice([place as u8; 20].as_slice())?;
+        push_entry(
+            &mut payload,
+            "100644",
+            name.as_bytes(),
+            Id([place as u8; 20]),
+        )?;
     }
     Ok(payload)
 }
@@ -116,16 +94,11 @@ fn names_of_two_trees(rt: HostRuntime) -> Result<(), Fail> {
     Ok(())
 }
 
-/// Why no entry is read.
-fn fault_of(bytes: &[u8]) -> Option<EntryFault> {
-    read_entry(bytes).err()
-}
-
 #[test]
 fn entries_that_cannot_be_read(rt: HostRuntime) -> Result<(), Fail> {
-    let payload = two_entries(rt.alloc())?;
+    let payload = first_entries(rt.alloc(), 2)?;
     for length in [0, 5, 10, 11, 30] {
-        let fault = fault_of(&payload[..length.min(payload.len())]);
+        let fault = read_entry(&payload[..length.min(payload.len())]).err();
         assert_eq!(rt; fault, Some(EntryFault::CutShort), "at {length}");
     }
     let rows = [
@@ -139,7 +112,7 @@ fn entries_that_cannot_be_read(rt: HostRuntime) -> Result<(), Fail> {
         ("100644 a\0", EntryFault::CutShort),
     ];
     for (text, fault) in rows {
-        assert_eq!(rt; fault_of(text.as_bytes()), Some(fault), "at {text}");
+        assert_eq!(rt; read_entry(text.as_bytes()).err(), Some(fault), "at {text}");
     }
     Ok(())
 }

@@ -1,36 +1,12 @@
-use eden_ids::{GitNaming, HexFault, Id, Naming};
+use eden_ids::{HexFault, Id};
 use std::alloc::Global;
 use std::test::Fail;
 
 /// The digits of the empty blob's id.
 const EMPTY_BLOB: &[u8] = b"e69de29bb2d1d6434b8b29ae775ad8c2e48c5391";
 
-// The ids are those that `git hash-object -t WORD --stdin` prints.
 #[test]
-fn known_object_ids(rt: HostRuntime) -> Result<(), Fail> {
-    let rows = [
-        ("blob", "", "e69de29bb2d1d6434b8b29ae775ad8c2e48c5391"),
-        ("tree", "", "4b825dc642cb6eb9a060e54bf8d69288fbee4904"),
-        (
-            "blob",
-            "hello\n",
-            "ce013625030ba8dba906f756967f9e9ca394464a",
-        ),
-    ];
-    for (word, payload, hex) in rows {
-        let id = GitNaming.id_of(word.as_bytes(), payload.as_bytes());
-        assert_eq!(rt;
-            id.to_hex().as_slice(),
-            hex.as_bytes(),
-            "at {word} {payload}"
-        );
-        assert_eq!(rt; Id::from_hex(hex.as_bytes()), Ok(id), "at {word} {payload}");
-    }
-    Ok(())
-}
-
-#[test]
-fn the_first_digits_are_the_first_byte(rt: HostRuntime) -> Result<(), Fail> {
+fn first_digits_and_lengths_of_an_ids_text(rt: HostRuntime) -> Result<(), Fail> {
     let mut bytes = [0; 20];
     bytes[0] = 0xe6;
     bytes[19] = 0x0f;
@@ -38,11 +14,6 @@ fn the_first_digits_are_the_first_byte(rt: HostRuntime) -> Result<(), Fail> {
     assert_eq!(rt; Id::from_hex(text.as_slice()), Ok(Id(bytes)));
     assert_eq!(rt; Id(bytes).to_hex(), *text);
     assert_eq!(rt; Id::from_hex([b'0'; 40].as_slice()), Ok(Id::ZERO));
-    Ok(())
-}
-
-#[test]
-fn wrong_lengths_of_an_ids_text(rt: HostRuntime) -> Result<(), Fail> {
     let long = [b'0'; 81];
     for length in 0..82usize {
         if length != 40 {
@@ -58,9 +29,8 @@ fn wrong_lengths_of_an_ids_text(rt: HostRuntime) -> Result<(), Fail> {
     Ok(())
 }
 
-fn is_a_digit(byte: u8) -> bool {
-    b"0123456789abcdef".contains(&byte)
-}
+/// The digits that an id's text may have.
+const DIGITS: &[u8] = b"0123456789abcdef";
 
 /// The text of an id with another byte at a place of it.
 fn with_byte(alloc: Global, place: usize, byte: u8) -> Result<Vec<u8>, Fail> {
@@ -79,11 +49,11 @@ fn wrong_digits_of_an_ids_text(rt: HostRuntime) -> Result<(), Fail> {
             let text = with_byte(alloc, place, byte)?;
             match Id::from_hex(text.as_slice()) {
                 Ok(id) => {
-                    assert!(rt; is_a_digit(byte), "at {byte}");
+                    assert!(rt; DIGITS.contains(&byte), "at {byte}");
                     assert_eq!(rt; id.to_hex().as_slice(), text.as_slice(), "at {byte}");
                 }
                 Err(fault) => {
-                    assert!(rt; !is_a_digit(byte), "at {byte}");
+                    assert!(rt; !DIGITS.contains(&byte), "at {byte}");
                     assert_eq!(rt; fault, HexFault::BadDigit);
                 }
             }

@@ -41,31 +41,42 @@ fn rows_one_by_one(alloc: Global, a: &IdColumn, b: &IdColumn) -> Result<Vec<usiz
     Ok(rows)
 }
 
+/// Whether two columns of `count` rows, of which the last ones differ in their last byte alone, are compared right.
+fn last_differs(alloc: Global, count: usize) -> Result<bool, Fail> {
+    let first = column_of(alloc, count, count, 0)?;
+    let last = count.saturating_sub(1);
+    let second = column_of(alloc, count, last, 19)?;
+    if first.len() != second.len() {
+        return Ok(false);
+    }
+    let changed = changed_id(last, 19);
+    Ok(
+        differ_rows(alloc, &first, &second)?.as_slice() == [last].as_slice()
+            && count_differing(&first, &second) == 1
+            && find_row(&second, changed) == Some(last)
+            && find_row(&first, changed).is_none(),
+    )
+}
+
 #[test]
-fn kernel_blocks(rt: HostRuntime) -> Result<(), Fail> {
+fn kernel_lengths(rt: HostRuntime) -> Result<(), Fail> {
     let alloc = rt.alloc();
     let none = IdColumn::new(alloc);
     assert_eq!(rt; differ_rows(alloc, &none, &none)?.len(), 0);
     assert_eq!(rt; find_row(&none, id_of(0)), None);
-    for count in [1, 3, 4, 5, 7, 8, 9, 15, 16, 17, 24, 25, 4_097] {
-        let last = count - 1;
-        let first = column_of(alloc, count, count, 0)?;
-        let second = column_of(alloc, count, last, 19)?;
-        assert_eq!(rt; first.len(), second.len());
-        assert_eq!(rt;
-            differ_rows(alloc, &first, &second)?.as_slice(),
-            [last].as_slice()
-        );
-        assert_eq!(rt; count_differing(&first, &second), 1);
-        assert_eq!(rt; find_row(&second, changed_id(last, 19)), Some(last));
-        assert_eq!(rt; find_row(&first, changed_id(last, 19)), None);
+    for count in [1, 3, 4, 5, 7, 8, 9] {
+        assert!(rt; last_differs(alloc, count)?, "{count} rows");
     }
-    let kinds = [1, 2, 3];
-    let others = [1, 3, 3];
-    assert_eq!(rt;
-        differ_kinds(alloc, &kinds, &others)?.as_slice(),
-        [1].as_slice()
-    );
+    let rows = differ_kinds(alloc, &[1, 2, 3], &[1, 3, 3])?;
+    assert_eq!(rt; rows.as_slice(), [1].as_slice());
+    Ok(())
+}
+
+#[test]
+fn kernel_blocks(rt: HostRuntime) -> Result<(), Fail> {
+    for count in [15, 16, 17, 24, 25, 4_097] {
+        assert!(rt; last_differs(rt.alloc(), count)?, "{count} rows");
+    }
     Ok(())
 }
 

@@ -10,7 +10,9 @@ use eden_script::{
 use std::test::Fail;
 
 #[test]
-fn changes_and_paths_are_refused_by_what_their_faults_display(rt: HostRuntime) -> Result<(), Fail> {
+fn changes_paths_and_puts_are_refused_by_what_their_faults_display(
+    rt: HostRuntime,
+) -> Result<(), Fail> {
     for fault in [
         ChangeFault::NotADirectory,
         ChangeFault::IsADirectory,
@@ -34,11 +36,6 @@ fn changes_and_paths_are_refused_by_what_their_faults_display(rt: HostRuntime) -
         let shown = format!(in rt.alloc(); "{fault}")?;
         assert!(rt; shown.as_bytes() == path_fault_name(fault), "{shown}");
     }
-    Ok(())
-}
-
-#[test]
-fn puts_are_refused_by_what_their_faults_display(rt: HostRuntime) -> Result<(), Fail> {
     for fault in [
         PutFault::TooLarge,
         PutFault::IdTaken,

@@ -1,11 +1,7 @@
-use eden_ids::{Content, Id, Kind, Path, PathFault, PathTable, Sequence};
+use eden_ids::{Content, Id, Path, PathFault, PathTable, Sequence};
 use std::alloc::Global;
 use std::test::Fail;
-
-/// `count` copies of a byte.
-fn bytes_of(alloc: Global, byte: u8, count: usize) -> Result<Vec<u8>, Fail> {
-    Ok(vec![in alloc; byte; count]?)
-}
+use test_kit::{path, plain};
 
 /// `count` components `a`.
 fn deep(alloc: Global, count: usize) -> Result<Vec<u8>, Fail> {
@@ -30,9 +26,9 @@ fn fault_of(alloc: Global, bytes: &[u8]) -> Option<PathFault> {
 fn path_refusals(rt: HostRuntime) -> Result<(), Fail> {
     let alloc = rt.alloc();
     assert_eq!(rt; fault_of(alloc, b"".as_slice()), Some(PathFault::Empty));
-    let long = bytes_of(alloc, b'a', 1025)?;
+    let long = vec![in alloc; b'a'; 1025]?;
     assert_eq!(rt; fault_of(alloc, long.as_slice()), Some(PathFault::TooLong));
-    let wide = bytes_of(alloc, b'a', 256)?;
+    let wide = vec![in alloc; b'a'; 256]?;
     assert_eq!(rt;
         fault_of(alloc, wide.as_slice()),
         Some(PathFault::BadComponent)
@@ -54,7 +50,7 @@ fn path_refusals(rt: HostRuntime) -> Result<(), Fail> {
 #[test]
 fn paths_keep_their_bytes(rt: HostRuntime) -> Result<(), Fail> {
     let alloc = rt.alloc();
-    let wide = bytes_of(alloc, b'a', 255)?;
+    let wide = vec![in alloc; b'a'; 255]?;
     let deepest = deep(alloc, 64)?;
     for bytes in [
         b"a".as_slice(),
@@ -71,7 +67,7 @@ fn paths_keep_their_bytes(rt: HostRuntime) -> Result<(), Fail> {
 }
 
 #[test]
-fn vectors_become_paths_or_come_back(rt: HostRuntime) -> Result<(), Fail> {
+fn paths_of_vectors_and_of_two_parts(rt: HostRuntime) -> Result<(), Fail> {
     let alloc = rt.alloc();
     let path = Path::from_vec(b"src/a".as_slice().to_vec(alloc)?);
     assert!(rt; path.is_ok_and(|p| p.as_bytes() == b"src/a".as_slice()));
@@ -80,12 +76,6 @@ fn vectors_become_paths_or_come_back(rt: HostRuntime) -> Result<(), Fail> {
     };
     assert_eq!(rt; refused.cause, PathFault::BadComponent);
     assert!(rt; refused.bytes.as_slice() == b"src//a".as_slice());
-    Ok(())
-}
-
-#[test]
-fn two_parts_are_one_path(rt: HostRuntime) -> Result<(), Fail> {
-    let alloc = rt.alloc();
     let path = Path::joined(alloc, b"src/".as_slice(), b"a".as_slice())?;
     assert!(rt; path.as_bytes() == b"src/a".as_slice());
     Ok(())
@@ -102,20 +92,11 @@ fn clashing_paths(rt: HostRuntime) -> Result<(), Fail> {
         ("a.b", "a", false, false),
         ("a/b/c", "a", true, true),
     ] {
-        let p = Path::parse(alloc, p.as_bytes())?;
-        let q = Path::parse(alloc, q.as_bytes())?;
+        let (p, q) = (path(alloc, p)?, path(alloc, q)?);
         assert_eq!(rt; p.is_below(&q), below);
         assert_eq!(rt; p.clashes(&q), clash);
     }
     Ok(())
-}
-
-fn plain(alloc: Global, text: &str) -> Result<Content, Fail> {
-    let bytes = Sequence::from_vec(text.as_bytes().to_vec(alloc)?);
-    Ok(Content {
-        kind: Kind::Plain,
-        bytes,
-    })
 }
 
 #[test]
@@ -137,10 +118,7 @@ fn contents_are_copied_whole(rt: HostRuntime) -> Result<(), Fail> {
 #[test]
 fn tables_list_each_path_once(rt: HostRuntime) -> Result<(), Fail> {
     let alloc = rt.alloc();
-    let given = [
-        Path::parse(alloc, b"c".as_slice())?,
-        Path::parse(alloc, b"a".as_slice())?,
-    ];
+    let given = [path(alloc, "c")?, path(alloc, "a")?];
     let mut table = PathTable::new(alloc);
     table.add(&given[0])?;
     table.add_all(&given)?;

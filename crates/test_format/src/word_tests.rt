@@ -16,7 +16,7 @@ fn barred(alloc: Global, line: &[u8]) -> Result<Option<Vec<u8>>, AllocError> {
 }
 
 #[test]
-fn lines_with_words(rt: HostRuntime) -> Result<(), Fail> {
+fn lines_and_their_words(rt: HostRuntime) -> Result<(), Fail> {
     let lines = [
         (b"a".as_slice(), b"a|".as_slice()),
         (b"write a/b 12", b"write|a/b|12|"),
@@ -35,11 +35,6 @@ fn lines_with_words(rt: HostRuntime) -> Result<(), Fail> {
         let read = barred(rt.alloc(), line)?.ok_or("no reading")?;
         assert_eq!(rt; read.as_slice(), wanted);
     }
-    Ok(())
-}
-
-#[test]
-fn lines_without_reading(rt: HostRuntime) -> Result<(), Fail> {
     let lines = [
         b"".as_slice(),
         b" ",
@@ -56,11 +51,6 @@ fn lines_without_reading(rt: HostRuntime) -> Result<(), Fail> {
     for line in lines {
         assert!(rt; barred(rt.alloc(), line)?.is_none(), "{line:?}");
     }
-    Ok(())
-}
-
-#[test]
-fn word_as_vector(rt: HostRuntime) -> Result<(), Fail> {
     let mut words = words(rt.alloc(), br"one two\sthree")?.ok_or("no reading")?;
     assert_eq!(rt; words.len(), 2);
     let last = words.pop().ok_or("no word")?;
@@ -93,7 +83,7 @@ fn numbers(rt: HostRuntime) {
 }
 
 #[test]
-fn escaped_texts(rt: HostRuntime) -> Result<(), Fail> {
+fn escaped_and_plain_texts(rt: HostRuntime) -> Result<(), Fail> {
     let texts = [
         (b"".as_slice(), br">\e".as_slice()),
         (b" ", br">\s"),
@@ -110,11 +100,6 @@ fn escaped_texts(rt: HostRuntime) -> Result<(), Fail> {
         push_escaped(&mut text, bytes)?;
         assert_eq!(rt; text.as_slice(), wanted);
     }
-    Ok(())
-}
-
-#[test]
-fn plain_texts(rt: HostRuntime) -> Result<(), Fail> {
     let mut text = Vec::new(rt.alloc());
     push_number(&mut text, 0)?;
     push_bytes(&mut text, b" ")?;

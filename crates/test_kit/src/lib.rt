@@ -1,9 +1,12 @@
-//! Payloads of trees and commits for tests, in Git's format, right or wrong as the test wants them: nothing is judged here.
+//! What tests share: stores that lines of a script put, changes, payloads in Git's format, right or wrong as the test wants them, and a
+//! table of scripts with what each prints, which can be played over whatever stands for a mount.
 //!
 //! ```rust
 //! use eden_ids::Id;
-//! use test_kit::{commit_of, push_entry};
+//! use test_kit::{Objects, commit_of, push_entry};
 //!
+//! let objects = Objects::of(alloc, "blob x hello;tree t 100644 a x;commit c t")?;
+//! assert!(rt; objects.store.has_commit(objects.id("c")));
 //! let mut tree = Vec::new(alloc);
 //! push_entry(&mut tree, "100644", b"notes".as_slice(), Id::ZERO)?;
 //! assert_eq!(rt; tree.len(), 33);
@@ -11,6 +14,20 @@
 //! ```
 #![tactic(auto)]
 
-mod payload;
+pub use crate::changes::{path, plain, remove, rename, write, write_too_large};
+pub use crate::objects::Objects;
+pub use crate::payload::{commit_of, push_entry, tree_of};
+pub use crate::played::Played;
+pub use crate::player::first_wrong;
+pub use crate::rows::{ANSWER_ROWS, CHANGE_ROWS, LABEL_ROWS, OBJECT_ROWS, Row};
+pub use crate::text::{differing_line, joined, lines, spaced};
 
-pub use payload::{commit_of, push_entry};
+mod changes;
+mod labels;
+mod mounted;
+mod objects;
+mod payload;
+mod played;
+mod player;
+mod rows;
+mod text;

@@ -23,3 +23,12 @@ pub fn commit_of(alloc: Global, tree: Id, more: &str) -> Result<Vec<u8>, AllocEr
     payload.extend_from_slice(more.as_bytes())?;
     Ok(payload)
 }
+
+/// The payload of a tree of these entries.
+pub fn tree_of(alloc: Global, entries: &[(&str, &str, Id)]) -> Result<Vec<u8>, AllocError> {
+    let mut payload = Vec::new(alloc);
+    for (mode, name, id) in entries {
+        push_entry(&mut payload, mode, name.as_bytes(), *id)?;
+    }
+    Ok(payload)
+}

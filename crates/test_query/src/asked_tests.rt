@@ -1,96 +1,39 @@
 //! What a stored history keeps of a stream of frames that was served.
 
-use eden_accumulate::Mount;
+use crate::audit_tests::{changes, created, opened, poll, position, query};
 use eden_audit::{Answer, AuditFault, Audited, Call, CallLog, LogEntry, Settled, audit};
 use eden_globs::Filter;
-use eden_history::{Change, Mark, Marked, Position};
-use eden_ids::{Content, GitNaming, Id, Kind, Path, Sequence};
-use eden_messages::{Query, Reply, Request};
-use eden_objects::Store;
-use eden_query::{Served, encode_reply, encode_request, serve};
+use eden_ids::{GitNaming, Sequence};
+use eden_messages::{Reply, Request};
+use eden_query::{Served, answer, append_reply, encode_reply, encode_request, serve};
 use eden_stream::Counted;
 use std::alloc::Global;
-use std::sync::Arc;
 use std::test::Fail;
-
-fn query(number: u64) -> Query {
-    Query {
-        mirror: 1,
-        life: 1,
-        number,
-    }
-}
-
-fn position(sequence: u64) -> Position {
-    Position {
-        generation: 7,
-        sequence,
-        root: Id::ZERO,
-    }
-}
-
-fn a(alloc: Global) -> Result<Path, Fail> {
-    Ok(Path::parse(alloc, b"a".as_slice())?)
-}
+use test_kit::{path, plain, write};
 
 /// A mount of the empty commit on which caller 2 has written `a`.
 fn written(alloc: Global) -> Result<Audited<GitNaming>, Fail> {
-    let store = Arc::new(alloc, Store::new(alloc, GitNaming))?;
-    let mount = Mount::mount(alloc, store, Id::ZERO, 7, 1000)?;
-    let mut audited = Audited::new(alloc, mount)?;
-    audited.apply(2, &write(alloc)?)?;
+    let mut audited = opened(alloc)?;
+    audited.apply(2, &write(alloc, "a", "")?)?;
     Ok(audited)
-}
-
-fn write(alloc: Global) -> Result<Change, Fail> {
-    Ok(Change::Write {
-        path: a(alloc)?,
-        kind: Kind::Plain,
-        bytes: Sequence::new(alloc),
-    })
-}
-
-fn poll(alloc: Global, number: u64, sequence: u64) -> Request {
-    Request::Poll {
-        query: query(number),
-        since: position(sequence),
-        filter: Filter::all(alloc),
-    }
-}
-
-fn changes(number: u64, marked: Vec<Marked>) -> Reply {
-    Reply::ChangesAre {
-        query: query(number),
-        target: position(2),
-        marked: Sequence::from_vec(marked),
-    }
 }
 
 /// What is asked then, and what is right: what changed since the mount and since the write, and the file.
 fn asked(alloc: Global) -> Result<[(Request, Reply); 3], Fail> {
-    let mark = Mark::Created;
-    let created = vec![in alloc;
-        Marked {
-            mark,
-            path: a(alloc)?
-        },
-    ]?;
+    let created = vec![in alloc; created(alloc, "a")?]?;
     let fetch = Request::Fetch {
         query: query(3),
-        path: a(alloc)?,
+        path: path(alloc, "a")?,
     };
     let file = Reply::ContentIs {
         query: query(3),
         position: position(2),
-        path: a(alloc)?,
-        content: Some(Content {
-            kind: Kind::Plain,
-            bytes: Sequence::new(alloc),
-        }),
+        path: path(alloc, "a")?,
+        content: Some(plain(alloc, "")?),
     };
     Ok([
-        (poll(alloc, 1, 1), changes(1, created)),
-        (poll(alloc, 2, 2), changes(2, Vec::new(alloc))),
+        (poll(alloc, 1, 1), changes(1, 2, created)),
+        (poll(alloc, 2, 2), changes(2, 2, Vec::new(alloc))),
         (fetch, file),
     ])
 }
@@ -120,7 +63,7 @@ fn logs(alloc: Global, caller: u64) -> Result<Vec<CallLog>, Fail> {
     }
     let wrote = LogEntry {
         ticket: 1,
-        call: Call::Change(write(alloc)?),
+        call: Call::Change(write(alloc, "a", "")?),
         answer: Answer::At(position(2)),
     };
     let stream = CallLog {
@@ -159,5 +102,20 @@ fn frames_are_asked_as_caller_0(rt: HostRuntime) -> Result<(), Fail> {
         let noted = logs(alloc, caller)?;
         assert_eq!(rt; audit(alloc, &audited, noted.as_slice()), said);
     }
+    Ok(())
+}
+
+#[test]
+fn replies_are_appended_to_a_text(rt: HostRuntime) -> Result<(), Fail> {
+    let alloc = rt.alloc();
+    let (_, replies) = frames(alloc)?;
+    let mut audited = written(alloc)?;
+    let mut text = Vec::new(alloc);
+    for (request, _) in &asked(alloc)? {
+        let raw = audited.hold(0, request)?;
+        let reply = answer(alloc, &raw, audited.store(), &Filter::all(alloc))?;
+        append_reply(&mut text, &reply)?;
+    }
+    assert_eq!(rt; text.as_slice(), replies.as_slice());
     Ok(())
 }

@@ -12,4 +12,6 @@ mod message_tests;
 #[cfg(test)]
 mod reading_tests;
 #[cfg(test)]
+mod row_tests;
+#[cfg(test)]
 mod serving_tests;

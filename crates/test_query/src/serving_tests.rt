@@ -1,7 +1,6 @@
 //! Frames of polls and what a mount replies, in whatever pieces they come.
 
 use eden_accumulate::Mount;
-use test_devices::{Endless, Source};
 use eden_history::Change;
 use eden_ids::{GitNaming, Id, Kind, Path, Sequence};
 use eden_objects::Store;
@@ -10,6 +9,7 @@ use eden_stream::Counted;
 use std::alloc::Global;
 use std::sync::Arc;
 use std::test::Fail;
+use test_devices::{Endless, Source};
 
 /// What a byte is changed to: the least and the greatest values, the bits, and those around the greatest number of patterns.
 const VALUES: [u8; 16] = [
@@ -65,6 +65,23 @@ fn refusal(alloc: Global, cause: u8, number: u8) -> Result<Vec<u8>, Fail> {
 fn opened(alloc: Global, limit: u64) -> Result<Mount<GitNaming>, Fail> {
     let store = Arc::new(alloc, Store::new(alloc, GitNaming))?;
     Ok(Mount::mount(alloc, store, Id::ZERO, 7, limit)?)
+}
+
+/// Writes a file.
+fn write(
+    alloc: Global,
+    mount: &mut Mount<GitNaming>,
+    at: &[u8],
+    kind: Kind,
+    text: &[u8],
+) -> Result<(), Fail> {
+    let change = Change::Write {
+        path: Path::parse(alloc, at)?,
+        kind,
+        bytes: Sequence::from_vec(text.to_vec(alloc)?),
+    };
+    let _ = mount.apply(&change)?;
+    Ok(())
 }
 
 /// What a mount writes to these bytes, and how the serving ends.
@@ -159,46 +176,83 @@ fn known_frames(rt: HostRuntime) -> Result<(), Fail> {
     Ok(())
 }
 
+/// A frame with a byte behind its body that its length counts in.
+fn trailing(alloc: Global, frame: &[u8]) -> Result<Vec<u8>, Fail> {
+    let mut longer = joined(alloc, &[frame, &[0]])?;
+    if let Some(length) = longer.get_mut(3) {
+        *length = length.wrapping_add(1);
+    }
+    Ok(longer)
+}
+
+/// Whether a frame is refused with a byte more in its body and behind an empty frame, answered twice where it comes twice, and answered
+/// where the next one is cut short.
+fn is_framed(alloc: Global, frame: &[u8], reply: &[u8]) -> Result<bool, Fail> {
+    let longer = trailing(alloc, frame)?;
+    let behind = joined(alloc, &[&[0, 0, 0, 0], frame])?;
+    let twice = joined(alloc, &[frame, frame])?;
+    let replies = joined(alloc, &[reply, reply])?;
+    let cut = joined(alloc, &[frame, &[0, 0, 0]])?;
+    Ok(
+        answers(
+            alloc,
+            longer.as_slice(),
+            &[],
+            stops(1, FrameFault::Trailing),
+        )? && answers(
+            alloc,
+            behind.as_slice(),
+            &[],
+            stops(1, FrameFault::CutShort),
+        )? && answers(alloc, twice.as_slice(), replies.as_slice(), Ok(2))?
+            && answers(alloc, cut.as_slice(), reply, stops(2, FrameFault::CutShort))?,
+    )
+}
+
+/// Whether a frame that comes for ever, a byte a read, is answered so many times by the same reply, and then its reads are spent.
+fn spends(alloc: Global, frame: &[u8], reply: &[u8], replies: usize) -> Result<bool, Fail> {
+    let mut endless = Endless::new(frame);
+    let mut mount = opened(alloc, 1000)?;
+    let mut written = Vec::new(alloc);
+    let mut reader = Counted::new(&mut endless);
+    let mut writer = Counted::new(&mut written);
+    let ended = serve(alloc, &mut reader, &mut writer, &mut mount);
+    let mut wanted = Vec::new(alloc);
+    for _ in 0..replies {
+        wanted.extend_from_slice(reply)?;
+    }
+    Ok(ended == Err(ServeFault::TurnsSpent) && written == wanted)
+}
+
 #[test]
 fn frame_faults(rt: HostRuntime) -> Result<(), Fail> {
     let alloc = rt.alloc();
-    let cut_short = stops(1, FrameFault::CutShort);
     for (bytes, end) in [
-        ([0, 0, 0, 0].as_slice(), cut_short),
+        ([0, 0, 0, 0].as_slice(), stops(1, FrameFault::CutShort)),
         ([1, 0, 0, 1].as_slice(), stops(1, FrameFault::TooLarge)),
-        ([0, 0, 0].as_slice(), cut_short),
+        ([0, 0, 0].as_slice(), stops(1, FrameFault::CutShort)),
         (b"".as_slice(), Ok(0)),
     ] {
         assert!(rt; answers(alloc, bytes, &[], end)?);
     }
-    for frame in [&fetch(alloc)?, &poll(alloc, 7, 1)?, &basis(alloc)?] {
-        let mut trailing = joined(alloc, &[frame.as_slice(), &[0]])?;
-        if let Some(length) = trailing.get_mut(3) {
-            *length = length.wrapping_add(1);
-        }
-        let end = stops(1, FrameFault::Trailing);
-        assert!(rt; answers(alloc, trailing.as_slice(), &[], end)?);
-        let behind = joined(alloc, &[&[0, 0, 0, 0], frame.as_slice()])?;
-        assert!(rt; answers(alloc, behind.as_slice(), &[], cut_short)?);
+    for (frame, reply) in [
+        (&fetch(alloc)?, &absent(alloc)?),
+        (&basis(alloc)?, &no_paths(alloc)?),
+    ] {
+        assert!(rt; is_framed(alloc, frame.as_slice(), reply.as_slice())?);
     }
     Ok(())
 }
 
 #[test]
-fn several_frames(rt: HostRuntime) -> Result<(), Fail> {
+fn poll_frames(rt: HostRuntime) -> Result<(), Fail> {
     let alloc = rt.alloc();
-    for (frame, reply) in [
-        (&fetch(alloc)?, &absent(alloc)?),
-        (&poll(alloc, 7, 1)?, &no_changes(alloc)?),
-    ] {
-        let two = joined(alloc, &[frame.as_slice(), frame.as_slice()])?;
-        let replies = joined(alloc, &[reply.as_slice(), reply.as_slice()])?;
-        assert_eq!(rt; replies.len(), 140);
-        assert!(rt; answers(alloc, two.as_slice(), replies.as_slice(), Ok(2))?);
-        let cut = joined(alloc, &[frame.as_slice(), &[0, 0, 0]])?;
-        let end = stops(2, FrameFault::CutShort);
-        assert!(rt; answers(alloc, cut.as_slice(), reply.as_slice(), end)?);
-    }
+    let frame = poll(alloc, 7, 1)?;
+    let reply = no_changes(alloc)?;
+    assert!(rt; frame.starts_with(&[0, 0, 0, 0x3f]) && reply.len() == 70);
+    assert!(rt; trailing(alloc, frame.as_slice())?.starts_with(&[0, 0, 0, 0x40]));
+    assert!(rt; is_framed(alloc, frame.as_slice(), reply.as_slice())?);
+    assert!(rt; spends(alloc, frame.as_slice(), reply.as_slice(), 14_925)?);
     Ok(())
 }
 
@@ -219,16 +273,9 @@ fn frames_cut_short(rt: HostRuntime) -> Result<(), Fail> {
 #[test]
 fn reads_spent(rt: HostRuntime) -> Result<(), Fail> {
     let alloc = rt.alloc();
-    for (one, replies) in [(&poll(alloc, 7, 1)?, 14_925), (&fetch(alloc)?, 30_303)] {
-        let mut endless = Endless::new(one.as_slice());
-        let mut mount = opened(alloc, 1000)?;
-        let mut written = Vec::new(alloc);
-        let mut reader = Counted::new(&mut endless);
-        let mut writer = Counted::new(&mut written);
-        let ended = serve(alloc, &mut reader, &mut writer, &mut mount);
-        assert_eq!(rt; ended, Err(ServeFault::TurnsSpent));
-        assert_eq!(rt; written.len(), replies * 70);
-    }
+    let frame = fetch(alloc)?;
+    let reply = absent(alloc)?;
+    assert!(rt; spends(alloc, frame.as_slice(), reply.as_slice(), 30_303)?);
     Ok(())
 }
 
@@ -308,12 +355,7 @@ fn single_byte_changes(rt: HostRuntime) -> Result<(), Fail> {
 fn two_files(alloc: Global) -> Result<Mount<GitNaming>, Fail> {
     let mut mount = opened(alloc, 1000)?;
     for at in [b"d/a".as_slice(), b"e".as_slice()] {
-        let change = Change::Write {
-            path: Path::parse(alloc, at)?,
-            kind: Kind::Exec,
-            bytes: Sequence::from_vec(b"hi".to_vec(alloc)?),
-        };
-        let _ = mount.apply(&change)?;
+        write(alloc, &mut mount, at, Kind::Exec, b"hi".as_slice())?;
     }
     Ok(mount)
 }
@@ -384,34 +426,6 @@ fn poll_by_a_pattern(rt: HostRuntime) -> Result<(), Fail> {
     )?;
     let (written, ended) = served(alloc, &mut mount, frames.as_slice(), usize::MAX, usize::MAX);
     assert_eq!(rt; ended, Ok(2));
-    assert!(rt; written.as_slice() == replies.as_slice());
-    Ok(())
-}
-
-#[test]
-fn small_limit(rt: HostRuntime) -> Result<(), Fail> {
-    let alloc = rt.alloc();
-    let mut mount = opened(alloc, 200)?;
-    for at in [b"a", b"b", b"c", b"d"] {
-        let change = Change::Write {
-            path: Path::parse(alloc, at.as_slice())?,
-            kind: Kind::Plain,
-            bytes: Sequence::from_vec(b"1".to_vec(alloc)?),
-        };
-        let _ = mount.apply(&change)?;
-    }
-    let frames = joined(alloc, &[&poll(alloc, 7, 1)?, &poll(alloc, 7, 2)?])?;
-    let head = [0, 0, 0, 0x4e, 1, 0x82];
-    let place = [0, 0, 0, 0, 0, 0, 0, 7, 0, 0, 0, 0, 0, 0, 0, 5];
-    let marked = [0, 0, 0, 3, 1, 0, 1, b'b', 1, 0, 1, b'c', 1, 0, 1, b'd'];
-    let replies = joined(
-        alloc,
-        &[&refusal(alloc, 3, 2)?, &head, &Q, &place, &ROOT, &marked],
-    )?;
-    let mut written = Vec::new(alloc);
-    let mut reader = Counted::new(frames.as_slice());
-    let mut writer = Counted::new(&mut written);
-    assert_eq!(rt; serve(alloc, &mut reader, &mut writer, &mut mount), Ok(2));
     assert!(rt; written.as_slice() == replies.as_slice());
     Ok(())
 }

@@ -1,5 +1,6 @@
 //! What a mirror asks in the tests: a world, or a mount behind its frames; and a mirror beside it.
 
+use crate::wanted::{Said, position};
 use eden_accumulate::Mount;
 use eden_globs::Filter;
 use eden_history::Change;
@@ -74,12 +75,35 @@ pub(crate) fn plain(alloc: Global, text: &str) -> Result<Content, Fail> {
 }
 
 /// The change that writes a plain file.
-pub(crate) fn write(alloc: Global, at: &str, text: &str) -> Result<Change, Fail> {
+fn write(alloc: Global, at: &str, text: &str) -> Result<Change, Fail> {
     Ok(Change::Write {
         path: path(alloc, at)?,
         kind: Kind::Plain,
         bytes: Sequence::from_vec(text.as_bytes().to_vec(alloc)?),
     })
+}
+
+/// What happens to a pair, and what is wanted of it.
+#[derive(Clone, Copy, Debug)]
+pub(crate) enum Step {
+    /// A plain file with this text is written at the path.
+    Write(&'static str, &'static str),
+    /// The daemon goes over to this generation.
+    Remount(u64),
+    /// The daemon forgets what changed.
+    Flush,
+    /// The mirror begins a round.
+    Begin,
+    /// The mirror is told again that it wants every path.
+    Refilter,
+    /// All that is outstanding is asked, in its order. These are the replies, of which none comes yet.
+    Asks(&'static [Said]),
+    /// A reply comes, with this outcome.
+    Comes(Said, Outcome),
+    /// One question is outstanding. It is asked, this is the reply, and it comes, with this outcome.
+    Goes(Said, Outcome),
+    /// The mirror is placed at this generation and number, or nowhere, and these are its files.
+    Holds(Option<(u64, u64)>, &'static [(&'static str, &'static str)]),
 }
 
 /// A mirror and what it asks.
@@ -100,10 +124,6 @@ impl<D: Daemon + Drop> Pair<D> {
         }
     }
 
-    pub(crate) fn change(&mut self, change: &Change) -> Result<(), Fail> {
-        self.daemon.change(change)
-    }
-
     /// The replies to all that is outstanding, of which none is delivered yet.
     pub(crate) fn asked(&mut self) -> Result<Vec<Reply>, Fail> {
         let mut replies = Vec::new(self.alloc);
@@ -113,42 +133,45 @@ impl<D: Daemon + Drop> Pair<D> {
         Ok(replies)
     }
 
-    /// Delivers a reply, which has this outcome.
-    pub(crate) fn takes(&mut self, reply: &Reply, wanted: Outcome) -> Result<(), Fail> {
-        let outcome = self.mirror.deliver(reply)?;
-        if outcome == wanted {
-            return Ok(());
-        }
-        Err(Fail::new(format_args!("{reply:?} has the outcome {outcome:?} in place of {wanted:?}")))
+    /// Delivers a reply: what comes of it.
+    pub(crate) fn delivered(&mut self, reply: &Reply) -> Result<Outcome, Fail> {
+        Ok(self.mirror.deliver(reply)?)
     }
 
-    /// Asks all that is outstanding and delivers the replies in their order, with these outcomes.
-    pub(crate) fn goes(&mut self, wanted: &[Outcome]) -> Result<(), Fail> {
+    /// Begins a round.
+    pub(crate) fn begin(&mut self) -> Result<(), Fail> {
+        self.mirror.begin()?;
+        Ok(())
+    }
+
+    /// Asks all that is outstanding, to which the replies are these.
+    fn asks(&mut self, wanted: &[Said]) -> Result<(), Fail> {
         let replies = self.asked()?;
         if replies.len() != wanted.len() {
             return Err(Fail::new(format_args!("{replies:?} in place of {wanted:?}")));
         }
-        for (reply, outcome) in replies.iter().zip(wanted) {
-            self.takes(reply, *outcome)?;
+        for (reply, said) in replies.iter().zip(wanted) {
+            if *reply != said.reply(self.alloc)? {
+                return Err(Fail::new(format_args!("{reply:?} in place of {said:?}")));
+            }
         }
         Ok(())
     }
 
-    /// Begins a round, and delivers the reply to its list, with this outcome.
-    pub(crate) fn begins(&mut self, wanted: Outcome) -> Result<(), Fail> {
-        self.mirror.begin()?;
-        self.goes(&[wanted])
+    /// Delivers a reply, which has this outcome.
+    fn comes(&mut self, said: &Said, wanted: Outcome) -> Result<(), Fail> {
+        let outcome = self.delivered(&said.reply(self.alloc)?)?;
+        if outcome == wanted {
+            return Ok(());
+        }
+        Err(Fail::new(format_args!("{said:?} has the outcome {outcome:?} in place of {wanted:?}")))
     }
 
-    /// The generation and the number at which the mirror is placed, and its files, are these.
-    pub(crate) fn holds(
-        &self,
-        place: Option<(u64, u64)>,
-        files: &[(&str, &str)],
-    ) -> Result<(), Fail> {
-        let position = self.mirror.position();
-        if position.map(|p| (p.generation, p.sequence)) != place {
-            return Err(Fail::new(format_args!("{position:?} in place of {place:?}")));
+    /// The position at which the mirror is placed, and its files, are these.
+    fn holds(&self, place: Option<(u64, u64)>, files: &[(&str, &str)]) -> Result<(), Fail> {
+        let here = self.mirror.position();
+        if here != place.map(|(generation, sequence)| position(generation, sequence)) {
+            return Err(Fail::new(format_args!("{here:?} in place of {place:?}")));
         }
         let paths = self.mirror.files()?;
         if paths.len() != files.len() {
@@ -159,6 +182,35 @@ impl<D: Daemon + Drop> Pair<D> {
             if at.as_bytes() != name.as_bytes() || self.mirror.get(at) != Some(&wanted) {
                 return Err(Fail::new(format_args!("{at:?} in place of {name} with {text}")));
             }
+        }
+        Ok(())
+    }
+
+    /// What the step says happens, as it says.
+    fn happens(&mut self, step: &Step) -> Result<(), Fail> {
+        match *step {
+            Step::Write(at, text) => self.daemon.change(&write(self.alloc, at, text)?),
+            Step::Remount(generation) => self.daemon.change(&Change::Remount { generation }),
+            Step::Flush => self.daemon.change(&Change::Flush),
+            Step::Begin => self.begin(),
+            Step::Refilter => {
+                self.mirror.refilter(Filter::all(self.alloc));
+                Ok(())
+            }
+            Step::Asks(wanted) => self.asks(wanted),
+            Step::Comes(said, outcome) => self.comes(&said, outcome),
+            Step::Goes(said, outcome) => {
+                self.asks(&[said])?;
+                self.comes(&said, outcome)
+            }
+            Step::Holds(place, files) => self.holds(place, files),
+        }
+    }
+
+    /// Step after step happens as it says.
+    pub(crate) fn goes(&mut self, steps: &[Step]) -> Result<(), Fail> {
+        for step in steps {
+            self.happens(step)?;
         }
         Ok(())
     }

@@ -6,6 +6,12 @@
 #[cfg(test)]
 mod daemon;
 #[cfg(test)]
+mod largest_tests;
+#[cfg(test)]
+mod owned_tests;
+#[cfg(test)]
 mod rounds_tests;
 #[cfg(test)]
 mod strange_tests;
+#[cfg(test)]
+mod wanted;

@@ -1,156 +1,134 @@
-//! Rounds that overlap, lose replies and meet a remount.
+//! Rounds that overlap, lose replies and meet a remount, of a world and of a mount behind its frames.
 
-use crate::daemon::{Daemon, Pair, opened_mount, opened_world, write};
-use eden_globs::Filter;
-use eden_history::Change;
-use eden_messages::{Cause, Outcome, Query, Reply, Request};
+use crate::daemon::{Daemon, Pair, Step, opened_mount, opened_world};
+use crate::wanted::Said;
+use eden_messages::{Cause, Outcome};
 use std::alloc::Global;
 use std::test::Fail;
 
-/// A mirror that is placed at 7/1, and gathers the file that was written behind it, `p` with `x`, in its second round.
-fn gathering<D: Daemon + Drop>(alloc: Global, daemon: D) -> Result<Pair<D>, Fail> {
+/// A mirror is placed at 7/1, where no file stands.
+pub(crate) const PLACED: [Step; 3] = [
+    Step::Begin,
+    Step::Goes(Said::Basis(1, (7, 1), &[]), Outcome::Placed),
+    Step::Holds(Some((7, 1)), &[]),
+];
+
+/// Then it gathers, in its second round, the file that was written behind it.
+const GATHERING: [Step; 4] = [
+    Step::Write("p", "x"),
+    Step::Begin,
+    Step::Goes(Said::Created(2, (7, 2), "p"), Outcome::Taken),
+    Step::Holds(Some((7, 1)), &[]),
+];
+
+/// Then it begins a third round before the second is over, and is placed by that one.
+const OVERLAPPING: [Step; 8] = [
+    Step::Asks(&[Said::Content(2, (7, 2), "p", "x")]),
+    Step::Write("p", "y"),
+    Step::Begin,
+    Step::Goes(Said::Created(3, (7, 3), "p"), Outcome::Taken),
+    Step::Comes(Said::Content(2, (7, 2), "p", "x"), Outcome::Ignored),
+    Step::Holds(Some((7, 1)), &[]),
+    Step::Goes(Said::Content(3, (7, 3), "p", "y"), Outcome::Placed),
+    Step::Holds(Some((7, 3)), &[("p", "y")]),
+];
+
+/// A mirror of a daemon goes through all the parts, one after the other.
+fn plays<D: Daemon + Drop>(alloc: Global, daemon: D, parts: &[&[Step]]) -> Result<(), Fail> {
     let mut pair = Pair::new(alloc, daemon);
-    pair.begins(Outcome::Placed)?;
-    pair.holds(Some((7, 1)), &[])?;
-    pair.change(&write(alloc, "p", "x")?)?;
-    pair.begins(Outcome::Taken)?;
-    pair.holds(Some((7, 1)), &[])?;
-    Ok(pair)
+    for steps in parts {
+        pair.goes(steps)?;
+    }
+    Ok(())
 }
 
-/// What is outstanding is one question for the content of `p`, of the round with this number.
-fn fetches_p<D: Daemon + Drop>(pair: &Pair<D>, wanted: u64) -> Result<(), Fail> {
-    let requests = pair.mirror.outstanding()?;
-    match requests.as_slice() {
-        [Request::Fetch { query, path }]
-            if query.number == wanted && path.as_bytes() == b"p".as_slice() => { Ok(()) }
-        other => Err(Fail::new(format_args!("{other:?} in round {wanted}"))),
-    }
-}
-
-fn overlapping_rounds_with<D: Daemon + Drop>(alloc: Global, daemon: D) -> Result<Pair<D>, Fail> {
-    let mut pair = gathering(alloc, daemon)?;
-    let kept = pair.asked()?;
-    pair.change(&write(alloc, "p", "y")?)?;
-    pair.begins(Outcome::Taken)?;
-    for reply in &kept {
-        pair.takes(reply, Outcome::Ignored)?;
-    }
-    pair.holds(Some((7, 1)), &[])?;
-    fetches_p(&pair, 3)?;
-    pair.goes(&[Outcome::Placed])?;
-    pair.holds(Some((7, 3)), &[("p", "y")])?;
-    Ok(pair)
+/// Through all the parts, a world and a mount are followed alike.
+fn followed(alloc: Global, parts: &[&[Step]]) -> Result<(), Fail> {
+    plays(alloc, opened_world(alloc)?, parts)?;
+    plays(alloc, opened_mount(alloc)?, parts)
 }
 
 #[test]
 fn overlapping_rounds(rt: HostRuntime) -> Result<(), Fail> {
-    let alloc = rt.alloc();
-    let _ = overlapping_rounds_with(alloc, opened_world(alloc)?)?;
-    let _ = overlapping_rounds_with(alloc, opened_mount(alloc)?)?;
-    Ok(())
+    followed(rt.alloc(), &[&PLACED, &GATHERING, &OVERLAPPING])
 }
 
-fn lost_and_repeated_fetch_with<D: Daemon + Drop>(alloc: Global, daemon: D) -> Result<(), Fail> {
-    let mut pair = gathering(alloc, daemon)?;
-    let _lost = pair.asked()?;
-    let first = pair.asked()?;
-    let second = pair.asked()?;
-    for reply in &first {
-        pair.takes(reply, Outcome::Placed)?;
-    }
-    for reply in &second {
-        pair.takes(reply, Outcome::Ignored)?;
-    }
-    if first.len() != 1 || second.len() != 1 {
-        return Err(Fail::new(format_args!("{first:?} and {second:?}")));
-    }
-    pair.holds(Some((7, 2)), &[("p", "x")])
-}
-
+// The reply to the first question is lost, and it is asked twice again.
 #[test]
 fn lost_and_repeated_fetch(rt: HostRuntime) -> Result<(), Fail> {
-    let alloc = rt.alloc();
-    lost_and_repeated_fetch_with(alloc, opened_world(alloc)?)?;
-    lost_and_repeated_fetch_with(alloc, opened_mount(alloc)?)
-}
-
-fn remount_in_a_round_with<D: Daemon + Drop>(alloc: Global, daemon: D) -> Result<(), Fail> {
-    let mut pair = gathering(alloc, daemon)?;
-    pair.change(&Change::Remount { generation: 8 })?;
-    pair.change(&write(alloc, "q", "z")?)?;
-    pair.goes(&[Outcome::Ignored])?;
-    pair.holds(Some((7, 1)), &[])?;
-    pair.begins(Outcome::Unplaced)?;
-    pair.holds(None, &[])?;
-    pair.begins(Outcome::Taken)?;
-    pair.goes(&[Outcome::Taken, Outcome::Placed])?;
-    pair.holds(Some((8, 2)), &[("p", "x"), ("q", "z")])
+    let only = &[Said::Content(2, (7, 2), "p", "x")];
+    let steps = [
+        Step::Asks(only),
+        Step::Asks(only),
+        Step::Asks(only),
+        Step::Comes(only[0], Outcome::Placed),
+        Step::Comes(only[0], Outcome::Ignored),
+        Step::Holds(Some((7, 2)), &[("p", "x")]),
+    ];
+    followed(rt.alloc(), &[&PLACED, &GATHERING, &steps])
 }
 
 #[test]
 fn remount_in_a_round(rt: HostRuntime) -> Result<(), Fail> {
-    let alloc = rt.alloc();
-    remount_in_a_round_with(alloc, opened_world(alloc)?)?;
-    remount_in_a_round_with(alloc, opened_mount(alloc)?)
-}
-
-fn ended_with<D: Daemon + Drop>(alloc: Global, daemon: D) -> Result<(), Fail> {
-    let mut pair = Pair::new(alloc, daemon);
-    pair.begins(Outcome::Placed)?;
-    pair.mirror.begin()?;
-    let query = Query {
-        mirror: 1,
-        life: 1,
-        number: 2,
-    };
-    let cause = Cause::TooLarge;
-    let refusal = Reply::Refused { query, cause };
-    pair.takes(&refusal, Outcome::Ended)?;
-    pair.holds(Some((7, 1)), &[])?;
-    pair.goes(&[])?;
-    pair.takes(&refusal, Outcome::Ignored)
-}
-
-fn refiltered_with<D: Daemon + Drop>(alloc: Global, daemon: D) -> Result<(), Fail> {
-    let mut pair = overlapping_rounds_with(alloc, daemon)?;
-    pair.mirror.refilter(Filter::all(alloc));
-    pair.holds(None, &[])?;
-    pair.goes(&[])?;
-    pair.mirror.begin()?;
-    let requests = pair.mirror.outstanding()?;
-    match requests.as_slice() {
-        [Request::Basis { query, .. }] if query.number == 4 => Ok(()),
-        other => Err(Fail::new(format_args!("{other:?} after another filter"))),
-    }
+    let steps = [
+        Step::Remount(8),
+        Step::Write("q", "z"),
+        Step::Goes(Said::Content(2, (8, 2), "p", "x"), Outcome::Ignored),
+        Step::Holds(Some((7, 1)), &[]),
+        Step::Begin,
+        Step::Goes(Said::Refused(3, Cause::Stale(8)), Outcome::Unplaced),
+        Step::Holds(None, &[]),
+        Step::Begin,
+        Step::Goes(Said::Basis(4, (8, 2), &["p", "q"]), Outcome::Taken),
+        Step::Asks(&[
+            Said::Content(4, (8, 2), "p", "x"),
+            Said::Content(4, (8, 2), "q", "z"),
+        ]),
+        Step::Comes(Said::Content(4, (8, 2), "p", "x"), Outcome::Taken),
+        Step::Comes(Said::Content(4, (8, 2), "q", "z"), Outcome::Placed),
+        Step::Holds(Some((8, 2)), &[("p", "x"), ("q", "z")]),
+    ];
+    followed(rt.alloc(), &[&PLACED, &GATHERING, &steps])
 }
 
 #[test]
 fn ended_and_refiltered(rt: HostRuntime) -> Result<(), Fail> {
-    let alloc = rt.alloc();
-    ended_with(alloc, opened_world(alloc)?)?;
-    ended_with(alloc, opened_mount(alloc)?)?;
-    refiltered_with(alloc, opened_world(alloc)?)?;
-    refiltered_with(alloc, opened_mount(alloc)?)
+    let ended = [
+        Step::Begin,
+        Step::Comes(Said::Refused(2, Cause::TooLarge), Outcome::Ended),
+        Step::Holds(Some((7, 1)), &[]),
+        Step::Asks(&[]),
+        Step::Comes(Said::Refused(2, Cause::TooLarge), Outcome::Ignored),
+    ];
+    followed(rt.alloc(), &[&PLACED, &ended])?;
+    let refiltered = [
+        Step::Refilter,
+        Step::Holds(None, &[]),
+        Step::Asks(&[]),
+        Step::Begin,
+        Step::Goes(Said::Basis(4, (7, 3), &["p"]), Outcome::Taken),
+    ];
+    followed(
+        rt.alloc(),
+        &[&PLACED, &GATHERING, &OVERLAPPING, &refiltered],
+    )
 }
 
-/// A mount whose floor was raised in a round.
-fn truncated_in_a_round_with<D: Daemon + Drop>(alloc: Global, daemon: D) -> Result<(), Fail> {
-    let mut pair = gathering(alloc, daemon)?;
-    pair.change(&Change::Flush)?;
-    pair.goes(&[Outcome::Placed])?;
-    pair.holds(Some((7, 2)), &[("p", "x")])?;
-    pair.begins(Outcome::Unplaced)?;
-    pair.holds(None, &[("p", "x")])?;
-    pair.begins(Outcome::Taken)?;
-    pair.holds(None, &[])?;
-    pair.goes(&[Outcome::Placed])?;
-    pair.holds(Some((7, 3)), &[("p", "x")])
-}
-
+// The floor is raised while the mirror gathers.
 #[test]
 fn truncated_in_a_round(rt: HostRuntime) -> Result<(), Fail> {
-    let alloc = rt.alloc();
-    truncated_in_a_round_with(alloc, opened_world(alloc)?)?;
-    truncated_in_a_round_with(alloc, opened_mount(alloc)?)
+    let steps = [
+        Step::Flush,
+        Step::Goes(Said::Content(2, (7, 3), "p", "x"), Outcome::Placed),
+        Step::Holds(Some((7, 2)), &[("p", "x")]),
+        Step::Begin,
+        Step::Goes(Said::Refused(3, Cause::Truncated(3)), Outcome::Unplaced),
+        Step::Holds(None, &[("p", "x")]),
+        Step::Begin,
+        Step::Goes(Said::Basis(4, (7, 3), &["p"]), Outcome::Taken),
+        Step::Holds(None, &[]),
+        Step::Goes(Said::Content(4, (7, 3), "p", "x"), Outcome::Placed),
+        Step::Holds(Some((7, 3)), &[("p", "x")]),
+    ];
+    followed(rt.alloc(), &[&PLACED, &GATHERING, &steps])
 }

@@ -1,9 +1,9 @@
 //! Replies that no round awaits change nothing.
 
-use crate::daemon::{Pair, opened_world, path, plain, write};
+use crate::daemon::{Pair, Step, opened_world};
+use crate::wanted::{Said, basis, content, created, position, query, refused};
 use eden_globs::Filter;
-use eden_history::{Mark, Marked, Position};
-use eden_ids::{GitNaming, Id, Sequence};
+use eden_ids::GitNaming;
 use eden_messages::{Cause, Outcome, Query, Reply};
 use eden_mirror::Mirror;
 use eden_world::World;
@@ -51,81 +51,43 @@ const KINDS: [Kind; 5] = [
     Kind::TooLarge,
 ];
 
-/// A mirror that is in such a round of a world that has written `p`, and the question of its last round.
+/// What leads from one round to the next.
+const WAY: [Step; 5] = [
+    Step::Begin,
+    Step::Goes(Said::Basis(1, (7, 1), &[]), Outcome::Placed),
+    Step::Write("p", "x"),
+    Step::Begin,
+    Step::Goes(Said::Created(2, (7, 2), "p"), Outcome::Taken),
+];
+
+/// How many steps lead to such a round, and the number of the mirror's last one.
+fn steps_to(round: Round) -> (usize, u64) {
+    match round {
+        Round::NoneYet => (0, 0),
+        Round::AllAsked => (1, 1),
+        Round::Over => (3, 1),
+        Round::ChangesAsked => (4, 2),
+        Round::Gathering => (5, 2),
+    }
+}
+
+/// A mirror of a world that is in such a round, and the question of its last round.
 fn mirror_in(alloc: Global, round: Round) -> Result<(Pair<World<GitNaming>>, Query), Fail> {
+    let (steps, number) = steps_to(round);
     let mut pair = Pair::new(alloc, opened_world(alloc)?);
-    let mut query = Query {
-        mirror: 1,
-        life: 1,
-        number: 0,
-    };
-    if round == Round::NoneYet {
-        return Ok((pair, query));
-    }
-    query.number = 1;
-    if round == Round::AllAsked {
-        pair.mirror.begin()?;
-        return Ok((pair, query));
-    }
-    pair.begins(Outcome::Placed)?;
-    pair.change(&write(alloc, "p", "x")?)?;
-    if round == Round::Over {
-        return Ok((pair, query));
-    }
-    query.number = 2;
-    pair.mirror.begin()?;
-    if round == Round::Gathering {
-        pair.goes(&[Outcome::Taken])?;
-    }
-    Ok((pair, query))
+    pair.goes(WAY.get(..steps).unwrap_or(&WAY))?;
+    Ok((pair, query(number)))
 }
 
-fn position(generation: u64, sequence: u64) -> Position {
-    Position {
-        generation,
-        sequence,
-        root: Id::ZERO,
-    }
-}
-
-fn content(alloc: Global, query: Query, position: Position, at: &str) -> Result<Reply, Fail> {
-    Ok(Reply::ContentIs {
-        query,
-        position,
-        path: path(alloc, at)?,
-        content: Some(plain(alloc, "strange")?),
-    })
-}
-
-/// The list of the changes up to 7/2.
-fn changes(alloc: Global, query: Query) -> Result<Reply, Fail> {
-    let mark = Mark::Created;
-    let path = path(alloc, "p")?;
-    Ok(Reply::ChangesAre {
-        query,
-        target: position(7, 2),
-        marked: Sequence::from_vec(vec![in alloc; Marked { mark, path }]?),
-    })
-}
-
-/// A reply of a kind that would be right for 7/2.
+/// A reply of a kind that would be right for 7/2, but that it tells a strange file.
 fn reply_of(alloc: Global, query: Query, kind: Kind) -> Result<Reply, Fail> {
+    let here = position(7, 2);
     match kind {
-        Kind::Basis => Ok(Reply::BasisIs {
-            query,
-            position: position(7, 2),
-            paths: Sequence::from_vec(vec![in alloc; path(alloc, "p")?]?),
-        }),
-        Kind::Changes => changes(alloc, query),
-        Kind::Content => content(alloc, query, position(7, 2), "p"),
-        Kind::Stale => Ok(Reply::Refused {
-            query,
-            cause: Cause::Stale(8),
-        }),
-        Kind::TooLarge => Ok(Reply::Refused {
-            query,
-            cause: Cause::TooLarge,
-        }),
+        Kind::Basis => basis(alloc, query, here, &["p"]),
+        Kind::Changes => created(alloc, query, here, "p"),
+        Kind::Content => content(alloc, query, here, "p", "strange"),
+        Kind::Stale => Ok(refused(query, Cause::Stale(8))),
+        Kind::TooLarge => Ok(refused(query, Cause::TooLarge)),
     }
 }
 
@@ -156,7 +118,7 @@ fn shown(alloc: Global, mirror: &Mirror) -> Result<String, Fail> {
 /// Delivers a reply that is ignored and changes nothing.
 fn ignores(pair: &mut Pair<World<GitNaming>>, reply: &Reply, said: &str) -> Result<(), Fail> {
     let before = shown(pair.alloc, &pair.mirror)?;
-    let outcome = pair.mirror.deliver(reply)?;
+    let outcome = pair.delivered(reply)?;
     let after = shown(pair.alloc, &pair.mirror)?;
     if outcome == Outcome::Ignored && before == after {
         return Ok(());
@@ -167,40 +129,45 @@ fn ignores(pair: &mut Pair<World<GitNaming>>, reply: &Reply, said: &str) -> Resu
 #[test]
 fn strange_replies(rt: HostRuntime) -> Result<(), Fail> {
     let alloc = rt.alloc();
-    let (mut pair, query) = mirror_in(alloc, Round::Gathering)?;
+    let (mut pair, asked) = mirror_in(alloc, Round::Gathering)?;
     let here = position(7, 2);
     for (said, query, position, at) in [
-        ("another mirror", Query { mirror: 2, ..query }, here, "p"),
-        ("another life", Query { life: 2, ..query }, here, "p"),
-        ("an old round", Query { number: 1, ..query }, here, "p"),
-        ("a round to come", Query { number: 3, ..query }, here, "p"),
-        ("another generation", query, position(8, 2), "p"),
-        ("an earlier position", query, position(7, 1), "p"),
-        ("another path", query, here, "q"),
-        ("a path below", query, here, "p/q"),
+        ("another mirror", Query { mirror: 2, ..asked }, here, "p"),
+        ("another life", Query { life: 2, ..asked }, here, "p"),
+        ("an old round", Query { number: 1, ..asked }, here, "p"),
+        ("a round to come", Query { number: 3, ..asked }, here, "p"),
+        ("another generation", asked, position(8, 2), "p"),
+        ("an earlier position", asked, position(7, 1), "p"),
+        ("another path", asked, here, "q"),
+        ("a path below", asked, here, "p/q"),
     ] {
-        ignores(&mut pair, &content(alloc, query, position, at)?, said)?;
+        let reply = content(alloc, query, position, at, "strange")?;
+        ignores(&mut pair, &reply, said)?;
     }
-    ignores(&mut pair, &changes(alloc, query)?, "the list again")?;
-    let refusal = reply_of(alloc, query, Kind::TooLarge)?;
+    let again = created(alloc, asked, here, "p")?;
+    ignores(&mut pair, &again, "the list again")?;
+    let refusal = reply_of(alloc, asked, Kind::TooLarge)?;
     ignores(&mut pair, &refusal, "a refusal of the list")?;
-    pair.goes(&[Outcome::Placed])?;
-    pair.holds(Some((7, 2)), &[("p", "x")])
+    let right = [
+        Step::Goes(Said::Content(2, (7, 2), "p", "x"), Outcome::Placed),
+        Step::Holds(Some((7, 2)), &[("p", "x")]),
+    ];
+    pair.goes(&right)
 }
 
 #[test]
 fn replies_out_of_their_round(rt: HostRuntime) -> Result<(), Fail> {
     let alloc = rt.alloc();
     for round in ROUNDS {
-        let (mut pair, query) = mirror_in(alloc, round)?;
+        let (mut pair, own) = mirror_in(alloc, round)?;
         for kind in KINDS {
             for (said, asked) in [
-                ("its own", query),
-                ("another mirror's", Query { mirror: 2, ..query }),
-                ("another life's", Query { life: 2, ..query }),
-                ("a later one's", Query { number: 3, ..query }),
+                ("its own", own),
+                ("another mirror's", Query { mirror: 2, ..own }),
+                ("another life's", Query { life: 2, ..own }),
+                ("a later one's", Query { number: 3, ..own }),
             ] {
-                if asked == query && is_awaited(round, kind) {
+                if asked == own && is_awaited(round, kind) {
                     continue;
                 }
                 let reply = reply_of(alloc, asked, kind)?;
@@ -220,14 +187,15 @@ fn awaited_replies_count(rt: HostRuntime) -> Result<(), Fail> {
             if !is_awaited(round, kind) {
                 continue;
             }
-            let (mut pair, query) = mirror_in(alloc, round)?;
+            let (mut pair, own) = mirror_in(alloc, round)?;
             let wanted = match kind {
                 Kind::Basis | Kind::Changes => Outcome::Taken,
                 Kind::Content => Outcome::Placed,
                 Kind::Stale => Outcome::Unplaced,
                 Kind::TooLarge => Outcome::Ended,
             };
-            pair.takes(&reply_of(alloc, query, kind)?, wanted)?;
+            let outcome = pair.delivered(&reply_of(alloc, own, kind)?)?;
+            assert_eq!(rt; outcome, wanted, "{round:?}, {kind:?}");
         }
     }
     Ok(())
@@ -243,7 +211,7 @@ fn begun_anew(rt: HostRuntime) -> Result<(), Fail> {
             let reply = reply_of(alloc, old, kind)?;
             ignores(&mut pair, &reply, "a reply to the life before")?;
         }
-        pair.mirror.begin()?;
+        pair.begin()?;
     }
     Ok(())
 }

@@ -7,10 +7,8 @@
 #[cfg(test)]
 mod device_tests;
 #[cfg(test)]
-mod mount_tests;
-#[cfg(test)]
-mod object_tests;
-#[cfg(test)]
 mod program_tests;
+#[cfg(test)]
+mod row_tests;
 #[cfg(test)]
 mod script_tests;

@@ -1,4 +1,4 @@
-//! Scripts and what they print.
+//! Scripts of strange bytes, of lines that no row reads, and at the limits. The ids are those that `git hash-object` gives to the same bytes.
 
 use eden_edend::{RunFault, run};
 use eden_stream::Counted;
@@ -16,215 +16,285 @@ pub(crate) fn told(alloc: Global, script: &[u8]) -> (Vec<u8>, Result<u64, RunFau
     (text, ended)
 }
 
-pub(crate) const FIRST_RUN: &str =
-    "mount empty 7 1000\nsince 7 1\nwrite a plain hi\nwrite b plain yo\nremove a\nsince 7 1\nsince 7 3\nsince 7 4\n";
-
-pub(crate) const FIRST_RUN_TEXT: &str =
-    "at 7 1 empty\nchanges 0 to 7 1 empty\nat 7 2 empty\nat 7 3 empty\nat 7 4 empty\nchanges 2 to 7 4 empty\nChanged a\nCreated b\nchanges 1 to 7 4 empty\nRemoved a\nchanges 0 to 7 4 empty\n";
-
 #[test]
-fn first_run(rt: HostRuntime) {
-    let (text, ended) = told(rt.alloc(), FIRST_RUN.as_bytes());
-    assert!(rt; text.as_slice() == FIRST_RUN_TEXT.as_bytes());
-    assert_eq!(rt; ended, Ok(8));
-}
-
-#[test]
-fn scripts_and_their_texts(rt: HostRuntime) {
+fn ends_of_lines_and_other_bytes(rt: HostRuntime) {
     let alloc = rt.alloc();
     for (name, script, text) in [
-        (
-            "refused positions",
-            "mount empty 7 1000\nsince 7 0\nsince 7 2\nsince 8 9\n",
-            "at 7 1 empty\nrefused Truncated 1\nrefused Ahead 1\nrefused Stale 7\n",
-        ),
-        (
-            "refused changes",
-            "mount empty 7 1000\nwrite a plain 1\nwrite a/b plain 1\nwrite d/e plain 1\nwrite d plain 1\nremove z\n",
-            "at 7 1 empty\nat 7 2 empty\nrefused NotADirectory\nat 7 3 empty\nrefused IsADirectory\nrefused NoEntry\n",
-        ),
-        (
-            "refused paths",
-            "mount empty 7 1000\nwrite \\e plain x\nwrite a//b plain x\nwrite /a plain x\nremove ..\n",
-            "at 7 1 empty\nrefused Empty\nrefused BadComponent\nrefused BadComponent\nrefused BadComponent\n",
-        ),
-        (
-            "mounts",
-            "write a plain x\nremove ..\nsince 7 1\nmount c 7 1000\nmount empty 7 1000\nmount c 8 1\nmount empty 8 1\nsince 7 1\n",
-            "refused NotMounted\nrefused NotMounted\nrefused NotMounted\nrefused NoLabel\nat 7 1 empty\nrefused Mounted\nrefused Mounted\nchanges 0 to 7 1 empty\n",
-        ),
-        (
-            "escapes",
-            "mount empty 7 1000\nwrite a\\sb plain \\\\\\n\nwr\\eite \\\\\\e link \\e\nsince 7 1\n",
-            "at 7 1 empty\nat 7 2 empty\nat 7 3 empty\nchanges 2 to 7 3 empty\nCreated \\\\\nCreated a\\sb\n",
-        ),
-        (
-            "kinds and marks",
-            "mount empty 18446744073709551615 1000\nwrite a exec 1\nwrite a link 2\nremove a\nwrite b plain 1\nwrite b plain 2\nsince 18446744073709551615 1\nsince 18446744073709551615 2\n",
-            "at 18446744073709551615 1 empty\nat 18446744073709551615 2 empty\nat 18446744073709551615 3 empty\nat 18446744073709551615 4 empty\nat 18446744073709551615 5 empty\nat 18446744073709551615 6 empty\nchanges 2 to 18446744073709551615 6 empty\nChanged a\nCreated b\nchanges 2 to 18446744073709551615 6 empty\nRemoved a\nCreated b\n",
-        ),
-        ("an empty script", "", ""),
+        ("an empty script", b"".as_slice(), ""),
         (
             "comments and empty lines",
-            "\n# mount\n\r\n#\nmount empty 7 1\n",
+            b"\n# mount\n\r\n#\nmount empty 7 1\n".as_slice(),
             "at 7 1 empty\n",
         ),
         (
             "other ends of lines",
-            "mount empty 7 1\r\nsince 7 1\r\nsince 7 2",
+            b"mount empty 7 1\r\nsince 7 1\r\nsince 7 2".as_slice(),
             "at 7 1 empty\nchanges 0 to 7 1 empty\nrefused Ahead 1\n",
         ),
         (
             "a carriage return that ends no line",
-            "mount empty 7 1\nwrite a plain x\r\nwrite b plain y\rz\nremove b\nwrite c plain \r",
+            b"mount empty 7 1\nwrite a plain x\r\nwrite b plain y\rz\nremove b\nwrite c plain \r".as_slice(),
             "at 7 1 empty\nat 7 2 empty\nat 7 3 empty\nat 7 4 empty\nat 7 5 empty\n",
         ),
+        (
+            "a name that holds an entry",
+            b"blob x x\ntree t 100644 a\0\xc1\xb0\x73\x0e\x01\x33\x44\x7b\xad\xcf\xd4\x7f\xd1\x44\xe2\x54\x80\x7b\x06\xe1b x".as_slice(),
+            "ok\nrefused CutShort\n",
+        ),
     ] {
-        let (printed, ended) = told(alloc, script.as_bytes());
+        let (printed, ended) = told(alloc, script);
         assert!(rt; printed.as_slice() == text.as_bytes(), "{name}");
         assert!(rt; ended.is_ok(), "{name}");
     }
 }
 
+/// Lines that no row of the language reads.
+const BAD_LINES: [&str; 67] = [
+    "lists",
+    "flush 1",
+    "rename a",
+    "checkout empty",
+    "checkout empty soft",
+    "mount",
+    "mount empty 7",
+    "mount empty 7 1 1",
+    "mount empty 07 1",
+    "mount empty +7 1",
+    "mount empty 7 18446744073709551616",
+    "mount EMPTY 7 1",
+    "mount abcdefghijklmnopqrstuvwxyz0123456 7 1",
+    "mount  empty 7 1",
+    "mount empty 7 1 ",
+    " mount empty 7 1",
+    "write a plain",
+    "write a plane x",
+    "write a Plain x",
+    "write a plain x y",
+    "write a\\ plain x",
+    "write a\\b plain x",
+    "write  plain x",
+    "remove",
+    "remove a b",
+    "since 7",
+    "since 7 -1",
+    "since 7 1 1",
+    "since 7 \\e",
+    "\\e#",
+    "Mount empty 7 1",
+    "mount empty 7\t1",
+    "blob",
+    "blob b",
+    "blob b x y",
+    "blob empty x",
+    "blob B x",
+    "blob b_ x",
+    "blob b- x",
+    "blob \\e x",
+    "blob b\\s x",
+    "blob abcdefghijklmnopqrstuvwxyz0123456 x",
+    "blob b x\\",
+    "blob b ",
+    "tree",
+    "tree empty",
+    "tree T",
+    "tree t 100644",
+    "tree t 100644 a",
+    "tree t 100644 a b 100644",
+    "tree t 100644 a b 100644 c",
+    "tree t 100644 a B",
+    "tree t 100644 a b 160000 c _",
+    "tree t 100644 a\\x b",
+    "tree empty 100644 a b",
+    "tree t  100644 a b",
+    "commit",
+    "commit c",
+    "commit c t t",
+    "commit empty t",
+    "commit c T",
+    "commit c_ t",
+    "id",
+    "id I",
+    "id a b",
+    "id \\e",
+    "mount a_ 7 1",
+];
+
 #[test]
-fn bad_lines(rt: HostRuntime) {
+fn bad_lines(rt: HostRuntime) -> Result<(), Fail> {
     let alloc = rt.alloc();
-    for line in [
-        "lists",
-        "flush 1",
-        "rename a",
-        "checkout empty",
-        "checkout empty soft",
-        "mount",
-        "mount empty 7",
-        "mount empty 7 1 1",
-        "mount empty 07 1",
-        "mount empty +7 1",
-        "mount empty 7 18446744073709551616",
-        "mount EMPTY 7 1",
-        "mount abcdefghijklmnopqrstuvwxyz0123456 7 1",
-        "mount  empty 7 1",
-        "mount empty 7 1 ",
-        " mount empty 7 1",
-        "write a plain",
-        "write a plane x",
-        "write a Plain x",
-        "write a plain x y",
-        "write a\\ plain x",
-        "write a\\b plain x",
-        "write  plain x",
-        "remove",
-        "remove a b",
-        "since 7",
-        "since 7 -1",
-        "since 7 1 1",
-        "since 7 \\e",
-        "\\e#",
-        "Mount empty 7 1",
-        "mount empty 7\t1",
-    ] {
-        for (before, text) in [
-            ("", ""),
-            ("mount empty 7 1\n", "at 7 1 empty\n"),
+    for line in BAD_LINES {
+        for (before, number, text) in [
+            ("", 1, ""),
+            ("blob b x\n", 2, "ok\n"),
+            ("mount empty 7 1\n", 2, "at 7 1 empty\n"),
             (
                 "#\nmount empty 7 1\nsince 8 1\n",
+                4,
                 "at 7 1 empty\nrefused Stale 7\n",
             ),
         ] {
-            let lines = before.as_bytes().iter().filter(|b| **b == b'\n').count() as u64;
-            let Ok(script) = format!(in alloc; "{before}{line}\nmount empty 9 1\n") else {
-                return assert!(rt; false, "no memory");
-            };
+            let script = format!(in alloc; "{before}{line}\nmount empty 9 1\n")?;
             let (printed, ended) = told(alloc, script.as_bytes());
-            assert!(rt;
-                ended == Err(RunFault::BadLine(lines.saturating_add(1))),
-                "{line}"
-            );
+            assert!(rt; ended == Err(RunFault::BadLine(number)), "{line}");
             assert!(rt; printed.as_slice() == text.as_bytes(), "{line}");
         }
     }
+    Ok(())
 }
 
-/// Writes `count` copies of a byte, with a slash between each `every` of them.
-fn push_path(text: &mut Vec<u8>, count: usize, every: usize) -> Result<(), Fail> {
-    let mut run: usize = 0;
-    for _ in 0..count {
-        if run >= every {
-            text.push(b'/')?;
-            run = 0;
+/// Parts that stand one behind the other, each so many times.
+type Parts = &'static [(&'static str, usize)];
+
+/// What these parts come to.
+fn repeated(alloc: Global, parts: &[(&str, usize)]) -> Result<Vec<u8>, Fail> {
+    let mut text = Vec::new(alloc);
+    for (part, times) in parts {
+        for _ in 0..*times {
+            text.extend_from_slice(part.as_bytes())?;
         }
-        text.push(b'a')?;
-        run = run.saturating_add(1);
     }
-    Ok(())
+    Ok(text)
 }
+
+/// A name that is as long as one may be.
+const WIDE: (&str, usize) = ("a", 255);
+
+/// Paths, patterns and lines that are as long, as deep or as many as they may be, and those that are more; what is printed behind the
+/// mount, and how the script ends.
+const LIMITS: [(Parts, &str, Result<u64, RunFault>); 15] = [
+    (
+        &[
+            ("remove ", 1),
+            WIDE,
+            ("/", 1),
+            WIDE,
+            ("/", 1),
+            WIDE,
+            ("/", 1),
+            WIDE,
+            ("/a", 1),
+        ],
+        "refused TooLong\n",
+        Ok(2),
+    ),
+    (
+        &[("remove ", 1), ("a", 256)],
+        "refused BadComponent\n",
+        Ok(2),
+    ),
+    (&[("remove a", 1), ("/a", 64)], "refused TooDeep\n", Ok(2)),
+    (&[("remove a", 1), ("/a", 63)], "refused NoEntry\n", Ok(2)),
+    (&[("remove ", 1), WIDE], "refused NoEntry\n", Ok(2)),
+    (&[("list", 1), (" a", 32)], "files 0\n", Ok(2)),
+    (&[("list", 1), (" a", 33)], "refused TooMany\n", Ok(2)),
+    (&[("list ", 1), ("a", 256)], "files 0\n", Ok(2)),
+    (
+        &[("list ", 1), ("a", 257)],
+        "refused PatternTooLong\n",
+        Ok(2),
+    ),
+    (
+        &[("list ", 1), ("a", 257), (" a", 32)],
+        "refused TooMany\n",
+        Ok(2),
+    ),
+    (
+        &[("write a plain ", 1), ("x", 65_522), ("\n", 1)],
+        "at 7 2 empty\n",
+        Ok(2),
+    ),
+    (
+        &[("write a plain ", 1), ("x", 65_522), ("\r\n", 1)],
+        "at 7 2 empty\n",
+        Ok(2),
+    ),
+    (
+        &[("write a plain ", 1), ("x", 65_522)],
+        "at 7 2 empty\n",
+        Ok(2),
+    ),
+    (
+        &[("write a plain ", 1), ("x", 65_523), ("\n", 1)],
+        "",
+        Err(RunFault::BadLine(2)),
+    ),
+    (
+        &[("write a plain ", 1), ("x", 65_523)],
+        "",
+        Err(RunFault::BadLine(2)),
+    ),
+];
 
 #[test]
-fn path_refusals(rt: HostRuntime) -> Result<(), Fail> {
+fn limits(rt: HostRuntime) -> Result<(), Fail> {
     let alloc = rt.alloc();
-    for (count, every, text) in [
-        (1025, 255, "refused TooLong\n"),
-        (256, 256, "refused BadComponent\n"),
-        (65, 1, "refused TooDeep\n"),
-        (64, 1, "refused NoEntry\n"),
-        (255, 255, "refused NoEntry\n"),
-    ] {
-        let mut script = b"mount empty 7 1\nremove ".to_vec(alloc)?;
-        push_path(&mut script, count, every)?;
-        let (printed, ended) = told(alloc, script.as_slice());
-        assert_eq!(rt; ended, Ok(2));
-        assert!(rt; printed.as_slice() == format!(in alloc; "at 7 1 empty\n{text}")?.as_bytes());
-    }
-    Ok(())
-}
-
-#[test]
-fn pattern_refusals(rt: HostRuntime) -> Result<(), Fail> {
-    let alloc = rt.alloc();
-    for (patterns, length, text) in [
-        (32, 1, "files 0\n"),
-        (33, 1, "refused TooMany\n"),
-        (1, 256, "files 0\n"),
-        (1, 257, "refused PatternTooLong\n"),
-        (33, 257, "refused TooMany\n"),
-    ] {
-        let mut script = b"mount empty 7 1\nlist".to_vec(alloc)?;
-        for _ in 0..patterns {
-            script.push(b' ')?;
-            push_path(&mut script, length, length)?;
-        }
-        let (printed, ended) = told(alloc, script.as_slice());
-        assert_eq!(rt; ended, Ok(2));
-        assert!(rt; printed.as_slice() == format!(in alloc; "at 7 1 empty\n{text}")?.as_bytes());
-    }
-    Ok(())
-}
-
-/// A line of this many bytes that writes a file.
-fn long_write(alloc: Global, length: usize) -> Result<Vec<u8>, Fail> {
-    let mut line = b"write a plain ".to_vec(alloc)?;
-    for _ in 0..length.saturating_sub(14) {
-        line.push(b'x')?;
-    }
-    Ok(line)
-}
-
-#[test]
-fn the_longest_line(rt: HostRuntime) -> Result<(), Fail> {
-    let alloc = rt.alloc();
-    for (length, end, ended) in [
-        (65_536, "\n", Ok(2)),
-        (65_536, "\r\n", Ok(2)),
-        (65_536, "", Ok(2)),
-        (65_537, "\n", Err(RunFault::BadLine(2))),
-        (65_537, "", Err(RunFault::BadLine(2))),
-    ] {
+    for (number, (parts, text, end)) in LIMITS.iter().enumerate() {
         let mut script = b"mount empty 7 1\n".to_vec(alloc)?;
-        script.extend_from_slice(long_write(alloc, length)?.as_slice())?;
-        script.extend_from_slice(end.as_bytes())?;
-        let (text, result) = told(alloc, script.as_slice());
-        assert_eq!(rt; result, ended);
-        assert!(rt; text.as_slice().starts_with(b"at 7 1 empty\n".as_slice()));
+        script.extend_from_slice(repeated(alloc, parts)?.as_slice())?;
+        let (printed, ended) = told(alloc, script.as_slice());
+        let wanted = format!(in alloc; "at 7 1 empty\n{text}")?;
+        assert!(rt; printed.as_slice() == wanted.as_bytes(), "row {number}");
+        assert!(rt; ended == *end, "row {number}");
     }
+    Ok(())
+}
+
+/// A script of a tree, and then of a tree with the tree before it as its only directory, once for each name's length.
+fn nested(alloc: Global, first: &str, lengths: &[usize]) -> Result<Vec<u8>, Fail> {
+    let mut script = first.as_bytes().to_vec(alloc)?;
+    for length in lengths {
+        script.extend_from_slice(b"tree t 40000 ".as_slice())?;
+        for _ in 0..*length {
+            script.push(b'd')?;
+        }
+        script.extend_from_slice(b" t\n".as_slice())?;
+    }
+    Ok(script)
+}
+
+#[test]
+fn trees_too_deep_or_too_long(rt: HostRuntime) -> Result<(), Fail> {
+    let alloc = rt.alloc();
+    let ones = [1; 65];
+    let empty = "tree t\n";
+    let file = "blob x x\ntree t 100644 f x\n";
+    for (first, lengths, count, last) in [
+        (empty, &ones[..64], 64, "ok\n"),
+        (empty, &ones[..65], 65, "refused TooDeep\n"),
+        (file, &ones[..63], 64, "ok\n"),
+        (file, &ones[..64], 65, "refused TooDeep\n"),
+        (file, [255, 255, 255, 254].as_slice(), 5, "ok\n"),
+        (
+            file,
+            [255, 255, 255, 255].as_slice(),
+            5,
+            "refused PathTooLong\n",
+        ),
+        (file, [256].as_slice(), 2, "refused BadName\n"),
+    ] {
+        let (printed, ended) = told(alloc, nested(alloc, first, lengths)?.as_slice());
+        let wanted = repeated(alloc, &[("ok\n", count), (last, 1)])?;
+        assert!(rt; ended.is_ok(), "{last} behind {count} lines");
+        assert!(rt;
+            printed.as_slice() == wanted.as_slice(),
+            "{last} behind {count} lines"
+        );
+    }
+    Ok(())
+}
+
+#[test]
+fn a_tree_of_many_entries(rt: HostRuntime) -> Result<(), Fail> {
+    let alloc = rt.alloc();
+    let mut script = b"blob x x\ntree t".to_vec(alloc)?;
+    for number in 1_000..4_000 {
+        script.extend_from_slice(format!(in alloc; " 100644 {number} x")?.as_bytes())?;
+    }
+    script.extend_from_slice(b"\nid t\n".as_slice())?;
+    let (printed, ended) = told(alloc, script.as_slice());
+    assert!(rt; ended.is_ok());
+    assert!(rt;
+        printed.as_slice() == b"ok\nok\nid d1c2917126ed0add9064af2e34bd06ac705429e5\n".as_slice()
+    );
     Ok(())
 }

@@ -1,46 +1,14 @@
 use eden_globs::Filter;
 use eden_ids::{GitNaming, Id, Kind, Path};
-use test_kit::{commit_of, push_entry};
 use eden_objects::{CommitFault, NoCommit, Store};
 use std::alloc::Global;
 use std::test::Fail;
+use test_kit::{Objects, path};
 
-/// Puts a tree of one entry.
-fn put_one(
-    alloc: Global,
-    store: &mut Store<GitNaming>,
-    mode: &str,
-    name: &str,
-    id: Id,
-) -> Result<Id, Fail> {
-    let mut payload = Vec::new(alloc);
-    push_entry(&mut payload, mode, name.as_bytes(), id)?;
-    Ok(store.put_tree(payload.as_slice())?)
-}
-
-/// Puts a commit of a tree.
-fn put_commit(alloc: Global, store: &mut Store<GitNaming>, tree: Id) -> Result<Id, Fail> {
-    let payload = commit_of(alloc, tree, "")?;
-    Ok(store.put_commit(payload.as_slice())?)
-}
-
-/// Puts the files `a-b`, `a/x`, `a0` and `d/e/f`, and answers their commit.
-fn put_files(alloc: Global, store: &mut Store<GitNaming>) -> Result<Id, Fail> {
-    let one = store.put_blob(b"one\n".as_slice())?;
-    let two = store.put_blob(b"two\n".as_slice())?;
-    let link = store.put_blob(b"a-b".as_slice())?;
-    let three = store.put_blob(b"three\n".as_slice())?;
-    let a = put_one(alloc, store, "100755", "x", two)?;
-    let e = put_one(alloc, store, "100644", "f", three)?;
-    let d = put_one(alloc, store, "40000", "e", e)?;
-    let mut top = Vec::new(alloc);
-    push_entry(&mut top, "100644", b"a-b".as_slice(), one)?;
-    push_entry(&mut top, "40000", b"a".as_slice(), a)?;
-    push_entry(&mut top, "120000", b"a0".as_slice(), link)?;
-    push_entry(&mut top, "40000", b"d".as_slice(), d)?;
-    let tree = store.put_tree(top.as_slice())?;
-    put_commit(alloc, store, tree)
-}
+/// A commit `c` of the files `a-b`, `a/x`, `a0` and `d/e/f`.
+const FILES: &str =
+    "blob one one\\n;blob two two\\n;blob link a-b;blob three three\\n;tree a 100755 x two;tree e 100644 f three;tree d 40000 e e;\
+    tree t 100644 a-b one 40000 a a 120000 a0 link 40000 d d;commit c t";
 
 /// A file: its path, its kind, and the id that Git gives its blob.
 type Row = (&'static str, Kind, &'static str);
@@ -99,8 +67,8 @@ fn has_below(
 #[test]
 fn a_commit_lists_its_files(rt: HostRuntime) -> Result<(), Fail> {
     let alloc = rt.alloc();
-    let mut store = Store::new(alloc, GitNaming);
-    let commit = put_files(alloc, &mut store)?;
+    let objects = Objects::of(alloc, FILES)?;
+    let (store, commit) = (&objects.store, objects.id("c"));
     assert_eq!(rt;
         commit.to_hex().as_slice(),
         b"121c0404102d0c4f3969bca6aa8e28f3be526767".as_slice()
@@ -108,11 +76,11 @@ fn a_commit_lists_its_files(rt: HostRuntime) -> Result<(), Fail> {
     let all = Filter::parse(alloc, &[])?;
     let listed = store.list(commit, &all)?;
     assert!(rt; has_rows(listed.as_slice(), &[A_B, A_X, A0, F]));
-    assert!(rt; has_below(alloc, &store, commit, "a", &[A_X])?);
-    assert!(rt; has_below(alloc, &store, commit, "d", &[F])?);
-    assert!(rt; has_below(alloc, &store, commit, "d/e", &[F])?);
+    assert!(rt; has_below(alloc, store, commit, "a", &[A_X])?);
+    assert!(rt; has_below(alloc, store, commit, "d", &[F])?);
+    assert!(rt; has_below(alloc, store, commit, "d/e", &[F])?);
     for top in ["a-b", "a/x", "d/f", "z/e"] {
-        assert!(rt; has_below(alloc, &store, commit, top, &[])?, "at {top}");
+        assert!(rt; has_below(alloc, store, commit, top, &[])?, "at {top}");
     }
     Ok(())
 }
@@ -120,8 +88,8 @@ fn a_commit_lists_its_files(rt: HostRuntime) -> Result<(), Fail> {
 #[test]
 fn a_file_is_looked_up(rt: HostRuntime) -> Result<(), Fail> {
     let alloc = rt.alloc();
-    let mut store = Store::new(alloc, GitNaming);
-    let commit = put_files(alloc, &mut store)?;
+    let objects = Objects::of(alloc, FILES)?;
+    let (store, commit) = (&objects.store, objects.id("c"));
     for (path, kind, id) in [A_B, A_X, A0, F] {
         let id = Id::from_hex(id.as_bytes())?;
         let path = Path::parse(alloc, path.as_bytes())?;
@@ -145,8 +113,8 @@ fn a_file_is_looked_up(rt: HostRuntime) -> Result<(), Fail> {
 #[test]
 fn a_commit_that_is_held_tells_its_files(rt: HostRuntime) -> Result<(), Fail> {
     let alloc = rt.alloc();
-    let mut store = Store::new(alloc, GitNaming);
-    let id = put_files(alloc, &mut store)?;
+    let objects = Objects::of(alloc, FILES)?;
+    let (store, id) = (&objects.store, objects.id("c"));
     let commit = store.commit(id).expect(&rt, "the commit");
     for (path, kind, bytes) in [
         ("a-b", Kind::Plain, "one\n"),
@@ -191,8 +159,8 @@ fn a_commit_that_is_held_tells_its_files(rt: HostRuntime) -> Result<(), Fail> {
 #[test]
 fn commits_are_told_from_other_objects(rt: HostRuntime) -> Result<(), Fail> {
     let alloc = rt.alloc();
-    let mut store = Store::new(alloc, GitNaming);
-    let commit = put_files(alloc, &mut store)?;
+    let objects = Objects::of(alloc, FILES)?;
+    let (store, commit) = (&objects.store, objects.id("c"));
     let all = Filter::parse(alloc, &[])?;
     let path = Path::parse(alloc, b"a".as_slice())?;
     assert!(rt; store.has_commit(commit));
@@ -213,77 +181,59 @@ fn commits_are_told_from_other_objects(rt: HostRuntime) -> Result<(), Fail> {
 #[test]
 fn file_becomes_directory(rt: HostRuntime) -> Result<(), Fail> {
     let alloc = rt.alloc();
-    let mut store = Store::new(alloc, GitNaming);
-    let x = store.put_blob(b"x".as_slice())?;
-    let s = put_one(alloc, &mut store, "100644", "b", x)?;
-    let mut top = Vec::new(alloc);
-    push_entry(&mut top, "100644", b"a.b".as_slice(), x)?;
-    push_entry(&mut top, "40000", b"a".as_slice(), s)?;
-    let tree = store.put_tree(top.as_slice())?;
-    let commit = put_commit(alloc, &mut store, tree)?;
-    let a = Path::parse(alloc, b"a".as_slice())?;
-    let below = store.list_below(commit, &a)?;
-    assert_eq!(rt; below.len(), 1);
-    for (path, kind, id) in below.iter() {
-        assert_eq!(rt; path.as_bytes(), b"a/b".as_slice());
-        assert_eq!(rt; (*kind, *id), (Kind::Plain, x));
-    }
+    let script = "blob x x;tree s 100644 b x;tree t 100644 a.b x 40000 a s;commit c t";
+    let objects = Objects::of(alloc, script)?;
+    let below = objects
+        .store
+        .list_below(objects.id("c"), &path(alloc, "a")?)?;
+    let wanted = (path(alloc, "a/b")?, Kind::Plain, objects.id("x"));
+    assert!(rt; below.as_slice() == [wanted].as_slice());
     Ok(())
 }
 
-/// Puts so many levels over a tree, each with two entries that name the level below.
-fn put_levels(
-    alloc: Global,
-    store: &mut Store<GitNaming>,
-    lowest: Id,
-    levels: u32,
-) -> Result<Id, Fail> {
-    let mut tree = lowest;
-    for _ in 0..levels {
-        let mut payload = Vec::new(alloc);
-        push_entry(&mut payload, "40000", b"a".as_slice(), tree)?;
-        push_entry(&mut payload, "40000", b"b".as_slice(), tree)?;
-        tree = store.put_tree(payload.as_slice())?;
-    }
-    Ok(tree)
+/// A commit `c` of forty levels, each with two entries that name the level below: the lowest tree stands in it two to the 40 times, as
+/// a file `a` alone, or without any. And a commit `d` of the first of these trees below `d`, and of a file `x`.
+fn levels(alloc: Global, lowest: &str) -> Result<Objects, Fail> {
+    let mut objects = Objects::of(alloc, "blob x x")?;
+    objects.put(alloc, lowest)?;
+    objects.repeat(alloc, "tree t 40000 a t 40000 b t", 40)?;
+    objects.put(alloc, "commit c t")?;
+    objects.put(alloc, "tree u 40000 d t 100644 x x")?;
+    objects.put(alloc, "commit d u")?;
+    Ok(objects)
 }
 
-// Forty levels, each with two entries that name the level below: 2 to the 40 files, of which none is listed.
+// 2 to the 40 files, of which none is listed; those below each of the two names are counted at once. And a directory that no pattern enters
+// is not read.
 #[test]
 fn shared_subtrees(rt: HostRuntime) -> Result<(), Fail> {
     let alloc = rt.alloc();
-    let mut store = Store::new(alloc, GitNaming);
-    let x = store.put_blob(b"x".as_slice())?;
-    let lowest = put_one(alloc, &mut store, "100644", "a", x)?;
-    let tree = put_levels(alloc, &mut store, lowest, 40)?;
-    let mut path = b"a".to_vec(alloc)?;
+    let objects = levels(alloc, "tree t 100644 a x")?;
+    let (store, commit, x) = (&objects.store, objects.id("c"), objects.id("x"));
+    let mut names = b"a".to_vec(alloc)?;
     for level in 0..40u32 {
         let name = if level % 2 == 0 { b"/a" } else { b"/b" };
-        path.extend_from_slice(name.as_slice())?;
+        names.extend_from_slice(name.as_slice())?;
     }
-    let commit = put_commit(alloc, &mut store, tree)?;
-    let down = Path::parse(alloc, path.as_slice())?;
+    let down = Path::parse(alloc, names.as_slice())?;
     assert_eq!(rt; store.lookup(commit, &down)?, None);
     // The other way round the last component is the file's name.
-    path.reverse();
-    let up = Path::parse(alloc, path.as_slice())?;
+    names.reverse();
+    let up = Path::parse(alloc, names.as_slice())?;
     assert_eq!(rt; store.lookup(commit, &up)?, Some((Kind::Plain, x)));
-    Ok(())
-}
-
-// 2 to the 39 files stand below each of the two names; they are counted at once.
-#[test]
-fn shared_files_are_counted(rt: HostRuntime) -> Result<(), Fail> {
-    let alloc = rt.alloc();
-    let mut store = Store::new(alloc, GitNaming);
-    let x = store.put_blob(b"x".as_slice())?;
-    let lowest = put_one(alloc, &mut store, "100644", "f", x)?;
-    let tree = put_levels(alloc, &mut store, lowest, 40)?;
-    let commit = put_commit(alloc, &mut store, tree)?;
-    assert!(rt; store.has_below(commit, b"a".as_slice(), 549_755_813_888));
-    assert!(rt; !store.has_below(commit, b"a".as_slice(), 549_755_813_889));
-    assert!(rt; store.has_below(commit, b"b/a".as_slice(), 274_877_906_944));
-    assert!(rt; !store.has_below(commit, b"b/a".as_slice(), 274_877_906_945));
+    for (top, files) in [("a", 549_755_813_888_usize), ("b/a", 274_877_906_944)] {
+        assert!(rt; store.has_below(commit, top.as_bytes(), files), "{top}");
+        assert!(rt;
+            !store.has_below(commit, top.as_bytes(), files.saturating_add(1)),
+            "{top}"
+        );
+    }
+    for (pattern, wanted) in [("x", 1), ("?", 1), ("d/x", 0), ("*/*/b/f", 0)] {
+        let filter = Filter::parse(alloc, &[pattern.as_bytes()])?;
+        let listed = store.list(objects.id("d"), &filter)?;
+        assert_eq!(rt; listed.len(), wanted, "{pattern}");
+        assert!(rt; listed.iter().all(|row| row.2 == x), "{pattern}");
+    }
     Ok(())
 }
 
@@ -291,37 +241,9 @@ fn shared_files_are_counted(rt: HostRuntime) -> Result<(), Fail> {
 #[test]
 fn empty_directories_hold_nothing(rt: HostRuntime) -> Result<(), Fail> {
     let alloc = rt.alloc();
-    let mut store = Store::new(alloc, GitNaming);
-    let empty = store.put_tree(b"".as_slice())?;
-    let tree = put_levels(alloc, &mut store, empty, 40)?;
-    let commit = put_commit(alloc, &mut store, tree)?;
+    let objects = levels(alloc, "tree t")?;
+    let (store, commit) = (&objects.store, objects.id("c"));
     assert!(rt; !store.has_below(commit, b"a".as_slice(), 1));
-    let everything = Filter::parse(alloc, &[])?;
-    assert_eq!(rt; store.list(commit, &everything)?.len(), 0);
-    Ok(())
-}
-
-// 2 to the 40 files stand below `d`, of which none is wanted: a directory that no pattern enters is not read.
-#[test]
-fn only_what_may_be_wanted_is_read(rt: HostRuntime) -> Result<(), Fail> {
-    let alloc = rt.alloc();
-    let mut store = Store::new(alloc, GitNaming);
-    let x = store.put_blob(b"x".as_slice())?;
-    let lowest = put_one(alloc, &mut store, "100644", "f", x)?;
-    let deep = put_levels(alloc, &mut store, lowest, 40)?;
-    let mut top = Vec::new(alloc);
-    push_entry(&mut top, "40000", b"d".as_slice(), deep)?;
-    push_entry(&mut top, "100644", b"x".as_slice(), x)?;
-    let tree = store.put_tree(top.as_slice())?;
-    let commit = put_commit(alloc, &mut store, tree)?;
-    for (pattern, wanted) in [("x", true), ("?", true), ("d/x", false), ("*/*/b/f", false)] {
-        let filter = Filter::parse(alloc, &[pattern.as_bytes()])?;
-        let listed = store.list(commit, &filter)?;
-        assert_eq!(rt; listed.len(), wanted as usize, "{pattern}");
-        assert_eq!(rt;
-            listed.first().map(|row| row.2),
-            if wanted { Some(x) } else { None }
-        );
-    }
+    assert_eq!(rt; store.list(commit, &Filter::all(alloc))?.len(), 0);
     Ok(())
 }

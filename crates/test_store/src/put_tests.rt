@@ -1,10 +1,10 @@
 ghost use Rattle.std.specs.Prelude.{◌≡◌, ◌||◌, nat_eq, slice_index};
 
 use eden_ids::{GitNaming, Id, Naming};
-use test_kit::{commit_of, push_entry};
 use eden_objects::{PutFault, Store};
 use std::alloc::Global;
 use std::test::Fail;
+use test_kit::{Objects, commit_of, push_entry, tree_of};
 
 /// Twenty copies of the payload's first byte, 0 where it has none.
 #[derive(Drop)]
@@ -52,162 +52,82 @@ fn too_large_comes_first(rt: HostRuntime) -> Result<(), Fail> {
     Ok(())
 }
 
-/// A tree's payload from entries `MODE NAME CHILD`, each child being `b`lob, `t`ree, `c`ommit or `m`issing.
-#[derive(Clone, Copy)]
-struct Children {
-    blob: Id,
-    tree: Id,
-    commit: Id,
-}
-
-impl Children {
-    fn named(&self, child: &str) -> Id {
-        match child {
-            "b" => self.blob,
-            "t" => self.tree,
-            "c" => self.commit,
-            _ => Id([1; 20]),
-        }
-    }
-
-    fn payload(&self, alloc: Global, text: &str) -> Result<Vec<u8>, Fail> {
-        let mut payload = Vec::new(alloc);
-        for entry in text.split(", ") {
-            let mut words = entry.split(' ');
-            let mode = words.next().unwrap_or("");
-            let name = words.next().unwrap_or("");
-            let child = words.next().unwrap_or("");
-            push_entry(&mut payload, mode, name.as_bytes(), self.named(child))?;
-        }
-        Ok(payload)
-    }
-}
-
-/// A store with a blob, a tree and a commit.
-fn small_store<N: Naming + Drop>(alloc: Global, naming: N) -> Result<(Store<N>, Children), Fail> {
-    let mut store = Store::new(alloc, naming);
-    let blob = store.put_blob(b"x".as_slice())?;
-    let mut payload = Vec::new(alloc);
-    push_entry(&mut payload, "100644", b"x".as_slice(), blob)?;
-    let tree = store.put_tree(payload.as_slice())?;
-    let commit = store.put_commit(commit_of(alloc, tree, "")?.as_slice())?;
-    Ok((store, Children { blob, tree, commit }))
-}
-
-// Each entry's faults in the order in which it is read, and the first entry with a fault decides.
-#[test]
-fn tree_refusals(rt: HostRuntime) -> Result<(), Fail> {
-    let alloc = rt.alloc();
-    let (mut store, children) = small_store(alloc, GitNaming)?;
-    let rows = [
-        ("100644 b b, 100644 a b", PutFault::OutOfOrder),
-        ("100644 a b, 40000 a t", PutFault::Duplicate),
-        ("100644 a b, 100644 a.b b, 40000 a t", PutFault::Duplicate),
-        ("40000 a t, 100644 a b", PutFault::Duplicate),
-        ("160000 a b", PutFault::BadMode),
-        ("040000 a t", PutFault::BadMode),
-        ("100664 a b", PutFault::BadMode),
-        (" a b", PutFault::BadMode),
-        ("100644  b", PutFault::BadName),
-        ("100644 . b", PutFault::BadName),
-        ("100644 .. b", PutFault::BadName),
-        ("100644 a/b b", PutFault::BadName),
-        ("100644 a m", PutFault::MissingChild),
-        ("100644 a t", PutFault::WrongChildKind),
-        ("100644 a c", PutFault::WrongChildKind),
-        ("40000 a b", PutFault::WrongChildKind),
-        ("40000 a c", PutFault::WrongChildKind),
-        // Two causes in one entry.
-        ("160000 .. b", PutFault::BadMode),
-        ("160000 a m", PutFault::BadMode),
-        ("100644 .. m", PutFault::BadName),
-        ("100644 b b, 100644 c b, 100644 b b", PutFault::Duplicate),
-        ("100644 b b, 100644 b m", PutFault::Duplicate),
-        ("100644 b b, 100644 b t", PutFault::Duplicate),
-        ("100644 b b, 100644 a m", PutFault::OutOfOrder),
-        ("100644 b b, 100644 a t", PutFault::OutOfOrder),
-        // The first entry with a fault decides.
-        ("100644 a t, 160000 a/b m", PutFault::WrongChildKind),
-        ("100644 a b, 100644 b m, 100644 a b", PutFault::MissingChild),
-    ];
-    for (text, fault) in rows {
-        let payload = children.payload(alloc, text)?;
-        assert_eq!(rt; store.put_tree(payload.as_slice()), Err(fault), "at {text}");
-    }
-    Ok(())
-}
+/// A blob, a tree of it and a commit of that tree.
+const SMALL: &str = "blob b x;tree t 100644 x b;commit c t";
 
 #[test]
 fn trees_cut_short(rt: HostRuntime) -> Result<(), Fail> {
     let alloc = rt.alloc();
-    let (mut store, children) = small_store(alloc, GitNaming)?;
-    let whole = children.payload(alloc, "100755 run b, 120000 there b, 40000 z t")?;
-    assert!(rt; store.put_tree(whole.as_slice()).is_ok());
+    let mut objects = Objects::of(alloc, SMALL)?;
+    objects.put(alloc, "tree w 100755 run b 120000 there b 40000 z t")?;
+    let whole = objects
+        .store
+        .tree(objects.id("w"))
+        .unwrap_or(b"".as_slice());
+    let whole = whole.to_vec(alloc)?;
     let borders = [0, 31, 64, 91];
     for length in 0..whole.len() {
         let cut = &whole[..length];
         if !borders.contains(&length) {
-            assert_eq!(rt; store.put_tree(cut), Err(PutFault::CutShort), "at {length}");
+            let answer = objects.store.put_tree(cut);
+            assert_eq!(rt; answer, Err(PutFault::CutShort), "at {length}");
         }
     }
     // A bad mode or name is told before the end that comes too early, and that before what the entry names.
-    let rows = [
-        ("160000 a b", PutFault::BadMode),
-        ("100644 .. b", PutFault::BadName),
-        ("100644 b b, 100644 b b", PutFault::CutShort),
-        ("100644 b b, 100644 a b", PutFault::CutShort),
-        ("100644 a m", PutFault::CutShort),
-    ];
-    for (text, fault) in rows {
-        let payload = children.payload(alloc, text)?;
+    let (b, missing) = (objects.id("b"), objects.id("missing"));
+    for (entries, fault) in [
+        ([("160000", "a", b)].as_slice(), PutFault::BadMode),
+        ([("100644", "..", b)].as_slice(), PutFault::BadName),
+        (
+            [("100644", "b", b), ("100644", "b", b)].as_slice(),
+            PutFault::CutShort,
+        ),
+        (
+            [("100644", "b", b), ("100644", "a", b)].as_slice(),
+            PutFault::CutShort,
+        ),
+        ([("100644", "a", missing)].as_slice(), PutFault::CutShort),
+    ] {
+        let payload = tree_of(alloc, entries)?;
         let cut = &payload[..payload.len().saturating_sub(1)];
-        assert_eq!(rt; store.put_tree(cut), Err(fault), "at {text}");
+        assert_eq!(rt; objects.store.put_tree(cut), Err(fault));
     }
-    assert_eq!(rt;
-        store.put_tree(b"160000 a".as_slice()),
-        Err(PutFault::BadMode)
-    );
+    let mode = objects.store.put_tree(b"160000 a".as_slice());
+    assert_eq!(rt; mode, Err(PutFault::BadMode));
     Ok(())
 }
 
 #[test]
 fn commit_refusals(rt: HostRuntime) -> Result<(), Fail> {
     let alloc = rt.alloc();
-    let (mut store, children) = small_store(alloc, GitNaming)?;
-    let whole = commit_of(alloc, children.tree, "author a\n")?;
-    assert!(rt; store.put_commit(whole.as_slice()).is_ok());
+    let mut objects = Objects::of(alloc, SMALL)?;
+    let whole = commit_of(alloc, objects.id("t"), "author a\n")?;
+    assert!(rt; objects.store.put_commit(whole.as_slice()).is_ok());
     for length in 0..46usize.min(whole.len()) {
-        assert_eq!(rt; store.put_commit(&whole[..length]), Err(PutFault::CutShort));
+        let answer = objects.store.put_commit(&whole[..length]);
+        assert_eq!(rt; answer, Err(PutFault::CutShort));
     }
-    assert!(rt; store.put_commit(&whole[..46.min(whole.len())]).is_ok());
+    let first = &whole[..46.min(whole.len())];
+    assert!(rt; objects.store.put_commit(first).is_ok());
     for (place, byte) in [(0, b'T'), (4, b'\t'), (5, b'A'), (44, b'g'), (45, b'\r')] {
         let mut payload = whole.clone()?;
         if let Some(slot) = payload.get_mut(place) {
             *slot = byte;
         }
-        assert_eq!(rt;
-            store.put_commit(payload.as_slice()),
-            Err(PutFault::BadCommit)
-        );
-    }
-    let missing = commit_of(alloc, Id([1; 20]), "")?;
-    assert_eq!(rt;
-        store.put_commit(missing.as_slice()),
-        Err(PutFault::MissingChild)
-    );
-    for child in [children.blob, children.commit] {
-        let payload = commit_of(alloc, child, "")?;
-        assert_eq!(rt;
-            store.put_commit(payload.as_slice()),
-            Err(PutFault::WrongChildKind)
-        );
+        let answer = objects.store.put_commit(payload.as_slice());
+        assert_eq!(rt; answer, Err(PutFault::BadCommit));
     }
     // No object is the empty commit, so none is its tree.
-    let empty = commit_of(alloc, Id::ZERO, "")?;
-    assert_eq!(rt;
-        store.put_commit(empty.as_slice()),
-        Err(PutFault::MissingChild)
-    );
+    for (name, fault) in [
+        ("missing", PutFault::MissingChild),
+        ("empty", PutFault::MissingChild),
+        ("b", PutFault::WrongChildKind),
+        ("c", PutFault::WrongChildKind),
+    ] {
+        let payload = commit_of(alloc, objects.id(name), "")?;
+        let answer = objects.store.put_commit(payload.as_slice());
+        assert_eq!(rt; answer, Err(fault), "{name}");
+    }
     Ok(())
 }
 
@@ -241,67 +161,64 @@ impl Naming for Marked {
     }
 }
 
-/// Puts trees, each of which has the one before as its only entry, with a name of this length.
-fn nested<N: Naming + Drop>(
+/// A store with a blob, a tree of it, and the blob whose id has twenty bytes `Y`.
+fn marked_store(alloc: Global) -> Result<(Store<Marked>, Id, Id), Fail> {
+    let mut store = Store::new(alloc, Marked);
+    let blob = store.put_blob(b"x".as_slice())?;
+    let tree = store.put_tree(tree_of(alloc, &[("100644", "x", blob)])?.as_slice())?;
+    let taken = store.put_blob(b"blob: Y".as_slice())?;
+    if taken == Id([b'Y'; 20]) {
+        return Ok((store, blob, tree));
+    }
+    Err(Fail::new("the mark is not seen"))
+}
+
+/// Puts trees, each of which has the one before as its only entry, with this name.
+fn nested(
     alloc: Global,
-    store: &mut Store<N>,
+    store: &mut Store<Marked>,
     tree: Id,
     count: usize,
-    length: usize,
+    name: &[u8],
 ) -> Result<Id, Fail> {
     let mut top = tree;
     for _ in 0..count {
         let mut payload = Vec::new(alloc);
-        let name = vec![in alloc; b'd'; length]?;
-        push_entry(&mut payload, "40000", name.as_slice(), top)?;
+        push_entry(&mut payload, "40000", name, top)?;
         top = store.put_tree(payload.as_slice())?;
     }
     Ok(top)
 }
 
-/// What is answered to a tree with one entry.
-fn answer_to<N: Naming + Drop>(
+/// Why no tree is put whose only entry is a directory.
+fn fault_of(
     alloc: Global,
-    store: &mut Store<N>,
-    mode: &str,
+    store: &mut Store<Marked>,
     name: &[u8],
     child: Id,
 ) -> Result<Option<PutFault>, Fail> {
     let mut payload = Vec::new(alloc);
-    push_entry(&mut payload, mode, name, child)?;
-    match store.put_tree(payload.as_slice()) {
-        Ok(_) => Ok(None),
-        Err(fault) => Ok(Some(fault)),
-    }
+    push_entry(&mut payload, "40000", name, child)?;
+    Ok(store.put_tree(payload.as_slice()).err())
 }
 
 #[test]
 fn deep_trees(rt: HostRuntime) -> Result<(), Fail> {
     let alloc = rt.alloc();
-    let (mut store, children) = small_store(alloc, Marked)?;
-    assert_eq!(rt; store.put_blob(b"blob: Y".as_slice()), Ok(Id([b'Y'; 20])));
-    let deepest = nested(alloc, &mut store, children.tree, 63, 1)?;
-    for (name, fault) in [
-        ("d", PutFault::TooDeep),
-        ("Z", PutFault::TooDeep),
-        ("Y", PutFault::TooDeep),
-    ] {
-        assert_eq!(rt;
-            answer_to(alloc, &mut store, "40000", name.as_bytes(), deepest)?,
-            Some(fault)
-        );
+    let (mut store, _, tree) = marked_store(alloc)?;
+    let deepest = nested(alloc, &mut store, tree, 63, b"d".as_slice())?;
+    for name in ["d", "Z", "Y"] {
+        let fault = fault_of(alloc, &mut store, name.as_bytes(), deepest)?;
+        assert_eq!(rt; fault, Some(PutFault::TooDeep), "{name}");
     }
     // Sixty-four levels that reach 15 bytes for each component but the last, and one more that is too long too.
-    let wide = nested(alloc, &mut store, children.tree, 63, 15)?;
+    let wide = nested(alloc, &mut store, tree, 63, b"ddddddddddddddd".as_slice())?;
     let name = vec![in alloc; b'd'; 255]?;
-    assert_eq!(rt;
-        answer_to(alloc, &mut store, "40000", name.as_slice(), wide)?,
-        Some(PutFault::TooDeep)
-    );
+    let fault = fault_of(alloc, &mut store, name.as_slice(), wide)?;
+    assert_eq!(rt; fault, Some(PutFault::TooDeep));
     // A fault of an entry comes before the depth.
-    let mut payload = Vec::new(alloc);
-    push_entry(&mut payload, "40000", b"d".as_slice(), deepest)?;
-    push_entry(&mut payload, "100644", b"e".as_slice(), Id([1; 20]))?;
+    let entries = [("40000", "d", deepest), ("100644", "e", Id([1; 20]))];
+    let payload = tree_of(alloc, &entries)?;
     assert_eq!(rt;
         store.put_tree(payload.as_slice()),
         Err(PutFault::MissingChild)
@@ -312,28 +229,21 @@ fn deep_trees(rt: HostRuntime) -> Result<(), Fail> {
 #[test]
 fn long_paths(rt: HostRuntime) -> Result<(), Fail> {
     let alloc = rt.alloc();
-    for (length, reach_is_too_long) in [(255, true), (254, false)] {
-        let (mut store, children) = small_store(alloc, Marked)?;
-        assert_eq!(rt; store.put_blob(b"blob: Y".as_slice()), Ok(Id([b'Y'; 20])));
-        let name = vec![in alloc; b'f'; length]?;
+    let long = Some(PutFault::PathTooLong);
+    for (length, answers) in [
+        (255, [long, long, long]),
+        (254, [None, Some(PutFault::ZeroId), Some(PutFault::IdTaken)]),
+    ] {
+        let (mut store, blob, _) = marked_store(alloc)?;
         let mut payload = Vec::new(alloc);
-        push_entry(&mut payload, "100644", name.as_slice(), children.blob)?;
+        let name = vec![in alloc; b'f'; length]?;
+        push_entry(&mut payload, "100644", name.as_slice(), blob)?;
         let file = store.put_tree(payload.as_slice())?;
-        let three = nested(alloc, &mut store, file, 3, 255)?;
-        for (name, other) in [
-            ("d", None),
-            ("Z", Some(PutFault::ZeroId)),
-            ("Y", Some(PutFault::IdTaken)),
-        ] {
-            let wanted = if reach_is_too_long {
-                Some(PutFault::PathTooLong)
-            } else {
-                other
-            };
-            assert_eq!(rt;
-                answer_to(alloc, &mut store, "40000", name.as_bytes(), three)?,
-                wanted
-            );
+        let name = vec![in alloc; b'd'; 255]?;
+        let three = nested(alloc, &mut store, file, 3, name.as_slice())?;
+        for (name, answer) in ["d", "Z", "Y"].into_iter().zip(answers) {
+            let fault = fault_of(alloc, &mut store, name.as_bytes(), three)?;
+            assert_eq!(rt; fault, answer, "{name}");
         }
     }
     Ok(())
@@ -342,18 +252,17 @@ fn long_paths(rt: HostRuntime) -> Result<(), Fail> {
 #[test]
 fn what_is_named_comes_before_the_id(rt: HostRuntime) -> Result<(), Fail> {
     let alloc = rt.alloc();
-    let (mut store, children) = small_store(alloc, Marked)?;
-    assert_eq!(rt; store.put_blob(b"blob: Y".as_slice()), Ok(Id([b'Y'; 20])));
+    let (mut store, blob, tree) = marked_store(alloc)?;
     for (mark, answer) in [("Z", PutFault::ZeroId), ("Y", PutFault::IdTaken)] {
         for (child, fault) in [
             (Id([1; 20]), PutFault::MissingChild),
-            (children.blob, PutFault::WrongChildKind),
-            (children.tree, answer),
+            (blob, PutFault::WrongChildKind),
+            (tree, answer),
         ] {
             let commit = commit_of(alloc, child, mark)?;
             assert_eq!(rt; store.put_commit(commit.as_slice()), Err(fault));
-            let tree = answer_to(alloc, &mut store, "40000", mark.as_bytes(), child)?;
-            assert_eq!(rt; tree, Some(fault));
+            let directory = fault_of(alloc, &mut store, mark.as_bytes(), child)?;
+            assert_eq!(rt; directory, Some(fault));
         }
         assert_eq!(rt; store.put_commit(mark.as_bytes()), Err(PutFault::CutShort));
         let bad = vec![in alloc; mark.as_bytes().first().copied().unwrap_or(b'Z'); 46]?;

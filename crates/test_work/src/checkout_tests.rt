@@ -1,284 +1,115 @@
-ghost use Rattle.std.proofs.Props.{props};
-ghost use Rattle.eden_workcopy.specs.Meanings.{FitsIn};
-
-use eden_checkout::{Planned, plan};
+use crate::mounted::Mounted;
+use eden_checkout::plan;
 use eden_history::Mode;
-use eden_ids::{GitNaming, Id, Kind, Path};
-use test_kit::{commit_of, push_entry};
-use eden_objects::{CommitFault, Store};
-use eden_workcopy::WorkCopy;
+use eden_ids::Id;
+use eden_objects::CommitFault;
 use std::alloc::Global;
 use std::test::Fail;
+use test_kit::Objects;
 
-/// A store with two commits.
-#[derive(Drop)]
-struct Commits {
-    store: Store<GitNaming>,
-    first: Id,
-    second: Id,
-}
-
-/// A working copy over a store.
-#[derive(Drop)]
-struct Fixture {
-    store: Store<GitNaming>,
-    work: WorkCopy,
-    ghost fits: { FitsIn store work } by { Prim.hlevel props },
-}
-
-/// The blobs and trees that a table's entries name by one byte: `x` and `y` hold that byte, `P` has one file `p` with a `y`, and `R` has
-/// that tree below so many levels of two directories each.
-#[derive(Drop)]
-struct Names {
-    x: Id,
-    y: Id,
-    p: Id,
-    r: Id,
-}
-
-impl Names {
-    /// The payload of a tree, two bytes to an entry: its name, and what it names.
-    fn entries(&self, alloc: Global, text: &[u8]) -> Result<Vec<u8>, Fail> {
-        let mut payload = Vec::new(alloc);
-        for entry in text.chunks(2) {
-            let name = *entry.first().unwrap_or(&b' ');
-            match entry.last() {
-                Some(b'x') => push_entry(&mut payload, "100644", &[name], self.x)?,
-                Some(b'y') => push_entry(&mut payload, "100644", &[name], self.y)?,
-                Some(b'P') => push_entry(&mut payload, "40000", &[name], self.p)?,
-                _ => push_entry(&mut payload, "40000", &[name], self.r)?,
-            }
-        }
-        Ok(payload)
-    }
-}
-
-/// A commit of a tree with these entries.
-fn put_commit(
-    alloc: Global,
-    store: &mut Store<GitNaming>,
-    names: &Names,
-    text: &[u8],
-) -> Result<Id, Fail> {
-    let tree = store.put_tree(names.entries(alloc, text)?.as_slice())?;
-    Ok(store.put_commit(commit_of(alloc, tree, "")?.as_slice())?)
-}
-
-/// A tree below so many levels of two directories each.
-fn put_levels(
-    alloc: Global,
-    store: &mut Store<GitNaming>,
-    below: Id,
-    levels: u8,
-) -> Result<Id, Fail> {
-    let mut tree = below;
-    for _ in 0..levels {
-        let mut payload = Vec::new(alloc);
-        push_entry(&mut payload, "40000", b"r".as_slice(), tree)?;
-        push_entry(&mut payload, "40000", b"s".as_slice(), tree)?;
-        tree = store.put_tree(payload.as_slice())?;
-    }
-    Ok(tree)
-}
-
-/// Two commits of trees with these entries.
-fn commits_of(alloc: Global, first: &[u8], second: &[u8], levels: u8) -> Result<Commits, Fail> {
-    let mut store = Store::new(alloc, GitNaming);
-    let x = store.put_blob(b"x".as_slice())?;
-    let y = store.put_blob(b"y".as_slice())?;
-    let mut payload = Vec::new(alloc);
-    push_entry(&mut payload, "100644", b"p".as_slice(), y)?;
-    let p = store.put_tree(payload.as_slice())?;
-    let r = put_levels(alloc, &mut store, p, levels)?;
-    let names = Names { x, y, p, r };
-    let first = put_commit(alloc, &mut store, &names, first)?;
-    let second = put_commit(alloc, &mut store, &names, second)?;
-    Ok(Commits {
-        store,
-        first,
-        second,
-    })
-}
-
-/// A working copy that holds a commit.
-fn over_commit(alloc: Global, store: Store<GitNaming>, root: Id) -> Result<Fixture, Fail> {
-    let work = WorkCopy::new(alloc, &store, root)?;
-    Ok(Fixture { store, work })
-}
-
-/// What a plan tells: the conflicts and the unclean paths, each with a space behind it, and a line feed behind either.
-fn told(alloc: Global, planned: &Planned) -> Result<Vec<u8>, Fail> {
-    let mut text = Vec::new(alloc);
-    for path in planned.conflicts.as_slice() {
-        text.extend_from_slice(path.as_bytes())?;
-        text.push(b' ')?;
-    }
-    text.push(b'\n')?;
-    for path in planned.unclean.as_slice() {
-        text.extend_from_slice(path.as_bytes())?;
-        text.push(b' ')?;
-    }
-    text.push(b'\n')?;
-    Ok(text)
-}
-
-impl Fixture {
-    fn write(&mut self, alloc: Global, path: &str, text: &str) -> Result<(), Fail> {
-        let path = Path::parse(alloc, path.as_bytes())?;
-        self.work
-            .write(&self.store, &path, Kind::Plain, text.as_bytes())?;
-        Ok(())
-    }
-
-    fn remove(&mut self, alloc: Global, path: &str) -> Result<(), Fail> {
-        let path = Path::parse(alloc, path.as_bytes())?;
-        self.work.remove(&self.store, &path)?;
-        Ok(())
-    }
-
-    /// What is told of a checkout, which is made.
-    fn checkout(&mut self, alloc: Global, commit: Id, mode: Mode) -> Result<Vec<u8>, Fail> {
-        let planned = plan(
-            self.store.allocator(),
-            &self.store,
-            &self.work,
-            commit,
-            mode,
-        )?;
-        let text = told(alloc, &planned)?;
-        self.work = planned.next;
-        Ok(text)
-    }
-
-    /// Those of some paths at which a file stands, each with `=`, what it holds and a space.
-    fn shown(&self, alloc: Global, paths: &[&str]) -> Result<Vec<u8>, Fail> {
-        let mut text = Vec::new(alloc);
-        for path in paths {
-            if let Some((_, bytes)) = self.work.file(&self.store, path.as_bytes()) {
-                text.extend_from_slice(path.as_bytes())?;
-                text.push(b'=')?;
-                text.extend_from_slice(bytes)?;
-                text.push(b' ')?;
-            }
-        }
-        Ok(text)
-    }
-}
-
-/// Each rule decides some path of these.
-const PATHS: [&str; 12] = [
-    "a", "b", "c", "d", "e", "k", "m", "m/p", "n", "q", "q/p", "u",
+/// Paths in each other's places.
+const PATHS: [&str; 13] = [
+    "a", "a/b", "b", "c", "d", "e", "k", "m", "m/p", "n", "q", "q/p", "u",
 ];
 
-/// A working copy in which files were written and removed, and the commit to check out.
-fn changed(alloc: Global) -> Result<(Fixture, Id), Fail> {
-    let made = commits_of(
-        alloc,
-        b"axbxcxdxexkxqx".as_slice(),
-        b"aybxdyeymPnyqR".as_slice(),
-        0,
-    )?;
-    let second = made.second;
-    let mut made = over_commit(alloc, made.store, made.first)?;
-    for path in ["b", "d", "m", "u"] {
-        made.write(alloc, path, "w")?;
+/// Two commits, with a file or a directory at each path that a rule decides.
+const EACH_RULE: &str =
+    "tree t 100644 a x 100644 b x 100644 c x 100644 d x 100644 e x 100644 k x 100644 q x;commit c t;\
+    tree u 100644 a y 100644 b x 100644 d y 100644 e y 40000 m r 100644 n y 40000 q r;commit d u";
+
+/// What is changed over the first of these.
+const CHANGES: &str = "write b w;write d w;write m w;write u w;write e y;remove k;remove q";
+
+/// Objects, the commit that is held, what is changed over it, and then checkouts: `c` or `d`, a mode, what is told, and the files.
+type Case = (
+    &'static str,
+    &'static str,
+    &'static str,
+    &'static [(&'static str, Mode, &'static str, &'static str)],
+);
+
+const CASES: [Case; 5] = [
+    (
+        EACH_RULE,
+        "c",
+        CHANGES,
+        &[("d", Mode::Dry, "d m/p | ", "a=x b=w c=x d=w e=y m=w u=w ")],
+    ),
+    (
+        EACH_RULE,
+        "c",
+        CHANGES,
+        &[(
+            "d",
+            Mode::Normal,
+            "d m/p | b d e k m m/p q u ",
+            "a=y b=w d=w e=y m=w n=y q/p=y u=w ",
+        )],
+    ),
+    (
+        EACH_RULE,
+        "c",
+        CHANGES,
+        &[(
+            "d",
+            Mode::Force,
+            "d m/p | b d e k m q u ",
+            "a=y b=x d=y e=y m/p=y n=y q/p=y u=w ",
+        )],
+    ),
+    // A file over a directory.
+    (
+        "tree t 100644 a x;commit d t",
+        "empty",
+        "write a/b k",
+        &[
+            ("d", Mode::Normal, "a | a a/b ", "a/b=k "),
+            ("d", Mode::Force, "| a a/b ", "a=x "),
+        ],
+    ),
+    // A removed file of which the commit has another one is a conflict, where no dirty path has a file.
+    (
+        "tree t 100644 a x 100644 b x 100644 c x;commit c t;tree u 100644 a y 100644 b y 100644 c x 100644 d x;commit d u",
+        "c",
+        "remove b",
+        &[("d", Mode::Normal, "b | b ", "a=y c=x d=x ")],
+    ),
+];
+
+/// Blobs, and a tree `r` of a file `p` below so many levels of two directories each.
+fn below_levels(alloc: Global, levels: u32) -> Result<Objects, Fail> {
+    let mut objects = Objects::of(alloc, "blob x x;blob y y;tree r 100644 p y")?;
+    objects.repeat(alloc, "tree r 40000 r r 40000 s r", levels)?;
+    Ok(objects)
+}
+
+/// The first checkout that doesn't tell what its case says, or leaves other files, from 0.
+fn first_wrong(alloc: Global, levels: u32, case: &Case) -> Result<Option<usize>, Fail> {
+    let (script, root, changes, checkouts) = case;
+    let mut objects = below_levels(alloc, levels)?;
+    for line in script.split(';') {
+        objects.put(alloc, line)?;
     }
-    made.write(alloc, "e", "y")?;
-    made.remove(alloc, "k")?;
-    made.remove(alloc, "q")?;
-    Ok((made, second))
+    let (root, first, second) = (objects.id(root), objects.id("c"), objects.id("d"));
+    let mut made = Mounted::over(alloc, objects.store, root)?;
+    for change in changes.split(';') {
+        let _ = made.change(alloc, change)?;
+    }
+    for (place, (label, mode, told, files)) in checkouts.iter().enumerate() {
+        let commit = if *label == "c" { first } else { second };
+        let text = made.checkout(alloc, commit, *mode)?;
+        let shown = made.shown(alloc, PATHS.as_slice())?;
+        if text.as_slice() != told.as_bytes() || shown.as_slice() != files.as_bytes() {
+            return Ok(Some(place));
+        }
+    }
+    Ok(None)
 }
 
 #[test]
 fn each_rule(rt: HostRuntime) -> Result<(), Fail> {
-    let alloc = rt.alloc();
-    for (mode, text, files) in [
-        (Mode::Dry, "d m/p \n\n", "a=x b=w c=x d=w e=y m=w u=w "),
-        (
-            Mode::Normal,
-            "d m/p \nb d e k m m/p q u \n",
-            "a=y b=w d=w e=y m=w n=y q/p=y u=w ",
-        ),
-        (
-            Mode::Force,
-            "d m/p \nb d e k m q u \n",
-            "a=y b=x d=y e=y m/p=y n=y q/p=y u=w ",
-        ),
-    ] {
-        let (mut made, commit) = changed(alloc)?;
-        assert_eq!(rt;
-            made.checkout(alloc, commit, mode)?.as_slice(),
-            text.as_bytes()
-        );
-        assert_eq!(rt;
-            made.shown(alloc, PATHS.as_slice())?.as_slice(),
-            files.as_bytes()
-        );
-    }
-    Ok(())
-}
-
-#[test]
-fn file_over_directory(rt: HostRuntime) -> Result<(), Fail> {
-    let alloc = rt.alloc();
-    let commits = commits_of(alloc, b"ax".as_slice(), &[], 0)?;
-    let commit = commits.first;
-    let paths = ["a", "a/b"];
-    let mut made = over_commit(alloc, commits.store, Id::ZERO)?;
-    made.write(alloc, "a/b", "k")?;
-    assert_eq!(rt;
-        made.checkout(alloc, commit, Mode::Normal)?.as_slice(),
-        b"a \na a/b \n".as_slice()
-    );
-    assert_eq!(rt;
-        made.shown(alloc, paths.as_slice())?.as_slice(),
-        b"a/b=k ".as_slice()
-    );
-    assert_eq!(rt;
-        made.checkout(alloc, commit, Mode::Force)?.as_slice(),
-        b"\na a/b \n".as_slice()
-    );
-    assert_eq!(rt;
-        made.shown(alloc, paths.as_slice())?.as_slice(),
-        b"a=x ".as_slice()
-    );
-    Ok(())
-}
-
-/// A removed file of which the commit has another one is a conflict, where no dirty path has a file.
-#[test]
-fn removed_file(rt: HostRuntime) -> Result<(), Fail> {
-    let alloc = rt.alloc();
-    let commits = commits_of(alloc, b"axbxcx".as_slice(), b"aybycxdx".as_slice(), 0)?;
-    let commit = commits.second;
-    let paths = ["a", "b", "c", "d"];
-    let mut made = over_commit(alloc, commits.store, commits.first)?;
-    made.remove(alloc, "b")?;
-    assert_eq!(rt;
-        made.checkout(alloc, commit, Mode::Normal)?.as_slice(),
-        b"b \nb \n".as_slice()
-    );
-    assert_eq!(rt;
-        made.shown(alloc, paths.as_slice())?.as_slice(),
-        b"a=y c=x d=x ".as_slice()
-    );
-    Ok(())
-}
-
-#[test]
-fn no_commit(rt: HostRuntime) -> Result<(), Fail> {
-    let alloc = rt.alloc();
-    let commits = commits_of(alloc, b"ax".as_slice(), &[], 0)?;
-    let made = over_commit(alloc, commits.store, commits.first)?;
-    for mode in [Mode::Normal, Mode::Dry, Mode::Force] {
-        let answer = plan(
-            made.store.allocator(),
-            &made.store,
-            &made.work,
-            Id([1; 20]),
-            mode,
-        );
-        assert_eq!(rt; answer.err(), Some(CommitFault::NoCommit));
+    for (place, case) in CASES.iter().enumerate() {
+        assert_eq!(rt; first_wrong(rt.alloc(), 0, case)?, None, "case {place}");
     }
     Ok(())
 }
@@ -286,28 +117,28 @@ fn no_commit(rt: HostRuntime) -> Result<(), Fail> {
 /// Two commits of two to the fortieth files each, of which none but those that differ are read.
 #[test]
 fn wide_commits(rt: HostRuntime) -> Result<(), Fail> {
+    let case: Case = (
+        "tree t 100644 a y 100644 b x 40000 z r;commit d t;tree t 100644 a x 100644 b x 40000 z r;commit c t",
+        "c",
+        "write u w;write b w",
+        &[
+            ("d", Mode::Normal, "| b u ", "a=y b=w u=w "),
+            ("c", Mode::Force, "| b u ", "a=x b=x u=w "),
+        ],
+    );
+    assert_eq!(rt; first_wrong(rt.alloc(), 40, &case)?, None);
+    Ok(())
+}
+
+#[test]
+fn no_commit(rt: HostRuntime) -> Result<(), Fail> {
     let alloc = rt.alloc();
-    let commits = commits_of(alloc, b"axbxzR".as_slice(), b"aybxzR".as_slice(), 40)?;
-    let paths = ["a", "b", "u"];
-    let mut made = over_commit(alloc, commits.store, commits.first)?;
-    made.write(alloc, "u", "w")?;
-    made.write(alloc, "b", "w")?;
-    assert_eq!(rt;
-        made.checkout(alloc, commits.second, Mode::Normal)?
-            .as_slice(),
-        b"\nb u \n".as_slice()
-    );
-    assert_eq!(rt;
-        made.shown(alloc, paths.as_slice())?.as_slice(),
-        b"a=y b=w u=w ".as_slice()
-    );
-    assert_eq!(rt;
-        made.checkout(alloc, commits.first, Mode::Force)?.as_slice(),
-        b"\nb u \n".as_slice()
-    );
-    assert_eq!(rt;
-        made.shown(alloc, paths.as_slice())?.as_slice(),
-        b"a=x b=x u=w ".as_slice()
-    );
+    let objects = Objects::of(alloc, "blob x x;tree t 100644 a x;commit c t")?;
+    let commit = objects.id("c");
+    let made = Mounted::over(alloc, objects.store, commit)?;
+    for mode in [Mode::Normal, Mode::Dry, Mode::Force] {
+        let answer = plan(alloc, &made.store, &made.work, Id([1; 20]), mode);
+        assert_eq!(rt; answer.err(), Some(CommitFault::NoCommit));
+    }
     Ok(())
 }

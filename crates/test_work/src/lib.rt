@@ -6,6 +6,8 @@
 #[cfg(test)]
 mod checkout_tests;
 #[cfg(test)]
+mod mounted;
+#[cfg(test)]
 mod overlay_tests;
 #[cfg(test)]
 mod range_tests;

@@ -9,31 +9,51 @@ use eden_workcopy::WorkCopy;
 use std::alloc::Global;
 use std::collections::BTreeMap;
 use std::test::Fail;
+use test_kit::path;
 
 /// So many paths are told in each order. It is a prime number, so that the multiples of a lesser one come to each path once.
 const PATHS: usize = 1_201;
 
 /// A path of four digits.
 fn numbered(alloc: Global, number: usize) -> Result<Path, Fail> {
-    let text = format!(in alloc; "{number:04}")?;
-    Ok(Path::parse(alloc, text.as_bytes())?)
+    path(alloc, format!(in alloc; "{number:04}")?.as_str())
 }
 
-/// Empty files over the empty commit, and their paths as a map of std has them.
+/// Empty files over the empty commit, and their paths as a map of std has them; and a working copy that was set aside.
 #[derive(Drop)]
 struct Beside {
     store: Store<GitNaming>,
     work: WorkCopy,
+    aside: WorkCopy,
     map: BTreeMap<Path, ()>,
     ghost fits: { FitsIn store work } by { Prim.hlevel props },
+    ghost aside_fits: { FitsIn store aside } by { Prim.hlevel props },
 }
 
 impl Beside {
     fn new(alloc: Global) -> Result<Beside, Fail> {
         let store = Store::new(alloc, GitNaming);
         let work = WorkCopy::new(alloc, &store, Id::ZERO)?;
+        let aside = WorkCopy::new(alloc, &store, Id::ZERO)?;
         let map = BTreeMap::new(alloc);
-        Ok(Beside { store, work, map })
+        Ok(Beside {
+            store,
+            work,
+            aside,
+            map,
+        })
+    }
+
+    /// Sets a copy aside.
+    fn set_aside(&mut self) -> Result<(), Fail> {
+        self.aside = self.work.copy()?;
+        Ok(())
+    }
+
+    /// Goes back to what was set aside.
+    fn go_back(&mut self) -> Result<(), Fail> {
+        self.work = self.aside.copy()?;
+        Ok(())
     }
 
     fn write(&mut self, path: Path) -> Result<(), Fail> {
@@ -88,11 +108,11 @@ fn paths_told_in_any_order(rt: HostRuntime) -> Result<(), Fail> {
     for step in [1, PATHS - 1, 618] {
         let mut beside = Beside::told(alloc, step)?;
         assert!(rt; beside.is_alike()?);
-        let copy = beside.work.copy()?;
+        beside.set_aside()?;
         beside.forget(alloc, 100, 1_100)?;
         assert!(rt; beside.is_alike()?);
         assert!(rt; !beside.has(&middle));
-        beside.work = copy;
+        beside.go_back()?;
         assert!(rt; beside.has(&middle));
     }
     Ok(())

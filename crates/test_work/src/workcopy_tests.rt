@@ -1,64 +1,11 @@
-ghost use Rattle.std.proofs.Props.{props};
-ghost use Rattle.eden_workcopy.specs.Meanings.{FitsIn};
-
-use eden_globs::Filter;
+use crate::mounted::Mounted;
 use eden_history::ChangeFault;
-use eden_ids::{Content, GitNaming, Id, Kind, Path, Sequence};
-use test_kit::{commit_of, push_entry};
+use eden_ids::{Content, GitNaming, Id, Kind, Sequence};
 use eden_objects::{CommitFault, Store};
 use eden_workcopy::WorkCopy;
 use std::alloc::Global;
 use std::test::Fail;
-
-/// A store, and a working copy that fits in it.
-#[derive(Drop)]
-struct Mounted {
-    store: Store<GitNaming>,
-    work: WorkCopy,
-    ghost fits: { FitsIn store work } by { Prim.hlevel props },
-}
-
-/// Puts a commit of the tree with this payload.
-fn put_commit(alloc: Global, store: &mut Store<GitNaming>, tree: &[u8]) -> Result<Id, Fail> {
-    let tree = store.put_tree(tree)?;
-    Ok(store.put_commit(commit_of(alloc, tree, "")?.as_slice())?)
-}
-
-/// Puts a commit of one file.
-fn put_single(
-    alloc: Global,
-    store: &mut Store<GitNaming>,
-    mode: &str,
-    name: &str,
-) -> Result<Id, Fail> {
-    let blob = store.put_blob(b"1".as_slice())?;
-    let mut tree = Vec::new(alloc);
-    push_entry(&mut tree, mode, name.as_bytes(), blob)?;
-    put_commit(alloc, store, tree.as_slice())
-}
-
-/// Puts a commit with the files `a`, `a.b` and `d/x`.
-fn put_family(alloc: Global, store: &mut Store<GitNaming>) -> Result<Id, Fail> {
-    let blob = store.put_blob(b"1".as_slice())?;
-    let mut below = Vec::new(alloc);
-    push_entry(&mut below, "100644", b"x".as_slice(), blob)?;
-    let dir = store.put_tree(below.as_slice())?;
-    let mut tree = Vec::new(alloc);
-    push_entry(&mut tree, "100644", b"a".as_slice(), blob)?;
-    push_entry(&mut tree, "100644", b"a.b".as_slice(), blob)?;
-    push_entry(&mut tree, "40000", b"d".as_slice(), dir)?;
-    put_commit(alloc, store, tree.as_slice())
-}
-
-/// The paths, each with a blank behind it.
-fn joined(alloc: Global, paths: &[Path]) -> Result<Vec<u8>, Fail> {
-    let mut text = Vec::new(alloc);
-    for path in paths {
-        text.extend_from_slice(path.as_bytes())?;
-        text.push(b' ')?;
-    }
-    Ok(text)
-}
+use test_kit::{Objects, path};
 
 /// A change, what is answered to it, and then the paths of all files and the dirty ones.
 type Step = (
@@ -68,89 +15,27 @@ type Step = (
     &'static str,
 );
 
-impl Mounted {
-    fn over(alloc: Global, store: Store<GitNaming>, root: Id) -> Result<Mounted, Fail> {
-        let work = WorkCopy::new(alloc, &store, root)?;
-        Ok(Mounted { store, work })
-    }
-
-    /// What is answered to a change: a call's name, a path, and text or another path.
-    fn change(&mut self, alloc: Global, text: &str) -> Result<Option<ChangeFault>, Fail> {
-        let mut words = text.split(' ');
-        let call = words.next().unwrap_or("");
-        let path = Path::parse(alloc, words.next().unwrap_or("").as_bytes())?;
-        let rest = words.next().unwrap_or("");
-        if call == "write" {
-            return Ok(
-                self.work
-                    .write(&self.store, &path, Kind::Plain, rest.as_bytes())
-                    .err(),
-            );
+/// The first change that is not answered, or does not leave the files, as its step says.
+fn first_wrong(
+    alloc: Global,
+    mounted: &mut Mounted,
+    steps: &[Step],
+) -> Result<Option<&'static str>, Fail> {
+    for (change, answer, files, dirty) in steps {
+        let told = mounted.change(alloc, change)?;
+        let listed = mounted.list(alloc)?;
+        let changed = mounted.dirty(alloc)?;
+        let alike = told == *answer
+            && listed.as_slice() == files.as_bytes()
+            && changed.as_slice() == dirty.as_bytes();
+        if !alike {
+            return Ok(Some(*change));
         }
-        if call == "remove" {
-            return Ok(self.work.remove(&self.store, &path).err());
-        }
-        if call == "revert" {
-            return Ok(self.work.revert(&self.store, &path).err());
-        }
-        let new = Path::parse(alloc, rest.as_bytes())?;
-        Ok(self.work.rename(&self.store, &path, &new).err())
     }
-
-    fn list(&self, alloc: Global) -> Result<Vec<u8>, Fail> {
-        let everything = Filter::parse(alloc, &[])?;
-        let paths = self.work.list(&self.store, &everything)?;
-        joined(alloc, &paths)
-    }
-
-    fn dirty(&self, alloc: Global) -> Result<Vec<u8>, Fail> {
-        let paths = self.work.dirty(&self.store)?;
-        joined(alloc, &paths)
-    }
-
-    /// The kind of the file at a path, and whether it holds this text.
-    fn reads(&self, alloc: Global, path: &str, kind: Kind, text: &str) -> Result<bool, Fail> {
-        let path = Path::parse(alloc, path.as_bytes())?;
-        Ok(self.work.read(&self.store, &path) == Ok((kind, text.as_bytes())))
-    }
-
-    /// Whether the working copy can't be put over a commit because there is none.
-    fn is_refused(&self, commit: Id) -> bool {
-        matches!(
-            self.work.reroot(&self.store, commit),
-            Err(CommitFault::NoCommit)
-        )
-    }
-
-    fn reroot(&mut self, commit: Id) -> Result<(), Fail> {
-        self.work = self.work.reroot(&self.store, commit)?;
-        Ok(())
-    }
-
-    /// Whether a change is answered, and leaves the files, as a step says.
-    fn is_as_told(&mut self, alloc: Global, step: &Step) -> Result<bool, Fail> {
-        let answer = self.change(alloc, step.0)?;
-        let files = self.list(alloc)?;
-        let dirty = self.dirty(alloc)?;
-        Ok(
-            answer == step.1
-                && files.as_slice() == step.2.as_bytes()
-                && dirty.as_slice() == step.3.as_bytes(),
-        )
-    }
-
-    /// The first change that does not do what its step says.
-    fn first_wrong(&mut self, alloc: Global, steps: &[Step]) -> Result<Option<&'static str>, Fail> {
-        for step in steps {
-            if !self.is_as_told(alloc, step)? {
-                return Ok(Some(step.0));
-            }
-        }
-        Ok(None)
-    }
+    Ok(None)
 }
 
-/// Changes over the commit of `put_family`.
+/// Changes over a commit with the files `a`, `a.b` and `d/x`.
 const OVER_A_COMMIT: [Step; 21] = [
     (
         "write d 1",
@@ -216,10 +101,12 @@ const OVER_A_COMMIT: [Step; 21] = [
 #[test]
 fn changes_over_a_commit(rt: HostRuntime) -> Result<(), Fail> {
     let alloc = rt.alloc();
-    let mut store = Store::new(alloc, GitNaming);
-    let root = put_family(alloc, &mut store)?;
-    let mut mounted = Mounted::over(alloc, store, root)?;
-    assert_eq!(rt; mounted.first_wrong(alloc, &OVER_A_COMMIT)?, None);
+    let script = "blob b 1;tree d 100644 x b;tree t 100644 a b 100644 a.b b 40000 d d;commit c t";
+    let objects = Objects::of(alloc, script)?;
+    let root = objects.id("c");
+    let mut mounted = Mounted::over(alloc, objects.store, root)?;
+    let wrong = first_wrong(alloc, &mut mounted, &OVER_A_COMMIT)?;
+    assert_eq!(rt; wrong, None);
     assert!(rt; mounted.reads(alloc, "b", Kind::Plain, "4")?);
     assert_eq!(rt; mounted.work.copy()?.root(), root);
     Ok(())
@@ -237,7 +124,7 @@ fn changes_over_nothing(rt: HostRuntime) -> Result<(), Fail> {
         ("rename a a", Some(ChangeFault::NoEntry), "b ", "b "),
         ("revert b", None, "", ""),
     ];
-    assert_eq!(rt; mounted.first_wrong(alloc, &steps)?, None);
+    assert_eq!(rt; first_wrong(alloc, &mut mounted, &steps)?, None);
     Ok(())
 }
 
@@ -245,18 +132,18 @@ fn changes_over_nothing(rt: HostRuntime) -> Result<(), Fail> {
 #[test]
 fn reroot_and_revert(rt: HostRuntime) -> Result<(), Fail> {
     let alloc = rt.alloc();
-    let mut store = Store::new(alloc, GitNaming);
-    let plain = put_single(alloc, &mut store, "100644", "f")?;
-    let exec = put_single(alloc, &mut store, "100755", "f")?;
-    let mut mounted = Mounted::over(alloc, store, plain)?;
-    assert!(rt; mounted.is_refused(Id([1; 20])));
+    let script = "blob b 1;tree t 100644 f b;commit c t;tree u 100755 f b;commit d u";
+    let objects = Objects::of(alloc, script)?;
+    let (plain, exec) = (objects.id("c"), objects.id("d"));
+    let mut mounted = Mounted::over(alloc, objects.store, plain)?;
+    assert_eq!(rt; mounted.reroot(Id([1; 20])), Err(CommitFault::NoCommit));
     mounted.reroot(exec)?;
     assert!(rt; mounted.reads(alloc, "f", Kind::Plain, "1")?);
     let steps: [Step; 2] = [
         ("rename f f", None, "f ", "f "),
         ("revert f", None, "f ", ""),
     ];
-    assert_eq!(rt; mounted.first_wrong(alloc, &steps)?, None);
+    assert_eq!(rt; first_wrong(alloc, &mut mounted, &steps)?, None);
     assert!(rt; mounted.reads(alloc, "f", Kind::Exec, "1")?);
     assert_eq!(rt; mounted.work.root(), exec);
     Ok(())
@@ -267,12 +154,12 @@ fn paths_set_unjudged(rt: HostRuntime) -> Result<(), Fail> {
     let alloc = rt.alloc();
     let store = Store::new(alloc, GitNaming);
     let mut work = WorkCopy::new(alloc, &store, Id::ZERO)?;
-    work.set(Path::parse(alloc, b"b".as_slice())?, None)?;
+    work.set(path(alloc, "b")?, None)?;
     let link = Content {
         kind: Kind::Link,
         bytes: Sequence::from_vec(b"1".to_vec(alloc)?),
     };
-    work.set(Path::parse(alloc, b"a".as_slice())?, Some(link))?;
+    work.set(path(alloc, "a")?, Some(link))?;
     assert_eq!(rt;
         work.file(&store, b"a".as_slice()),
         Some((Kind::Link, b"1".as_slice()))

@@ -1,23 +1,15 @@
 //! Whole file maps.
 
-use eden_ids::{Content, FileTree, Files, Kind, Path, PathTable, Sequence, has_file_above};
-use std::alloc::Global;
+use eden_ids::{FileTree, Files, PathTable, has_file_above};
 use std::test::Fail;
-
-fn plain(alloc: Global, text: &str) -> Result<Content, Fail> {
-    let bytes = Sequence::from_vec(text.as_bytes().to_vec(alloc)?);
-    Ok(Content {
-        kind: Kind::Plain,
-        bytes,
-    })
-}
+use test_kit::{path, plain};
 
 #[test]
 fn files_change_one_path_at_a_time(rt: HostRuntime) -> Result<(), Fail> {
     let alloc = rt.alloc();
     let mut files = Files::new(alloc);
-    let a = Path::parse(alloc, b"a".as_slice())?;
-    let below = Path::parse(alloc, b"a/b".as_slice())?;
+    let a = path(alloc, "a")?;
+    let below = path(alloc, "a/b")?;
     files.insert(below.copy()?, plain(alloc, "x")?)?;
     assert!(rt; files.has_file_below(&a));
     assert!(rt; !has_file_above(&files, b"a".as_slice()));
@@ -36,10 +28,10 @@ fn files_change_one_path_at_a_time(rt: HostRuntime) -> Result<(), Fail> {
 fn files_add_their_paths(rt: HostRuntime) -> Result<(), Fail> {
     let alloc = rt.alloc();
     let mut files = Files::new(alloc);
-    files.insert(Path::parse(alloc, b"b".as_slice())?, plain(alloc, "x")?)?;
+    files.insert(path(alloc, "b")?, plain(alloc, "x")?)?;
     let mut table = PathTable::new(alloc);
-    table.add(&Path::parse(alloc, b"c".as_slice())?)?;
-    table.add(&Path::parse(alloc, b"a".as_slice())?)?;
+    table.add(&path(alloc, "c")?)?;
+    table.add(&path(alloc, "a")?)?;
     files.add_paths(&mut table)?;
     let listed = table.list(alloc)?;
     assert_eq!(rt; listed.len(), 3);

@@ -2,10 +2,10 @@
 
 use eden_globs::Filter;
 use eden_history::{Mark, Marked, Position, SinceFault};
-use eden_ids::{Id, Path, Sequence};
+use eden_ids::{Id, Sequence};
 use eden_messages::{Cause, Query, Reply, Request, admitted};
-use std::alloc::Global;
 use std::test::Fail;
+use test_kit::path;
 
 /// The query and the position of the known frames in docs/formats.md.
 fn known() -> (Query, Position) {
@@ -22,10 +22,6 @@ fn known() -> (Query, Position) {
         root,
     };
     (query, place)
-}
-
-fn path(alloc: Global, text: &str) -> Result<Path, Fail> {
-    Ok(Path::parse(alloc, text.as_bytes())?)
 }
 
 /// The lengths are those with which the known frames begin.

@@ -1,0 +1,66 @@
+//! Which positions a mount has had, and what stood where then.
+
+use eden_history::{Answer, Change, Position};
+use eden_ids::{Content, Files, GitNaming, Path};
+use eden_world::World;
+use std::alloc::Global;
+use std::test::Fail;
+
+/// A position, and the files that stood then.
+#[derive(Drop)]
+struct Moment {
+    position: Position,
+    files: Files,
+}
+
+/// A world, and all that it has been, the oldest moment first.
+#[derive(Drop)]
+pub(crate) struct Past {
+    world: World<GitNaming>,
+    moments: Vec<Moment>,
+}
+
+/// What the world is now.
+fn moment_of(world: &World<GitNaming>) -> Result<Moment, Fail> {
+    let position = world.position();
+    let files = world.now().files().copy()?;
+    Ok(Moment { position, files })
+}
+
+impl Past {
+    /// Of a world that was just mounted.
+    pub(crate) fn opened(alloc: Global, world: World<GitNaming>) -> Result<Past, Fail> {
+        let mut moments = Vec::new(alloc);
+        moments.push(moment_of(&world)?)?;
+        Ok(Past { world, moments })
+    }
+
+    /// Makes a change, and keeps what the world is after it.
+    pub(crate) fn apply(&mut self, change: &Change) -> Result<Answer, Fail> {
+        let before = self.world.position();
+        let answer = self.world.apply(change)?;
+        if self.world.position() != before {
+            self.moments.push(moment_of(&self.world)?)?;
+        }
+        Ok(answer)
+    }
+
+    /// The present position.
+    pub(crate) fn position(&self) -> Position {
+        self.world.position()
+    }
+
+    /// Whether the world was at a place.
+    pub(crate) fn has(&self, place: &Position) -> bool {
+        self.moments.iter().any(|then| then.position == *place)
+    }
+
+    /// Whether this stood at a path in the generation of a place, then or later.
+    pub(crate) fn stood(&self, place: &Position, path: &Path, file: Option<&Content>) -> bool {
+        self.moments.iter().any(|then| {
+            then.position.generation == place.generation
+                && then.position.sequence >= place.sequence
+                && then.files.get(path) == file
+        })
+    }
+}

@@ -1,0 +1,405 @@
+// The body of each function but its last line is the text of the example at the head of that crate's lib.rt, and must stay so:
+// docs/examples.py, which `./test` runs, compares them.
+
+use crate::following::following;
+use std::alloc::Global;
+use std::process::Abort;
+use std::test::Fail;
+
+#[test]
+fn examples(rt: HostRuntime) -> Result<(), Fail> {
+    let alloc = rt.alloc();
+    eden_ids_example(&rt, alloc)?;
+    eden_stream_example(&rt, alloc)?;
+    eden_frames_example(&rt, alloc)?;
+    eden_globs_example(&rt, alloc)?;
+    eden_lanes_example(&rt, alloc)?;
+    eden_git_example(&rt, alloc)?;
+    eden_objects_example(&rt, alloc)?;
+    eden_treediff_example(&rt, alloc)?;
+    eden_journal_example(&rt, alloc)?;
+    eden_history_example(&rt, alloc)?;
+    eden_messages_example(&rt, alloc)?;
+    eden_wire_example(&rt, alloc)?;
+    eden_mirror_example(&rt, alloc)?;
+    eden_headline_example(&rt, alloc)?;
+    eden_workcopy_example(&rt, alloc)?;
+    eden_checkout_example(&rt, alloc)?;
+    eden_ranges_example(&rt, alloc)?;
+    eden_accumulate_example(&rt, alloc)?;
+    eden_query_example(&rt, alloc)?;
+    eden_audit_example(&rt, alloc)?;
+    eden_script_example(&rt, alloc)?;
+    eden_edend_example(&rt, alloc)?;
+    eden_world_example(&rt, alloc)?;
+    test_kit_example(&rt, alloc)?;
+    test_devices_example(&rt, alloc)?;
+    following(&rt, alloc)
+}
+
+fn eden_ids_example(rt: &impl Abort, alloc: Global) -> Result<(), Fail> {
+    use eden_ids::{Content, Files, GitNaming, Kind, Naming, Path, Sequence};
+
+    let file = Path::parse(alloc, b"src/lib.rs".as_slice())?;
+    let directory = Path::parse(alloc, b"src".as_slice())?;
+    assert!(rt; file.is_below(&directory));
+
+    // The id that Git gives a file of these bytes.
+    let id = GitNaming.id_of(b"blob".as_slice(), b"hello\n".as_slice());
+    assert!(rt; id.to_hex().as_slice() == b"ce013625030ba8dba906f756967f9e9ca394464a".as_slice());
+
+    // A map of one file.
+    let mut files = Files::new(alloc);
+    let content = Content {
+        kind: Kind::Plain,
+        bytes: Sequence::new(alloc),
+    };
+    files.insert(file.copy()?, content)?;
+    assert!(rt; files.get(&file).is_some());
+    Ok(())
+}
+
+fn eden_stream_example(rt: &impl Abort, alloc: Global) -> Result<(), Fail> {
+    use eden_stream::{Counted, Faults};
+    use std::io::Read;
+
+    let mut reader = Counted::new(b"some bytes".as_slice());
+    let mut place = [0; 4];
+    assert_eq!(rt; reader.read(&mut place)?, 4);
+    assert_eq!(rt; (reader.calls(), reader.faults()), (1, 0));
+    Ok(())
+}
+
+fn eden_frames_example(rt: &impl Abort, alloc: Global) -> Result<(), Fail> {
+    use eden_frames::{FrameFault, ServeFault};
+
+    let fault = ServeFault::Frame {
+        number: 2,
+        fault: FrameFault::TooLarge,
+    };
+    assert!(rt; format!(in alloc; "{fault}")?.as_bytes() == b"frame 2: TooLarge".as_slice());
+    Ok(())
+}
+
+fn eden_globs_example(rt: &impl Abort, alloc: Global) -> Result<(), Fail> {
+    use eden_globs::Filter;
+    use eden_ids::Path;
+
+    let filter = Filter::parse(alloc, &[b"src/**".as_slice(), b"*.md".as_slice()])?;
+    assert!(rt; filter.admits(&Path::parse(alloc, b"src/lib.rs".as_slice())?));
+    assert!(rt; filter.admits(&Path::parse(alloc, b"README.md".as_slice())?));
+    assert!(rt; !filter.admits(&Path::parse(alloc, b"docs/formats.md".as_slice())?));
+    Ok(())
+}
+
+fn eden_lanes_example(rt: &impl Abort, alloc: Global) -> Result<(), Fail> {
+    use eden_ids::{Id, IdColumn};
+    use eden_lanes::{differ_rows, find_row};
+
+    let mut before = IdColumn::new(alloc);
+    let mut after = IdColumn::new(alloc);
+    for row in 0..9 {
+        before.push(Id([row; 20]))?;
+        after.push(Id([if row == 8 { 255 } else { row }; 20]))?;
+    }
+    assert_eq!(rt; before.len(), after.len());
+    assert!(rt; differ_rows(alloc, &before, &after)?.as_slice() == [8].as_slice());
+    assert_eq!(rt; find_row(&after, Id([255; 20])), Some(8));
+    Ok(())
+}
+
+fn eden_git_example(rt: &impl Abort, alloc: Global) -> Result<(), Fail> {
+    use eden_git::tree_named;
+
+    let commit = b"tree 4b825dc642cb6eb9a060e54bf8d69288fbee4904\n".as_slice();
+    let tree = tree_named(commit);
+    assert!(rt; tree.is_some());
+    Ok(())
+}
+
+fn eden_objects_example(rt: &impl Abort, alloc: Global) -> Result<(), Fail> {
+    use eden_ids::{GitNaming, Path};
+    use eden_objects::Store;
+
+    let mut store = Store::new(alloc, GitNaming);
+    let file = store.put_blob(b"hello\n".as_slice())?;
+    let mut tree = Vec::new(alloc);
+    tree.extend_from_slice(b"100644 README\0".as_slice())?;
+    tree.extend_from_slice(file.0.as_slice())?;
+    let tree = store.put_tree(tree.as_slice())?;
+    let mut commit = Vec::new(alloc);
+    commit.extend_from_slice(b"tree ".as_slice())?;
+    commit.extend_from_slice(tree.to_hex().as_slice())?;
+    commit.extend_from_slice(b"\n".as_slice())?;
+    let commit = store.put_commit(commit.as_slice())?;
+    let readme = Path::parse(alloc, b"README".as_slice())?;
+    assert!(rt; matches!(store.lookup(commit, &readme), Ok(Some((_, id))) if id == file));
+    Ok(())
+}
+
+fn eden_treediff_example(rt: &impl Abort, alloc: Global) -> Result<(), Fail> {
+    use eden_ids::{GitNaming, Id};
+    use eden_objects::Store;
+    use eden_treediff::diff;
+
+    let store = Store::new(alloc, GitNaming);
+    // The empty commit differs from itself nowhere.
+    assert!(rt; diff(alloc, &store, Id::ZERO, Id::ZERO)?.is_empty());
+    Ok(())
+}
+
+fn eden_journal_example(rt: &impl Abort, alloc: Global) -> Result<(), Fail> {
+    use eden_ids::{Id, Path};
+    use eden_journal::{FileDelta, Journal};
+
+    let mut journal = Journal::new(alloc, 7, Id::ZERO, 1000);
+    let delta = FileDelta::created(Path::parse(alloc, b"notes".as_slice())?);
+    assert_eq!(rt; journal.add_file(&delta), Ok(2));
+    // Nothing before a flush can be told any more.
+    assert_eq!(rt; journal.flush(), Ok(3));
+    assert_eq!(rt; (journal.floor(), journal.held()), (3, 0));
+    Ok(())
+}
+
+fn eden_history_example(rt: &impl Abort, alloc: Global) -> Result<(), Fail> {
+    use eden_history::Change;
+    use eden_ids::Path;
+
+    // A change is a value: what it does to a mount is said by `specs/Outcome.antt`, and no code here makes it.
+    let path = Path::parse(alloc, b"notes".as_slice())?;
+    let change = Change::Remove { path };
+    assert_eq!(rt; change.copy()?, change);
+    Ok(())
+}
+
+fn eden_messages_example(rt: &impl Abort, alloc: Global) -> Result<(), Fail> {
+    use eden_globs::Filter;
+    use eden_messages::{Query, Request};
+
+    let query = Query {
+        mirror: 1,
+        life: 1,
+        number: 1,
+    };
+    let request = Request::Basis {
+        query,
+        filter: Filter::all(alloc),
+    };
+    // A version, a tag, three numbers of eight bytes, and how many patterns there are.
+    assert_eq!(rt; request.body_len(), 26 + 1);
+    Ok(())
+}
+
+fn eden_wire_example(rt: &impl Abort, alloc: Global) -> Result<(), Fail> {
+    use eden_ids::Path;
+    use eden_messages::{Query, Request};
+    use eden_wire::{DecodeFault, decode_request, encode_request};
+
+    let query = Query {
+        mirror: 1,
+        life: 1,
+        number: 1,
+    };
+    let path = Path::parse(alloc, b"a".as_slice())?;
+    let frame = encode_request(alloc, &Request::Fetch { query, path })?;
+    // Four bytes of length, and then the body.
+    assert_eq!(rt; frame.len(), 4 + 29);
+    let request = decode_request(alloc, &frame.as_slice()[4..])?;
+    assert!(rt; matches!(request, Request::Fetch { .. }));
+    let fault = decode_request(alloc, b"\x02\x03".as_slice());
+    assert!(rt; matches!(fault, Err(DecodeFault::Version)));
+    Ok(())
+}
+
+fn eden_mirror_example(rt: &impl Abort, alloc: Global) -> Result<(), Fail> {
+    use eden_globs::Filter;
+    use eden_messages::Request;
+    use eden_mirror::Mirror;
+
+    let mut mirror = Mirror::new(alloc, 1, 1, Filter::all(alloc));
+    assert!(rt; mirror.begin().is_ok());
+    // It has no position yet, so it asks for all paths.
+    assert!(rt; matches!(mirror.outstanding()?.as_slice(), [Request::Basis { .. }]));
+    Ok(())
+}
+
+fn eden_headline_example(rt: &impl Abort, alloc: Global) -> Result<(), Fail> {
+    use eden_headline::schedule_law;
+
+    schedule_law();
+    Ok(())
+}
+
+fn eden_workcopy_example(rt: &impl Abort, alloc: Global) -> Result<(), Fail> {
+    use eden_ids::{GitNaming, Id, Kind, Path};
+    use eden_objects::Store;
+    use eden_workcopy::WorkCopy;
+
+    let store = Store::new(alloc, GitNaming);
+    let mut work = WorkCopy::new(alloc, &store, Id::ZERO)?;
+    let notes = Path::parse(alloc, b"notes".as_slice())?;
+    work.write(&store, &notes, Kind::Plain, b"to do".as_slice())?;
+    assert_eq!(rt; work.dirty(&store)?.len(), 1);
+    Ok(())
+}
+
+fn eden_checkout_example(rt: &impl Abort, alloc: Global) -> Result<(), Fail> {
+    use eden_checkout::plan;
+    use eden_history::Mode;
+    use eden_ids::{GitNaming, Id};
+    use eden_objects::Store;
+    use eden_workcopy::WorkCopy;
+
+    let store = Store::new(alloc, GitNaming);
+    let work = WorkCopy::new(alloc, &store, Id::ZERO)?;
+    let planned = plan(alloc, &store, &work, Id::ZERO, Mode::Normal)?;
+    assert!(rt; planned.conflicts.is_empty() && planned.unclean.is_empty());
+    Ok(())
+}
+
+fn eden_ranges_example(rt: &impl Abort, alloc: Global) -> Result<(), Fail> {
+    use eden_history::Position;
+    use eden_ids::{GitNaming, Id, Path};
+    use eden_journal::{FileDelta, Journal};
+    use eden_objects::Store;
+    use eden_ranges::{accumulate, expand};
+
+    let mut journal = Journal::new(alloc, 7, Id::ZERO, 1000);
+    let delta = FileDelta::created(Path::parse(alloc, b"notes".as_slice())?);
+    assert_eq!(rt; journal.add_file(&delta), Ok(2));
+    let mounted = Position {
+        generation: 7,
+        sequence: 1,
+        root: Id::ZERO,
+    };
+    let range = accumulate(alloc, &journal, &mounted)?;
+    let store = Store::new(alloc, GitNaming);
+    assert_eq!(rt; expand(alloc, &store, &range)?.len(), 1);
+    Ok(())
+}
+
+fn eden_accumulate_example(rt: &impl Abort, alloc: Global) -> Result<(), Fail> {
+    use eden_accumulate::Mount;
+    use eden_ids::{GitNaming, Id, Kind, Path};
+    use eden_objects::Store;
+    use std::sync::Arc;
+
+    let store = Arc::new(alloc, Store::new(alloc, GitNaming))?;
+    let mut mount = Mount::mount(alloc, store, Id::ZERO, 7, 1000)?;
+    let mounted = mount.position();
+    let notes = Path::parse(alloc, b"notes".as_slice())?;
+    mount.write(&notes, Kind::Plain, b"to do".as_slice())?;
+    let changes = mount.changes_since(&mounted)?;
+    assert_eq!(rt; (changes.to.sequence, changes.marked.len()), (2, 1));
+    Ok(())
+}
+
+fn eden_query_example(rt: &impl Abort, alloc: Global) -> Result<(), Fail> {
+    use eden_accumulate::Mount;
+    use eden_messages::{Query, Request};
+    use eden_ids::{GitNaming, Id, Path};
+    use eden_objects::Store;
+    use eden_query::{encode_request, serve};
+    use eden_stream::Counted;
+    use std::sync::Arc;
+
+    let store = Arc::new(alloc, Store::new(alloc, GitNaming))?;
+    let mut mount = Mount::mount(alloc, store, Id::ZERO, 7, 1000)?;
+    let query = Query {
+        mirror: 1,
+        life: 1,
+        number: 1,
+    };
+    let path = Path::parse(alloc, b"a".as_slice())?;
+    let frame = encode_request(alloc, &Request::Fetch { query, path })?;
+    let mut replies = Counted::new(Vec::new(alloc));
+    let mut requests = Counted::new(frame.as_slice());
+    let served = serve(alloc, &mut requests, &mut replies, &mut mount);
+    assert_eq!(rt; served, Ok(1));
+    Ok(())
+}
+
+fn eden_audit_example(rt: &impl Abort, alloc: Global) -> Result<(), Fail> {
+    use eden_accumulate::Mount;
+    use eden_audit::{Answer, Audited, Call, CallLog, LogEntry, audit};
+    use eden_history::Change;
+    use eden_ids::{GitNaming, Id, Sequence};
+    use eden_objects::Store;
+    use eden_query::Served;
+    use std::sync::Arc;
+
+    let store = Arc::new(alloc, Store::new(alloc, GitNaming))?;
+    let mut audited = Audited::new(alloc, Mount::mount(alloc, store, Id::ZERO, 7, 1000)?)?;
+    let answer = Answer::from(audited.apply(1, &Change::Flush)?);
+    let entry = LogEntry {
+        ticket: 1,
+        call: Call::Change(Change::Flush),
+        answer,
+    };
+    let entries = Sequence::from_vec(vec![in alloc; entry]?);
+    let logs = vec![in alloc; CallLog { caller: 1, entries }]?;
+    assert_eq!(rt; audit(alloc, &audited, logs.as_slice()), Ok(()));
+    Ok(())
+}
+
+fn eden_script_example(rt: &impl Abort, alloc: Global) -> Result<(), Fail> {
+    use eden_script::words;
+
+    let Some(words) = words(alloc, b"write notes plain to\\sdo".as_slice())? else {
+        return Ok(());
+    };
+    assert_eq!(rt; words.len(), 4);
+    assert!(rt; words[3].as_bytes() == b"to do".as_slice());
+    Ok(())
+}
+
+fn eden_edend_example(rt: &impl Abort, alloc: Global) -> Result<(), Fail> {
+    use eden_edend::run;
+    use eden_stream::Counted;
+
+    let mut text = Counted::new(Vec::new(alloc));
+    let mut script = Counted::new(b"mount empty 7 1000\nposition\n".as_slice());
+    assert_eq!(rt; run(alloc, &mut script, &mut text), Ok(2));
+    Ok(())
+}
+
+fn eden_world_example(rt: &impl Abort, alloc: Global) -> Result<(), Fail> {
+    use eden_history::{Answer, Change};
+    use eden_ids::{GitNaming, Id};
+    use eden_objects::Store;
+    use eden_world::World;
+    use std::sync::Arc;
+
+    let store = Arc::new(alloc, Store::new(alloc, GitNaming))?;
+    let mut world = World::mount(alloc, store, Id::ZERO, 7, 1000)?;
+    assert!(rt; matches!(world.apply(&Change::Flush)?, Answer::At(_)));
+    assert_eq!(rt; world.position().sequence, 2);
+    Ok(())
+}
+
+fn test_kit_example(rt: &impl Abort, alloc: Global) -> Result<(), Fail> {
+    use eden_ids::Id;
+    use test_kit::{Objects, commit_of, push_entry};
+
+    let objects = Objects::of(alloc, "blob x hello;tree t 100644 a x;commit c t")?;
+    assert!(rt; objects.store.has_commit(objects.id("c")));
+    let mut tree = Vec::new(alloc);
+    push_entry(&mut tree, "100644", b"notes".as_slice(), Id::ZERO)?;
+    assert_eq!(rt; tree.len(), 33);
+    assert_eq!(rt; commit_of(alloc, Id::ZERO, "")?.len(), 46);
+    Ok(())
+}
+
+fn test_devices_example(rt: &impl Abort, alloc: Global) -> Result<(), Fail> {
+    use test_devices::{Sink, Source};
+    use std::io::{Read, Write};
+
+    let mut source = Source::new(b"some bytes");
+    source.most = 2;
+    let mut place = [0; 4];
+    assert_eq!(rt; source.read(&mut place)?, 2);
+    let mut sink = Sink::new(alloc);
+    sink.write_all(&place[..2])?;
+    assert_eq!(rt; sink.bytes.as_slice(), b"so".as_slice());
+    Ok(())
+}

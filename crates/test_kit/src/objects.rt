@@ -1,0 +1,155 @@
+use crate::labels::Labels;
+use crate::payload::{commit_of, push_entry};
+use eden_ids::{GitNaming, Id};
+use eden_objects::{PutFault, Store};
+use eden_script::{
+    Command, Label, TreeEntry, push_id_line, push_ok, push_refused, put_fault_name, words,
+};
+use std::alloc::Global;
+use std::str;
+use std::test::Fail;
+
+/// A store that was made by lines of a script, and what its labels are bound to.
+#[derive(Drop)]
+pub struct Objects {
+    /// The store.
+    pub store: Store<GitNaming>,
+    pub(crate) labels: Labels,
+}
+
+/// What a line asks for.
+pub(crate) fn command_of(alloc: Global, line: &str) -> Result<Command, Fail> {
+    let words = words(alloc, line.as_bytes())?.ok_or("a line has no words")?;
+    Ok(Command::read(alloc, words)?.ok_or("a line can't be read")?)
+}
+
+impl Objects {
+    /// No object and no binding.
+    pub(crate) fn new(alloc: Global) -> Objects {
+        Objects {
+            store: Store::new(alloc, GitNaming),
+            labels: Labels::new(alloc),
+        }
+    }
+
+    /// What these lines put, of which a semicolon ends each but the last: `blob L TEXT`, `tree L` and any number of `MODE NAME LABEL`,
+    /// and `commit L TREE`. It fails where one of them is refused.
+    pub fn of(alloc: Global, script: &str) -> Result<Objects, Fail> {
+        let mut objects = Objects::new(alloc);
+        for line in script.split(';') {
+            objects.put(alloc, line)?;
+        }
+        Ok(objects)
+    }
+
+    /// Puts one more object, as a line says. It fails where that is refused.
+    pub fn put(&mut self, alloc: Global, line: &str) -> Result<(), Fail> {
+        let mut text = Vec::new(alloc);
+        let _ = self.tell(alloc, command_of(alloc, line)?, &mut text)?;
+        if text.as_slice() == b"ok\n".as_slice() {
+            return Ok(());
+        }
+        let said = str::from_utf8(text.as_slice())?;
+        Err(Fail::new(format_args!("{line}: {said}")))
+    }
+
+    /// Puts an object, as a line says, so many times over: a line that names the label that it binds makes a level over the one before.
+    pub fn repeat(&mut self, alloc: Global, line: &str, times: u32) -> Result<(), Fail> {
+        for _ in 0..times {
+            self.put(alloc, line)?;
+        }
+        Ok(())
+    }
+
+    /// The id that a label is bound to, or, where it is bound to none, one that no object has.
+    pub fn id(&self, label: &str) -> Id {
+        self.labels.get(label.as_bytes()).unwrap_or(Id([1; 20]))
+    }
+
+    /// The payload of a tree, or none where a label is not bound.
+    fn tree_payload(&self, alloc: Global, entries: &[TreeEntry]) -> Result<Option<Vec<u8>>, Fail> {
+        let mut payload = Vec::new(alloc);
+        for entry in entries {
+            let Some(id) = self.labels.get(entry.label.as_bytes()) else {
+                return Ok(None);
+            };
+            let mode = str::from_utf8(entry.mode.as_bytes())?;
+            push_entry(&mut payload, mode, entry.name.as_bytes(), id)?;
+        }
+        Ok(Some(payload))
+    }
+
+    /// What is answered to a tree, or none where a label is not bound.
+    fn put_tree(
+        &mut self,
+        alloc: Global,
+        entries: &[TreeEntry],
+    ) -> Result<Option<Result<Id, PutFault>>, Fail> {
+        match self.tree_payload(alloc, entries)? {
+            Some(payload) => Ok(Some(self.store.put_tree(payload.as_slice()))),
+            None => Ok(None),
+        }
+    }
+
+    /// What is answered to a commit, or none where the label is not bound.
+    fn put_commit(
+        &mut self,
+        alloc: Global,
+        tree: &Label,
+    ) -> Result<Option<Result<Id, PutFault>>, Fail> {
+        match self.labels.get(tree.as_bytes()) {
+            Some(tree) => {
+                let payload = commit_of(alloc, tree, "")?;
+                Ok(Some(self.store.put_commit(payload.as_slice())))
+            }
+            None => Ok(None),
+        }
+    }
+
+    /// Binds a label to what was put, and tells that, or why nothing was put.
+    fn bind(
+        &mut self,
+        label: Label,
+        put: Option<Result<Id, PutFault>>,
+        text: &mut Vec<u8>,
+    ) -> Result<(), Fail> {
+        match put {
+            Some(Ok(id)) => {
+                self.labels.bind(label, id)?;
+                push_ok(text)?;
+            }
+            Some(Err(fault)) => push_refused(text, put_fault_name(fault))?,
+            None => push_refused(text, b"NoLabel".as_slice())?,
+        }
+        Ok(())
+    }
+
+    /// Does what a line of an object asks for, and adds what it prints. Gives any other line back.
+    pub(crate) fn tell(
+        &mut self,
+        alloc: Global,
+        command: Command,
+        text: &mut Vec<u8>,
+    ) -> Result<Option<Command>, Fail> {
+        match command {
+            Command::Blob { label, bytes } => {
+                let put = self.store.put_blob(bytes.as_bytes());
+                self.bind(label, Some(put), text)?;
+            }
+            Command::Tree { label, entries } => {
+                let put = self.put_tree(alloc, entries.as_slice())?;
+                self.bind(label, put, text)?;
+            }
+            Command::Commit { label, tree } => {
+                let put = self.put_commit(alloc, &tree)?;
+                self.bind(label, put, text)?;
+            }
+            Command::Id { label } => match self.labels.get(label.as_bytes()) {
+                Some(id) => push_id_line(text, &id)?,
+                None => push_refused(text, b"NoLabel".as_slice())?,
+            },
+            other => return Ok(Some(other)),
+        }
+        Ok(None)
+    }
+}

@@ -1,0 +1,269 @@
+use crate::labels::Labels;
+use crate::mounted::Mounted;
+use crate::objects::{Objects, command_of};
+use crate::played::Played;
+use crate::rows::Row;
+use crate::text::{differing_line, lines};
+use eden_globs::{Filter, FilterFault};
+use eden_history::{Answer, Change, Position};
+use eden_ids::{GitNaming, Id, Path, Sequence};
+use eden_objects::{CommitFault, Store};
+use eden_script::{
+    Command, Label, Word, change_fault_name, path_fault_name, push_all_marked, push_bytes,
+    push_content, push_listed, push_number, push_refused, push_refused_filter, push_refused_since,
+};
+use std::alloc::{AllocError, Global};
+use std::mem;
+use std::sync::Arc;
+use std::test::Fail;
+
+/// The path that a word is, or the name of why it is none.
+fn path_of(alloc: Global, word: &Word) -> Result<Path, &'static [u8]> {
+    match Path::parse(alloc, word.as_bytes()) {
+        Ok(path) => Ok(path),
+        Err(fault) => Err(path_fault_name(fault)),
+    }
+}
+
+/// The commit that a label names.
+fn commit_of(labels: &Labels, label: &Label) -> Result<Id, &'static [u8]> {
+    labels.get(label.as_bytes()).ok_or(b"NoLabel".as_slice())
+}
+
+/// The bytes of a word.
+fn bytes_of(alloc: Global, word: &Word) -> Result<Sequence<u8>, &'static [u8]> {
+    match word.as_bytes().to_vec(alloc) {
+        Ok(bytes) => Ok(Sequence::from_vec(bytes)),
+        Err(_) => Err(b"NoMemory".as_slice()),
+    }
+}
+
+/// The change that a line asks for, or the name of why there is none; nothing of a line that asks for no change.
+fn change_of(
+    alloc: Global,
+    labels: &Labels,
+    command: &Command,
+) -> Result<Option<Change>, &'static [u8]> {
+    Ok(Some(match command {
+        Command::Write { path, kind, bytes } => Change::Write {
+            path: path_of(alloc, path)?,
+            kind: *kind,
+            bytes: bytes_of(alloc, bytes)?,
+        },
+        Command::Remove { path } => Change::Remove {
+            path: path_of(alloc, path)?,
+        },
+        Command::Rename { old, new } => Change::Rename {
+            old: path_of(alloc, old)?,
+            new: path_of(alloc, new)?,
+        },
+        Command::Reset { label } => Change::Reset {
+            commit: commit_of(labels, label)?,
+        },
+        Command::Flush => Change::Flush,
+        Command::Remount { generation } => Change::Remount {
+            generation: *generation,
+        },
+        Command::Checkout { label, mode } => Change::Checkout {
+            commit: commit_of(labels, label)?,
+            mode: *mode,
+        },
+        _ => return Ok(None),
+    }))
+}
+
+fn push_at(text: &mut Vec<u8>, labels: &Labels, position: &Position) -> Result<(), AllocError> {
+    push_bytes(text, b"at ".as_slice())?;
+    labels.push_position(text, position)
+}
+
+fn push_answer(text: &mut Vec<u8>, labels: &Labels, answer: &Answer) -> Result<(), AllocError> {
+    match answer {
+        Answer::At(position) => push_at(text, labels, position),
+        Answer::Checked {
+            position,
+            conflicts,
+        } => {
+            push_at(text, labels, position)?;
+            push_listed(text, b"conflicts ".as_slice(), conflicts.as_slice())
+        }
+        Answer::Refused(fault) => push_refused(text, change_fault_name(*fault)),
+    }
+}
+
+/// Adds the paths of the files that the patterns admit.
+fn tell_list<P: Played + Drop>(
+    alloc: Global,
+    mounted: &mut Mounted<P>,
+    patterns: &[Word],
+    text: &mut Vec<u8>,
+) -> Result<(), Fail> {
+    let mut bytes = Vec::new(alloc);
+    for pattern in patterns {
+        bytes.push(pattern.as_bytes())?;
+    }
+    match Filter::parse(alloc, bytes.as_slice()) {
+        Ok(filter) => {
+            let (_, paths) = mounted.basis(alloc, filter)?;
+            push_listed(text, b"files ".as_slice(), paths.as_slice())?;
+        }
+        Err(fault) => push_refused_filter(text, &fault)?,
+    }
+    Ok(())
+}
+
+/// Adds the file at a path.
+fn tell_read<P: Played + Drop>(
+    alloc: Global,
+    mounted: &mut Mounted<P>,
+    path: &Word,
+    text: &mut Vec<u8>,
+) -> Result<(), Fail> {
+    match path_of(alloc, path) {
+        Ok(path) => match mounted.read(alloc, &path)? {
+            Ok(content) => push_content(text, content.kind, content.bytes.as_slice())?,
+            Err(fault) => push_refused(text, change_fault_name(fault))?,
+        },
+        Err(name) => push_refused(text, name)?,
+    }
+    Ok(())
+}
+
+/// Adds what changed since a position.
+fn tell_since<P: Played + Drop>(
+    alloc: Global,
+    mounted: &mut Mounted<P>,
+    labels: &Labels,
+    since: (u64, u64),
+    text: &mut Vec<u8>,
+) -> Result<(), Fail> {
+    match mounted.poll(alloc, since.0, since.1)? {
+        Ok((target, marked)) => {
+            push_bytes(text, b"changes ".as_slice())?;
+            push_number(text, marked.len() as u64)?;
+            push_bytes(text, b" to ".as_slice())?;
+            labels.push_position(text, &target)?;
+            push_all_marked(text, marked.as_slice())?;
+        }
+        Err(fault) => push_refused_since(text, &fault)?,
+    }
+    Ok(())
+}
+
+/// Adds what a line asks for.
+fn tell_asked<P: Played + Drop>(
+    alloc: Global,
+    mounted: &mut Mounted<P>,
+    labels: &Labels,
+    command: &Command,
+    text: &mut Vec<u8>,
+) -> Result<(), Fail> {
+    match command {
+        Command::Position => {
+            let (position, _) = mounted.basis(alloc, Filter::all(alloc))?;
+            Ok(push_at(text, labels, &position)?)
+        }
+        Command::ListFiles { patterns } => tell_list(alloc, mounted, patterns.as_slice(), text),
+        Command::Dirty => {
+            let paths = mounted.dirty(alloc)?;
+            Ok(push_listed(text, b"dirty ".as_slice(), paths.as_slice())?)
+        }
+        Command::Read { path } => tell_read(alloc, mounted, path, text),
+        Command::Since {
+            generation,
+            sequence,
+        } => tell_since(alloc, mounted, labels, (*generation, *sequence), text),
+        _ => Err(Fail::new("a line asks for nothing")),
+    }
+}
+
+/// A row so far.
+#[derive(Drop)]
+struct Player<P> {
+    alloc: Global,
+    objects: Objects,
+    mounted: Option<Mounted<P>>,
+    text: Vec<u8>,
+}
+
+impl<P: Played + Drop> Player<P> {
+    /// Adds a refusal.
+    fn refuse(&mut self, name: &[u8]) -> Result<(), Fail> {
+        Ok(push_refused(&mut self.text, name)?)
+    }
+
+    /// Mounts the commit that a label names. Where it names none the store is gone.
+    fn mount(&mut self, label: &Label, generation: u64, limit: u64) -> Result<(), Fail> {
+        let alloc = self.alloc;
+        let Some(root) = self.objects.labels.get(label.as_bytes()) else {
+            return self.refuse(b"NoLabel".as_slice());
+        };
+        let empty = Store::new(alloc, GitNaming);
+        let store = Arc::new(alloc, mem::replace(&mut self.objects.store, empty))?;
+        match P::mount(alloc, store.clone()?, root, generation, limit) {
+            Ok(played) => self.mounted = Some(Mounted { played, store }),
+            Err(fault) => match fault.cause {
+                CommitFault::NoCommit => return self.refuse(b"NoCommit".as_slice()),
+                CommitFault::NoMemory => return Err(Fail::from(fault)),
+            },
+        }
+        self.tell_mounted(&Command::Position)
+    }
+
+    /// Does what a line asks of a mount.
+    fn tell_mounted(&mut self, command: &Command) -> Result<(), Fail> {
+        let labels = &self.objects.labels;
+        let Some(mounted) = &mut self.mounted else {
+            return self.refuse(b"NotMounted".as_slice());
+        };
+        match change_of(self.alloc, labels, command) {
+            Ok(Some(change)) => {
+                let answer = mounted.played.change(&change)?;
+                push_answer(&mut self.text, labels, &answer)?;
+            }
+            Ok(None) => tell_asked(self.alloc, mounted, labels, command, &mut self.text)?,
+            Err(name) => push_refused(&mut self.text, name)?,
+        }
+        Ok(())
+    }
+
+    /// Does what a line asks for.
+    fn tell(&mut self, command: Command) -> Result<(), Fail> {
+        let comes_before = matches!(
+            &command,
+            Command::Blob { .. }
+                | Command::Tree { .. }
+                | Command::Commit { .. }
+                | Command::Mount { .. }
+        );
+        if comes_before && self.mounted.is_some() {
+            return self.refuse(b"Mounted".as_slice());
+        }
+        match self.objects.tell(self.alloc, command, &mut self.text)? {
+            None => Ok(()),
+            Some(
+                Command::Mount {
+                    label,
+                    generation,
+                    limit,
+                },
+            ) => self.mount(&label, generation, limit),
+            Some(command) => self.tell_mounted(&command),
+        }
+    }
+}
+
+/// The number of the first line, from 1, that a row prints otherwise when it is played, if there is one.
+pub fn first_wrong<P: Played + Drop>(alloc: Global, row: &Row) -> Result<Option<usize>, Fail> {
+    let mut player: Player<P> = Player {
+        alloc,
+        objects: Objects::new(alloc),
+        mounted: None,
+        text: Vec::new(alloc),
+    };
+    for line in row.script.split(';') {
+        player.tell(command_of(alloc, line)?)?;
+    }
+    let wanted = lines(alloc, row.prints)?;
+    Ok(differing_line(player.text.as_slice(), wanted.as_slice()))
+}

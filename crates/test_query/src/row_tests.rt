@@ -1,0 +1,91 @@
+//! The table of worked scripts, played over a mount that is asked by calls and by frames.
+
+use eden_accumulate::Mount;
+use eden_history::{Answer, Change, ChangeFault, MountFault};
+use eden_ids::{GitNaming, Id};
+use eden_messages::{Reply, Request};
+use eden_objects::Store;
+use eden_query::{decode_reply, encode_request, reply_to, serve};
+use eden_stream::Counted;
+use std::alloc::Global;
+use std::process::Abort;
+use std::sync::Arc;
+use std::test::Fail;
+use test_kit::{
+    ANSWER_ROWS, CHANGE_ROWS, LABEL_ROWS, OBJECT_ROWS, Played, Row, first_wrong, write_too_large,
+};
+
+/// A mount that is asked everything twice: by a call, and by a frame.
+#[derive(Drop)]
+struct Asked {
+    mount: Mount<GitNaming>,
+}
+
+/// What a mount replies by a frame to a request in one.
+fn framed(alloc: Global, mount: &mut Mount<GitNaming>, request: &Request) -> Result<Reply, Fail> {
+    let frame = encode_request(alloc, request)?;
+    let mut reader = Counted::new(frame.as_slice());
+    let mut written = Vec::new(alloc);
+    let mut writer = Counted::new(&mut written);
+    let served = serve(alloc, &mut reader, &mut writer, mount)?;
+    let body = written.get(4..).unwrap_or(b"".as_slice());
+    let reply = decode_reply(alloc, body)?;
+    if served == 1 {
+        return Ok(reply);
+    }
+    Err(Fail::new("one frame is not answered"))
+}
+
+impl Played for Asked {
+    fn mount(
+        alloc: Global,
+        store: Arc<Store<GitNaming>>,
+        root: Id,
+        generation: u64,
+        limit: u64,
+    ) -> Result<Asked, MountFault<GitNaming>> {
+        let mount = Mount::mount(alloc, store, root, generation, limit)?;
+        Ok(Asked { mount })
+    }
+
+    fn change(&mut self, change: &Change) -> Result<Answer, Fail> {
+        Ok(self.mount.apply(change)?)
+    }
+
+    fn ask(&mut self, alloc: Global, request: &Request) -> Result<Reply, Fail> {
+        let reply = reply_to(&mut self.mount, 1, request)?;
+        if framed(alloc, &mut self.mount, request)? == reply {
+            return Ok(reply);
+        }
+        Err(Fail::new("another reply is framed"))
+    }
+}
+
+/// Plays these rows, and fails with the name of the first that goes another way, and its line.
+fn played(rt: &impl Abort, alloc: Global, rows: &[Row]) -> Result<(), Fail> {
+    for row in rows {
+        let wrong = first_wrong::<Asked>(alloc, row)?;
+        assert_eq!(rt; wrong, None, "{}", row.name);
+    }
+    Ok(())
+}
+
+#[test]
+fn worked_rows(rt: HostRuntime) -> Result<(), Fail> {
+    let alloc = rt.alloc();
+    played(&rt, alloc, CHANGE_ROWS.as_slice())?;
+    played(&rt, alloc, ANSWER_ROWS.as_slice())?;
+    played(&rt, alloc, OBJECT_ROWS.as_slice())?;
+    played(&rt, alloc, LABEL_ROWS.as_slice())
+}
+
+// No line of a script is long enough for this one.
+#[test]
+fn change_refusals(rt: HostRuntime) -> Result<(), Fail> {
+    let alloc = rt.alloc();
+    let store = Arc::new(alloc, Store::new(alloc, GitNaming))?;
+    let mut mount = Mount::mount(alloc, store, Id::ZERO, 7, 1000)?;
+    let answer = mount.apply(&write_too_large(alloc)?)?;
+    assert!(rt; answer == Answer::Refused(ChangeFault::TooLarge));
+    Ok(())
+}

@@ -1,0 +1,84 @@
+//! A file as large as one may be, and one that is larger by a byte.
+
+use crate::daemon::{Pair, Step, opened_mount, path};
+use crate::rounds_tests::PLACED;
+use crate::wanted::{Said, position};
+use eden_history::ChangeFault;
+use eden_ids::{GitNaming, Kind};
+use eden_messages::Outcome;
+use eden_objects::{PutFault, Store};
+use eden_query::{DecodeFault, decode_reply};
+use std::alloc::Global;
+use std::test::Fail;
+
+/// How many bytes a file has at the most.
+const LARGEST: usize = 8_388_608;
+
+/// As many bytes, the first and the last of them others than those in between.
+fn largest(alloc: Global) -> Result<Vec<u8>, Fail> {
+    let mut bytes = vec![in alloc; b'x'; LARGEST - 1]?;
+    bytes.push(b'z')?;
+    if let Some(first) = bytes.get_mut(0) {
+        *first = b'a';
+    }
+    Ok(bytes)
+}
+
+/// The second round of a mirror that is told of one file.
+const TOLD: [Step; 2] = [
+    Step::Begin,
+    Step::Goes(Said::Created(2, (7, 2), "p"), Outcome::Taken),
+];
+
+#[test]
+fn largest_content(rt: HostRuntime) -> Result<(), Fail> {
+    let alloc = rt.alloc();
+    let at = path(alloc, "p")?;
+    let bytes = largest(alloc)?;
+    assert_eq!(rt; bytes.len(), LARGEST);
+    let mut pair = Pair::new(alloc, opened_mount(alloc)?);
+    pair.goes(&PLACED)?;
+    let written = pair.daemon.write(&at, Kind::Plain, bytes.as_slice());
+    assert_eq!(rt; written, Ok(position(7, 2)));
+    pair.goes(&TOLD)?;
+    for reply in &pair.asked()? {
+        assert_eq!(rt; pair.delivered(reply)?, Outcome::Placed);
+    }
+    assert_eq!(rt; pair.mirror.position(), Some(position(7, 2)));
+    let Some(read) = pair.mirror.get(&at) else {
+        return Err(Fail::new("no file"));
+    };
+    assert!(rt; read.kind == Kind::Plain && read.bytes.as_slice() == bytes.as_slice());
+    Ok(())
+}
+
+/// The body of a ContentIs with a plain file of these bytes at `p`, of which this is the count.
+fn body_of(alloc: Global, count: u32, bytes: &[u8]) -> Result<Vec<u8>, Fail> {
+    let mut body = Vec::new(alloc);
+    body.extend_from_slice([1, 0x83].as_slice())?;
+    for number in [1_u64, 1, 1, 7, 1] {
+        body.extend_from_slice(&number.to_be_bytes())?;
+    }
+    body.extend_from_slice([0; 20].as_slice())?;
+    body.extend_from_slice([0, 1, b'p', 1].as_slice())?;
+    body.extend_from_slice(&count.to_be_bytes())?;
+    body.extend_from_slice(bytes)?;
+    Ok(body)
+}
+
+#[test]
+fn larger_content(rt: HostRuntime) -> Result<(), Fail> {
+    let alloc = rt.alloc();
+    let mut bytes = largest(alloc)?;
+    bytes.push(b'x')?;
+    let mut mount = opened_mount(alloc)?;
+    let written = mount.write(&path(alloc, "p")?, Kind::Plain, bytes.as_slice());
+    assert_eq!(rt; written, Err(ChangeFault::TooLarge));
+    assert_eq!(rt; mount.position(), position(7, 1));
+    let mut store = Store::new(alloc, GitNaming);
+    assert_eq!(rt; store.put_blob(bytes.as_slice()), Err(PutFault::TooLarge));
+    let body = body_of(alloc, 8_388_609, bytes.as_slice())?;
+    let fault = decode_reply(alloc, body.as_slice()).err();
+    assert_eq!(rt; fault, Some(DecodeFault::BadField));
+    Ok(())
+}

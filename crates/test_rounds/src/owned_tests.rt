@@ -1,0 +1,131 @@
+//! A mirror that is given a reply does what one does that is lent it.
+
+use crate::daemon::{path, plain};
+use eden_globs::Filter;
+use eden_history::Position;
+use eden_ids::{Content, Id, Sequence};
+use eden_messages::{Cause, Outcome, Query, Reply};
+use eden_mirror::Mirror;
+use std::alloc::Global;
+use std::test::Fail;
+
+/// The first question of mirror 1.
+const QUERY: Query = Query {
+    mirror: 1,
+    life: 1,
+    number: 1,
+};
+
+/// Where the list is told, and each content.
+const TARGET: Position = Position {
+    generation: 7,
+    sequence: 2,
+    root: Id::ZERO,
+};
+
+/// The list of these paths.
+fn list(alloc: Global, texts: &[&str]) -> Result<Reply, Fail> {
+    let mut paths = Vec::new(alloc);
+    for text in texts {
+        paths.push(path(alloc, text)?)?;
+    }
+    Ok(Reply::BasisIs {
+        query: QUERY,
+        position: TARGET,
+        paths: Sequence::from_vec(paths),
+    })
+}
+
+fn content(alloc: Global, query: Query, at: &str, file: Option<Content>) -> Result<Reply, Fail> {
+    Ok(Reply::ContentIs {
+        query,
+        position: TARGET,
+        path: path(alloc, at)?,
+        content: file,
+    })
+}
+
+fn refused(cause: Cause) -> Reply {
+    Reply::Refused {
+        query: QUERY,
+        cause,
+    }
+}
+
+/// The mirror 1 in its first round, to which these replies came.
+fn mirror_after(alloc: Global, came: &[Reply]) -> Result<Mirror, Fail> {
+    let mut mirror = Mirror::new(alloc, 1, 1, Filter::all(alloc));
+    mirror.begin()?;
+    for reply in came {
+        let _ = mirror.deliver(reply)?;
+    }
+    Ok(mirror)
+}
+
+/// Both mirrors show the same.
+fn are_alike(lent: &Mirror, given: &Mirror, said: &str) -> Result<(), Fail> {
+    let paths = lent.files()?;
+    let same = given.files()? == paths
+        && lent.position() == given.position()
+        && lent.outstanding()? == given.outstanding()?
+        && paths.iter().all(|path| lent.get(path) == given.get(path));
+    if same {
+        return Ok(());
+    }
+    Err(Fail::new(format_args!("{said}: what is held is not the same")))
+}
+
+/// A reply that is lent to one mirror and given to another has this outcome at both, and leaves them alike.
+fn either_way(alloc: Global, came: &[Reply], reply: Reply, wanted: Outcome) -> Result<(), Fail> {
+    let said = format!(in alloc; "{reply:?} after {came:?}")?;
+    let mut lent = mirror_after(alloc, came)?;
+    let mut given = mirror_after(alloc, came)?;
+    let outcomes = (lent.deliver(&reply)?, given.deliver_owned(reply)?);
+    if outcomes != (wanted, wanted) {
+        return Err(Fail::new(format_args!("{said}: {outcomes:?}")));
+    }
+    are_alike(&lent, &given, said.as_str())
+}
+
+#[test]
+fn given_lists_and_refusals(rt: HostRuntime) -> Result<(), Fail> {
+    let alloc = rt.alloc();
+    for (reply, wanted) in [
+        (list(alloc, &["p", "q"])?, Outcome::Taken),
+        (list(alloc, &[])?, Outcome::Placed),
+        (refused(Cause::TooLarge), Outcome::Ended),
+        (refused(Cause::Stale(8)), Outcome::Unplaced),
+        (content(alloc, QUERY, "p", None)?, Outcome::Ignored),
+    ] {
+        either_way(alloc, &[], reply, wanted)?;
+    }
+    Ok(())
+}
+
+#[test]
+fn given_contents(rt: HostRuntime) -> Result<(), Fail> {
+    let alloc = rt.alloc();
+    let text = plain(alloc, "x")?;
+    let other = Query { life: 2, ..QUERY };
+    for (reply, wanted) in [
+        (
+            content(alloc, QUERY, "p", Some(text.copy()?))?,
+            Outcome::Placed,
+        ),
+        (content(alloc, QUERY, "p", None)?, Outcome::Placed),
+        (
+            content(alloc, QUERY, "r", Some(text.copy()?))?,
+            Outcome::Ignored,
+        ),
+        (
+            content(alloc, other, "p", Some(text.copy()?))?,
+            Outcome::Ignored,
+        ),
+        (list(alloc, &["p"])?, Outcome::Ignored),
+        (refused(Cause::TooLarge), Outcome::Ignored),
+    ] {
+        either_way(alloc, &[list(alloc, &["p"])?], reply, wanted)?;
+    }
+    let first = content(alloc, QUERY, "q", Some(text))?;
+    either_way(alloc, &[list(alloc, &["p", "q"])?], first, Outcome::Taken)
+}

@@ -1,0 +1,120 @@
+//! A working copy over a store that lines of a script put.
+
+ghost use Rattle.std.proofs.Props.{props};
+ghost use Rattle.eden_workcopy.specs.Meanings.{FitsIn};
+
+use eden_checkout::plan;
+use eden_globs::Filter;
+use eden_history::{ChangeFault, Mode};
+use eden_ids::{GitNaming, Id, Kind, Path};
+use eden_objects::{CommitFault, Store};
+use eden_workcopy::WorkCopy;
+use std::alloc::Global;
+use std::test::Fail;
+use test_kit::{Objects, path, spaced};
+
+/// A store, and a working copy that fits in it.
+#[derive(Drop)]
+pub(crate) struct Mounted {
+    pub(crate) store: Store<GitNaming>,
+    pub(crate) work: WorkCopy,
+    ghost fits: { FitsIn store work } by { Prim.hlevel props },
+}
+
+impl Mounted {
+    /// A working copy that holds a commit.
+    pub(crate) fn over(alloc: Global, store: Store<GitNaming>, root: Id) -> Result<Mounted, Fail> {
+        let work = WorkCopy::new(alloc, &store, root)?;
+        Ok(Mounted { store, work })
+    }
+
+    /// What is answered to a change: a call's name, a path, and text or another path.
+    pub(crate) fn change(
+        &mut self,
+        alloc: Global,
+        text: &str,
+    ) -> Result<Option<ChangeFault>, Fail> {
+        let mut words = text.split(' ');
+        let call = words.next().unwrap_or("");
+        let at = path(alloc, words.next().unwrap_or(""))?;
+        let rest = words.next().unwrap_or("");
+        if call == "write" {
+            let bytes = rest.as_bytes();
+            return Ok(self.work.write(&self.store, &at, Kind::Plain, bytes).err());
+        }
+        if call == "remove" {
+            return Ok(self.work.remove(&self.store, &at).err());
+        }
+        if call == "revert" {
+            return Ok(self.work.revert(&self.store, &at).err());
+        }
+        let new = path(alloc, rest)?;
+        Ok(self.work.rename(&self.store, &at, &new).err())
+    }
+
+    /// The paths of all files, each with a space behind it.
+    pub(crate) fn list(&self, alloc: Global) -> Result<Vec<u8>, Fail> {
+        let paths = self.work.list(&self.store, &Filter::all(alloc))?;
+        Ok(spaced(alloc, &paths)?)
+    }
+
+    /// The paths of the dirty ones, each with a space behind it.
+    pub(crate) fn dirty(&self, alloc: Global) -> Result<Vec<u8>, Fail> {
+        let paths = self.work.dirty(&self.store)?;
+        Ok(spaced(alloc, &paths)?)
+    }
+
+    /// Whether a file of this kind with this text stands at a path.
+    pub(crate) fn reads(
+        &self,
+        alloc: Global,
+        at: &str,
+        kind: Kind,
+        text: &str,
+    ) -> Result<bool, Fail> {
+        let at = path(alloc, at)?;
+        Ok(self.work.read(&self.store, &at) == Ok((kind, text.as_bytes())))
+    }
+
+    /// Puts the working copy over another commit.
+    pub(crate) fn reroot(&mut self, commit: Id) -> Result<(), CommitFault> {
+        self.work = self.work.reroot(&self.store, commit)?;
+        Ok(())
+    }
+
+    /// Makes a checkout, and tells its conflicts and then its unclean paths, each with a space behind it, with a bar between both; or why
+    /// there is none.
+    pub(crate) fn checkout(
+        &mut self,
+        alloc: Global,
+        commit: Id,
+        mode: Mode,
+    ) -> Result<Vec<u8>, Fail> {
+        let planned = plan(
+            self.store.allocator(),
+            &self.store,
+            &self.work,
+            commit,
+            mode,
+        )?;
+        let mut text = spaced(alloc, planned.conflicts.as_slice())?;
+        text.extend_from_slice(b"| ".as_slice())?;
+        text.extend_from_slice(spaced(alloc, planned.unclean.as_slice())?.as_slice())?;
+        self.work = planned.next;
+        Ok(text)
+    }
+
+    /// Those of some paths at which a file stands, each with `=`, what it holds and a space.
+    pub(crate) fn shown(&self, alloc: Global, paths: &[&str]) -> Result<Vec<u8>, Fail> {
+        let mut text = Vec::new(alloc);
+        for path in paths {
+            if let Some((_, bytes)) = self.work.file(&self.store, path.as_bytes()) {
+                text.extend_from_slice(path.as_bytes())?;
+                text.push(b'=')?;
+                text.extend_from_slice(bytes)?;
+                text.push(b' ')?;
+            }
+        }
+        Ok(text)
+    }
+}

@@ -1,0 +1,87 @@
+//! The table of worked scripts, played over the plain program.
+
+use eden_history::{Answer, Change, ChangeFault, MountFault};
+use eden_ids::{GitNaming, Id};
+use eden_messages::{Reply, Request};
+use eden_objects::{CommitFault, Store};
+use eden_world::World;
+use std::alloc::Global;
+use std::process::Abort;
+use std::sync::Arc;
+use std::test::Fail;
+use test_kit::{
+    ANSWER_ROWS, CHANGE_ROWS, LABEL_ROWS, OBJECT_ROWS, Objects, Played, Row, first_wrong,
+    write_too_large,
+};
+
+/// The plain program, which is given copies of what is asked of it, and gives copies of what it answers.
+#[derive(Drop)]
+struct Plain {
+    world: World<GitNaming>,
+}
+
+impl Played for Plain {
+    fn mount(
+        alloc: Global,
+        store: Arc<Store<GitNaming>>,
+        root: Id,
+        generation: u64,
+        limit: u64,
+    ) -> Result<Plain, MountFault<GitNaming>> {
+        let world = World::mount(alloc, store, root, generation, limit)?;
+        Ok(Plain { world })
+    }
+
+    fn change(&mut self, change: &Change) -> Result<Answer, Fail> {
+        Ok(self.world.apply(&change.copy()?)?.copy()?)
+    }
+
+    fn ask(&mut self, _alloc: Global, request: &Request) -> Result<Reply, Fail> {
+        Ok(self.world.reply(&request.copy()?)?.copy()?)
+    }
+}
+
+/// Plays these rows, and fails with the name of the first that goes another way, and its line.
+fn played(rt: &impl Abort, alloc: Global, rows: &[Row]) -> Result<(), Fail> {
+    for row in rows {
+        let wrong = first_wrong::<Plain>(alloc, row)?;
+        assert_eq!(rt; wrong, None, "{}", row.name);
+    }
+    Ok(())
+}
+
+#[test]
+fn worked_rows(rt: HostRuntime) -> Result<(), Fail> {
+    let alloc = rt.alloc();
+    played(&rt, alloc, CHANGE_ROWS.as_slice())?;
+    played(&rt, alloc, ANSWER_ROWS.as_slice())?;
+    played(&rt, alloc, OBJECT_ROWS.as_slice())?;
+    played(&rt, alloc, LABEL_ROWS.as_slice())
+}
+
+// A store in which there is no such commit comes back as it was.
+#[test]
+fn no_such_commit(rt: HostRuntime) -> Result<(), Fail> {
+    let alloc = rt.alloc();
+    let objects = Objects::of(alloc, "blob b x")?;
+    let blob = objects.id("b");
+    let store = Arc::new(alloc, objects.store)?;
+    let Err(fault) = World::mount(alloc, store, blob, 7, 1000) else {
+        return Err(Fail::new("a blob is no commit"));
+    };
+    assert!(rt; fault.cause == CommitFault::NoCommit);
+    assert!(rt; fault.store.blob(blob) == Some(b"x".as_slice()));
+    Ok(())
+}
+
+// No line of a script is long enough for this one.
+#[test]
+fn change_refusals(rt: HostRuntime) -> Result<(), Fail> {
+    let alloc = rt.alloc();
+    let store = Arc::new(alloc, Store::new(alloc, GitNaming))?;
+    let mut world = World::mount(alloc, store, Id::ZERO, 7, 1000)?;
+    let answer = world.apply(&write_too_large(alloc)?)?;
+    assert!(rt; answer == Answer::Refused(ChangeFault::TooLarge));
+    assert_eq!(rt; world.floor()?, 1);
+    Ok(())
+}
