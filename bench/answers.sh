@@ -7,10 +7,11 @@
 # with it row by row; LARGEST the most files that are written, 1,000,000 if it is not set.
 set -euo pipefail
 
-root=$(cd "$(dirname "$0")/.." && pwd)
 most=1
-. "$root/bench/begin.sh"
+. "$(dirname "$0")/begin.sh"
 tries=${1:-5}
+[ "$tries" -gt 0 ] || fail "needs one try at least"
+[ "$(env time -f works true 2>&1)" = works ] || fail "needs GNU time, which is not here"
 . "$root/bench/scripts.sh"
 
 # N writes of N files in 1,000 directories: in the order of the paths, or in none.
@@ -68,9 +69,9 @@ of_writes() {
 bytes_a_file() {
     local held none
     echo 'mount empty 1 1000000000' > "$work/script"
-    none=$(command time -f %M "$edend" run < "$work/script" 2>&1 > /dev/null)
+    none=$(env time -f %M "$edend" run < "$work/script" 2>&1 > /dev/null)
     { cat "$work/script"; writes "$1" 80000; } > "$work/more"
-    held=$(command time -f %M "$edend" run < "$work/more" 2>&1 > /dev/null)
+    held=$(env time -f %M "$edend" run < "$work/more" 2>&1 > /dev/null)
     echo $(((held - none) * 1024 / 80000))
 }
 

@@ -1,5 +1,5 @@
-# Sourced first by a script that takes words, which says in `most` how many numbers it takes. For any other word, as `--help`, it prints the
-# comment at the script's head, and ends it.
+# Sourced first by each script of bench/ and tests-with-git/, which says in `most` how many numbers it takes. For any other word, as `--help`,
+# it prints the comment at the script's head, and ends it. It sets `root`, the top of the repository.
 numbers=0
 for word; do
     case $word in
@@ -15,8 +15,52 @@ if [ "$numbers" -gt "$most" ]; then
     sed -n '2,/^[^#]/s/^# \{0,1\}//p' "$0" >&"$told"
     exit "$status"
 fi
+root=$(cd "$(dirname "$0")/.." && pwd)
 
-# Tells that a program is built, which ends at once where it is built already.
-building() {
-    echo "proving and building $*, up to 20 minutes the first time" >&2
+# Ends the script with a message.
+fail() {
+    echo "$(basename "$0"): $*" >&2
+    exit 1
+}
+
+# Ends the script where a command that it needs is not there.
+needs() {
+    for command; do
+        command -v "$command" > /dev/null || fail "needs the command $command, which is not here"
+    done
+}
+
+# `build CRATE FILE WORD..` has `rt WORD..` prove and build a crate, silently but for a line that says so, and ends the script where that fails
+# or leaves no out/FILE. It ends at once where all is built already.
+build() {
+    crate=$1 file=$2
+    shift 2
+    needs rt
+    echo "$(basename "$0"): proving and building $crate, silently, up to 20 minutes the first time" >&2
+    mkdir -p "$root/crates/$crate/out"
+    (cd "$root/crates/$crate" && rt "$@" < /dev/null) > "$root/crates/$crate/out/built" 2>&1 || {
+        cat "$root/crates/$crate/out/built" >&2
+        fail "rt $* failed in crates/$crate"
+    }
+    [ -f "$root/crates/$crate/out/$file" ] || fail "rt $* left no crates/$crate/out/$file"
+}
+
+# Ends the script where a program runs no script.
+check_edend() {
+    [ "$(echo 'mount empty 1 0' | "$1" run 2>&1)" = 'at 1 1 empty' ] || fail "$1 is no edend that works"
+}
+
+# Sets `edend` to the program that EDEND names, or else to that of this repository.
+find_edend() {
+    edend=${EDEND:-}
+    if [ -z "$edend" ]; then
+        build edend edend run -- run
+        edend=$root/crates/edend/out/edend
+    fi
+    check_edend "$edend"
+}
+
+# Runs a program that a crate built, and tells on standard output what it measured. What it answers is compared by the gate.
+measure() {
+    "$root/crates/$1/out/$1" 2>&1 > /dev/null || fail "crates/$1/out/$1 ended with $?"
 }

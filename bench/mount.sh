@@ -6,10 +6,10 @@
 # EDEND names the program that is measured, if it is another than this one, as one of an earlier commit.
 set -euo pipefail
 
-root=$(cd "$(dirname "$0")/.." && pwd)
 most=1
-. "$root/bench/begin.sh"
+. "$(dirname "$0")/begin.sh"
 tries=${1:-5}
+[ "$tries" -gt 0 ] || fail "needs one try at least"
 . "$root/bench/scripts.sh"
 
 # 100,000 lines of changes of 1,000 files on a mount of so many directories: each file is written a hundred times, or renamed fifty times

@@ -23,8 +23,8 @@ fn processor_time() -> u64 {
     time.seconds as u64 * 1_000_000_000 + time.nanoseconds as u64
 }
 
-/// Takes a list of paths, and then a content for each path in turn; gives how many are not answered at the end.
-fn round(paths: &[Vec<u8>], contents: &[(Vec<u8>, Vec<u8>)]) -> usize {
+/// Takes a list of paths, and then is given a content for each path in turn; gives how many are not answered at the end.
+fn round(paths: &[Vec<u8>], contents: Vec<(Vec<u8>, Vec<u8>)>) -> usize {
     let mut awaited: HashMap<Vec<u8>, bool> = HashMap::new();
     for path in paths {
         awaited.insert(path.clone(), false);
@@ -32,8 +32,8 @@ fn round(paths: &[Vec<u8>], contents: &[(Vec<u8>, Vec<u8>)]) -> usize {
     let mut left = awaited.len();
     let mut files = BTreeMap::new();
     for (path, content) in contents {
-        if let Some(answered) = awaited.get_mut(path) {
-            files.insert(path.clone(), content.clone());
+        if let Some(answered) = awaited.get_mut(&path) {
+            files.insert(path, content);
             *answered = true;
             left -= 1;
         }
@@ -50,11 +50,11 @@ fn main() {
             ("in reverse", |turn, count| count - 1 - turn),
             ("in no order", |turn, count| turn * 61_803 % count),
         ] {
-            let contents: Vec<_> = (0..count).map(|turn| (paths[place(turn, count)].clone(), b"text".to_vec())).collect();
             let least = (0..TRIES)
                 .map(|_| {
+                    let contents = (0..count).map(|turn| (paths[place(turn, count)].clone(), b"text".to_vec())).collect();
                     let start = processor_time();
-                    assert_eq!(round(&paths, &contents), 0);
+                    assert_eq!(round(&paths, contents), 0);
                     processor_time() - start
                 })
                 .min()

@@ -1,17 +1,16 @@
 #!/bin/sh
-# Measures rounds of a mirror, and a plain program that does the like with tables of Rust's standard library. README.md says how.
+# Measures rounds of a mirror, and a plain program that does the like with tables of Rust's standard library. README.md says how. It needs the
+# kit and rustc.
 #
 # usage: bench/rounds.sh
 set -e
 most=0
 . "$(dirname "$0")/begin.sh"
 
-cd "$(dirname "$0")/.."
-mkdir -p crates/rig_rounds/out
-building rig_rounds
-(cd crates/rig_rounds && rt run) > crates/rig_rounds/out/built 2>&1 || { cat crates/rig_rounds/out/built; exit 1; }
-rustc -C opt-level=3 bench/rounds.rs -o crates/rig_rounds/out/plain
+needs rustc
+build rig_rounds rig_rounds run
+rustc -C opt-level=3 "$root/bench/rounds.rs" -o "$root/crates/rig_rounds/out/plain"
 echo "a mirror:"
-crates/rig_rounds/out/rig_rounds 2>&1 > /dev/null
+measure rig_rounds
 echo "plain tables:"
-crates/rig_rounds/out/plain
+"$root/crates/rig_rounds/out/plain"

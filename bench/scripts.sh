@@ -1,17 +1,11 @@
-# Sourced by the scripts that measure edend on commits of many files, behind begin.sh. They set `tries` and `root`, and need git and the kit.
+# Sourced by the scripts that measure edend on commits of many files, behind begin.sh. They set `tries`, and need git and the kit.
 
+needs git
+find_edend
+[ -z "${BEFORE:-}" ] || check_edend "$BEFORE"
 work=$(mktemp -d)
 . "$root/tests-with-git/object-lines.sh"
 trap 'rm -rf "$work"' EXIT
-edend=${EDEND:-}
-if [ -z "$edend" ]; then
-    building edend
-    (cd "$root/crates/edend" && rt run -- run < /dev/null) > "$work/built" 2>&1 || { cat "$work/built"; exit 1; }
-    edend=$root/crates/edend/out/edend
-fi
-for program in "$edend" ${BEFORE:+"$BEFORE"}; do
-    [ "$(echo 'mount empty 1 0' | "$program" run 2>&1)" = 'at 1 1 empty' ] || { echo "$program is no edend" >&2; exit 1; }
-done
 
 # The path of file F of directory D of a shape: 1,000 directories side by side, or ten in each of ten in each of ten.
 path='
@@ -46,8 +40,9 @@ make_commits() {
             echo "commit $name t$(git rev-parse "$name^{tree}" | cut -c 1-31)"
         done
     } > "$work/objects"
-    { cat "$work/objects"; sed -n 's/^commit [a-z]* /id /p' "$work/objects"; } | "$edend" run | sed -n 's/^id //p' > "$work/ids"
-    git rev-parse 'one^{tree}' 'two^{tree}' 'small^{tree}' | cmp - "$work/ids"
+    { cat "$work/objects"; sed -n 's/^commit [a-z]* /id /p' "$work/objects"; } | "$edend" run | sed -n 's/^id //p' > "$work/ids" ||
+        fail "$edend failed over the objects of commits"
+    git rev-parse 'one^{tree}' 'two^{tree}' 'small^{tree}' | cmp - "$work/ids" || fail "the ids that $edend prints are not Git's"
 }
 
 # So many times the lines that are told.
@@ -60,10 +55,10 @@ repeat() {
 least() {
     local TIMEFORMAT='%3U %3S'
     for ((try = 0; try < tries; try++)); do
-        { time "$@" > "$work/printed" 2> "$work/failed"; } 2>&1 | awk '{ print ($1 + $2) * 1000 }'
+        { time "$@" > "$work/printed" 2> "$work/failed"; } 2>&1 | awk '{ print ($1 + $2) * 1000 }' ||
+            fail "$* failed: $(cat "$work/failed")"
         if grep -q '^refused' "$work/printed" || [ -s "$work/failed" ]; then
-            echo "a line was refused" >&2
-            exit 1
+            fail "a line was refused: $(grep -m 1 '^refused' "$work/printed" | cat - "$work/failed")"
         fi
     done | sort -n | sed -n 1p
 }

@@ -22,7 +22,7 @@ PROMISES = [
     ("two commits' difference (`diff`)", "eden_treediff", ["diff"]),
     ("the store (`put_blob`, `put_tree`, `put_commit`, `lookup`, `list`)", "eden_objects", ["put_blob", "put_tree", "put_commit", "lookup", "list"]),
     ("ids (`GitNaming::id_of`)", "eden_ids", ["git_name"]),
-    ("messages as bytes (`encode_request`, `encode_reply`, `decode_request`, `decode_reply`)", "eden_wire", ["encode_request", "encode_reply", "decode_request", "decode_reply", "request_law", "reply_law"]),
+    ("messages as bytes (`encode_request`, `encode_reply`, `append_reply`, `decode_request`, `decode_reply`)", "eden_wire", ["encode_request", "encode_reply", "append_reply", "decode_request", "decode_reply", "request_law", "reply_law"]),
     ("a mirror (`begin`, `deliver`, `round_law`)", "eden_mirror", ["begin", "deliver", "round_law"]),
     ("replies have a spelling (`reply_spelling_law`), and frames are answered (`serve`)", "eden_messages eden_query", ["reply_spelling_law", "serve"]),
     ("an audit (`audit`)", "eden_audit", ["audit"]),

@@ -6,15 +6,30 @@
 #
 # usage: tests-with-git/compare.sh [SEED]
 #
-# It needs git, and the programs edend and rig_git, which `rt run` builds where they are not built yet. With HOW=try, `rt try` runs
-# both, without a proof. What it makes lies in a folder of its own, which it takes away again.
+# It needs git, and the programs edend and rig_git: those that EDEND and RIG_GIT name, or else those of this repository, which are proved and
+# built where they are not built yet. With HOW=try, `rt try` compiles and runs both, which takes some minutes and proves nothing. What it makes
+# lies in a folder of its own, which it takes away again.
 set -euo pipefail
 
-root=$(cd "$(dirname "$0")/.." && pwd)
 most=1
-. "$root/bench/begin.sh"
-how=${HOW:-run}
+. "$(dirname "$0")/../bench/begin.sh"
 seed=${1:-1}
+needs git
+case ${HOW:-run} in
+    run)
+        find_edend
+        rig_git=${RIG_GIT:-}
+        if [ -z "$rig_git" ]; then
+            build rig_git rig_git run
+            rig_git=$root/crates/rig_git/out/rig_git
+        fi
+        ;;
+    try)
+        needs rt
+        edend=
+        ;;
+    *) fail "HOW is run or try" ;;
+esac
 work=$(mktemp -d)
 . "$root/tests-with-git/object-lines.sh"
 trap 'rm -rf "$work"' EXIT
@@ -83,13 +98,22 @@ done >> "$work/script"
     for number in "${!trees[@]}"; do printf '%s\n' "${trees[number]}" "${commits[number]}"; done
 } > "$work/ids"
 
+# What a crate's program prints of standard input, as `rt try` compiles and runs it.
+tried() {
+    echo "compare.sh: compiling $1, silently, a minute or two" >&2
+    (cd "$root/crates/$1" && rt try --seconds 600 -- "${@:2}") 2> "$work/failed" || fail "$1 failed: $(cat "$work/failed")"
+}
+
 # The ids of a script.
-[ "$how" = try ] || building edend and rig_git
-(cd "$root/crates/edend" && rt "$how" -- run < "$work/script") > "$work/printed"
-grep '^id ' "$work/printed" | cut -d ' ' -f 2 > "$work/printed-ids"
-cmp "$work/ids" "$work/printed-ids"
+if [ -n "$edend" ]; then
+    "$edend" run < "$work/script" > "$work/printed" || fail "$edend ended with $?"
+else
+    tried edend run < "$work/script" > "$work/printed"
+fi
+sed -n 's/^id //p' "$work/printed" > "$work/printed-ids"
+cmp "$work/ids" "$work/printed-ids" || fail "an id is not Git's"
 refused=$(grep -c '^refused' "$work/printed" || true)
-[ "$refused" = 0 ] || { echo "$refused lines were refused"; exit 1; }
+[ "$refused" = 0 ] || fail "$refused lines were refused"
 
 # The files of each commit.
 {
@@ -100,8 +124,12 @@ refused=$(grep -c '^refused' "$work/printed" || true)
     done
 } > "$work/listed-by-git"
 git cat-file --batch < "$work/ids" > "$work/batch"
-(cd "$root/crates/rig_git" && rt "$how" < "$work/batch") > "$work/listed"
-cmp "$work/listed-by-git" "$work/listed"
+if [ -n "$edend" ]; then
+    "$rig_git" < "$work/batch" > "$work/listed" || fail "$rig_git ended with $?"
+else
+    tried rig_git < "$work/batch" > "$work/listed"
+fi
+cmp "$work/listed-by-git" "$work/listed" || fail "an id or a list of files is not Git's"
 
 echo "$(wc -l < "$work/ids") ids and $(grep -c '^commit ' "$work/listed") listings are those of Git, \
 with $(grep -c ' blob ' "$work/listed") files"
@@ -218,13 +246,14 @@ for pair in $(seq 100 399); do
     } > "$work/cases/$pair.stdout"
 done
 
-if [ "$how" = try ]; then
-    (cd "$root/crates/edend" && rt try --cases "$work/cases" -- run) > "$work/tried" 2>&1 || { cat "$work/tried"; exit 1; }
-else
+if [ -n "$edend" ]; then
     for pair in $(seq 100 399); do
-        "$root/crates/edend/out/edend" run < "$work/cases/$pair" > "$work/printed"
-        diff "$work/cases/$pair.stdout" "$work/printed" || { echo "in pair $pair, Git above edend"; exit 1; }
+        "$edend" run < "$work/cases/$pair" > "$work/printed" || fail "$edend ended with $? at pair $pair"
+        diff "$work/cases/$pair.stdout" "$work/printed" || fail "pair $pair differs, Git above edend"
     done
+else
+    echo "compare.sh: compiling edend once more, silently, a minute or two" >&2
+    (cd "$root/crates/edend" && rt try --seconds 600 --cases "$work/cases" -- run) > "$work/tried" 2>&1 || fail "edend failed: $(cat "$work/tried")"
 fi
 cat "$work/cases/"*.stdout | awk '
     $1 == "files" { lists++; files += $2 }
