@@ -1,5 +1,5 @@
 -- What a spellable world answers has a spelling.
-use Rattle.std.proofs.Common.{◌≡◌, ℕ, List, Result, Ok, Err, refl}
+use Rattle.std.proofs.Common.{◌≡◌, ℕ, List, Result, Ok, Err, refl, subst, sym}
 use Rattle.eden_ids.specs.declared.id.Id.{Id}
 use Rattle.eden_ids.specs.Texts.{AreBytes}
 use Rattle.eden_ids.proofs.Texts.{bytes_at}
@@ -16,7 +16,7 @@ use Rattle.eden_messages.proofs.Replying.{reply_spelled}
 use Rattle.eden_wire.specs.declared.fault.DecodeFault.{DecodeFault}
 use Rattle.eden_wire.specs.Reading.{read_request}
 use Rattle.eden_wire.proofs.BodyLaws.{request_spelled}
-use Rattle.eden_query.specs.Answers.{AnswersAreSpelled, answered}
+use Rattle.eden_query.specs.Answers.{AnswersAreSpelled, IsSpelledOfWorlds, answered}
 
 pub answers_spelled : (world : WorldState) → IsSomeWorld world → IsSpellable world → AnswersAreSpelled world
 answers_spelled world is spellable body answer bytes same = by (read_request body) refl same
@@ -27,3 +27,7 @@ answers_spelled world is spellable body answer bytes same = by (read_request bod
         let asked = (request_spelled body request (bytes_at body bytes) e).fields in
         (reply_of world request, cc, reply_spelled is.0 world request is.1 spellable asked)
     by (Err fault) e told = absurd cc
+
+pub spelled_of_worlds : (reply : Reply) → IsSpelledOfWorlds reply
+spelled_of_worlds reply world request is spellable asked same =
+    subst (λ reply. SpellsReply (reply_bytes reply) reply) (sym same) (reply_spelled is.0 world request is.1 spellable asked)

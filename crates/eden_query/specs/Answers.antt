@@ -8,9 +8,11 @@ use Rattle.eden_frames.specs.declared.fault.FrameFault.{FrameFault}
 use Rattle.eden_frames.specs.declared.fault.FrameFault.TheVariants as frame
 use Rattle.eden_messages.specs.declared.message.Reply.{Reply}
 use Rattle.eden_messages.specs.declared.message.Request.{Request}
+use Rattle.eden_history.specs.Legal.{IsSomeWorld}
+use Rattle.eden_history.specs.Spellable.{IsSpellable}
 use Rattle.eden_history.specs.Worlds.{WorldState}
 use Rattle.eden_messages.specs.Replies.{reply_of}
-use Rattle.eden_messages.specs.Spells.{SpellsReply, reply_bytes}
+use Rattle.eden_messages.specs.Spells.{IsRequest, SpellsReply, reply_bytes}
 use Rattle.eden_frames.specs.Frames as frames
 
 -- a body's fault is its frame's; no body is read as a want of memory
@@ -35,3 +37,8 @@ answer_to world body = answered world (read_request body)
 abbrev pub AnswersAreSpelled : WorldState → Type 0
 AnswersAreSpelled world = (body answer : List ℕ) → AreBytes body → answer_to world body ≡ Ok answer
     → (reply : Reply) × (answer ≡ frames.frame (reply_bytes reply)) × SpellsReply (reply_bytes reply) reply
+
+-- what such a world replies to a request has a spelling, whoever works the reply out
+abbrev pub IsSpelledOfWorlds : Reply → Type 0
+IsSpelledOfWorlds reply = (world : WorldState) (request : Request) → IsSomeWorld world → IsSpellable world → IsRequest request → reply ≡ reply_of world request
+    → SpellsReply (reply_bytes reply) reply

@@ -6,6 +6,7 @@ ghost use Rattle.eden_accumulate.specs.Snapshots.{shown_to};
 ghost use Rattle.eden_messages.specs.Replies.{bounded};
 ghost use Rattle.eden_messages.specs.Spells.{reply_bytes};
 ghost use Rattle.eden_messages.specs.declared.message.Reply.TheVariants as ReplyIs;
+ghost use Rattle.eden_query.specs.Answers.{IsSpelledOfWorlds};
 ghost use Rattle.eden_query.specs.Raws.{is_answerable, patterns_of, told};
 
 use crate::raw::Raw;
@@ -52,7 +53,10 @@ fn content_reply(query: Query, position: Position, path: Path, content: Option<C
 /// `NoCommit` comes just where two neighbouring roots of a range are not one and one of them is no commit of the store, or a snapshot's
 /// root is none; of what a mount gave, over that mount's store, it never comes. `NoMemory` may stand in place of any answer where a
 /// growth was refused.
-#[tactic(auto, using(crate::proofs::ReplyFits::refusal_fits, crate::proofs::ReplyFits::bounded_fits))]
+///
+/// `spelled` says what a client of any make may rely on: what was held of a mount, and so is answered as its world replies, has a spelling. Of
+/// a `Raw` made by hand, with a file of any length, nothing is said.
+#[tactic(auto, using(crate::proofs::ReplyFits::refusal_fits, crate::proofs::ReplyFits::bounded_fits, crate::proofs::Spelled::spelled_of_worlds))]
 pub fn answer<N: Naming + Drop>(
     alloc: Global,
     raw: &Raw,
@@ -61,6 +65,7 @@ pub fn answer<N: Naming + Drop>(
 ) -> Result<Reply, CommitFault>
     ensures reply { IfOk result (λ reply. reply ≡ told store.now filter.now raw.now) }
     ensures fits { IfOk result (λ reply. length (reply_bytes reply) ≤ 16777216) }
+    ensures spelled { IfOk result (λ reply. IsSpelledOfWorlds reply) }
     ensures compared { OnOk result (is_answerable (commit_map store.now) raw.now ≡ true) }
     ensures fault { IfErr result (λ fault. fault ≢ CommitFault.NoMemory → is_answerable (commit_map store.now) raw.now ≡ false) }
 {
@@ -128,6 +133,7 @@ fn filter_of<'a>(request: &'a Request, everything: &'a Filter) -> &'a Filter
 /// more, and a file that was held is moved into the reply.
 ///
 /// `NoMemory` comes where a growth was refused.
+#[tactic(auto, using(crate::proofs::Spelled::spelled_of_worlds))]
 pub fn answer_request<N: Naming + Drop>(
     alloc: Global,
     raw: Raw,
@@ -137,6 +143,7 @@ pub fn answer_request<N: Naming + Drop>(
     requires { is_answerable (commit_map store.now) raw ≡ true }
     ensures reply { IfOk result (λ reply. reply ≡ told store.now (patterns_of request.now) raw) }
     ensures fits { IfOk result (λ reply. length (reply_bytes reply) ≤ 16777216) }
+    ensures spelled { IfOk result (λ reply. IsSpelledOfWorlds reply) }
 {
     let everything = Filter::all(alloc);
     let filter = filter_of(request, &everything);
