@@ -1,4 +1,20 @@
-//! A table from ids to values that grows in place, and of which a copy is a few pointers.
+//! Tables from ids to values that grow in place, and of which a copy is a few pointers.
+//!
+//! ```rust
+//! use eden_ids::Id;
+//! use eden_segments::{Shared, Table};
+//!
+//! let mut table = Table::new(alloc);
+//! table.add(Id([1; 20]), Shared::new(alloc, 1)?)?;
+//!
+//! // A copy keeps the rows that it has, and either grows by itself.
+//! let copy = table.share()?;
+//! if table.get(Id([2; 20])).is_none() {
+//!     table.add(Id([2; 20]), Shared::new(alloc, 2)?)?;
+//! }
+//! assert!(rt; copy.get(Id([1; 20])).is_some_and(|value| **value == 1));
+//! assert!(rt; table.get(Id([2; 20])).is_some() && copy.get(Id([2; 20])).is_none());
+//! ```
 #![tactic(auto)]
 
 pub use crate::share::Share;

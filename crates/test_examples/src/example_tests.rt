@@ -14,6 +14,7 @@ fn examples(rt: HostRuntime) -> Result<(), Fail> {
     eden_frames_example(&rt, alloc)?;
     eden_globs_example(&rt, alloc)?;
     eden_lanes_example(&rt, alloc)?;
+    eden_segments_example(&rt, alloc)?;
     eden_git_example(&rt, alloc)?;
     eden_objects_example(&rt, alloc)?;
     eden_treediff_example(&rt, alloc)?;
@@ -105,6 +106,23 @@ fn eden_lanes_example(rt: &impl Abort, alloc: Global) -> Result<(), Fail> {
     assert_eq!(rt; before.len(), after.len());
     assert!(rt; differ_rows(alloc, &before, &after)?.as_slice() == [8].as_slice());
     assert_eq!(rt; find_row(&after, Id([255; 20])), Some(8));
+    Ok(())
+}
+
+fn eden_segments_example(rt: &impl Abort, alloc: Global) -> Result<(), Fail> {
+    use eden_ids::Id;
+    use eden_segments::{Shared, Table};
+
+    let mut table = Table::new(alloc);
+    table.add(Id([1; 20]), Shared::new(alloc, 1)?)?;
+
+    // A copy keeps the rows that it has, and either grows by itself.
+    let copy = table.share()?;
+    if table.get(Id([2; 20])).is_none() {
+        table.add(Id([2; 20]), Shared::new(alloc, 2)?)?;
+    }
+    assert!(rt; copy.get(Id([1; 20])).is_some_and(|value| **value == 1));
+    assert!(rt; table.get(Id([2; 20])).is_some() && copy.get(Id([2; 20])).is_none());
     Ok(())
 }
 

@@ -1,4 +1,4 @@
-//! Tests of the store of objects and of differences between commits, over objects that are put by hand.
+//! Tests of the store of objects, of the table that it may stand in, and of differences between commits, over objects that are put by hand.
 //!
 //! A crate of its own, so that no crate that ships waits for them.
 #![tactic(auto)]
@@ -11,3 +11,5 @@ mod entries_tests;
 mod lookup_tests;
 #[cfg(test)]
 mod put_tests;
+#[cfg(test)]
+mod segment_tests;
