@@ -1,9 +1,7 @@
 mod PayloadLemmas
 mod LabelLemmas
 mod PutSteps
-mod Changed
+mod Acting
 mod Asking
-mod Mounted
-mod SessionLines
 mod LineAnswers
 mod FirstLemmas

@@ -5,7 +5,7 @@ use Rattle.eden_ids.specs.declared.id.Id.{Id}
 use Rattle.eden_script.specs.declared.command.TreeEntry.{TreeEntry}
 use Rattle.eden_script.specs.declared.label.Binding.{Binding}
 use Rattle.eden_script.specs.Labels.{bound}
-use Rattle.eden_script.specs.ScriptText.{entry_bytes, joined, tree_payload}
+use Rattle.eden_script.specs.Sessions.{entry_bytes, joined, tree_payload}
 
 joined-assoc : (a b c : Option (List ℕ)) → joined a (joined b c) ≡ joined (joined a b) c
 joined-assoc None b c = refl

@@ -2,4 +2,4 @@
 pub mod BoundMaps
 pub mod Firsts
 pub mod SessionScript
-pub mod Told
+pub mod Standing

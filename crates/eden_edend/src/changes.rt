@@ -1,177 +1,65 @@
-//! What the lines that change a mount make of it.
+//! What a line changes of a mount, by the labels so far.
 
-ghost use Rattle.std.specs.Prelude.{◌≡◌, IfOk, OnOk};
-ghost use Rattle.eden_ids.specs.Paths.{path_fault};
-ghost use Rattle.eden_history.specs.declared.change.Change.TheVariants as change;
-ghost use Rattle.eden_history.specs.Worlds.{WorldState};
-ghost use Rattle.eden_accumulate.specs.Mounts.{StandsFor};
-ghost use Rattle.eden_ids.specs.Fronts.{KeepsFront};
+ghost use Rattle.std.specs.Prelude.{◌≡◌, Some, None, IfOk, IfErr};
+ghost use Rattle.eden_script.specs.Sessions.{change_of, path_refusal};
 ghost use Rattle.eden_script.specs.Labels.{bound};
-ghost use Rattle.eden_script.specs.ScriptText as script;
-ghost use Rattle.eden_edend.specs.internal.Told.{MountTells, PathOrRefusal};
 
 use crate::labels::Labels;
-use crate::texts::{push_checked, push_made};
-use eden_accumulate::{Mode, Mount};
-use eden_ids::{GitNaming, Id, Kind, Path};
-use eden_script::{Label, Word, path_fault_name, push_refused};
-use std::alloc::AllocError;
+use eden_history::Change;
+use eden_ids::{Id, Path, Sequence};
+use eden_script::{ChangeLine, Label, Refusal, Word};
 
-/// The path that a word is. Where it is none, that is told, and there is nothing to change.
-fn path_or_refusal(word: Word, text: &mut Vec<u8>) -> Result<Option<Path>, AllocError>
-    ensures told { IfOk result (λ path. PathOrRefusal word path text.old.items text.new.items) }
-    ensures front { KeepsFront text.old.items text.new.items }
+/// The path that a word is, or why it is none.
+pub(crate) fn path_of(word: Word) -> Result<Path, Refusal>
+    ensures accepts { IfOk result (λ path. (path ≡ word) × (path_refusal word ≡ None)) }
+    ensures refuses { IfErr result (λ cause. path_refusal word ≡ Some cause) }
 {
     match Path::from_vec(word.into_bytes()) {
-        Ok(path) => Ok(Some(path)),
-        Err(refused) => {
-            push_refused(text, path_fault_name(refused.cause))?;
-            Ok(None)
+        Ok(path) => Ok(path),
+        Err(refused) => Err(Refusal::Path(refused.cause)),
+    }
+}
+
+/// The commit that the label is bound to.
+fn commit_of(labels: &Labels, label: &Label) -> Result<Id, Refusal>
+    ensures accepts { IfOk result (λ commit. bound labels.now label.now ≡ Some commit) }
+    ensures refuses { IfErr result (λ cause. (bound labels.now label.now ≡ None) × (cause ≡ Refusal.NoLabel)) }
+{
+    match labels.get(label) {
+        Some(commit) => Ok(commit),
+        None => Err(Refusal::NoLabel),
+    }
+}
+
+/// What a line changes, or why it changes nothing: `Path` where a word is no path, of two words for the first that is none, and `NoLabel`
+/// where its label is bound to nothing. Whether the mount makes the change is not asked. This takes no memory: the bytes are moved.
+pub fn change_of(labels: &Labels, line: ChangeLine) -> Result<Change, Refusal>
+    ensures { result ≡ change_of labels.now line }
+{
+    match line {
+        ChangeLine::Write { path, kind, bytes } => {
+            let path = path_of(path)?;
+            let bytes = Sequence::from_vec(bytes.into_bytes());
+            Ok(Change::Write { path, kind, bytes })
         }
-    }
-}
-
-/// Sets the file at a path.
-pub(crate) fn tell_write(
-    mount: &mut Mount<GitNaming>,
-    labels: &Labels,
-    path: Word,
-    kind: Kind,
-    bytes: &Word,
-    text: &mut Vec<u8>,
-) -> Result<(), AllocError>
-    ensures told { (world : WorldState) → StandsFor mount.old world → OnOk result (MountTells (script.changed labels.now world (path_fault path) (change.Write path kind bytes.now)) mount.new text.old.items text.new.items) }
-    ensures front { KeepsFront text.old.items text.new.items }
-{
-    let Some(path) = path_or_refusal(path, text)? else {
-        return Ok(());
-    };
-    let made = mount.write(&path, kind, bytes.as_bytes());
-    push_made(text, labels, &made)
-}
-
-/// Takes the file at a path away.
-pub(crate) fn tell_remove(
-    mount: &mut Mount<GitNaming>,
-    labels: &Labels,
-    path: Word,
-    text: &mut Vec<u8>,
-) -> Result<(), AllocError>
-    ensures told { (world : WorldState) → StandsFor mount.old world → OnOk result (MountTells (script.changed labels.now world (path_fault path) (change.Remove path)) mount.new text.old.items text.new.items) }
-    ensures front { KeepsFront text.old.items text.new.items }
-{
-    let Some(path) = path_or_refusal(path, text)? else {
-        return Ok(());
-    };
-    let made = mount.remove(&path);
-    push_made(text, labels, &made)
-}
-
-/// Takes the file at one path away and puts it at another. Of two paths the first that is none is told.
-pub(crate) fn tell_rename(
-    mount: &mut Mount<GitNaming>,
-    labels: &Labels,
-    old: Word,
-    new: Word,
-    text: &mut Vec<u8>,
-) -> Result<(), AllocError>
-    ensures told { (world : WorldState) → StandsFor mount.old world → OnOk result (MountTells (script.changed labels.now world (script.first_path_fault (path_fault old) (path_fault new)) (change.Rename old new)) mount.new text.old.items text.new.items) }
-    ensures front { KeepsFront text.old.items text.new.items }
-{
-    let Some(old) = path_or_refusal(old, text)? else {
-        return Ok(());
-    };
-    let Some(new) = path_or_refusal(new, text)? else {
-        return Ok(());
-    };
-    let made = mount.rename(&old, &new);
-    push_made(text, labels, &made)
-}
-
-/// Forgets what changed so far.
-pub(crate) fn tell_flush(
-    mount: &mut Mount<GitNaming>,
-    labels: &Labels,
-    text: &mut Vec<u8>,
-) -> Result<(), AllocError>
-    ensures told { (world : WorldState) → StandsFor mount.old world → OnOk result (MountTells (script.made labels.now world change.Flush) mount.new text.old.items text.new.items) }
-    ensures front { KeepsFront text.old.items text.new.items }
-{
-    let made = mount.flush();
-    push_made(text, labels, &made)
-}
-
-/// Begins anew under another generation.
-pub(crate) fn tell_remount(
-    mount: &mut Mount<GitNaming>,
-    labels: &Labels,
-    generation: u64,
-    text: &mut Vec<u8>,
-) -> Result<(), AllocError>
-    ensures told { (world : WorldState) → StandsFor mount.old world → OnOk result (MountTells (script.made labels.now world (change.Remount generation)) mount.new text.old.items text.new.items) }
-    ensures front { KeepsFront text.old.items text.new.items }
-{
-    let made = mount.remount(generation);
-    push_made(text, labels, &made)
-}
-
-fn reset(
-    mount: &mut Mount<GitNaming>,
-    labels: &Labels,
-    commit: Id,
-    text: &mut Vec<u8>,
-) -> Result<(), AllocError>
-    ensures told { (world : WorldState) → StandsFor mount.old world → OnOk result (MountTells (script.made labels.now world (change.Reset commit)) mount.new text.old.items text.new.items) }
-    ensures front { KeepsFront text.old.items text.new.items }
-{
-    let made = mount.reset(commit);
-    push_made(text, labels, &made)
-}
-
-/// Goes over to the commit that the label is bound to, and leaves the files as they are.
-pub(crate) fn tell_reset(
-    mount: &mut Mount<GitNaming>,
-    labels: &Labels,
-    label: &Label,
-    text: &mut Vec<u8>,
-) -> Result<(), AllocError>
-    ensures told { (world : WorldState) → StandsFor mount.old world → OnOk result (MountTells (script.moved labels.now world (bound labels.now label.now) (λ commit. change.Reset commit)) mount.new text.old.items text.new.items) }
-    ensures front { KeepsFront text.old.items text.new.items }
-{
-    match labels.get(label) {
-        Some(commit) => reset(mount, labels, commit, text),
-        None => push_refused(text, b"NoLabel".as_slice()),
-    }
-}
-
-#[tactic(auto, using(crate::proofs::Changed::checked_tells))]
-fn checkout(
-    mount: &mut Mount<GitNaming>,
-    labels: &Labels,
-    commit: Id,
-    mode: Mode,
-    text: &mut Vec<u8>,
-) -> Result<(), AllocError>
-    ensures told { (world : WorldState) → StandsFor mount.old world → OnOk result (MountTells (script.made labels.now world (change.Checkout commit mode)) mount.new text.old.items text.new.items) }
-    ensures front { KeepsFront text.old.items text.new.items }
-{
-    let checked = mount.checkout(commit, mode);
-    push_checked(text, labels, &checked)
-}
-
-/// Goes over to the commit that the label is bound to, and makes the files those of that commit as far as the mode says.
-pub(crate) fn tell_checkout(
-    mount: &mut Mount<GitNaming>,
-    labels: &Labels,
-    label: &Label,
-    mode: Mode,
-    text: &mut Vec<u8>,
-) -> Result<(), AllocError>
-    ensures told { (world : WorldState) → StandsFor mount.old world → OnOk result (MountTells (script.moved labels.now world (bound labels.now label.now) (λ commit. change.Checkout commit mode)) mount.new text.old.items text.new.items) }
-    ensures front { KeepsFront text.old.items text.new.items }
-{
-    match labels.get(label) {
-        Some(commit) => checkout(mount, labels, commit, mode, text),
-        None => push_refused(text, b"NoLabel".as_slice()),
+        ChangeLine::Remove { path } => {
+            let path = path_of(path)?;
+            Ok(Change::Remove { path })
+        }
+        ChangeLine::Rename { old, new } => {
+            let old = path_of(old)?;
+            let new = path_of(new)?;
+            Ok(Change::Rename { old, new })
+        }
+        ChangeLine::Reset { label } => {
+            let commit = commit_of(labels, &label)?;
+            Ok(Change::Reset { commit })
+        }
+        ChangeLine::Flush => Ok(Change::Flush),
+        ChangeLine::Remount { generation } => Ok(Change::Remount { generation }),
+        ChangeLine::Checkout { label, mode } => {
+            let commit = commit_of(labels, &label)?;
+            Ok(Change::Checkout { commit, mode })
+        }
     }
 }

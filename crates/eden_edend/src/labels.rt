@@ -100,9 +100,11 @@ impl Firsts {
     }
 }
 
-/// The bindings that a script has made. What a label is bound to is found in a time that grows with the logarithm of their number.
+/// What each label of a script is bound to. It is found in a time that grows with the logarithm of the number of bindings.
+///
+/// Its value is the list of the bindings that were made, the newest first.
 #[derive(Drop)]
-pub(crate) struct Labels {
+pub struct Labels {
     // The oldest first.
     made: Vec<Binding>,
     bound: Bound,
@@ -135,7 +137,7 @@ fn is_id(found: Option<Id>, id: Id) -> bool
 
 impl Labels {
     /// No binding. It takes no memory.
-    pub(crate) fn new(alloc: Global) -> Labels
+    pub fn new(alloc: Global) -> Labels
         ensures { result ≡ [] }
     {
         Labels {
@@ -155,8 +157,8 @@ impl Labels {
         }
     }
 
-    /// What the label is bound to.
-    pub(crate) fn get(&self, label: &Label) -> Option<Id>
+    /// What the label is bound to. This takes no memory.
+    pub fn get(&self, label: &Label) -> Option<Id>
         ensures { result ≡ bound self.now label.now }
     {
         if label.is_empty() {
@@ -166,10 +168,13 @@ impl Labels {
         }
     }
 
+    /// Binds the label to the id, from now on. What `empty` is bound to stays the empty commit.
+    ///
+    /// `AllocError` comes where a growth was refused.
     #[tactic(auto, using(crate::proofs::LabelLemmas::bound_map_more, crate::proofs::LabelLemmas::reverse_one))]
-    /// Binds the label to the id, from now on.
-    pub(crate) fn bind(&mut self, label: Label, id: Id) -> Result<(), AllocError>
-        ensures { OnOk result (self.new ≡ record { label = label; id = id } ∷ self.old) }
+    pub fn bind(&mut self, label: Label, id: Id) -> Result<(), AllocError>
+        ensures binds { OnOk result (self.new ≡ record { label = label; id = id } ∷ self.old) }
+        ensures unchanged { OnErr result (self.new ≡ self.old) }
     {
         let key = label.clone()?;
         self.made.reserve(1)?;
@@ -199,7 +204,7 @@ impl Labels {
 
     /// The first label that was ever bound to the id and still is. The search begins at the first binding to the id, and goes on only
     /// where that label was bound to another one since.
-    pub(crate) fn first_bound(&self, id: Id) -> Option<&Label>
+    pub fn first_bound(&self, id: Id) -> Option<&Label>
         ensures { option_copied result ≡ label_of self.now id }
     {
         match self.first_binding(id) {

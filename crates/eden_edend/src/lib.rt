@@ -11,16 +11,18 @@
 //! ```
 #![tactic(auto)]
 
+pub use crate::changes::change_of;
+pub use crate::labels::Labels;
+pub use crate::objects::Objects;
 pub use crate::program::edend;
-pub use crate::script::run;
+pub use crate::script::{run, run_over};
 pub use eden_stream::RunFault;
 
 mod changes;
 mod labels;
-mod mounting;
 mod objects;
 mod program;
 mod questions;
 mod script;
 mod session;
-mod texts;
+mod telling;

@@ -3,8 +3,10 @@
 ghost use Rattle.std.specs.Prelude.{ℕ, ◌+◌, ◌≤◌, IsErrOf};
 ghost use Rattle.eden_stream.specs.Counts.{Rose, RoseBy};
 ghost use Rattle.eden_stream.specs.Ends.{Ends};
-ghost use Rattle.eden_script.specs.ScriptText.{script_text, first_session};
+ghost use Rattle.eden_script.specs.ScriptText.{script_text};
+ghost use Rattle.eden_script.specs.Sessions.{first_session, session_over};
 
+use crate::objects::Objects;
 use crate::session::Session;
 use eden_stream::{CountedRead, CountedWrite, RunFault, run_lines};
 use std::alloc::Global;
@@ -40,6 +42,26 @@ pub fn run<R: CountedRead, W: CountedWrite>(
     ensures turns_spent { IsErrOf result RunFault.TurnsSpent → RoseBy 1000000 (R.called reader.old) (R.called reader.new) }
     ensures turns { R.called reader.new ≤ R.called reader.old + 1000000 }
 {
-    let mut session = Session::new(alloc);
+    run_over(alloc, Objects::new(alloc), reader, writer)
+}
+
+/// Runs a script as `run` does, which begins with some objects, and with labels that are bound to some of them.
+///
+/// # Errors
+///
+/// As those of `run`.
+pub fn run_over<R: CountedRead, W: CountedWrite>(
+    alloc: Global,
+    objects: Objects,
+    reader: &mut R,
+    writer: &mut W,
+) -> Result<u64, RunFault>
+    ensures ends { Ends (script_text (session_over objects.store objects.labels)) (R.remaining reader.old) (R.remaining reader.new) (W.contents writer.old) (W.contents writer.new) result }
+    ensures read { IsErrOf result RunFault.Read → Rose (R.failed reader.old) (R.failed reader.new) }
+    ensures write { IsErrOf result RunFault.Write → Rose (W.failed writer.old) (W.failed writer.new) }
+    ensures turns_spent { IsErrOf result RunFault.TurnsSpent → RoseBy 1000000 (R.called reader.old) (R.called reader.new) }
+    ensures turns { R.called reader.new ≤ R.called reader.old + 1000000 }
+{
+    let mut session = Session::new(alloc, objects);
     run_lines(alloc, reader, writer, &mut session)
 }

@@ -1,4 +1,5 @@
 mod EntryLemmas
 pub mod EscapeLemmas
 pub mod NumberLemmas
+mod RowLemmas
 pub mod WordLemmas

@@ -5,5 +5,7 @@ pub mod Laws
 pub mod Numbers
 pub mod ScriptLines
 pub mod ScriptText
+pub mod Sessions
+pub mod ToldText
 pub mod Words
 pub mod internal

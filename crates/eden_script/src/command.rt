@@ -15,44 +15,65 @@ pub struct TreeEntry {
     pub label: Label,
 }
 
-/// What a line of a script asks for. Paths and contents are the words as they were written, with their escapes undone.
+/// What a line of a script asks for, by what it does. Paths and contents are the words as they were written, with their escapes
+/// undone.
 #[derive(Drop)]
 pub enum Command {
-    /// Puts a blob, and binds a label to it.
-    Blob {
-        /// The label, not `empty`.
-        label: Label,
-        /// The blob's payload.
-        bytes: Word,
-    },
-    /// Puts a tree, and binds a label to it.
-    Tree {
-        /// The label, not `empty`.
-        label: Label,
-        /// What the tree is to name, in the order of the line.
-        entries: Sequence<TreeEntry>,
-    },
-    /// Puts a commit, and binds a label to it.
-    Commit {
-        /// The label, not `empty`.
-        label: Label,
-        /// The label of the commit's tree.
-        tree: Label,
-    },
+    /// Puts an object, and binds a label to it.
+    Put(PutLine),
     /// Asks for the id that a label is bound to.
     Id {
         /// The label.
         label: Label,
     },
     /// Mounts a commit.
-    Mount {
-        /// The label of the commit.
+    Mount(MountLine),
+    /// Changes a mount.
+    Change(ChangeLine),
+    /// Asks a mount.
+    Ask(AskLine),
+}
+
+/// A line that puts an object, and binds a label to it.
+#[derive(Drop)]
+pub enum PutLine {
+    /// Puts a blob.
+    Blob {
+        /// The label, not `empty`.
         label: Label,
-        /// The mount's generation.
-        generation: u64,
-        /// What the changes that are kept may cost together.
-        limit: u64,
+        /// The blob's payload.
+        bytes: Word,
     },
+    /// Puts a tree.
+    Tree {
+        /// The label, not `empty`.
+        label: Label,
+        /// What the tree is to name, in the order of the line.
+        entries: Sequence<TreeEntry>,
+    },
+    /// Puts a commit.
+    Commit {
+        /// The label, not `empty`.
+        label: Label,
+        /// The label of the commit's tree.
+        tree: Label,
+    },
+}
+
+/// A line that mounts a commit.
+#[derive(Drop)]
+pub struct MountLine {
+    /// The label of the commit.
+    pub label: Label,
+    /// The mount's generation.
+    pub generation: u64,
+    /// What the changes that are kept may cost together.
+    pub limit: u64,
+}
+
+/// A line that changes a mount.
+#[derive(Drop)]
+pub enum ChangeLine {
     /// Sets the file at a path.
     Write {
         /// The path, not looked at yet.
@@ -93,6 +114,11 @@ pub enum Command {
         /// What becomes of files that were changed.
         mode: Mode,
     },
+}
+
+/// A line that asks a mount.
+#[derive(Drop)]
+pub enum AskLine {
     /// Asks for the present position.
     Position,
     /// Asks for the paths of the files.

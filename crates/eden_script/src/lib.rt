@@ -19,7 +19,7 @@
 //! ```
 #![tactic(auto)]
 
-pub use crate::command::{Command, TreeEntry};
+pub use crate::command::{AskLine, ChangeLine, Command, MountLine, PutLine, TreeEntry};
 pub use crate::escapes::{push_bytes, push_escaped};
 pub use crate::label::{Binding, Label};
 pub use crate::laws::{
@@ -28,9 +28,9 @@ pub use crate::laws::{
 pub use crate::lines::{Word, words};
 pub use crate::numbers::{number, push_number};
 pub use crate::texts::{
-    change_fault_name, path_fault_name, push_all_marked, push_content, push_id, push_id_line,
-    push_listed, push_ok, push_refused, push_refused_filter, push_refused_since, put_fault_name,
+    push_all_marked, push_content, push_id, push_id_line, push_listed, push_ok, push_refusal,
 };
+pub use crate::told::{Lent, Refusal, Told};
 
 mod command;
 mod escapes;
@@ -40,4 +40,5 @@ mod lines;
 mod numbers;
 mod reading;
 mod texts;
+mod told;
 mod unread;

@@ -1,16 +1,16 @@
-//! The parts of what a script prints in which no label stands: ids, names of faults, paths, contents and marks.
+//! The parts of what a script prints in which no label stands: ids, refusals, paths, contents and marks.
 //!
 //! Each call adds to the end of a text. Where a growth is refused a part may stand there, and what stood there before is as it was.
 
-ghost use Rattle.std.specs.Prelude.{◌≡◌, ◌++◌, ◌∷◌, [], length, OnOk, codes};
-ghost use Rattle.std.specs.Fmt.{decimal};
+ghost use Rattle.std.specs.Prelude.{◌≡◌, ◌++◌, OnOk};
 ghost use Rattle.std.specs.List.{flat_map};
 ghost use Rattle.hex.specs.Hex.{encode_lower};
 ghost use Rattle.eden_ids.specs.Fronts.{KeepsFront};
-ghost use Rattle.eden_script.specs.ScriptText.{ok_text, id_text, refused_text, put_fault_text, path_fault_text, change_fault_text, since_fault_text, filter_fault_text, mark_text, marked_text, path_text, paths_text, kind_text, content_text};
+ghost use Rattle.eden_script.specs.ToldText.{refused_text, refusal_name, refusal_number, number_text, put_fault_name, path_fault_name, change_fault_name, since_fault_name, filter_fault_name, mark_text, marked_text, path_text, paths_text, kind_text, content_text, ok_text, id_text};
 
 use crate::escapes::{push_bytes, push_escaped};
 use crate::numbers::push_number;
+use crate::told::Refusal;
 use eden_globs::FilterFault;
 use eden_history::{ChangeFault, Mark, Marked, SinceFault};
 use eden_ids::{Id, Kind, Path, PathFault};
@@ -43,19 +43,9 @@ pub fn push_id_line(text: &mut Vec<u8>, id: &Id) -> Result<(), AllocError>
     push_bytes(text, b"\n".as_slice())
 }
 
-/// The line of a refusal, by the name of its cause.
-pub fn push_refused(text: &mut Vec<u8>, name: &[u8]) -> Result<(), AllocError>
-    ensures told { OnOk result (text.new.items ≡ text.old.items ++ refused_text name.now) }
-    ensures front { KeepsFront text.old.items text.new.items }
-{
-    push_bytes(text, b"refused ".as_slice())?;
-    push_bytes(text, name)?;
-    push_bytes(text, b"\n".as_slice())
-}
-
-/// The name of a put's fault, as it is displayed. This takes no memory.
-pub fn put_fault_name(fault: PutFault) -> &'static [u8]
-    ensures { result.now ≡ put_fault_text fault }
+/// The name of a put's fault, as it is displayed.
+fn put_fault_name(fault: PutFault) -> &'static [u8]
+    ensures { result.now ≡ put_fault_name fault }
 {
     match fault {
         PutFault::TooLarge => b"TooLarge".as_slice(),
@@ -75,9 +65,9 @@ pub fn put_fault_name(fault: PutFault) -> &'static [u8]
     }
 }
 
-/// The name of a path's fault, as it is displayed. This takes no memory.
-pub fn path_fault_name(fault: PathFault) -> &'static [u8]
-    ensures { result.now ≡ path_fault_text fault }
+/// The name of a path's fault, as it is displayed.
+fn path_fault_name(fault: PathFault) -> &'static [u8]
+    ensures { result.now ≡ path_fault_name fault }
 {
     match fault {
         PathFault::Empty => b"Empty".as_slice(),
@@ -88,9 +78,9 @@ pub fn path_fault_name(fault: PathFault) -> &'static [u8]
     }
 }
 
-/// The name of a change's fault, as it is displayed. This takes no memory.
-pub fn change_fault_name(fault: ChangeFault) -> &'static [u8]
-    ensures { result.now ≡ change_fault_text fault }
+/// The name of a change's fault, as it is displayed.
+fn change_fault_name(fault: ChangeFault) -> &'static [u8]
+    ensures { result.now ≡ change_fault_name fault }
 {
     match fault {
         ChangeFault::NotADirectory => b"NotADirectory".as_slice(),
@@ -102,6 +92,81 @@ pub fn change_fault_name(fault: ChangeFault) -> &'static [u8]
         ChangeFault::GenerationNotNew => b"GenerationNotNew".as_slice(),
         ChangeFault::NoMemory => b"NoMemory".as_slice(),
     }
+}
+
+/// The name of a fault of patterns, without the place that is displayed behind it.
+fn filter_fault_name(fault: FilterFault) -> &'static [u8]
+    ensures { result.now ≡ filter_fault_name fault }
+{
+    match fault {
+        FilterFault::TooMany => b"TooMany".as_slice(),
+        FilterFault::PatternTooLong => b"PatternTooLong".as_slice(),
+        FilterFault::BadPattern(_) => b"BadPattern".as_slice(),
+        FilterFault::NoMemory => b"NoMemory".as_slice(),
+    }
+}
+
+/// The name of a position's fault, without the number that is displayed behind it.
+fn since_fault_name(fault: SinceFault) -> &'static [u8]
+    ensures { result.now ≡ since_fault_name fault }
+{
+    match fault {
+        SinceFault::Stale(_) => b"Stale".as_slice(),
+        SinceFault::Ahead(_) => b"Ahead".as_slice(),
+        SinceFault::Truncated(_) => b"Truncated".as_slice(),
+        SinceFault::NoMemory => b"NoMemory".as_slice(),
+    }
+}
+
+fn refusal_name(cause: Refusal) -> &'static [u8]
+    ensures { result.now ≡ refusal_name cause }
+{
+    match cause {
+        Refusal::NoLabel => b"NoLabel".as_slice(),
+        Refusal::Mounted => b"Mounted".as_slice(),
+        Refusal::NotMounted => b"NotMounted".as_slice(),
+        Refusal::NoCommit => b"NoCommit".as_slice(),
+        Refusal::Put(fault) => put_fault_name(fault),
+        Refusal::Path(fault) => path_fault_name(fault),
+        Refusal::File(fault) => change_fault_name(fault),
+        Refusal::Patterns(fault) => filter_fault_name(fault),
+        Refusal::Since(fault) => since_fault_name(fault),
+    }
+}
+
+/// The number that is told with a cause: of a pattern its place, from 0, and of a position the mount's number that refuses it.
+fn refusal_number(cause: Refusal) -> Option<u64>
+    ensures { result ≡ refusal_number cause }
+{
+    match cause {
+        Refusal::Patterns(FilterFault::BadPattern(place)) => Some(place as u64),
+        Refusal::Since(SinceFault::Stale(generation)) => Some(generation),
+        Refusal::Since(SinceFault::Ahead(head)) => Some(head),
+        Refusal::Since(SinceFault::Truncated(floor)) => Some(floor),
+        _ => None,
+    }
+}
+
+fn push_number_behind(text: &mut Vec<u8>, number: Option<u64>) -> Result<(), AllocError>
+    ensures told { OnOk result (text.new.items ≡ text.old.items ++ number_text number) }
+    ensures front { KeepsFront text.old.items text.new.items }
+{
+    let Some(number) = number else {
+        return Ok(());
+    };
+    push_bytes(text, b" ".as_slice())?;
+    push_number(text, number)
+}
+
+/// The line of a refusal: the cause by its name, with its number where it has one.
+pub fn push_refusal(text: &mut Vec<u8>, cause: Refusal) -> Result<(), AllocError>
+    ensures told { OnOk result (text.new.items ≡ text.old.items ++ refused_text (refusal_name cause) (refusal_number cause)) }
+    ensures front { KeepsFront text.old.items text.new.items }
+{
+    push_bytes(text, b"refused ".as_slice())?;
+    push_bytes(text, refusal_name(cause))?;
+    push_number_behind(text, refusal_number(cause))?;
+    push_bytes(text, b"\n".as_slice())
 }
 
 /// A path on a line of its own.
@@ -134,37 +199,6 @@ pub fn push_listed(text: &mut Vec<u8>, what: &[u8], paths: &[Path]) -> Result<()
     push_paths(text, paths)
 }
 
-/// The bytes at this place of a list of patterns are no pattern.
-fn push_bad_pattern(text: &mut Vec<u8>, place: usize) -> Result<(), AllocError>
-    ensures told { OnOk result (text.new.items ≡ text.old.items ++ (codes "BadPattern " ++ decimal place)) }
-    ensures front { KeepsFront text.old.items text.new.items }
-{
-    push_bytes(text, b"BadPattern ".as_slice())?;
-    push_number(text, place as u64)
-}
-
-fn push_filter_fault(text: &mut Vec<u8>, fault: &FilterFault) -> Result<(), AllocError>
-    ensures told { OnOk result (text.new.items ≡ text.old.items ++ filter_fault_text fault.now) }
-    ensures front { KeepsFront text.old.items text.new.items }
-{
-    match fault {
-        FilterFault::TooMany => push_bytes(text, b"TooMany".as_slice()),
-        FilterFault::PatternTooLong => push_bytes(text, b"PatternTooLong".as_slice()),
-        FilterFault::BadPattern(place) => push_bad_pattern(text, *place),
-        FilterFault::NoMemory => push_bytes(text, b"NoMemory".as_slice()),
-    }
-}
-
-/// The line of patterns that are refused.
-pub fn push_refused_filter(text: &mut Vec<u8>, fault: &FilterFault) -> Result<(), AllocError>
-    ensures told { OnOk result (text.new.items ≡ text.old.items ++ refused_text (filter_fault_text fault.now)) }
-    ensures front { KeepsFront text.old.items text.new.items }
-{
-    push_bytes(text, b"refused ".as_slice())?;
-    push_filter_fault(text, fault)?;
-    push_bytes(text, b"\n".as_slice())
-}
-
 fn kind_name(kind: Kind) -> &'static [u8]
     ensures { result.now ≡ kind_text kind }
 {
@@ -177,43 +211,12 @@ fn kind_name(kind: Kind) -> &'static [u8]
 
 /// The line of a file: its kind, and what it holds.
 pub fn push_content(text: &mut Vec<u8>, kind: Kind, bytes: &[u8]) -> Result<(), AllocError>
-    ensures told { OnOk result (text.new.items ≡ text.old.items ++ content_text (record { kind = kind; bytes = bytes.now })) }
+    ensures told { OnOk result (text.new.items ≡ text.old.items ++ content_text kind bytes.now) }
     ensures front { KeepsFront text.old.items text.new.items }
 {
     push_bytes(text, kind_name(kind))?;
     push_bytes(text, b" ".as_slice())?;
     push_escaped(text, bytes)?;
-    push_bytes(text, b"\n".as_slice())
-}
-
-fn push_since_fault(text: &mut Vec<u8>, fault: &SinceFault) -> Result<(), AllocError>
-    ensures told { OnOk result (text.new.items ≡ text.old.items ++ since_fault_text fault.now) }
-    ensures front { KeepsFront text.old.items text.new.items }
-{
-    match fault {
-        SinceFault::Stale(generation) => {
-            push_bytes(text, b"Stale ".as_slice())?;
-            push_number(text, *generation)
-        }
-        SinceFault::Ahead(head) => {
-            push_bytes(text, b"Ahead ".as_slice())?;
-            push_number(text, *head)
-        }
-        SinceFault::Truncated(floor) => {
-            push_bytes(text, b"Truncated ".as_slice())?;
-            push_number(text, *floor)
-        }
-        SinceFault::NoMemory => push_bytes(text, b"NoMemory".as_slice()),
-    }
-}
-
-/// The line of a position that is refused.
-pub fn push_refused_since(text: &mut Vec<u8>, fault: &SinceFault) -> Result<(), AllocError>
-    ensures told { OnOk result (text.new.items ≡ text.old.items ++ refused_text (since_fault_text fault.now)) }
-    ensures front { KeepsFront text.old.items text.new.items }
-{
-    push_bytes(text, b"refused ".as_slice())?;
-    push_since_fault(text, fault)?;
     push_bytes(text, b"\n".as_slice())
 }
 

@@ -1,6 +1,6 @@
 //! The words of a line that are not read yet.
 
-ghost use Rattle.std.specs.Prelude.{◌≡◌, ◌<◌, ◌∷◌, length};
+ghost use Rattle.std.specs.Prelude.{◌≡◌, ◌≢◌, ◌<◌, [], ◌∷◌, length, MatchOption};
 
 use crate::lines::Word;
 use std::marker::Model;
@@ -52,5 +52,46 @@ impl Unread {
         ensures { self.old ≡ result ∷ self.new }
     {
         self.backwards.pop().unwrap()
+    }
+
+    /// That there is no word.
+    pub(crate) fn none(self) -> Option<()>
+        ensures { MatchOption result (length self ≢ 0) (λ _. self ≡ []) }
+    {
+        if self.len() == 0 { Some(()) } else { None }
+    }
+
+    /// The one word that there is.
+    pub(crate) fn one(mut self) -> Option<Word>
+        ensures { MatchOption result (length self ≢ 1) (λ word. self ≡ word ∷ []) }
+    {
+        if self.len() == 1 {
+            Some(self.take())
+        } else {
+            None
+        }
+    }
+
+    /// The two words that there are.
+    pub(crate) fn two(mut self) -> Option<(Word, Word)>
+        ensures { MatchOption result (length self ≢ 2) (λ words. self ≡ words.0 ∷ words.1 ∷ []) }
+    {
+        if self.len() != 2 {
+            return None;
+        }
+        let first = self.take();
+        Some((first, self.take()))
+    }
+
+    /// The three words that there are.
+    pub(crate) fn three(mut self) -> Option<(Word, Word, Word)>
+        ensures { MatchOption result (length self ≢ 3) (λ words. self ≡ words.0 ∷ words.1 ∷ words.2 ∷ []) }
+    {
+        if self.len() != 3 {
+            return None;
+        }
+        let first = self.take();
+        let second = self.take();
+        Some((first, second, self.take()))
     }
 }

@@ -1,5 +1,5 @@
 use eden_history::Mode;
-use eden_script::{Command, Label, Word, words};
+use eden_script::{ChangeLine, Command, Label, Word, words};
 use std::alloc::Global;
 use std::test::Fail;
 
@@ -76,7 +76,7 @@ fn modes(rt: HostRuntime) -> Result<(), Fail> {
         ("checkout c dry", Mode::Dry),
     ] {
         assert!(rt;
-            matches!(command(alloc, line)?, Some(Command::Checkout { mode: read, .. }) if read == mode)
+            matches!(command(alloc, line)?, Some(Command::Change(ChangeLine::Checkout { mode: read, .. })) if read == mode)
         );
     }
     Ok(())

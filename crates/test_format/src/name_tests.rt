@@ -4,15 +4,22 @@ use eden_globs::FilterFault;
 use eden_history::{ChangeFault, SinceFault};
 use eden_ids::PathFault;
 use eden_objects::PutFault;
-use eden_script::{
-    change_fault_name, path_fault_name, push_refused_filter, push_refused_since, put_fault_name,
-};
+use eden_script::{Refusal, push_refusal};
+use std::alloc::Global;
 use std::test::Fail;
+
+/// The line of a refusal, as text.
+fn refused(alloc: Global, cause: Refusal) -> Result<String, Fail> {
+    let mut text = Vec::new(alloc);
+    push_refusal(&mut text, cause)?;
+    Ok(String::from_utf8(text)?)
+}
 
 #[test]
 fn changes_paths_and_puts_are_refused_by_what_their_faults_display(
     rt: HostRuntime,
 ) -> Result<(), Fail> {
+    let alloc = rt.alloc();
     for fault in [
         ChangeFault::NotADirectory,
         ChangeFault::IsADirectory,
@@ -23,8 +30,8 @@ fn changes_paths_and_puts_are_refused_by_what_their_faults_display(
         ChangeFault::GenerationNotNew,
         ChangeFault::NoMemory,
     ] {
-        let shown = format!(in rt.alloc(); "{fault}")?;
-        assert!(rt; shown.as_bytes() == change_fault_name(fault), "{shown}");
+        let shown = format!(in alloc; "refused {fault}\n")?;
+        assert!(rt; shown == refused(alloc, Refusal::File(fault))?, "{shown}");
     }
     for fault in [
         PathFault::Empty,
@@ -33,8 +40,8 @@ fn changes_paths_and_puts_are_refused_by_what_their_faults_display(
         PathFault::TooDeep,
         PathFault::NoMemory,
     ] {
-        let shown = format!(in rt.alloc(); "{fault}")?;
-        assert!(rt; shown.as_bytes() == path_fault_name(fault), "{shown}");
+        let shown = format!(in alloc; "refused {fault}\n")?;
+        assert!(rt; shown == refused(alloc, Refusal::Path(fault))?, "{shown}");
     }
     for fault in [
         PutFault::TooLarge,
@@ -52,8 +59,8 @@ fn changes_paths_and_puts_are_refused_by_what_their_faults_display(
         PutFault::BadCommit,
         PutFault::NoMemory,
     ] {
-        let shown = format!(in rt.alloc(); "{fault}")?;
-        assert!(rt; shown.as_bytes() == put_fault_name(fault), "{shown}");
+        let shown = format!(in alloc; "refused {fault}\n")?;
+        assert!(rt; shown == refused(alloc, Refusal::Put(fault))?, "{shown}");
     }
     Ok(())
 }
@@ -69,10 +76,8 @@ fn positions_and_patterns_are_refused_by_what_their_faults_display(
         SinceFault::Truncated(0),
         SinceFault::NoMemory,
     ] {
-        let mut text = Vec::new(alloc);
-        push_refused_since(&mut text, &fault)?;
         let shown = format!(in alloc; "refused {fault}\n")?;
-        assert!(rt; shown.as_bytes() == text.as_slice(), "{shown}");
+        assert!(rt; shown == refused(alloc, Refusal::Since(fault))?, "{shown}");
     }
     for fault in [
         FilterFault::TooMany,
@@ -80,10 +85,8 @@ fn positions_and_patterns_are_refused_by_what_their_faults_display(
         FilterFault::BadPattern(31),
         FilterFault::NoMemory,
     ] {
-        let mut text = Vec::new(alloc);
-        push_refused_filter(&mut text, &fault)?;
         let shown = format!(in alloc; "refused {fault}\n")?;
-        assert!(rt; shown.as_bytes() == text.as_slice(), "{shown}");
+        assert!(rt; shown == refused(alloc, Refusal::Patterns(fault))?, "{shown}");
     }
     Ok(())
 }

@@ -3,7 +3,8 @@
 use eden_history::{Mark, Marked};
 use eden_ids::{Id, Kind, Path};
 use eden_script::{
-    push_all_marked, push_content, push_id, push_id_line, push_listed, push_ok, push_refused,
+    Refusal, push_all_marked, push_content, push_id, push_id_line, push_listed, push_ok,
+    push_refusal,
 };
 use std::test::Fail;
 
@@ -23,7 +24,7 @@ fn parts_stand_one_behind_the_other(rt: HostRuntime) -> Result<(), Fail> {
     }
     let mut text = Vec::new(alloc);
     push_ok(&mut text)?;
-    push_refused(&mut text, b"NoLabel".as_slice())?;
+    push_refusal(&mut text, Refusal::NoLabel)?;
     push_id_line(&mut text, &Id::ZERO)?;
     push_listed(&mut text, b"dirty ".as_slice(), paths.as_slice())?;
     push_content(&mut text, Kind::Exec, b"x\ny".as_slice())?;

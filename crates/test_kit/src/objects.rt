@@ -3,7 +3,7 @@ use crate::payload::{commit_of, push_entry};
 use eden_ids::{GitNaming, Id};
 use eden_objects::{PutFault, Store};
 use eden_script::{
-    Command, Label, TreeEntry, push_id_line, push_ok, push_refused, put_fault_name, words,
+    Command, Label, PutLine, Refusal, TreeEntry, push_id_line, push_ok, push_refusal, words,
 };
 use std::alloc::Global;
 use std::str;
@@ -45,7 +45,10 @@ impl Objects {
     /// Puts one more object, as a line says. It fails where that is refused.
     pub fn put(&mut self, alloc: Global, line: &str) -> Result<(), Fail> {
         let mut text = Vec::new(alloc);
-        let _ = self.tell(alloc, command_of(alloc, line)?, &mut text)?;
+        match command_of(alloc, line)? {
+            Command::Put(line) => self.tell_put(alloc, line, &mut text)?,
+            _ => return Err(Fail::new("a line puts nothing")),
+        }
         if text.as_slice() == b"ok\n".as_slice() {
             return Ok(());
         }
@@ -118,38 +121,41 @@ impl Objects {
                 self.labels.bind(label, id)?;
                 push_ok(text)?;
             }
-            Some(Err(fault)) => push_refused(text, put_fault_name(fault))?,
-            None => push_refused(text, b"NoLabel".as_slice())?,
+            Some(Err(fault)) => push_refusal(text, Refusal::Put(fault))?,
+            None => push_refusal(text, Refusal::NoLabel)?,
         }
         Ok(())
     }
 
-    /// Does what a line of an object asks for, and adds what it prints. Gives any other line back.
-    pub(crate) fn tell(
+    /// Puts an object, as a line says, and adds what that prints.
+    pub(crate) fn tell_put(
         &mut self,
         alloc: Global,
-        command: Command,
+        line: PutLine,
         text: &mut Vec<u8>,
-    ) -> Result<Option<Command>, Fail> {
-        match command {
-            Command::Blob { label, bytes } => {
+    ) -> Result<(), Fail> {
+        match line {
+            PutLine::Blob { label, bytes } => {
                 let put = self.store.put_blob(bytes.as_bytes());
-                self.bind(label, Some(put), text)?;
+                self.bind(label, Some(put), text)
             }
-            Command::Tree { label, entries } => {
+            PutLine::Tree { label, entries } => {
                 let put = self.put_tree(alloc, entries.as_slice())?;
-                self.bind(label, put, text)?;
+                self.bind(label, put, text)
             }
-            Command::Commit { label, tree } => {
+            PutLine::Commit { label, tree } => {
                 let put = self.put_commit(alloc, &tree)?;
-                self.bind(label, put, text)?;
+                self.bind(label, put, text)
             }
-            Command::Id { label } => match self.labels.get(label.as_bytes()) {
-                Some(id) => push_id_line(text, &id)?,
-                None => push_refused(text, b"NoLabel".as_slice())?,
-            },
-            other => return Ok(Some(other)),
         }
-        Ok(None)
+    }
+
+    /// Adds the id that a label is bound to.
+    pub(crate) fn tell_id(&self, label: &Label, text: &mut Vec<u8>) -> Result<(), Fail> {
+        match self.labels.get(label.as_bytes()) {
+            Some(id) => push_id_line(text, &id)?,
+            None => push_refusal(text, Refusal::NoLabel)?,
+        }
+        Ok(())
     }
 }

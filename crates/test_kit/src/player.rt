@@ -5,71 +5,66 @@ use crate::played::Played;
 use crate::rows::Row;
 use crate::text::{differing_line, lines};
 use eden_globs::{Filter, FilterFault};
-use eden_history::{Answer, Change, Position};
+use eden_history::{Answer, Change, ChangeFault, Position};
 use eden_ids::{GitNaming, Id, Path, Sequence};
 use eden_objects::{CommitFault, Store};
 use eden_script::{
-    Command, Label, Word, change_fault_name, path_fault_name, push_all_marked, push_bytes,
-    push_content, push_listed, push_number, push_refused, push_refused_filter, push_refused_since,
+    AskLine, ChangeLine, Command, Label, MountLine, Refusal, Word, push_all_marked, push_bytes,
+    push_content, push_listed, push_number, push_refusal,
 };
 use std::alloc::{AllocError, Global};
 use std::mem;
 use std::sync::Arc;
 use std::test::Fail;
 
-/// The path that a word is, or the name of why it is none.
-fn path_of(alloc: Global, word: &Word) -> Result<Path, &'static [u8]> {
+/// The path that a word is, or why it is none.
+fn path_of(alloc: Global, word: &Word) -> Result<Path, Refusal> {
     match Path::parse(alloc, word.as_bytes()) {
         Ok(path) => Ok(path),
-        Err(fault) => Err(path_fault_name(fault)),
+        Err(fault) => Err(Refusal::Path(fault)),
     }
 }
 
 /// The commit that a label names.
-fn commit_of(labels: &Labels, label: &Label) -> Result<Id, &'static [u8]> {
-    labels.get(label.as_bytes()).ok_or(b"NoLabel".as_slice())
+fn commit_of(labels: &Labels, label: &Label) -> Result<Id, Refusal> {
+    labels.get(label.as_bytes()).ok_or(Refusal::NoLabel)
 }
 
 /// The bytes of a word.
-fn bytes_of(alloc: Global, word: &Word) -> Result<Sequence<u8>, &'static [u8]> {
+fn bytes_of(alloc: Global, word: &Word) -> Result<Sequence<u8>, Refusal> {
     match word.as_bytes().to_vec(alloc) {
         Ok(bytes) => Ok(Sequence::from_vec(bytes)),
-        Err(_) => Err(b"NoMemory".as_slice()),
+        Err(_) => Err(Refusal::File(ChangeFault::NoMemory)),
     }
 }
 
-/// The change that a line asks for, or the name of why there is none; nothing of a line that asks for no change.
-fn change_of(
-    alloc: Global,
-    labels: &Labels,
-    command: &Command,
-) -> Result<Option<Change>, &'static [u8]> {
-    Ok(Some(match command {
-        Command::Write { path, kind, bytes } => Change::Write {
+/// The change that a line asks for, or why there is none.
+fn change_of(alloc: Global, labels: &Labels, line: &ChangeLine) -> Result<Change, Refusal> {
+    Ok(match line {
+        ChangeLine::Write { path, kind, bytes } => Change::Write {
             path: path_of(alloc, path)?,
             kind: *kind,
             bytes: bytes_of(alloc, bytes)?,
         },
-        Command::Remove { path } => Change::Remove {
+        ChangeLine::Remove { path } => Change::Remove {
             path: path_of(alloc, path)?,
         },
-        Command::Rename { old, new } => Change::Rename {
+        ChangeLine::Rename { old, new } => Change::Rename {
             old: path_of(alloc, old)?,
             new: path_of(alloc, new)?,
         },
-        Command::Reset { label } => Change::Reset {
+        ChangeLine::Reset { label } => Change::Reset {
             commit: commit_of(labels, label)?,
         },
-        Command::Flush => Change::Flush,
-        Command::Remount { generation } => Change::Remount {
+        ChangeLine::Flush => Change::Flush,
+        ChangeLine::Remount { generation } => Change::Remount {
             generation: *generation,
         },
-        Command::Checkout { label, mode } => Change::Checkout {
+        ChangeLine::Checkout { label, mode } => Change::Checkout {
             commit: commit_of(labels, label)?,
             mode: *mode,
         },
-        _ => return Ok(None),
-    }))
+    })
 }
 
 fn push_at(text: &mut Vec<u8>, labels: &Labels, position: &Position) -> Result<(), AllocError> {
@@ -87,7 +82,7 @@ fn push_answer(text: &mut Vec<u8>, labels: &Labels, answer: &Answer) -> Result<(
             push_at(text, labels, position)?;
             push_listed(text, b"conflicts ".as_slice(), conflicts.as_slice())
         }
-        Answer::Refused(fault) => push_refused(text, change_fault_name(*fault)),
+        Answer::Refused(fault) => push_refusal(text, Refusal::File(*fault)),
     }
 }
 
@@ -107,7 +102,7 @@ fn tell_list<P: Played + Drop>(
             let (_, paths) = mounted.basis(alloc, filter)?;
             push_listed(text, b"files ".as_slice(), paths.as_slice())?;
         }
-        Err(fault) => push_refused_filter(text, &fault)?,
+        Err(fault) => push_refusal(text, Refusal::Patterns(fault))?,
     }
     Ok(())
 }
@@ -122,9 +117,9 @@ fn tell_read<P: Played + Drop>(
     match path_of(alloc, path) {
         Ok(path) => match mounted.read(alloc, &path)? {
             Ok(content) => push_content(text, content.kind, content.bytes.as_slice())?,
-            Err(fault) => push_refused(text, change_fault_name(fault))?,
+            Err(fault) => push_refusal(text, Refusal::File(fault))?,
         },
-        Err(name) => push_refused(text, name)?,
+        Err(cause) => push_refusal(text, cause)?,
     }
     Ok(())
 }
@@ -145,7 +140,7 @@ fn tell_since<P: Played + Drop>(
             labels.push_position(text, &target)?;
             push_all_marked(text, marked.as_slice())?;
         }
-        Err(fault) => push_refused_since(text, &fault)?,
+        Err(fault) => push_refusal(text, Refusal::Since(fault))?,
     }
     Ok(())
 }
@@ -155,25 +150,24 @@ fn tell_asked<P: Played + Drop>(
     alloc: Global,
     mounted: &mut Mounted<P>,
     labels: &Labels,
-    command: &Command,
+    line: &AskLine,
     text: &mut Vec<u8>,
 ) -> Result<(), Fail> {
-    match command {
-        Command::Position => {
+    match line {
+        AskLine::Position => {
             let (position, _) = mounted.basis(alloc, Filter::all(alloc))?;
             Ok(push_at(text, labels, &position)?)
         }
-        Command::ListFiles { patterns } => tell_list(alloc, mounted, patterns.as_slice(), text),
-        Command::Dirty => {
+        AskLine::ListFiles { patterns } => tell_list(alloc, mounted, patterns.as_slice(), text),
+        AskLine::Dirty => {
             let paths = mounted.dirty(alloc)?;
             Ok(push_listed(text, b"dirty ".as_slice(), paths.as_slice())?)
         }
-        Command::Read { path } => tell_read(alloc, mounted, path, text),
-        Command::Since {
+        AskLine::Read { path } => tell_read(alloc, mounted, path, text),
+        AskLine::Since {
             generation,
             sequence,
         } => tell_since(alloc, mounted, labels, (*generation, *sequence), text),
-        _ => Err(Fail::new("a line asks for nothing")),
     }
 }
 
@@ -188,67 +182,70 @@ struct Player<P> {
 
 impl<P: Played + Drop> Player<P> {
     /// Adds a refusal.
-    fn refuse(&mut self, name: &[u8]) -> Result<(), Fail> {
-        Ok(push_refused(&mut self.text, name)?)
+    fn refuse(&mut self, cause: Refusal) -> Result<(), Fail> {
+        Ok(push_refusal(&mut self.text, cause)?)
     }
 
     /// Mounts the commit that a label names. Where it names none the store is gone.
-    fn mount(&mut self, label: &Label, generation: u64, limit: u64) -> Result<(), Fail> {
+    fn mount(&mut self, line: &MountLine) -> Result<(), Fail> {
         let alloc = self.alloc;
-        let Some(root) = self.objects.labels.get(label.as_bytes()) else {
-            return self.refuse(b"NoLabel".as_slice());
+        let Some(root) = self.objects.labels.get(line.label.as_bytes()) else {
+            return self.refuse(Refusal::NoLabel);
         };
         let empty = Store::new(alloc, GitNaming);
         let store = Arc::new(alloc, mem::replace(&mut self.objects.store, empty))?;
-        match P::mount(alloc, store.clone()?, root, generation, limit) {
+        match P::mount(alloc, store.clone()?, root, line.generation, line.limit) {
             Ok(played) => self.mounted = Some(Mounted { played, store }),
             Err(fault) => match fault.cause {
-                CommitFault::NoCommit => return self.refuse(b"NoCommit".as_slice()),
+                CommitFault::NoCommit => return self.refuse(Refusal::NoCommit),
                 CommitFault::NoMemory => return Err(Fail::from(fault)),
             },
         }
-        self.tell_mounted(&Command::Position)
+        self.ask(&AskLine::Position)
     }
 
-    /// Does what a line asks of a mount.
-    fn tell_mounted(&mut self, command: &Command) -> Result<(), Fail> {
+    /// Asks the mount what a line asks.
+    fn ask(&mut self, line: &AskLine) -> Result<(), Fail> {
+        let Some(mounted) = &mut self.mounted else {
+            return self.refuse(Refusal::NotMounted);
+        };
+        tell_asked(
+            self.alloc,
+            mounted,
+            &self.objects.labels,
+            line,
+            &mut self.text,
+        )
+    }
+
+    /// Changes the mount as a line says.
+    fn change(&mut self, line: &ChangeLine) -> Result<(), Fail> {
         let labels = &self.objects.labels;
         let Some(mounted) = &mut self.mounted else {
-            return self.refuse(b"NotMounted".as_slice());
+            return self.refuse(Refusal::NotMounted);
         };
-        match change_of(self.alloc, labels, command) {
-            Ok(Some(change)) => {
+        match change_of(self.alloc, labels, line) {
+            Ok(change) => {
                 let answer = mounted.played.change(&change)?;
                 push_answer(&mut self.text, labels, &answer)?;
             }
-            Ok(None) => tell_asked(self.alloc, mounted, labels, command, &mut self.text)?,
-            Err(name) => push_refused(&mut self.text, name)?,
+            Err(cause) => push_refusal(&mut self.text, cause)?,
         }
         Ok(())
     }
 
     /// Does what a line asks for.
     fn tell(&mut self, command: Command) -> Result<(), Fail> {
-        let comes_before = matches!(
-            &command,
-            Command::Blob { .. }
-                | Command::Tree { .. }
-                | Command::Commit { .. }
-                | Command::Mount { .. }
-        );
+        let comes_before = matches!(&command, Command::Put(_) | Command::Mount(_));
         if comes_before && self.mounted.is_some() {
-            return self.refuse(b"Mounted".as_slice());
+            return self.refuse(Refusal::Mounted);
         }
-        match self.objects.tell(self.alloc, command, &mut self.text)? {
-            None => Ok(()),
-            Some(
-                Command::Mount {
-                    label,
-                    generation,
-                    limit,
-                },
-            ) => self.mount(&label, generation, limit),
-            Some(command) => self.tell_mounted(&command),
+        match command {
+            Command::Put(line) => self.objects.tell_put(self.alloc, line, &mut self.text),
+            Command::Id { label } => self.objects.tell_id(&label, &mut self.text),
+            Command::Mount(line) => self.mount(&line),
+            Command::Change(line) => self.change(&line),
+            Command::Ask(line) => self.ask(&line),
         }
     }
 }

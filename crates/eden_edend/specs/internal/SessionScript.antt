@@ -6,10 +6,11 @@ use Rattle.eden_script.specs.Words.{words_of}
 use Rattle.eden_stream.specs.Lines.{IsComment, IsSkipped, IsSpoken}
 use Rattle.eden_stream.specs.Scripts.{IsScript}
 use Rattle.eden_script.specs.ScriptLines.{command_of}
-use Rattle.eden_script.specs.ScriptText.{Session, told, is_skipped, line_told, before_text, continued, script_text}
+use Rattle.eden_script.specs.Sessions.{Session}
+use Rattle.eden_script.specs.ScriptText.{told, is_skipped, line_told, before_text, continued, script_text}
 use Rattle.eden_accumulate.specs.Mounts.{State}
 use Rattle.eden_edend.specs.declared.objects.Objects.{Objects}
-use Rattle.eden_edend.specs.internal.Told.{SessionStands, session_of}
+use Rattle.eden_edend.specs.internal.Standing.{SessionStands}
 
 pub script_text-cons : (session : Session) (line : List ℕ) (more : List (List ℕ)) → script_text session (line ∷ more) ≡ continued (line_told session line) (λ next. script_text next more)
 unfolding script_text
@@ -59,10 +60,7 @@ spoken-text session line more spoken = read-text session line more (speaks line 
 
 pub session_script : (mount : Option State) (objects : Objects) (script : List (List ℕ) → Option (List ℕ)) → SessionStands mount objects script → IsScript script
 session_script mount objects script stands = record {
-  ends = stands.4 [] ∙ script_text-nil at;
-  skips = λ line more h. stands.4 (line ∷ more) ∙ skipped-text at line more (skips line h) ∙ sym (stands.4 more);
-  bounded = λ line more h. stands.4 (line ∷ more) ∙ long-text at line more (speaks line (omega (arith, h.0)) h.1) h.0;
+  ends = stands.2 [] ∙ script_text-nil stands.0;
+  skips = λ line more h. stands.2 (line ∷ more) ∙ skipped-text stands.0 line more (skips line h) ∙ sym (stands.2 more);
+  bounded = λ line more h. stands.2 (line ∷ more) ∙ long-text stands.0 line more (speaks line (omega (arith, h.0)) h.1) h.0;
 }
-  where
-    at : Session
-    at = session_of stands.0 stands.1 objects.labels

@@ -1,6 +1,6 @@
 use Rattle.std.proofs.Common.{sym, ap, ◌∙◌}
 use Rattle.std.proofs.lemmas.List.{take_all}
-use Rattle.eden_script.specs.ScriptText.{tree_payload}
+use Rattle.eden_script.specs.Sessions.{tree_payload}
 use Rattle.eden_edend.proofs.PayloadLemmas.{payload_more, payload_missing}
 use Rattle.eden_edend.proofs.objects.tree_payload.Goals as goal
 

@@ -1,7 +1,7 @@
 use Rattle.std.proofs.Common.{◌≡◌, ◌++◌, take}
 use Rattle.std.specs.List.{flat_map}
 use Rattle.eden_ids.specs.Fronts.{KeepsFront}
-use Rattle.eden_script.specs.ScriptText.{path_text}
+use Rattle.eden_script.specs.ToldText.{path_text}
 use Rattle.eden_script.proofs.texts.push_paths.Given as goal
 
 abbrev pub invariant-loop-path : goal.invariant-loop-path
