@@ -1,5 +1,5 @@
 -- What a line makes of what is held, by what the line does.
-use Rattle.std.proofs.Common.{◌≡◌, ℕ, true, false, List, ◌++◌, Option, Some, None, Ok, Err, is_some, refl, sym, ap, subst, ◌∙◌}
+use Rattle.std.proofs.Common.{◌≡◌, ℕ, Bool, true, false, List, ◌++◌, Option, Some, None, Ok, Err, is_some, refl, sym, ap, subst, ◌∙◌}
 use Rattle.eden_ids.specs.declared.id.Id.{Id}
 use Rattle.eden_ids.specs.FileMaps.{FileMap}
 use Rattle.eden_objects.specs.Objects.{Held}
@@ -30,6 +30,12 @@ use Rattle.eden_script.specs.ScriptText.{told}
 use Rattle.eden_script.specs.ToldText.{told_text}
 use Rattle.eden_edend.specs.declared.objects.Objects.{Objects}
 use Rattle.eden_edend.specs.internal.Standing.{Acts, IsSession, Tells, session_at, session_of}
+
+not_false : ◌≡◌ {A = Bool} true false → ⊥
+not_false e = cc
+
+not_some : {A : Type 0} (a : A) → Some a ≡ None → ⊥
+not_some a e = cc
 
 -- a line's step is this one
 abbrev IsStep : Option State → Objects → Told → Acted → Type 0
@@ -63,87 +69,88 @@ put_late (Some mount) objects put e = mounted mount objects (line.Put put) (Some
 
 pub put_acts : (mount : Option State) (objects after : Objects) (put : PutLine) (came : Told) → is_some mount ≡ false
     → put_of (session_at None objects) put ≡ (session_at None after, came) → Acts mount objects (line.Put put) mount after came
-put_acts (Some mount) objects after put came e step = cc
+put_acts (Some mount) objects after put came e step = absurd (not_false e)
 put_acts None objects after put came e step = unmounted objects (line.Put put) None after came (ap (λ (s : Acted). s.0) step, sym (ap (λ (s : Acted). s.1) step))
 
 -- ---- mounting
 
-pub mount_late : (mount : Option State) (objects : Objects) (asked : MountLine) → is_some mount ≡ true
-    → Acts mount objects (line.Mount asked) mount objects (outcome.Refused refusal.Mounted)
-mount_late None objects asked e = cc
-mount_late (Some mount) objects asked e = mounted mount objects (line.Mount asked) (Some mount) objects _ (λ world held h. ((world, held, h, refl), refl))
+pub mount_late : (mount : Option State) (objects : Objects) (wanted : MountLine) → is_some mount ≡ true
+    → Acts mount objects (line.Mount wanted) mount objects (outcome.Refused refusal.Mounted)
+mount_late None objects wanted e = cc
+mount_late (Some mount) objects wanted e = mounted mount objects (line.Mount wanted) (Some mount) objects _ (λ world held h. ((world, held, h, refl), refl))
 
-pub label_unbound : (mount : Option State) (objects : Objects) (asked : MountLine) → is_some mount ≡ false → bound objects.labels asked.label ≡ None
-    → Acts mount objects (line.Mount asked) mount objects (outcome.Refused refusal.NoLabel)
-label_unbound (Some mount) objects asked e none = cc
-label_unbound None objects asked e none =
-    unmounted objects (line.Mount asked) None objects _
-    (subst (λ found. IsStep None objects (outcome.Refused refusal.NoLabel) (mounted_by (session_at None objects) asked found)) (sym none) (refl, refl))
+pub label_unbound : (mount : Option State) (objects : Objects) (wanted : MountLine) → is_some mount ≡ false → bound objects.labels wanted.label ≡ None
+    → Acts mount objects (line.Mount wanted) mount objects (outcome.Refused refusal.NoLabel)
+label_unbound (Some mount) objects wanted e none = absurd (not_false e)
+label_unbound None objects wanted e none =
+    unmounted objects (line.Mount wanted) None objects _
+    (subst (λ found. IsStep None objects (outcome.Refused refusal.NoLabel) (mounted_by (session_at None objects) wanted found)) (sym none) (refl, refl))
 
 none_by : (found : Option FileMap) → Some NoCommit ≡ commit_fault found → found ≡ None
 none_by None e = refl
 none_by (Some files) e = cc
 
 -- an object that is no commit can't be mounted
-pub commit_absent : (mount : Option State) (objects : Objects) (asked : MountLine) (root : Id) → is_some mount ≡ false → bound objects.labels asked.label ≡ Some root
-    → is_some (commit_rows objects.store root) ≡ false → Acts mount objects (line.Mount asked) mount objects (outcome.Refused refusal.NoCommit)
-commit_absent (Some mount) objects asked root e some gone = cc
-commit_absent None objects asked root e some gone =
-    unmounted objects (line.Mount asked) None objects _
-    (subst (λ found. IsStep None objects (outcome.Refused refusal.NoCommit) (mounted_by (session_at None objects) asked found)) (sym some)
-    (subst (λ files. IsStep None objects (outcome.Refused refusal.NoCommit) (mounted_at (session_at None objects) asked root files))
+pub commit_absent : (mount : Option State) (objects : Objects) (wanted : MountLine) (root : Id) → is_some mount ≡ false → bound objects.labels wanted.label ≡ Some root
+    → is_some (commit_rows objects.store root) ≡ false → Acts mount objects (line.Mount wanted) mount objects (outcome.Refused refusal.NoCommit)
+commit_absent (Some mount) objects wanted root e some gone = absurd (not_false e)
+commit_absent None objects wanted root e some gone =
+    unmounted objects (line.Mount wanted) None objects _
+    (subst (λ found. IsStep None objects (outcome.Refused refusal.NoCommit) (mounted_by (session_at None objects) wanted found)) (sym some)
+    (subst (λ files. IsStep None objects (outcome.Refused refusal.NoCommit) (mounted_at (session_at None objects) wanted root files))
     (sym (none_by (commit_map objects.store root) (commit_gone objects.store root gone))) (refl, refl)))
 
-opens : (mount : State) (objects after : Objects) (asked : MountLine) (root : Id) (position : Position) (files : FileMap)
-    → StandsFor mount (opened objects.store asked.generation asked.limit root files)
-    → position ≡ position_of (now (opened objects.store asked.generation asked.limit root files)) → after.labels ≡ objects.labels
-    → IsStep (Some mount) after (outcome.Answer (At position)) (mounted_at (session_at None objects) asked root (Some files))
-opens mount objects after asked root position files stands at same = (
-  (opened objects.store asked.generation asked.limit root files, objects.store, stands, ap (λ b. session_of (Some (opened objects.store asked.generation asked.limit root files)) objects.store b) (sym same)),
+opens : (mount : State) (objects after : Objects) (wanted : MountLine) (root : Id) (position : Position) (files : FileMap)
+    → StandsFor mount (opened objects.store wanted.generation wanted.limit root files)
+    → position ≡ position_of (now (opened objects.store wanted.generation wanted.limit root files)) → after.labels ≡ objects.labels
+    → IsStep (Some mount) after (outcome.Answer (At position)) (mounted_at (session_at None objects) wanted root (Some files))
+opens mount objects after wanted root position files stands at same = (
+  (opened objects.store wanted.generation wanted.limit root files, objects.store, stands, ap (λ b. session_of (Some (opened objects.store wanted.generation wanted.limit root files)) objects.store b) (sym same)),
   ap (λ (p : Position). outcome.Answer (At p)) at,
 )
 
-opened_by : (mount : State) (objects after : Objects) (asked : MountLine) (root : Id) (position : Position) (found : Option FileMap) → is_some found ≡ true
-    → StandsFor mount (opened objects.store asked.generation asked.limit root (files_of found))
-    → position ≡ position_of (now (opened objects.store asked.generation asked.limit root (files_of found))) → after.labels ≡ objects.labels
-    → IsStep (Some mount) after (outcome.Answer (At position)) (mounted_at (session_at None objects) asked root found)
-opened_by mount objects after asked root position None there stands at same = cc
-opened_by mount objects after asked root position (Some files) there stands at same = opens mount objects after asked root position files stands at same
+opened_by : (mount : State) (objects after : Objects) (wanted : MountLine) (root : Id) (position : Position) (found : Option FileMap) → is_some found ≡ true
+    → StandsFor mount (opened objects.store wanted.generation wanted.limit root (files_of found))
+    → position ≡ position_of (now (opened objects.store wanted.generation wanted.limit root (files_of found))) → after.labels ≡ objects.labels
+    → IsStep (Some mount) after (outcome.Answer (At position)) (mounted_at (session_at None objects) wanted root found)
+opened_by mount objects after wanted root position None there stands at same = cc
+opened_by mount objects after wanted root position (Some files) there stands at same = opens mount objects after wanted root position files stands at same
 
 -- a commit is mounted
-pub commit_mounts : (before : Option State) (mount : State) (objects after : Objects) (asked : MountLine) (root : Id) (position : Position) → is_some before ≡ false
-    → bound objects.labels asked.label ≡ Some root → is_some (commit_rows objects.store root) ≡ true
-    → StandsFor mount (opened objects.store asked.generation asked.limit root (commit_files objects.store root))
-    → position ≡ position_of (now (opened objects.store asked.generation asked.limit root (commit_files objects.store root))) → after.labels ≡ objects.labels
-    → Acts before objects (line.Mount asked) (Some mount) after (outcome.Answer (At position))
-commit_mounts (Some before) mount objects after asked root position e some there stands at same = cc
-commit_mounts None mount objects after asked root position e some there stands at same =
-    unmounted objects (line.Mount asked) (Some mount) after _
-    (subst (λ found. IsStep (Some mount) after (outcome.Answer (At position)) (mounted_by (session_at None objects) asked found)) (sym some)
-    (opened_by mount objects after asked root position (commit_map objects.store root) (commit_mapped objects.store root there) stands at same))
+pub commit_mounts : (before : Option State) (mount : State) (objects after : Objects) (wanted : MountLine) (root : Id) (position : Position) → is_some before ≡ false
+    → bound objects.labels wanted.label ≡ Some root → is_some (commit_rows objects.store root) ≡ true
+    → StandsFor mount (opened objects.store wanted.generation wanted.limit root (commit_files objects.store root))
+    → position ≡ position_of (now (opened objects.store wanted.generation wanted.limit root (commit_files objects.store root))) → after.labels ≡ objects.labels
+    → Acts before objects (line.Mount wanted) (Some mount) after (outcome.Answer (At position))
+commit_mounts (Some before) mount objects after wanted root position e some there stands at same = absurd (not_false e)
+commit_mounts None mount objects after wanted root position e some there stands at same =
+    unmounted objects (line.Mount wanted) (Some mount) after _
+    (subst (λ found. IsStep (Some mount) after (outcome.Answer (At position)) (mounted_by (session_at None objects) wanted found)) (sym some)
+    (opened_by mount objects after wanted root position (commit_map objects.store root) (commit_mapped objects.store root there) stands at same))
 
 -- ---- changes
 
 pub change_early : (mount : Option State) (objects : Objects) (change : ChangeLine) → mount ≡ None
     → Acts mount objects (line.Change change) mount objects (outcome.Refused refusal.NotMounted)
-change_early (Some mount) objects change e = cc
+change_early (Some mount) objects change e = absurd (not_some mount e)
 change_early None objects change e = unmounted objects (line.Change change) None objects _ (refl, refl)
 
 pub change_refused : (mount : Option State) (there : State) (objects : Objects) (change : ChangeLine) (cause : Refusal) → mount ≡ Some there
-    → Err cause ≡ change_of objects.labels change → Acts mount objects (line.Change change) mount objects (outcome.Refused cause)
+    → Err cause ≡ change_of objects.labels change → Acts mount objects (line.Change change) (Some there) objects (outcome.Refused cause)
 change_refused None there objects change cause e refused = cc
 change_refused (Some mount) there objects change cause e refused =
-    mounted mount objects (line.Change change) (Some mount) objects _ (λ world held h.
-    subst (λ read. IsStep (Some mount) objects (outcome.Refused cause) (changed (session_of (Some world) held objects.labels) world read)) refused
-    ((world, held, h, refl), refl))
-
-pub change_made : (mount : Option State) (there after : State) (objects : Objects) (asked : ChangeLine) (change : Change) (answer : Answer) → mount ≡ Some there
-    → Ok change ≡ change_of objects.labels asked → Answers there change answer → Follows there change after
-    → Acts mount objects (line.Change asked) (Some after) objects (outcome.Answer answer)
-change_made None there after objects asked change answer e read answers follows = cc
-change_made (Some mount) there after objects asked change answer e read answers follows =
     let same : mount ≡ there = cc in
-    mounted mount objects (line.Change asked) (Some after) objects _ (λ world held h.
+    mounted mount objects (line.Change change) (Some there) objects _ (λ world held h.
+    subst (λ read. IsStep (Some there) objects (outcome.Refused cause) (changed (session_of (Some world) held objects.labels) world read)) refused
+    ((world, held, subst (λ (m : State). StandsFor m world) same h, refl), refl))
+
+pub change_made : (mount : Option State) (there after : State) (objects : Objects) (wanted : ChangeLine) (change : Change) (answer : Answer) → mount ≡ Some there
+    → Ok change ≡ change_of objects.labels wanted → Answers there change answer → Follows there change after
+    → Acts mount objects (line.Change wanted) (Some after) objects (outcome.Answer answer)
+change_made None there after objects wanted change answer e read answers follows = cc
+change_made (Some mount) there after objects wanted change answer e read answers follows =
+    let same : mount ≡ there = cc in
+    mounted mount objects (line.Change wanted) (Some after) objects _ (λ world held h.
     let stood = subst (λ (m : State). StandsFor m world) same h in
     subst (λ r. IsStep (Some after) objects (outcome.Answer answer) (changed (session_of (Some world) held objects.labels) world r)) read
     ((world_after world change, held, follows world stood, refl), ap (λ (a : Answer). outcome.Answer a) (sym (answers world stood))))
@@ -152,7 +159,7 @@ change_made (Some mount) there after objects asked change answer e read answers 
 
 pub ask_early : (mount : Option State) (objects : Objects) (question : AskLine) → mount ≡ None
     → Acts mount objects (line.Ask question) mount objects (outcome.Refused refusal.NotMounted)
-ask_early (Some mount) objects question e = cc
+ask_early (Some mount) objects question e = absurd (not_some mount e)
 ask_early None objects question e = unmounted objects (line.Ask question) None objects _ (refl, refl)
 
 pub ask_acts : (mount : Option State) (there : State) (objects : Objects) (question : AskLine) (came : Told) → mount ≡ Some there
@@ -170,9 +177,9 @@ labels_of None after session is = sym (ap (λ (s : Session). s.bindings) is)
 labels_of (Some mount) after session is = sym (ap (λ (s : Session). s.bindings) is.3)
 
 -- a line tells what it came to by the labels after it
-pub tells : (mount : Option State) (objects : Objects) (command : Command) (next : Option State) (after : Objects) (came : Told) (old new : List ℕ)
-    → Acts mount objects command next after came → new ≡ old ++ told_text after.labels came → Tells mount objects command next after old new
+pub tells : (mount : Option State) (objects : Objects) (command wanted : Command) (next : Option State) (after : Objects) (came : Told) (old new : List ℕ)
+    → command ≡ wanted → Acts mount objects wanted next after came → new ≡ old ++ told_text after.labels came → Tells mount objects command next after old new
 unfolding told
-tells mount objects command next after came old new acts printed session is =
-    let step = acts session is in
+tells mount objects command wanted next after came old new is acts printed session stands =
+    let step = subst (λ (k : Command). Makes next after came k session) (sym is) (acts session stands) in
     (step.0, printed ∙ (λ i. old ++ told_text (labels_of next after (acted session command).0 step.0 i) (step.1 i)))

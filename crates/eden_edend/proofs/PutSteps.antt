@@ -1,5 +1,5 @@
 -- What a put that was tried makes of the session.
-use Rattle.std.proofs.Common.{◌≡◌, ◌≢◌, ℕ, List, ◌∷◌, Option, Result, Ok, Err, refl, sym, ap, ◌∙◌}
+use Rattle.std.proofs.Common.{◌≡◌, ◌≢◌, ℕ, List, ◌∷◌, Option, Some, Result, Ok, Err, refl, sym, ap, ◌∙◌}
 use Rattle.eden_ids.specs.declared.id.Id.{Id}
 use Rattle.eden_objects.specs.declared.fault.PutFault.{PutFault}
 use Rattle.eden_objects.specs.declared.fault.PutFault.TheVariants.{TooLarge, IdTaken, ZeroId, BadMode, BadName, OutOfOrder, Duplicate, MissingChild, WrongChildKind, TooDeep, PathTooLong, CutShort, BadCommit, NoMemory}
@@ -9,7 +9,7 @@ use Rattle.eden_history.specs.Worlds.{WorldState}
 use Rattle.eden_script.specs.declared.label.Binding.{Binding}
 use Rattle.eden_script.specs.declared.told.Refusal.TheVariants as refusal
 use Rattle.eden_script.specs.declared.told.Told.TheVariants as told
-use Rattle.eden_script.specs.Sessions.{Acted, put_acted}
+use Rattle.eden_script.specs.Sessions.{Acted, Session, put_acted, tried}
 use Rattle.eden_edend.specs.internal.Standing.{Gave, session_of}
 
 pub put_bound : (mounted : Option WorldState) (held more : List Held) (bindings after : List Binding) (label : List ℕ) (id : Id) (outcome : Outcome)
@@ -25,6 +25,11 @@ put_refused mounted held more bindings label fault outcome apart gives =
     let step = gives apart in
     ap (put_acted (session_of mounted held bindings) label) step.1
     ∙ ap (λ (h : List Held). (session_of mounted h bindings, told.Refused (refusal.Put fault))) (sym step.0)
+
+-- a put of the payload that there is
+pub tried_put : (session : Session) (label : List ℕ) (outcome : List ℕ → Outcome) (found : Option (List ℕ)) (payload : List ℕ) (step : Acted)
+    → found ≡ Some payload → put_acted session label (outcome payload) ≡ step → tried session label outcome found ≡ step
+tried_put session label outcome found payload step there put = ap (tried session label outcome) there ∙ put
 
 -- ---- what the store's calls give
 

@@ -168,7 +168,8 @@ impl Labels {
         }
     }
 
-    /// Binds the label to the id, from now on. What `empty` is bound to stays the empty commit.
+    /// Binds the label to the id, from now on. One that `Label::read_to_bind` read is not `empty`, which `get` answers as the empty commit
+    /// whatever it is bound to.
     ///
     /// `AllocError` comes where a growth was refused.
     #[tactic(auto, using(crate::proofs::LabelLemmas::bound_map_more, crate::proofs::LabelLemmas::reverse_one))]

@@ -60,6 +60,7 @@ fn commit_payload(alloc: Global, tree: Option<Id>) -> Result<Option<Vec<u8>>, Al
 }
 
 /// Binds the label to what was put, or says why nothing was.
+#[tactic(auto, using(crate::proofs::PutSteps::put_bound, crate::proofs::PutSteps::put_refused))]
 fn bind_put(
     labels: &mut Labels,
     label: Label,

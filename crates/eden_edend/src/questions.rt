@@ -42,8 +42,15 @@ fn listed(mount: &Mount<GitNaming>, wanted: &Filter) -> Result<Vec<Path>, NoMemo
     }
 }
 
+/// The present position. This takes no memory.
+fn position(mount: &Mount<GitNaming>) -> Told<'_>
+    ensures { (world : WorldState) → StandsFor mount.now world → result ≡ asked world AskLine.Position }
+{
+    Told::Answer(Answer::At(mount.position()))
+}
+
 /// The paths of the files that the patterns admit.
-fn list(mount: &Mount<GitNaming>, patterns: &[Word]) -> Result<Told<'static>, NoMemory>
+fn list<'a>(mount: &'a Mount<GitNaming>, patterns: &[Word]) -> Result<Told<'a>, NoMemory>
     ensures { IfOk result (λ told. (world : WorldState) → StandsFor mount.now world → told ≡ asked world (AskLine.ListFiles patterns.now)) }
 {
     let alloc = mount.store().allocator();
@@ -59,7 +66,8 @@ fn list(mount: &Mount<GitNaming>, patterns: &[Word]) -> Result<Told<'static>, No
 }
 
 /// The paths at which the files differ from those of the commit.
-fn dirty(mount: &Mount<GitNaming>) -> Result<Told<'static>, NoMemory>
+#[tactic(auto, using(crate::proofs::Asking::dirty_asked))]
+fn dirty(mount: &Mount<GitNaming>) -> Result<Told<'_>, NoMemory>
     ensures { IfOk result (λ told. (world : WorldState) → StandsFor mount.now world → told ≡ asked world AskLine.Dirty) }
 {
     let paths = mount.work().dirty(mount.store())?;
@@ -84,11 +92,7 @@ fn read(mount: &Mount<GitNaming>, path: Word) -> Told<'_>
 }
 
 /// What changed since a position.
-fn since(
-    mount: &Mount<GitNaming>,
-    generation: u64,
-    sequence: u64,
-) -> Result<Told<'static>, NoMemory>
+fn since(mount: &Mount<GitNaming>, generation: u64, sequence: u64) -> Result<Told<'_>, NoMemory>
     ensures { IfOk result (λ told. (world : WorldState) → StandsFor mount.now world → told ≡ asked world (AskLine.Since generation sequence)) }
 {
     let position = Position {
@@ -111,7 +115,7 @@ pub(crate) fn ask(mount: &Mount<GitNaming>, line: AskLine) -> Result<Told<'_>, N
     ensures { IfOk result (λ told. (world : WorldState) → StandsFor mount.now world → told ≡ asked world line) }
 {
     match line {
-        AskLine::Position => Ok(Told::Answer(Answer::At(mount.position()))),
+        AskLine::Position => Ok(position(mount)),
         AskLine::ListFiles { patterns } => list(mount, patterns.as_slice()),
         AskLine::Dirty => dirty(mount),
         AskLine::Read { path } => Ok(read(mount, path)),

@@ -87,6 +87,7 @@ impl Session {
     }
 
     /// Puts an object.
+    #[tactic(auto, using(crate::proofs::Acting::put_late))]
     fn put(&mut self, line: PutLine) -> Result<Told<'static>, NoMemory>
         ensures { IfOk result (λ told. Acts self.old.mount self.old.objects (Command.Put line) self.new.mount self.new.objects told) }
     {
@@ -97,7 +98,7 @@ impl Session {
     }
 
     /// Mounts a commit. The mount takes the store.
-    #[tactic(auto, using(eden_history::proofs::Committed::commit_mapped))]
+    #[tactic(auto, using(crate::proofs::Acting::mount_late, crate::proofs::Acting::label_unbound, eden_history::proofs::Committed::commit_mapped))]
     fn mount(&mut self, line: MountLine) -> Result<Told<'static>, NoMemory>
         ensures { IfOk result (λ told. Acts self.old.mount self.old.objects (Command.Mount line) self.new.mount self.new.objects told) }
     {
@@ -118,6 +119,7 @@ impl Session {
     }
 
     /// Changes the mount.
+    #[tactic(auto, using(crate::proofs::Acting::change_early))]
     fn change(&mut self, line: ChangeLine) -> Result<Told<'static>, NoMemory>
         ensures { IfOk result (λ told. Acts self.old.mount self.old.objects (Command.Change line) self.new.mount self.new.objects told) }
     {
@@ -134,6 +136,7 @@ impl Session {
     }
 
     /// Asks the mount.
+    #[tactic(auto, using(crate::proofs::Acting::ask_early, crate::proofs::Acting::ask_acts))]
     fn ask(&self, line: AskLine) -> Result<Told<'_>, NoMemory>
         ensures { IfOk result (λ told. Acts self.now.mount self.now.objects (Command.Ask line) self.now.mount self.now.objects told) }
     {
@@ -148,15 +151,28 @@ impl Session {
         ensures told { OnOk result (Tells self.old.mount self.old.objects command self.new.mount self.new.objects text.old.items text.new.items) }
         ensures front { KeepsFront text.old.items text.new.items }
     {
-        let told = match command {
-            Command::Put(line) => self.put(line)?,
-            Command::Id { label } => id_of(&self.objects.labels, &label),
-            Command::Mount(line) => self.mount(line)?,
-            Command::Change(line) => self.change(line)?,
-            Command::Ask(line) => self.ask(line)?,
-        };
-        push_told(text, &self.objects.labels, &told)?;
-        Ok(())
+        match command {
+            Command::Put(line) => {
+                let told = self.put(line)?;
+                Ok(push_told(text, &self.objects.labels, &told)?)
+            }
+            Command::Id { label } => {
+                let told = id_of(&self.objects.labels, &label);
+                Ok(push_told(text, &self.objects.labels, &told)?)
+            }
+            Command::Mount(line) => {
+                let told = self.mount(line)?;
+                Ok(push_told(text, &self.objects.labels, &told)?)
+            }
+            Command::Change(line) => {
+                let told = self.change(line)?;
+                Ok(push_told(text, &self.objects.labels, &told)?)
+            }
+            Command::Ask(line) => {
+                let told = self.ask(line)?;
+                Ok(push_told(text, &self.objects.labels, &told)?)
+            }
+        }
     }
 }
 

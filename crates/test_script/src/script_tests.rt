@@ -1,9 +1,11 @@
 //! Scripts of strange bytes, of lines that no row reads, and at the limits. The ids are those that `git hash-object` gives to the same bytes.
 
-use eden_edend::{RunFault, run};
+use eden_edend::{Objects, RunFault, run, run_over};
+use eden_script::{Label, words};
 use eden_stream::Counted;
 use std::alloc::Global;
 use std::test::Fail;
+use test_kit::{commit_of, tree_of};
 
 /// What a script prints and how it ends.
 pub(crate) fn told(alloc: Global, script: &[u8]) -> (Vec<u8>, Result<u64, RunFault>) {
@@ -46,6 +48,41 @@ fn ends_of_lines_and_other_bytes(rt: HostRuntime) {
         assert!(rt; printed.as_slice() == text.as_bytes(), "{name}");
         assert!(rt; ended.is_ok(), "{name}");
     }
+}
+
+/// A label.
+fn label(alloc: Global, name: &str) -> Result<Label, Fail> {
+    let words = words(alloc, name.as_bytes())?.ok_or("no words")?;
+    let word = words.into_iter().next().ok_or("no word")?;
+    Ok(Label::read_to_bind(word).ok_or("no label")?)
+}
+
+/// Objects that no line of the script puts: a commit, bound to `c`, of one file.
+fn one_commit(alloc: Global) -> Result<Objects, Fail> {
+    let mut objects = Objects::new(alloc);
+    let blob = objects.store.put_blob(b"hi".as_slice())?;
+    let tree = tree_of(alloc, [("100644", "a", blob)].as_slice())?;
+    let tree = objects.store.put_tree(tree.as_slice())?;
+    let commit = objects.store.put_commit(commit_of(alloc, tree, "")?.as_slice())?;
+    objects.labels.bind(label(alloc, "c")?, commit)?;
+    Ok(objects)
+}
+
+#[test]
+fn a_script_over_objects(rt: HostRuntime) -> Result<(), Fail> {
+    let alloc = rt.alloc();
+    let script = b"id c\nid d\nmount c 7 1000\nread a\n".as_slice();
+    let text = "id ae53c5cf5cae1824317566fa17bd1a2b37a872aa\nrefused NoLabel\nat 7 1 c\nplain hi\n";
+    let mut printed = Vec::new(alloc);
+    let ended = run_over(
+        alloc,
+        one_commit(alloc)?,
+        &mut Counted::new(script),
+        &mut Counted::new(&mut printed),
+    );
+    assert_eq!(rt; ended, Ok(4));
+    assert!(rt; printed.as_slice() == text.as_bytes());
+    Ok(())
 }
 
 /// Lines that no row of the language reads.

@@ -1,5 +1,5 @@
 -- The script of a session is one: it skips what says nothing, and refuses what is too long.
-use Rattle.std.proofs.Common.{◌≡◌, ℕ, ◌<◌, inl, inr, ◌==◌, nat_lt, true, false, if◌then◌else◌, List, [], ◌∷◌, length, Option, Some, None, refl, sym, ap, ◌∙◌, arith}
+use Rattle.std.proofs.Common.{◌≡◌, ℕ, ◌<◌, inl, inr, ◌==◌, nat_lt, Bool, true, false, if◌then◌else◌, List, [], ◌∷◌, length, Option, Some, None, refl, sym, ap, ◌∙◌, arith}
 use Rattle.std.specs.Prelude.{option_and_then, option_map}
 use Rattle.std.proofs.lemmas.Bool.{le-ltb, lt-ltb, eq-eqb, eqb-true}
 use Rattle.eden_script.specs.Words.{words_of}
@@ -7,16 +7,23 @@ use Rattle.eden_stream.specs.Lines.{IsComment, IsSkipped, IsSpoken}
 use Rattle.eden_stream.specs.Scripts.{IsScript}
 use Rattle.eden_script.specs.ScriptLines.{command_of}
 use Rattle.eden_script.specs.Sessions.{Session}
-use Rattle.eden_script.specs.ScriptText.{told, is_skipped, line_told, before_text, continued, script_text}
+use Rattle.eden_script.specs.ScriptText.{told, is_skipped, before_text, continued, script_text}
 use Rattle.eden_accumulate.specs.Mounts.{State}
 use Rattle.eden_edend.specs.declared.objects.Objects.{Objects}
 use Rattle.eden_edend.specs.internal.Standing.{SessionStands}
 
-pub script_text-cons : (session : Session) (line : List ℕ) (more : List (List ℕ)) → script_text session (line ∷ more) ≡ continued (line_told session line) (λ next. script_text next more)
-unfolding script_text
-script_text-cons session line more = refl
+-- what a line and the others print, by whether the line is skipped, and whether it is too long
+abbrev from : Session → List ℕ → List (List ℕ) → Bool → Bool → Option (List ℕ)
+from session line more skipped long =
+    continued (if skipped then Some (session, []) else if long then None else option_map (told session) (option_and_then command_of (words_of line)))
+    (λ next. script_text next more)
 
-pub script_text-nil : (session : Session) → script_text session [] ≡ Some []
+script_text-cons : (session : Session) (line : List ℕ) (more : List (List ℕ)) (skipped long : Bool) → is_skipped line ≡ skipped → nat_lt 65536 (length line) ≡ long
+    → script_text session (line ∷ more) ≡ from session line more skipped long
+unfolding script_text
+script_text-cons session line more skipped long e bounded = λ i. from session line more (e i) (bounded i)
+
+script_text-nil : (session : Session) → script_text session [] ≡ Some []
 unfolding script_text
 script_text-nil session = refl
 
@@ -29,26 +36,6 @@ nothing_before : (text : Option (List ℕ)) → before_text [] text ≡ text
 nothing_before None = refl
 nothing_before (Some text) = refl
 
-skipped-text : (session : Session) (line : List ℕ) (more : List (List ℕ)) → is_skipped line ≡ true → script_text session (line ∷ more) ≡ script_text session more
-skipped-text session line more e =
-    script_text-cons session line more
-    ∙ ap (λ b. continued (if b then Some (session, []) else (if nat_lt 65536 (length line) then None else option_map (told session) (option_and_then command_of (words_of line)))) (λ next. script_text next more)) e
-    ∙ nothing_before (script_text session more)
-
-long-text : (session : Session) (line : List ℕ) (more : List (List ℕ)) → is_skipped line ≡ false → 65536 < length line → script_text session (line ∷ more) ≡ None
-long-text session line more e long =
-    script_text-cons session line more
-    ∙ ap (λ b. continued (if b then Some (session, []) else (if nat_lt 65536 (length line) then None else option_map (told session) (option_and_then command_of (words_of line)))) (λ next. script_text next more)) e
-    ∙ ap (λ b. continued (if b then None else option_map (told session) (option_and_then command_of (words_of line))) (λ next. script_text next more)) (lt-ltb 65536 (length line) long)
-
--- what the words of a line say it makes of the session
-read-text : (session : Session) (line : List ℕ) (more : List (List ℕ)) → is_skipped line ≡ false → nat_lt 65536 (length line) ≡ false
-    → script_text session (line ∷ more) ≡ continued (option_map (told session) (option_and_then command_of (words_of line))) (λ next. script_text next more)
-read-text session line more e short =
-    script_text-cons session line more
-    ∙ ap (λ b. continued (if b then Some (session, []) else (if nat_lt 65536 (length line) then None else option_map (told session) (option_and_then command_of (words_of line)))) (λ next. script_text next more)) e
-    ∙ ap (λ b. continued (if b then None else option_map (told session) (option_and_then command_of (words_of line))) (λ next. script_text next more)) short
-
 speaks : (line : List ℕ) → 0 < length line → ¬ IsComment line → is_skipped line ≡ false
 speaks [] some apart = absurd (omega arith)
 speaks (b ∷ line) some apart = elim (b == 35) as (λ t. (b == 35) ≡ t → t ≡ false) [ true ↦ λ e. absurd (apart (eqb-true b 35 e)) | false ↦ λ e. refl ] refl
@@ -56,11 +43,17 @@ speaks (b ∷ line) some apart = elim (b == 35) as (λ t. (b == 35) ≡ t → t 
 -- what a line that says something makes of the session
 pub spoken-text : (session : Session) (line : List ℕ) (more : List (List ℕ)) → IsSpoken line
     → script_text session (line ∷ more) ≡ continued (option_map (told session) (option_and_then command_of (words_of line))) (λ next. script_text next more)
-spoken-text session line more spoken = read-text session line more (speaks line spoken.0 spoken.1) (le-ltb 65536 (length line) spoken.2)
+spoken-text session line more spoken = script_text-cons session line more false false (speaks line spoken.0 spoken.1) (le-ltb 65536 (length line) spoken.2)
 
 pub session_script : (mount : Option State) (objects : Objects) (script : List (List ℕ) → Option (List ℕ)) → SessionStands mount objects script → IsScript script
 session_script mount objects script stands = record {
-  ends = stands.2 [] ∙ script_text-nil stands.0;
-  skips = λ line more h. stands.2 (line ∷ more) ∙ skipped-text stands.0 line more (skips line h) ∙ sym (stands.2 more);
-  bounded = λ line more h. stands.2 (line ∷ more) ∙ long-text stands.0 line more (speaks line (omega (arith, h.0)) h.1) h.0;
+  ends = stands.2 [] ∙ script_text-nil at;
+  skips = λ line more h.
+      stands.2 (line ∷ more) ∙ script_text-cons at line more true (nat_lt 65536 (length line)) (skips line h) refl
+      ∙ nothing_before (script_text at more) ∙ sym (stands.2 more);
+  bounded = λ line more h.
+      stands.2 (line ∷ more) ∙ script_text-cons at line more false true (speaks line (omega (arith, h.0)) h.1) (lt-ltb 65536 (length line) h.0);
 }
+  where
+    at : Session
+    at = stands.0
