@@ -1,5 +1,4 @@
 mod EntryLemmas
 pub mod EscapeLemmas
-pub mod NumberLemmas
 mod RowLemmas
 pub mod WordLemmas

@@ -3,7 +3,7 @@ use Rattle.std.specs.Prelude.{ℕ, List, [], ◌≡◌, ◌≢◌, ◌<◌, ◌^
 use Rattle.std.specs.List.{list_any}
 use Rattle.eden_script.specs.Escapes.{escaped, unescaped}
 use Rattle.eden_script.specs.Words.{words_of, line_of}
-use Rattle.eden_script.specs.Numbers.{number_of}
+use Rattle.eden_numbers.specs.Numbers.{number_of}
 
 -- what was written is read as the bytes that were written
 abbrev pub EscapesAreUndone : Type 0

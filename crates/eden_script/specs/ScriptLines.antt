@@ -5,7 +5,7 @@ use Rattle.eden_ids.specs.declared.content.Kind.TheVariants.{Plain, Exec, Link}
 use Rattle.eden_ids.specs.Sameness.{same_bytes}
 use Rattle.eden_history.specs.declared.change.Mode.{Mode}
 use Rattle.eden_history.specs.declared.change.Mode.TheVariants.{Normal, Dry, Force}
-use Rattle.eden_script.specs.Numbers.{number_of}
+use Rattle.eden_numbers.specs.Numbers.{number_of}
 use Rattle.eden_script.specs.LabelWords.{label_read, label_to_bind}
 use Rattle.eden_script.specs.declared.command.Command.{Command}
 use Rattle.eden_script.specs.declared.command.Command.TheVariants as line

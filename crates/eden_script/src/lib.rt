@@ -26,11 +26,12 @@ pub use crate::laws::{
     decimal_law, escape_law, line_feed_law, line_law, number_law, number_text_law, word_law,
 };
 pub use crate::lines::{Word, words};
-pub use crate::numbers::{number, push_number};
+pub use crate::numbers::push_number;
 pub use crate::texts::{
     push_all_marked, push_content, push_id, push_id_line, push_listed, push_ok, push_refusal,
 };
 pub use crate::told::{Lent, Refusal, Told};
+pub use eden_numbers::number;
 
 mod command;
 mod escapes;

@@ -7,10 +7,10 @@ ghost use Rattle.eden_script.specs.ScriptLines.{kind_of, mode_of, entry_of, entr
 use crate::command::{AskLine, ChangeLine, Command, MountLine, PutLine, TreeEntry};
 use crate::label::Label;
 use crate::lines::Word;
-use crate::numbers::number;
 use crate::unread::Unread;
 use eden_history::Mode;
 use eden_ids::{Kind, Sequence};
+use eden_numbers::number;
 use std::alloc::{AllocError, Global};
 
 fn is_named(word: &Word, name: &[u8]) -> bool

@@ -1,6 +1,6 @@
 use Rattle.std.proofs.Common.{arith, ◌<◌, ◌^◌, ◌∙◌}
-use Rattle.eden_script.proofs.NumberLemmas.{number_of-no_text, number_of-unparsed, number_of-other_text, number_of-same_text}
-use Rattle.eden_script.proofs.numbers.number.Goals as goal
+use Rattle.eden_numbers.proofs.NumberLemmas.{number_of-no_text, number_of-unparsed, number_of-other_text, number_of-same_text}
+use Rattle.eden_numbers.proofs.decimal.number.Goals as goal
 
 pub returns-in_default : goal.returns-in_default
 returns-in_default c = number_of-no_text c.args.word.now c.in_default.ensures.cases.0
