@@ -21,6 +21,7 @@ PROMISES = [
     ("a journal (`add_file`, `add_root`, `flush`)", "eden_journal", ["add_file", "add_root", "flush"]),
     ("two commits' difference (`diff`)", "eden_treediff", ["diff"]),
     ("the store (`put_blob`, `put_tree`, `put_commit`, `lookup`, `list`)", "eden_objects", ["put_blob", "put_tree", "put_commit", "lookup", "list"]),
+    ("a batch of objects (`read_objects`)", "eden_batch eden_objects", ["read_objects", "put_blob", "put_tree", "put_commit"]),
     ("ids (`GitNaming::id_of`)", "eden_ids", ["git_name"]),
     ("messages as bytes (`encode_request`, `encode_reply`, `append_reply`, `decode_request`, `decode_reply`)", "eden_wire", ["encode_request", "encode_reply", "append_reply", "decode_request", "decode_reply", "request_law", "reply_law"]),
     ("a mirror (`begin`, `deliver`, `round_law`)", "eden_mirror", ["begin", "deliver", "round_law"]),

@@ -1,0 +1,183 @@
+-- How the reading of a batch ends, by how the pumping of its objects does.
+use Rattle.std.proofs.Common.{◌≡◌, Bool, true, false, ℕ, ◌+◌, inl, inr, List, [], ◌∷◌, ◌++◌, length, map, drop, Option, Result, Ok, Err, refl, sym, ap, ◌∙◌, subst, arith, append_assoc, append-nil}
+use Rattle.std.specs.List.{concat}
+use Rattle.std.proofs.lemmas.List.{drop_at, length-map}
+use Rattle.std.proofs.lemmas.List.Folds.{concat-append}
+use Rattle.std.proofs.lemmas.List.Elements.{All-nil}
+use Rattle.eden_ids.specs.declared.id.Id.{Id}
+use Rattle.eden_objects.specs.Objects.{Held}
+use Rattle.eden_stream.specs.Pumps as pumps
+use Rattle.eden_stream.specs.Pumps.{Faults, Losses, Ran, Tellings}
+use Rattle.eden_stream.specs.declared.pump.Stop.{Stop}
+use Rattle.eden_stream.specs.declared.pump.Stop.TheVariants.{Item, Read, Write, TurnsSpent, NoMemory}
+use Rattle.eden_batch.specs.Batches.{IsObject, batch, written}
+use Rattle.eden_batch.specs.Ends.{Ends, HasFault, ReadsObjects, StopsAtObject, StopsBetween}
+use Rattle.eden_batch.specs.internal.Grammar.{IsFaulty, object_grammar}
+use Rattle.eden_batch.specs.internal.Loads.{Fails, Fills, HavePut, IsReadAs, AreSame, Overfills, put_story, with_ids}
+use Rattle.eden_batch.specs.declared.fault.ObjectFault.{ObjectFault}
+use Rattle.eden_batch.specs.declared.fault.ObjectFault.TheVariants.{BadHeader, CutShort, OtherId, Refused, TooLarge}
+use Rattle.eden_batch.specs.declared.fault.ObjectsFault.{ObjectsFault}
+use Rattle.eden_batch.specs.declared.fault.ObjectsFault.TheVariants as faults
+use Rattle.eden_batch.specs.declared.putting.Filling.{Filling}
+
+texts : (objects : List Held) → concat (map written objects) ≡ batch objects
+texts [] = refl
+texts (o ∷ os) = ap (λ l. written o ++ l) (texts os)
+
+-- an item that is taken stands at the front of what was held
+taken : (items : List (List ℕ)) (item left held stream : List ℕ) → stream ≡ concat items ++ held → stream ≡ concat (items ++ item ∷ []) ++ left → held ≡ item ++ left
+taken items item left held stream cut next =
+    let front = concat items in
+    let same : front ++ held ≡ front ++ (item ++ left) =
+    sym cut ∙ next ∙ ap (λ l. l ++ left) (concat-append items (item ∷ []) ∙ ap (λ l. front ++ l) (append-nil item)) ∙ append_assoc front item left in
+    sym (drop_at front held (length front) refl) ∙ ap (drop (length front)) same ∙ drop_at front (item ++ left) (length front) refl
+
+module _ (name : List ℕ → List ℕ → Id) (r0 r1 w0 w1 : Option (List ℕ)) {N : Type 0} (before now : Filling N) where
+  reads : (Says : List ℕ → List (List ℕ) → List ℕ → Type 0) (ended : Bool) (count : ℕ) (rest waiting : List ℕ)
+      → (ran : Ran object_grammar Says r0 r1 w0 w1 ended count rest waiting) (objects held : List Held) → HavePut name before.store.now ran.items objects held
+      → ReadsObjects name r0 r1 before.store.now objects rest held
+  reads Says ended count rest waiting ran objects held have = record {
+    stream = ran.stream;
+    read = ran.read;
+    cut = ran.cut ∙ ap (λ l. l ++ rest) (ap concat have.items_are ∙ texts objects);
+    each = have.each;
+    put = have.put;
+  }
+
+  -- a cause that stands at the front of the rest
+  unreadable : (fault : ObjectFault) (rest : List ℕ) (held : List Held) → IsFaulty rest fault → HasFault name r1 rest held held fault
+  unreadable BadHeader rest held f = (f, refl)
+  unreadable TooLarge rest held f = (f, refl)
+  unreadable CutShort rest held f = absurd f
+  unreadable (Refused cause) rest held f = absurd f
+  unreadable OtherId rest held f = absurd f
+
+  -- a cause that stands in the way of an object
+  unput : (fault : ObjectFault) (rest left : List ℕ) (object : Held) (held new : List Held) → IsObject object → rest ≡ written object ++ left
+      → Fails name object held new fault → HasFault name r1 rest held new fault
+  unput BadHeader rest left object held new is cut f = absurd f
+  unput TooLarge rest left object held new is cut f = absurd f
+  unput CutShort rest left object held new is cut f = absurd f
+  unput (Refused cause) rest left object held new is cut f = (record { object = object; more = left; is_object = is; cut = cut; is = f.0 }, f.1)
+  unput OtherId rest left object held new is cut f = record { object = object; more = left; is_object = is; cut = cut; is = f }
+
+  numbered : (items : List (List ℕ)) (objects held : List Held) (number count : ℕ) → HavePut name before.store.now items objects held → number ≡ count + 1
+      → count ≡ length items → number ≡ length objects + 1
+  numbered items objects held number count have is count_is =
+      omega (arith, is, count_is, ap length have.items_are, length-map objects written)
+
+  at_object : (number : ℕ) (fault : ObjectFault) (ended : Bool) (count : ℕ) (rest : List ℕ) → number ≡ count + 1
+      → (ran : Ran object_grammar (Faults object_grammar (put_story name before now) ended rest fault) r0 r1 w0 w1 ended count rest [])
+      → Faults object_grammar (put_story name before now) ended rest fault ran.stream ran.items (ran.sent ++ [])
+      → StopsAtObject name r0 r1 before.store.now now.store.now number fault
+  at_object number fault ended count rest is ran (inl (told, inl faulty)) =
+      let fills = told.1 in
+      record {
+        objects = fills.objects;
+        rest = rest;
+        held = now.store.now;
+        front = reads _ ended count rest [] ran fills.objects now.store.now fills.have;
+        number_is = numbered ran.items fills.objects now.store.now number count fills.have is ran.count_is;
+        fault = unreadable fault rest now.store.now faulty;
+      }
+  at_object number fault ended count rest is ran (inl (told, inr short)) =
+      let fills = told.1 in
+      record {
+        objects = fills.objects;
+        rest = rest;
+        held = now.store.now;
+        front = reads _ ended count rest [] ran fills.objects now.store.now fills.have;
+        number_is = numbered ran.items fills.objects now.store.now number count fills.have is ran.count_is;
+        fault = subst (HasFault name r1 rest now.store.now now.store.now) (sym short.3) (short.1, short.2, ran.at_end short.0, refl);
+      }
+  at_object number fault ended count rest is ran (inr f) =
+      let bad = f.1 in
+      let fails = bad.3 in
+      record {
+        objects = fails.objects;
+        rest = rest;
+        held = fails.held;
+        front = reads _ ended count rest [] ran fails.objects fails.held fails.have;
+        number_is = numbered ran.items fails.objects fails.held number count fails.have is ran.count_is;
+        fault =
+            unput fault rest bad.1 fails.object fails.held now.store.now fails.is_object
+            (taken ran.items bad.0 bad.1 rest ran.stream ran.cut bad.2 ∙ ap (λ item. item ++ bad.1) fails.item_is) fails.fails;
+      }
+
+  between : (count : ℕ) (rest : List ℕ) → object_grammar.partial false rest
+      → Ran object_grammar (Tellings (put_story name before now)) r0 r1 w0 w1 false count rest [] → StopsBetween name r0 r1 before.store.now now.store.now
+  between count rest partial ran =
+      let fills = ran.says.1 in
+      record {
+        objects = fills.objects;
+        rest = rest;
+        front = reads _ false count rest [] ran fills.objects now.store.now fills.have;
+        partial = partial.0;
+      }
+
+  overfilled : (ended : Bool) (stream : List ℕ) (items : List (List ℕ)) (text : List ℕ)
+      → Losses object_grammar (put_story name before now) ended stream items text → Overfills name before.store.now now.store.now items
+  overfilled ended stream items text (inl lost) = lost.1
+  overfilled ended stream items text (inr spent) = spent.3.1
+
+  -- the same store and list are filled, however the pumping ended
+  pub same_filling : (outcome : Result ℕ (Stop ObjectFault)) → pumps.Ends object_grammar (put_story name before now) r0 r1 w0 w1 outcome → AreSame before now
+  same_filling (Ok count) e = e.2.says.0
+  same_filling (Err (Item number fault)) e = elim e.4.says [ inl f ↦ f.0.0 | inr f ↦ f.0.0 ]
+  same_filling (Err Read) e = e.3.says.0
+  same_filling (Err TurnsSpent) e = e.3.says.0
+  same_filling (Err NoMemory) e = elim e.3.says [ inl f ↦ f.0 | inr f ↦ f.3.0 ]
+  same_filling (Err Write) e = elim e.4.says [ inl f ↦ f.0 | inr f ↦ f.3.0 ]
+
+  pub ends : (ids : List Id) → ids ≡ now.ids.now.items → before.ids.now.items ≡ [] → (outcome : Result ℕ (Stop ObjectFault)) (result : Result (Unit {0}) ObjectsFault) → IsReadAs outcome result
+      → pumps.Ends object_grammar (put_story name before now) r0 r1 w0 w1 outcome → Ends name r0 r1 before.store.now now.store.now (with_ids ids result)
+  ends ids noted none (Ok count) result is e =
+      let ran = e.2 in
+      let fills = ran.says.1 in
+      rw is (record {
+        objects = fills.objects;
+        front =
+            subst (λ rest. ReadsObjects name r0 r1 before.store.now fills.objects rest now.store.now) (e.1.1 refl)
+            (reads _ true count e.0 [] ran fills.objects now.store.now fills.have);
+        at_end = ran.at_end refl;
+        ids_are = noted ∙ fills.ids_are ∙ ap (λ first. first ++ map (λ object. object.id) fills.objects) none;
+      })
+  ends ids noted none (Err (Item number fault)) result is e = rw is (at_object number fault e.0 e.1 e.2 e.3 e.4 e.4.says)
+  ends ids noted none (Err Read) result is e = rw is (between e.0 e.1 e.2 e.3)
+  ends ids noted none (Err TurnsSpent) result is e = rw is (between e.0 e.1 e.2 e.3)
+  ends ids noted none (Err NoMemory) result is e =
+      let ran = e.3 in
+      let over = overfilled e.0 ran.stream ran.items (ran.sent ++ []) ran.says in
+      rw is (record {
+        objects = over.objects;
+        rest = e.2;
+        held = over.held;
+        front = reads _ e.0 e.1 e.2 [] ran over.objects over.held over.have;
+        grown = over.grown;
+      })
+  ends ids noted none (Err Write) result is e = absurd is
+
+-- each end is told as itself
+pub read_is : (outcome : Result ℕ (Stop ObjectFault)) (result : Result (Unit {0}) ObjectsFault) → IsReadAs outcome result → result ≡ Err faults.Read → outcome ≡ Err Read
+read_is (Ok count) result is e = cc
+read_is (Err (Item number fault)) result is e = cc
+read_is (Err Read) result is e = refl
+read_is (Err TurnsSpent) result is e = cc
+read_is (Err NoMemory) result is e = cc
+read_is (Err Write) result is e = absurd is
+
+pub spent_is : (outcome : Result ℕ (Stop ObjectFault)) (result : Result (Unit {0}) ObjectsFault) → IsReadAs outcome result → result ≡ Err faults.TurnsSpent → outcome ≡ Err TurnsSpent
+spent_is (Ok count) result is e = cc
+spent_is (Err (Item number fault)) result is e = cc
+spent_is (Err Read) result is e = cc
+spent_is (Err TurnsSpent) result is e = refl
+spent_is (Err NoMemory) result is e = cc
+spent_is (Err Write) result is e = absurd is
+
+-- nothing is put yet
+pub fills_none : (name : List ℕ → List ℕ → Id) (held : List Held) → Fills name held held [] [] []
+fills_none name held = record {
+  objects = [];
+  have = record { items_are = refl; each = All-nil IsObject; put = refl };
+  ids_are = refl;
+}

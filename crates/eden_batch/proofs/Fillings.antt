@@ -1,0 +1,165 @@
+-- What the putting of one object more does to a store that is being filled.
+use Rattle.std.proofs.Common.{◌≡◌, ◌≢◌, ℕ, ◌^◌, ◌<◌, ◌≤◌, ◌⊎◌, inl, inr, Bool, true, false, not, cond, ◌&&◌, List, [], ◌∷◌, ◌++◌, length, map, take, refl, sym, ap, ◌∙◌, subst, arith, append_assoc, length-append, Option, Some, None, Result, Ok, Err}
+use Rattle.std.specs.Cmp.Lexicographic.{bytes_decides}
+use Rattle.std.proofs.lemmas.List.{append-nil, map-append, take_at}
+use Rattle.std.proofs.lemmas.List.Elements.{All-push}
+use Rattle.eden_ids.specs.declared.id.Id.{Id}
+use Rattle.eden_ids.specs.Sameness.{same_bytes, same_id}
+use Rattle.eden_git.specs.Words.{same_word}
+use Rattle.eden_git.specs.declared.word.Word.{Word}
+use Rattle.eden_git.specs.declared.word.Word.TheVariants.{Blob, Tree, Commit}
+use Rattle.eden_objects.specs.Objects.{Held, find, zero_id}
+use Rattle.eden_objects.specs.Puts.{Outcome, commit_fault, kept_or_added, named, put_outcome, too_large, tree_fault, unless}
+use Rattle.eden_objects.specs.declared.fault.PutFault.{PutFault}
+use Rattle.eden_objects.specs.declared.fault.PutFault.TheVariants as put
+use Rattle.eden_batch.specs.Batches.{IsObject, header, written}
+use Rattle.eden_batch.specs.Puttings.{ArePut, IsPut, outcome_of}
+use Rattle.eden_batch.specs.internal.Fields.{IsHeader, Reads, header_field}
+use Rattle.eden_batch.specs.internal.Grammar.{IsPrinted}
+use Rattle.eden_batch.specs.internal.Loads.{Fails, FailsAt, Fills, Overfills, Puts, refusal_of}
+use Rattle.eden_stream.specs.Stories.{Story, Tells}
+use Rattle.eden_stream.specs.declared.teller.Answer.TheVariants.{Fault}
+use Rattle.eden_batch.specs.declared.fault.ObjectFault.TheVariants.{Refused}
+use Rattle.eden_batch.specs.declared.fault.ObjectFault.{ObjectFault}
+use Rattle.eden_batch.specs.declared.fields.Lack.{Lack}
+use Rattle.eden_batch.specs.declared.fields.Lack.TheVariants.{Partial, Bad}
+use Rattle.eden_batch.specs.declared.header.Header.{Header}
+use Rattle.eden_batch.proofs.Headers.{header_split}
+
+module _ (item : List ℕ) (printed : IsPrinted item) where
+  fits : length printed.0.payload < 2 ^ 64
+  fits = let few = printed.1.few in omega arith
+
+  -- a whole object begins with a header
+  pub never_lacks : (lack : Lack) → Reads IsHeader header_field item (Err lack) → ⊥
+  never_lacks Partial part =
+      let o = printed.0 in
+      let behind = o.payload ++ 10 ∷ [] in
+      let both = header_split o.id part.0.id o.word part.0.word (length o.payload) part.0.size (behind ++ part.1) [] printed.1.id part.2.0 fits part.2.1
+      (sym (append_assoc (header o.id o.word (length o.payload)) behind part.1) ∙ ap (λ l. l ++ part.1) (sym printed.2) ∙ part.4 ∙ sym (append-nil (header_field part.0))) in
+      omega (arith, ap length both.3, length-append behind part.1, length-append o.payload (10 ∷ []))
+  never_lacks Bad bad =
+      let o = printed.0 in
+      bad (record { id = o.id; word = o.word; size = length o.payload }) [] (o.payload ++ 10 ∷ []) (printed.1.id, fits) (append-nil item ∙ printed.2)
+
+  module _ (h : Header) (behind : List ℕ) (is : IsHeader h) (cut : item ≡ header_field h ++ behind) where
+    parts : (h.id ≡ printed.0.id) × (h.word ≡ printed.0.word) × (h.size ≡ length printed.0.payload) × (behind ≡ printed.0.payload ++ 10 ∷ [])
+    parts =
+        let o = printed.0 in
+        header_split h.id o.id h.word o.word h.size (length o.payload) behind (o.payload ++ 10 ∷ []) is.0 printed.1.id is.1 fits (sym cut ∙ printed.2)
+
+    pub id_is : h.id ≡ printed.0.id
+    id_is = parts.0
+
+    pub word_is : h.word ≡ printed.0.word
+    word_is = parts.1
+
+    pub there : h.size ≤ length behind
+    there = omega (arith, parts.2, ap length parts.3, length-append printed.0.payload (10 ∷ []))
+
+    pub payload_is : take h.size behind ≡ printed.0.payload
+    payload_is = ap (take h.size) parts.3 ∙ take_at printed.0.payload (10 ∷ []) h.size (sym parts.2)
+
+    pub outcome_is : (name : List ℕ → List ℕ → Id) (held : List Held) (outcome : Outcome) → outcome_of name h.word (take h.size behind) held ≡ outcome
+        → outcome_of name printed.0.word printed.0.payload held ≡ outcome
+    outcome_is name held outcome e =
+        sym (ap (λ word. outcome_of name word (take h.size behind) held) word_is ∙ ap (λ payload. outcome_of name printed.0.word payload held) payload_is) ∙ e
+
+    pub puts_is : (result : Result Id PutFault) (name : List ℕ → List ℕ → Id) (held new : List Held) → Puts result name h.word (take h.size behind) held new
+        → Puts result name printed.0.word printed.0.payload held new
+    puts_is result name held new puts =
+        subst (λ payload. Puts result name printed.0.word payload held new) payload_is
+        (subst (λ word. Puts result name word (take h.size behind) held new) word_is puts)
+
+-- what `!=` says of two ids
+pub other_id : (a b : Id) → true ≡ not (same_id a b) → a ≢ b
+other_id a b differs e = let same : same_id a b ≡ true = (bytes_decides a.0 b.0).1 (ap (λ id. id.0) e) in cc
+
+pub equal_ids : (a b : Id) → false ≡ not (same_id a b) → a ≡ b
+equal_ids a b same = let bytes : a.0 ≡ b.0 = (bytes_decides a.0 b.0).0 (is_true (same_id a b) same) in ap (λ b. record { 0 = b }) bytes
+  where
+    is_true : (b : Bool) → false ≡ not b → b ≡ true
+    is_true true e = refl
+    is_true false e = cc
+
+put_more : (name : List ℕ → List ℕ → Id) (objects : List Held) (object : Held) (old held new : List Held) → ArePut name objects old held → IsPut name object held new
+    → ArePut name (objects ++ object ∷ []) old new
+put_more name [] object old held new put one = (new, subst (λ h. IsPut name object h new) put one, refl)
+put_more name (o ∷ os) object old held new put one = (put.0, put.1, put_more name os object put.0 held new put.2 one)
+
+-- what a put call does to what is held
+held_after : Outcome → List Held
+held_after (Ok put) = put.1
+held_after (Err fault) = []
+
+kept : (same : Bool) (stays : Id × List Held) (id : Id) (now : List Held) → cond same (Ok stays) (Err put.IdTaken) ≡ Ok (id, now) → now ≡ stays.1
+unfolding held_after
+kept true stays id now e = sym (ap held_after e)
+kept false stays id now e = cc
+
+kept_grows : (new : Held) (held : List Held) (o : Option Held) (id : Id) (now : List Held) → kept_or_added new held o ≡ Ok (id, now)
+    → (now ≡ held) ⊎ ((object : Held) × (now ≡ object ∷ held))
+unfolding held_after
+kept_grows new held None id now e = inr (new, sym (ap held_after e))
+kept_grows new held (Some h) id now e = inl (kept (same_word h.word new.word && same_bytes h.payload new.payload) (new.id, held) id now e)
+
+outcome_grows : (b : Bool) (rest : Outcome) (id : Id) (held now : List Held) → (rest ≡ Ok (id, now) → (now ≡ held) ⊎ ((object : Held) × (now ≡ object ∷ held)))
+    → cond b (Err put.ZeroId) rest ≡ Ok (id, now) → (now ≡ held) ⊎ ((object : Held) × (now ≡ object ∷ held))
+outcome_grows true rest id held now goes e = cc
+outcome_grows false rest id held now goes e = goes e
+
+unless_grows : (fault : Option PutFault) (new : Held) (held : List Held) (id : Id) (now : List Held) → unless fault (put_outcome new held) ≡ Ok (id, now)
+    → (now ≡ held) ⊎ ((object : Held) × (now ≡ object ∷ held))
+unless_grows (Some fault) new held id now e = cc
+unless_grows None new held id now e =
+    outcome_grows (same_id new.id zero_id) (kept_or_added new held (find new.id held)) id held now (kept_grows new held (find new.id held) id now) e
+
+pub grows : (name : List ℕ → List ℕ → Id) (word : Word) (payload : List ℕ) (held : List Held) (id : Id) (now : List Held)
+    → outcome_of name word payload held ≡ Ok (id, now) → (now ≡ held) ⊎ ((object : Held) × (now ≡ object ∷ held))
+grows name Blob payload held id now e = unless_grows (too_large payload) (named name Blob payload) held id now e
+grows name Tree payload held id now e = unless_grows (tree_fault payload held) (named name Tree payload) held id now e
+grows name Commit payload held id now e = unless_grows (commit_fault payload held) (named name Commit payload) held id now e
+
+pub refusal_is : (cause : PutFault) → (cause ≡ put.NoMemory → ⊥) → Fault (Refused cause) ≡ refusal_of cause
+refusal_is put.NoMemory other = absurd (other refl)
+refusal_is cause other = refl
+
+module _ (name : List ℕ → List ℕ → Id) (old held new : List Held) (noted ids : List Id) (items : List (List ℕ)) (fills : Fills name old held noted ids items) where
+  pub fills_more : (object : Held) (item : List ℕ) → IsObject object → item ≡ written object → IsPut name object held new
+      → Fills name old new noted (ids ++ object.id ∷ []) (items ++ item ∷ [])
+  fills_more object item is item_is put = record {
+    objects = fills.objects ++ object ∷ [];
+    have = record {
+      items_are = ap (λ l. l ++ item ∷ []) fills.have.items_are ∙ ap (λ i. map written fills.objects ++ i ∷ []) item_is ∙ sym (map-append written fills.objects (object ∷ []));
+      each = All-push IsObject fills.objects object fills.have.each is;
+      put = put_more name fills.objects object old held new fills.have.put put;
+    };
+    ids_are =
+        ap (λ l. l ++ object.id ∷ []) fills.ids_are ∙ append_assoc noted (map (λ o. o.id) fills.objects) (object.id ∷ [])
+        ∙ ap (λ l. noted ++ l) (sym (map-append (λ o. o.id) fills.objects (object ∷ [])));
+  }
+
+  pub overfills : (new ≡ held) ⊎ ((object : Held) × (new ≡ object ∷ held)) → Overfills name old new items
+  overfills grown = record { objects = fills.objects; held = held; have = fills.have; grown = grown }
+
+  pub fails_at : (object : Held) (item : List ℕ) (fault : ObjectFault) → IsObject object → item ≡ written object → Fails name object held new fault
+      → FailsAt name old new items item fault
+  fails_at object item fault is item_is fails = record {
+    objects = fills.objects;
+    held = held;
+    object = object;
+    have = fills.have;
+    is_object = is;
+    item_is = item_is;
+    fails = fails;
+  }
+
+  -- what is told of an object that is refused
+  pub tells_refusal : (cause : PutFault) (story : Story ObjectFault) (object : Held) (sent item text : List ℕ) → IsObject object → item ≡ written object
+      → Puts (Err cause) name object.word object.payload held new → (Overfills name old new items → story.lost items (sent ++ text))
+      → (Overfills name old new items → story.spent items item (sent ++ take (length text) text))
+      → (FailsAt name old new items item (Refused cause) → story.refused items item (Refused cause))
+      → Tells story items sent item text text (refusal_of cause)
+  tells_refusal put.NoMemory story object sent item text is item_is puts lost spent fails = spent (overfills (inl puts))
+  tells_refusal cause story object sent item text is item_is puts lost spent fails =
+      (lost (overfills (inl puts.0)), fails (fails_at object item (Refused _) is item_is (puts.1, puts.0)))

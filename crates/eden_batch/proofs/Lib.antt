@@ -1,0 +1,8 @@
+pub mod Ids
+pub mod Lines
+pub mod Sizes
+pub mod Words
+pub mod Headers
+pub mod Fronts
+pub mod Fillings
+pub mod Endings

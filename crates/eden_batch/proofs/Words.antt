@@ -1,0 +1,38 @@
+-- The words for kinds of objects, as fields of a header.
+use Rattle.std.proofs.Common.{◌≡◌, ◌≢◌, ℕ, ◌<◌, inl, inr, List, [], ◌∷◌, ◌++◌, length, get_or, drop, refl, sym, ap, ◌∙◌, arith}
+use Rattle.std.proofs.lemmas.Bool.{cases_lt}
+use Rattle.std.proofs.lemmas.List.{append-nil, nil_from_length}
+use Rattle.eden_git.specs.declared.word.Word.{Word}
+use Rattle.eden_git.specs.declared.word.Word.TheVariants.{Blob, Tree, Commit}
+use Rattle.eden_git.specs.Words.{word_text}
+use Rattle.eden_batch.specs.internal.Fields.{word_field}
+
+-- a word's first byte is that of what begins with it
+pub first_of_word : (bytes rest more : List ℕ) (word : Word) → 0 < length bytes → bytes ++ rest ≡ word_field word ++ more → get_or (word_text word) 0 0 ≡ get_or bytes 0 0
+first_of_word [] rest more word some e = absurd (omega arith)
+first_of_word (byte ∷ bytes) rest more Blob some e = sym (ap (λ l. get_or l 0 0) e)
+first_of_word (byte ∷ bytes) rest more Tree some e = sym (ap (λ l. get_or l 0 0) e)
+first_of_word (byte ∷ bytes) rest more Commit some e = sym (ap (λ l. get_or l 0 0) e)
+
+-- what begins a word, and is not begun by it, is not all of it
+pub part_of_word : (bytes field : List ℕ) → field ≡ bytes ++ drop (length bytes) field → ((rest : List ℕ) → bytes ≢ field ++ rest) → 0 < length (drop (length bytes) field)
+part_of_word bytes field starts other =
+    let more = drop (length bytes) field in
+    elim (cases_lt 0 (length more)) [
+      | inl l ↦ l
+      | inr g ↦
+          let all : field ≡ bytes = starts ∙ ap (λ l. bytes ++ l) (nil_from_length more (omega arith)) ∙ append-nil bytes in
+          absurd (other [] (sym all ∙ sym (append-nil field)))
+    ]
+
+-- a word is read in one way
+pub word_split : (word other : Word) (a b : List ℕ) → word_field word ++ a ≡ word_field other ++ b → (word ≡ other) × (a ≡ b)
+word_split Blob Blob a b e = (refl, ap (drop 5) e)
+word_split Tree Tree a b e = (refl, ap (drop 5) e)
+word_split Commit Commit a b e = (refl, ap (drop 7) e)
+word_split Blob Tree a b e = absurd (omega (arith, ap (λ l. get_or l 0 0) e))
+word_split Blob Commit a b e = absurd (omega (arith, ap (λ l. get_or l 0 0) e))
+word_split Tree Blob a b e = absurd (omega (arith, ap (λ l. get_or l 0 0) e))
+word_split Tree Commit a b e = absurd (omega (arith, ap (λ l. get_or l 0 0) e))
+word_split Commit Blob a b e = absurd (omega (arith, ap (λ l. get_or l 0 0) e))
+word_split Commit Tree a b e = absurd (omega (arith, ap (λ l. get_or l 0 0) e))

@@ -1,0 +1,11 @@
+-- What stands at the front of a stream of objects.
+use Rattle.std.specs.Prelude.{ℕ, ◌≤◌, ◌<◌, List, length, take}
+use Rattle.eden_batch.specs.Batches.{IsPartial}
+use Rattle.eden_batch.specs.internal.Grammar.{IsFaulty, IsPrinted}
+use Rattle.eden_batch.specs.declared.framing.Front.{Front}
+use Rattle.eden_batch.specs.declared.framing.Front.TheVariants.{Whole, Partial, Faulty}
+
+abbrev pub Begins : List ℕ → Front → Type 0
+Begins bytes (Whole whole) = (0 < whole) × (whole ≤ length bytes) × IsPrinted (take whole bytes)
+Begins bytes Partial = IsPartial bytes
+Begins bytes (Faulty fault) = IsFaulty bytes fault

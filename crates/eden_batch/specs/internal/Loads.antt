@@ -1,0 +1,102 @@
+-- What is told of a store that is being filled.
+use Rattle.std.proofs.Common.{◌≡◌, refl, List, ℕ, ◌++◌, ◌∷◌, map, inl, ◌⊎◌, Result, Ok, Err}
+use Rattle.std.specs.List.{All}
+use Rattle.eden_ids.specs.declared.id.Id.{Id}
+use Rattle.eden_git.specs.declared.word.Word.{Word}
+use Rattle.eden_objects.specs.Objects.{Held}
+use Rattle.eden_objects.specs.declared.fault.PutFault.{PutFault}
+use Rattle.eden_objects.specs.declared.fault.PutFault.TheVariants as put
+use Rattle.eden_stream.specs.Stories.{Story, IsStory}
+use Rattle.eden_stream.specs.declared.pump.Stop.{Stop}
+use Rattle.eden_stream.specs.declared.pump.Stop.TheVariants as stops
+use Rattle.eden_stream.specs.declared.teller.Answer.{Answer}
+use Rattle.eden_stream.specs.declared.teller.Answer.TheVariants as answer
+use Rattle.eden_batch.specs.Batches.{IsObject, written}
+use Rattle.eden_batch.specs.Puttings.{ArePut, IsPutAsOther, IsRefused, outcome_of}
+use Rattle.eden_batch.specs.internal.Grammar.{object_grammar}
+use Rattle.eden_batch.specs.declared.fault.ObjectFault.{ObjectFault}
+use Rattle.eden_batch.specs.declared.fault.ObjectFault.TheVariants.{BadHeader, CutShort, OtherId, Refused, TooLarge}
+use Rattle.eden_batch.specs.declared.fault.ObjectsFault.{ObjectsFault}
+use Rattle.eden_batch.specs.declared.fault.ObjectsFault.TheVariants as faults
+use Rattle.eden_batch.specs.declared.putting.Filling.{Filling}
+
+-- a put call gave its outcome, or a growth was refused
+abbrev pub Puts : Result Id PutFault → (List ℕ → List ℕ → Id) → Word → List ℕ → List Held → List Held → Type 0
+Puts (Ok id) name word payload old new = outcome_of name word payload old ≡ Ok (id, new)
+Puts (Err put.NoMemory) name word payload old new = new ≡ old
+Puts (Err fault) name word payload old new = (new ≡ old) × (outcome_of name word payload old ≡ Err fault)
+
+-- what is answered to a refusal
+abbrev pub refusal_of : PutFault → Answer ObjectFault
+refusal_of put.NoMemory = answer.NoMemory
+refusal_of cause = answer.Fault (Refused cause)
+
+-- The items are these objects, which were put one after another, and then `held` was held.
+pub record HavePut (name : List ℕ → List ℕ → Id) (old : List Held) (items : List (List ℕ)) (objects held : List Held) : Type 0 where
+  pub items_are : items ≡ map written objects
+  pub each : All IsObject objects
+  pub put : ArePut name objects old held
+
+-- All of them were put, and their ids noted.
+pub record Fills (name : List ℕ → List ℕ → Id) (old new : List Held) (noted ids : List Id) (items : List (List ℕ)) : Type 0 where
+  pub objects : List Held
+  pub have : HavePut name old items objects new
+  pub ids_are : ids ≡ noted ++ map (λ object. object.id) objects
+
+-- All of them were put, and at the most one object more.
+pub record Overfills (name : List ℕ → List ℕ → Id) (old new : List Held) (items : List (List ℕ)) : Type 0 where
+  pub objects : List Held
+  pub held : List Held
+  pub have : HavePut name old items objects held
+  pub grown : (new ≡ held) ⊎ ((object : Held) × (new ≡ object ∷ held))
+
+-- why an object is not put under its id
+abbrev pub Fails : (List ℕ → List ℕ → Id) → Held → List Held → List Held → ObjectFault → Type 0
+Fails name object held new BadHeader = ⊥
+Fails name object held new TooLarge = ⊥
+Fails name object held new CutShort = ⊥
+Fails name object held new (Refused cause) = IsRefused name object held cause × (new ≡ held)
+Fails name object held new OtherId = IsPutAsOther name object held new
+
+-- All of them were put, and behind them this one fails.
+pub record FailsAt (name : List ℕ → List ℕ → Id) (old new : List Held) (items : List (List ℕ)) (item : List ℕ)
+    (fault : ObjectFault) : Type 0 where
+  pub objects : List Held
+  pub held : List Held
+  pub object : Held
+  pub have : HavePut name old items objects held
+  pub is_object : IsObject object
+  pub item_is : item ≡ written object
+  pub fails : Fails name object held new fault
+
+-- the same store is filled, and the same list
+abbrev pub AreSame : {N : Type 0} → Filling N → Filling N → Type 0
+AreSame before now = (now.store.ghost_name ≡ before.store.ghost_name) × (now.ids.ghost_name ≡ before.ids.ghost_name)
+
+abbrev pub put_story : {N : Type 0} → (List ℕ → List ℕ → Id) → Filling N → Filling N → Story ObjectFault
+put_story name before now = record {
+  told = λ items text. AreSame before now × Fills name before.store.now now.store.now before.ids.now.items now.ids.now.items items;
+  lost = λ items text. AreSame before now × Overfills name before.store.now now.store.now items;
+  refused = λ items item fault. FailsAt name before.store.now now.store.now items item fault;
+  spent = λ items item text. AreSame before now × Overfills name before.store.now now.store.now items;
+}
+
+pub put_laws : {N : Type 0} (name : List ℕ → List ℕ → Id) (before now : Filling N) → IsStory object_grammar (put_story name before now)
+put_laws name before now = record {
+  passes = λ items item text silent told. absurd silent;
+  stops = λ items text told. (told.0, record { objects = told.1.objects; held = now.store.now; have = told.1.have; grown = inl refl });
+}
+
+-- how a reading ends, which notes these ids
+abbrev pub with_ids : List Id → Result (Unit {0}) ObjectsFault → Result (List Id) ObjectsFault
+with_ids ids (Ok done) = Ok ids
+with_ids ids (Err fault) = Err fault
+
+-- how a reading ended, by the pump, whose writer does not fail
+abbrev pub IsReadAs : Result ℕ (Stop ObjectFault) → Result (Unit {0}) ObjectsFault → Type 0
+IsReadAs (Ok count) result = result ≡ Ok tt
+IsReadAs (Err (stops.Item number fault)) result = result ≡ Err (faults.Object number fault)
+IsReadAs (Err stops.Read) result = result ≡ Err faults.Read
+IsReadAs (Err stops.TurnsSpent) result = result ≡ Err faults.TurnsSpent
+IsReadAs (Err stops.NoMemory) result = result ≡ Err faults.NoMemory
+IsReadAs (Err stops.Write) result = ⊥

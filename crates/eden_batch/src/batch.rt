@@ -1,0 +1,97 @@
+//! The reading of a whole batch.
+ghost use Rattle.std.specs.Prelude.{◌≡◌, ◌≢◌, ℕ, ◌+◌, ◌≤◌, [], IsErrOf};
+ghost use Rattle.eden_stream.specs.Counts.{Rose, RoseBy};
+ghost use Rattle.eden_batch.specs.Ends.{Ends};
+ghost use Rattle.eden_batch.specs.internal.Loads.{IsReadAs, with_ids};
+
+use crate::fault::{ObjectFault, ObjectsFault};
+use crate::framing::Printed;
+use crate::nowhere::Nowhere;
+use crate::putting::{Filling, Putting};
+use eden_ids::{Id, Naming, Sequence};
+use eden_objects::Store;
+use eden_stream::{CountedRead, Stop, pump_items};
+use std::alloc::Global;
+
+/// How a reading ended, by the pump. Its writer never fails.
+fn read_outcome(outcome: Result<u64, Stop<ObjectFault>>) -> Result<(), ObjectsFault>
+    requires { outcome ≢ Err Stop.Write }
+    ensures { IsReadAs outcome result }
+{
+    match outcome {
+        Ok(_) => Ok(()),
+        Err(Stop::Item { number, fault }) => Err(ObjectsFault::Object { number, fault }),
+        Err(Stop::Read) => Err(ObjectsFault::Read),
+        Err(Stop::TurnsSpent) => Err(ObjectsFault::TurnsSpent),
+        Err(Stop::NoMemory) => Err(ObjectsFault::NoMemory),
+        Err(Stop::Write) => unreachable!(),
+    }
+}
+
+/// Puts the objects of a stream into the store, and notes their ids.
+fn fill<R: CountedRead, N: Naming + Drop>(
+    alloc: Global,
+    reader: &mut R,
+    filling: &mut Filling<'_, N>,
+) -> Result<(), ObjectsFault>
+    requires { filling.old.ids.now.items ≡ [] }
+    ensures ends { Ends N.id (R.remaining reader.old) (R.remaining reader.new) filling.old.store.now filling.new.store.now (with_ids filling.new.ids.now.items result) }
+    ensures same_store { filling.new.store.ghost_name ≡ filling.old.store.ghost_name }
+    ensures same_list { filling.new.ids.ghost_name ≡ filling.old.ids.ghost_name }
+    ensures read { IsErrOf result ObjectsFault.Read → Rose (R.failed reader.old) (R.failed reader.new) }
+    ensures turns_spent { IsErrOf result ObjectsFault.TurnsSpent → RoseBy 1000000 (R.called reader.old) (R.called reader.new) }
+    ensures turns { R.called reader.new ≤ R.called reader.old + 1000000 }
+{
+    read_outcome(pump_items::<Printed, R, Nowhere, Filling<'_, N>, Putting, ObjectFault>(
+        alloc,
+        reader,
+        &mut Nowhere::new(),
+        &Putting,
+        filling,
+    ))
+}
+
+/// Reads objects to the end of a stream, as `git cat-file --batch` prints them, and puts them into the store. Gives their ids, in order.
+///
+/// An object is a header, its bytes and a line feed. A header is an id in 40 lower-case hexadecimal digits, a space, `blob`, `tree` or
+/// `commit`, a space, the number of the bytes in decimal, with no sign and no zero in front, and a line feed: 69 bytes at the most. Each
+/// object is put by the call for its kind, `put_blob`, `put_tree` or `put_commit`, and must have the id of its header. So what an object
+/// names stands before it in the stream.
+///
+/// A read asks for 64 KiB. Beside the store, memory is taken for one object, one read and the ids.
+///
+/// # Errors
+///
+/// The first fault ends the reading, and what was put before it stays put. Of an object that has several faults, the first in this order
+/// is told:
+///
+/// - `BadHeader`: whatever bytes follow, they are no header. This is told as soon as it is so, at the latest after 69 bytes. A number of
+///   2^64 or more is no header's. It is also told where another byte than a line feed stands behind an object's bytes.
+/// - `TooLarge`: the header tells more than 8,388,608 bytes. This is told before they are read.
+/// - `CutShort`: the stream ends within a header or an object, or before the line feed behind it.
+/// - `Refused`: the put call refuses the object, for this cause, which is never `NoMemory`.
+/// - `OtherId`: the object has another id than its header tells. It is put, under its own id.
+///
+/// Each of these comes with the number of the object, counted from 1. The others are:
+///
+/// - `Read`: a read gave an error other than `Interrupted`, which only means that nothing came. All whole objects that were read are put.
+/// - `TurnsSpent`: 1,000,000 reads did not come to the end. All whole objects that were read are put.
+/// - `NoMemory`: a growth was refused. Some first objects are put, and at the most one more. It may stand in place of any other answer.
+pub fn read_objects<R: CountedRead, N: Naming + Drop>(
+    alloc: Global,
+    reader: &mut R,
+    store: &mut Store<N>,
+) -> Result<Sequence<Id>, ObjectsFault>
+    ensures ends { Ends N.id (R.remaining reader.old) (R.remaining reader.new) store.old store.new result }
+    ensures read { IsErrOf result ObjectsFault.Read → Rose (R.failed reader.old) (R.failed reader.new) }
+    ensures turns_spent { IsErrOf result ObjectsFault.TurnsSpent → RoseBy 1000000 (R.called reader.old) (R.called reader.new) }
+    ensures turns { R.called reader.new ≤ R.called reader.old + 1000000 }
+{
+    let mut ids = Vec::new(alloc);
+    let mut filling = Filling {
+        store,
+        ids: &mut ids,
+    };
+    fill(alloc, reader, &mut filling)?;
+    Ok(Sequence::from_vec(ids))
+}

@@ -1,0 +1,70 @@
+//! A stream cut into objects.
+ghost use Rattle.std.specs.Prelude.{◌≡◌, ◌+◌};
+ghost use Rattle.eden_batch.specs.internal.Fronts.{Begins};
+ghost use Rattle.eden_batch.specs.internal.Grammar.{object_grammar};
+ghost use Rattle.eden_batch.specs.internal.Laws.{object_laws};
+
+use crate::fault::ObjectFault;
+use crate::fields::Lack;
+use crate::header::read_header;
+use eden_stream::{Framing, Held, Next};
+
+/// The most bytes of an object: 8 MiB.
+const OBJECT_LIMIT: u64 = 8_388_608;
+
+/// What some bytes begin with.
+#[derive(Clone, Copy)]
+enum Front {
+    /// An object, which has so many bytes with its header and its line feed.
+    Whole(usize),
+
+    /// No bytes, or a part of an object.
+    Partial,
+
+    /// What can't become an object.
+    Faulty(ObjectFault),
+}
+
+/// What the bytes begin with. It looks at the header, and at the byte behind the object alone.
+fn measure_front(bytes: &[u8]) -> Front
+    ensures { Begins bytes.now result }
+{
+    let (header, behind) = match read_header(bytes) {
+        Ok(read) => read,
+        Err(Lack::Partial) => return Front::Partial,
+        Err(Lack::Bad) => return Front::Faulty(ObjectFault::BadHeader),
+    };
+    if header.size > OBJECT_LIMIT {
+        return Front::Faulty(ObjectFault::TooLarge);
+    }
+    let size = header.size as usize;
+    match behind.get(size) {
+        None => Front::Partial,
+        Some(b'\n') => Front::Whole(bytes.len() - behind.len() + size + 1),
+        Some(_) => Front::Faulty(ObjectFault::BadHeader),
+    }
+}
+
+/// A stream cut into objects, as `git cat-file --batch` prints them.
+pub(crate) struct Printed;
+
+impl Framing<ObjectFault> for Printed {
+    ghost grammar = { object_grammar };
+
+    fn next(held: &mut Held, ended: bool) -> Next<ObjectFault> {
+        match measure_front(held.as_slice()) {
+            Front::Whole(whole) => Next::Item {
+                place: 0,
+                size: whole,
+                whole,
+            },
+            Front::Faulty(fault) => Next::Faulty(fault),
+            Front::Partial if ended && !held.as_slice().is_empty() => {
+                Next::Faulty(ObjectFault::CutShort)
+            }
+            Front::Partial => Next::Partial,
+        }
+    }
+
+    ghost lawful = { object_laws };
+}

@@ -1,0 +1,25 @@
+//! The header of an object, and how much of the object stands behind it.
+ghost use Rattle.std.specs.Prelude.{◌≡◌};
+ghost use Rattle.eden_batch.specs.internal.Fields.{IsHeader, Reads, header_field};
+
+use crate::fields::{Lack, read_id, read_size, read_word};
+use eden_git::Word;
+use eden_ids::Id;
+
+/// What a header tells of its object.
+#[derive(Clone, Copy)]
+pub(crate) struct Header {
+    pub(crate) id: Id,
+    pub(crate) word: Word,
+    pub(crate) size: u64,
+}
+
+/// Reads a header, and gives what stands behind it. It looks at no byte further back than the longest header has: 69.
+pub(crate) fn read_header(bytes: &[u8]) -> Result<(Header, &[u8]), Lack>
+    ensures { Reads IsHeader header_field bytes.now result }
+{
+    let (id, behind) = read_id(bytes)?;
+    let (word, behind) = read_word(behind)?;
+    let (size, behind) = read_size(behind)?;
+    Ok((Header { id, word, size }, behind))
+}
