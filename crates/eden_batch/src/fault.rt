@@ -29,14 +29,14 @@ pub enum ObjectsFault {
     Object { number: u64, fault: ObjectFault },
 
     /// The reader gave an error.
-    #[error("the reader failed")]
+    #[error("Read")]
     Read,
 
     /// The stream did not end within 1,000,000 reads.
-    #[error("the reads are spent")]
+    #[error("TurnsSpent")]
     TurnsSpent,
 
     /// A growth was refused.
-    #[error("out of memory")]
+    #[error("NoMemory")]
     NoMemory,
 }

@@ -5,3 +5,4 @@ mod Acting
 mod Asking
 mod LineAnswers
 mod FirstLemmas
+mod OwnBindings

@@ -1,1 +1,2 @@
+pub mod OwnLabels
 pub mod internal

@@ -14,11 +14,12 @@
 pub use crate::changes::change_of;
 pub use crate::labels::Labels;
 pub use crate::objects::Objects;
-pub use crate::program::edend;
+pub use crate::program::{Shelf, edend};
 pub use crate::script::{run, run_over};
 pub use eden_stream::RunFault;
 
 mod changes;
+mod commits;
 mod labels;
 mod objects;
 mod program;

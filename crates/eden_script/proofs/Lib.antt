@@ -1,4 +1,5 @@
 mod EntryLemmas
 pub mod EscapeLemmas
+mod OwnLabels
 mod RowLemmas
 pub mod WordLemmas

@@ -1,6 +1,8 @@
 -- Which words are labels.
-use Rattle.std.specs.Prelude.{ℕ, Bool, not, ◌&&◌, ◌||◌, nat_le, if◌then◌else◌, List, length, codes, Option, Some, None}
+use Rattle.std.specs.Prelude.{ℕ, Bool, not, ◌&&◌, ◌||◌, nat_le, if◌then◌else◌, List, length, take, codes, Option, Some, None}
 use Rattle.std.specs.List.{list_all}
+use Rattle.hex.specs.Hex.{encode_lower}
+use Rattle.eden_ids.specs.declared.id.Id.{Id}
 use Rattle.eden_ids.specs.Sameness.{same_bytes}
 
 -- a label is 1 to 32 of `a` to `z` and `0` to `9`
@@ -21,3 +23,7 @@ label_read word = if is_label word then Some word else None
 -- a label that a line binds: any but `empty`
 abbrev pub label_to_bind : List ℕ → Option (List ℕ)
 label_to_bind word = if is_label word && not (is_empty word) then Some word else None
+
+-- the label that a commit has where no line binds one to it: the first 32 digits of its id
+abbrev pub own_label : Id → List ℕ
+own_label id = take 32 (encode_lower id.0)

@@ -1,15 +1,15 @@
-ghost use Rattle.std.specs.Prelude.{◌≡◌, nat_eq};
+ghost use Rattle.std.specs.Prelude.{◌≡◌, nat_eq, IfOk};
 ghost use Rattle.std.specs.List.{list_all};
 ghost use Rattle.std.specs.Ordering.{nat_cmp, as_partial_cmp};
 ghost use Rattle.std.specs.Cmp.Lexicographic.{pointwise, slice_cmp};
 ghost use Rattle.std.specs.Cmp.{partial_order_from_own_ties};
 ghost use Rattle.std.specs.Cmp.Rules.{comparing};
 ghost use Rattle.std.proofs.Common.{rules};
-ghost use Rattle.eden_script.specs.LabelWords.{is_label, is_label_byte, is_empty, label_read, label_to_bind};
+ghost use Rattle.eden_script.specs.LabelWords.{is_label, is_label_byte, is_empty, label_read, label_to_bind, own_label};
 
 use crate::lines::Word;
-use eden_ids::Id;
-use std::alloc::AllocError;
+use eden_ids::{Id, hex_law, id_law};
+use std::alloc::{AllocError, Global};
 use std::cmp::Ordering;
 use std::fmt;
 use std::marker::Model;
@@ -66,6 +66,20 @@ impl Label {
             Some(label) if !label.is_empty() => Some(label),
             _ => None,
         }
+    }
+
+    /// The label that a commit has where no line binds one to it: the first 32 digits of its id.
+    ///
+    /// `AllocError` comes where a growth was refused.
+    #[tactic(auto, using(crate::proofs::OwnLabels::own_is_label))]
+    pub fn of_id(alloc: Global, id: Id) -> Result<Label, AllocError>
+        ensures { IfOk result (λ label. label ≡ own_label id) }
+    {
+        hex_law();
+        id_law(id);
+        let mut bytes = id.to_hex().to_vec(alloc)?;
+        bytes.truncate(32);
+        Ok(Label { bytes })
     }
 
     /// Whether this is `empty`, the label of the empty commit.

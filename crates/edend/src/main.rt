@@ -1,15 +1,32 @@
-//! `edend run` runs a script from standard input, and writes what it prints to standard output.
+//! `edend run` runs a script from standard input, and writes what it prints to standard output. With `--objects FILE` it first puts the objects
+//! of that file, as `git cat-file --batch` prints them.
 //!
 //! `edend --version` writes its name and version there.
 //!
-//! Status 0: the script was run, or the version was asked for. 1: a line of the script can't be read, which standard error tells. 2: the
-//! command line is refused, or asks for help. 3: reading, writing or memory failed, or the reads were spent; standard error tells which.
+//! Status 0: the script was run, or the version was asked for. 1: a line of the script can't be read, or an object can't be put, which standard
+//! error tells. 2: the command line is refused, or asks for help. 3: reading, writing or memory failed, or the reads were spent; standard error
+//! tells which.
 #![tactic(auto)]
 
-use eden_edend::edend;
+use eden_edend::{Shelf, edend};
 use std::alloc::AllocError;
+use std::fs::File;
 use std::process::ExitCode;
 use std::{env, io};
+
+/// The files of the system.
+#[derive(Drop)]
+struct Disk<'a> {
+    rt: &'a HostRuntime,
+}
+
+impl<'a> Shelf for Disk<'a> {
+    type File = File;
+
+    fn open(&self, name: &str) -> io::Result<File> {
+        File::open(self.rt, name)
+    }
+}
 
 fn main(rt: HostRuntime) -> ExitCode {
     let words: Result<Vec<String>, _> = match env::args(&rt) {
@@ -26,6 +43,7 @@ fn main(rt: HostRuntime) -> ExitCode {
     };
     let status = edend(
         rt.alloc(),
+        &Disk { rt: &rt },
         words.as_slice(),
         rt.stdin(),
         rt.stdout(),

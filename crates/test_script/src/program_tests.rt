@@ -1,18 +1,41 @@
 //! The program over devices: each status, and what is told with it.
 
-use eden_edend::edend;
+use eden_edend::{Shelf, edend};
 use std::alloc::Global;
+use std::io;
+use std::io::ErrorKind;
 use std::test::Fail;
 use test_devices::{Sink, Source};
 
 /// What a program came to: its status, what it wrote, and what it told of a fault.
 type End = (u8, Vec<u8>, Vec<u8>);
 
-/// What `edend` comes to with words that are parted by spaces, a script that can't be read from a place on, and an output and a place to
-/// tell faults that are full at another.
+/// One file, `batch`, which can't be read from a place on.
+#[derive(Drop)]
+struct OneFile {
+    bytes: &'static [u8],
+    fails_at: usize,
+}
+
+impl Shelf for OneFile {
+    type File = Source<'static>;
+
+    fn open(&self, name: &str) -> io::Result<Source<'static>> {
+        if name != "batch" {
+            return Err(io::Error::from(ErrorKind::NotFound));
+        }
+        let mut source = Source::new(self.bytes);
+        source.fails_at = self.fails_at;
+        Ok(source)
+    }
+}
+
+/// What `edend` comes to with words that are parted by spaces, beside one file, a script that can't be read from a place on, and an output and
+/// a place to tell faults that are full at another.
 fn ran(
     alloc: Global,
     words: &str,
+    file: &OneFile,
     script: &str,
     fails_at: usize,
     full_at: usize,
@@ -26,7 +49,7 @@ fn ran(
     let mut sink = Sink::new(alloc);
     sink.full_at = full_at;
     let mut errors = Sink::new(alloc);
-    let status = edend(alloc, list.as_slice(), source, &mut sink, &mut errors);
+    let status = edend(alloc, file, list.as_slice(), source, &mut sink, &mut errors);
     Ok((status, sink.bytes, errors.bytes))
 }
 
@@ -93,7 +116,11 @@ const ROWS: [Row; 15] = [
 /// Whether a program comes to what its row says.
 fn is_as_told(alloc: Global, row: &Row) -> Result<bool, Fail> {
     let (words, script, fails_at, full_at, status, text, told) = *row;
-    let (ended, output, errors) = ran(alloc, words, script, fails_at, full_at)?;
+    let file = OneFile {
+        bytes: b"",
+        fails_at: ALL,
+    };
+    let (ended, output, errors) = ran(alloc, words, &file, script, fails_at, full_at)?;
     let is_told = if status == 2 {
         errors.starts_with(told.as_bytes())
     } else {
@@ -107,6 +134,162 @@ fn statuses(rt: HostRuntime) -> Result<(), Fail> {
     for row in &ROWS {
         let words = row.0;
         assert!(rt; is_as_told(rt.alloc(), row)?, "{words}");
+    }
+    Ok(())
+}
+
+/// Two objects and a commit of them, as `git cat-file --batch` printed them.
+const BATCH: &[u8] = b"45b983be36b73c0788dc9cbcb76cbb80fc7bb057 blob 3\nhi\n\n\
+c49897f29f9819a0ab6850d7e22443508a1a29d5 tree 29\n\
+100644 a\0\x45\xb9\x83\xbe\x36\xb7\x3c\x07\x88\xdc\x9c\xbc\xb7\x6c\xbb\x80\xfc\x7b\xb0\x57\n\
+f31a9a6c440ba3059ea0ec911dfecc321cf8b403 commit 118\n\
+tree c49897f29f9819a0ab6850d7e22443508a1a29d5\n\
+author A <a@b> 1700000000 +0000\ncommitter A <a@b> 1700000000 +0000\n\none\n\n";
+
+/// The same without the first object.
+const CHILD_IS_MISSING: &[u8] = b"c49897f29f9819a0ab6850d7e22443508a1a29d5 tree 29\n\
+100644 a\0\x45\xb9\x83\xbe\x36\xb7\x3c\x07\x88\xdc\x9c\xbc\xb7\x6c\xbb\x80\xfc\x7b\xb0\x57\n";
+
+/// Other bytes than those of the id.
+const OTHER_BYTES: &[u8] = b"45b983be36b73c0788dc9cbcb76cbb80fc7bb057 blob 3\nhi \n";
+
+/// A script that names the commit by the first digits of its id.
+const MOUNTED: &str =
+    "mount f31a9a6c440ba3059ea0ec911dfecc32 7 1000\nlist\nid f31a9a6c440ba3059ea0ec911dfecc32\n";
+
+/// The words of a call, its file of objects, the place from which on that can't be read, the script, and what the program comes to: its status,
+/// its output, and how what it tells of a fault begins.
+type ObjectsRow = (
+    &'static str,
+    &'static [u8],
+    usize,
+    &'static str,
+    u8,
+    &'static str,
+    &'static str,
+);
+
+const OBJECTS_ROWS: [ObjectsRow; 12] = [
+    (
+        "edend run --objects batch",
+        BATCH,
+        ALL,
+        MOUNTED,
+        0,
+        "at 7 1 f31a9a6c440ba3059ea0ec911dfecc32\nfiles 1\na\nid f31a9a6c440ba3059ea0ec911dfecc321cf8b403\n",
+        "",
+    ),
+    (
+        "edend run --objects=batch",
+        b"",
+        ALL,
+        ONE,
+        0,
+        "at 7 1 empty\n",
+        "",
+    ),
+    (
+        "edend run",
+        BATCH,
+        ALL,
+        MOUNTED,
+        0,
+        "refused NoLabel\nrefused NotMounted\nrefused NoLabel\n",
+        "",
+    ),
+    (
+        "edend run --objects batch",
+        b"x",
+        ALL,
+        ONE,
+        1,
+        "",
+        "edend: object 1: BadHeader\n",
+    ),
+    (
+        "edend run --objects batch",
+        CHILD_IS_MISSING,
+        ALL,
+        ONE,
+        1,
+        "",
+        "edend: object 1: MissingChild\n",
+    ),
+    (
+        "edend run --objects batch",
+        OTHER_BYTES,
+        ALL,
+        ONE,
+        1,
+        "",
+        "edend: object 1: OtherId\n",
+    ),
+    (
+        "edend run --objects batch",
+        b"45b983be36b73c0788dc9cbcb76cbb80fc7bb057 blob 3\nhi\n",
+        ALL,
+        ONE,
+        1,
+        "",
+        "edend: object 1: CutShort\n",
+    ),
+    (
+        "edend run --objects batch",
+        b"45b983be36b73c0788dc9cbcb76cbb80fc7bb057 blob 8388609\n",
+        ALL,
+        ONE,
+        1,
+        "",
+        "edend: object 1: TooLarge\n",
+    ),
+    (
+        "edend run --objects batch",
+        BATCH,
+        60,
+        ONE,
+        3,
+        "",
+        "edend: Read\n",
+    ),
+    (
+        "edend run --objects none",
+        BATCH,
+        ALL,
+        ONE,
+        3,
+        "",
+        "edend: none: ",
+    ),
+    ("edend run --objects", BATCH, ALL, ONE, 2, "", "error: "),
+    (
+        "edend --objects batch run",
+        BATCH,
+        ALL,
+        ONE,
+        2,
+        "",
+        "error: ",
+    ),
+];
+
+/// Whether a program that is given objects comes to what its row says.
+fn puts_as_told(alloc: Global, row: &ObjectsRow) -> Result<bool, Fail> {
+    let (words, bytes, fails_at, script, status, text, told) = *row;
+    let file = OneFile { bytes, fails_at };
+    let (ended, output, errors) = ran(alloc, words, &file, script, ALL, ALL)?;
+    let is_told = if told.is_empty() {
+        errors.is_empty()
+    } else {
+        errors.starts_with(told.as_bytes())
+    };
+    Ok(ended == status && output.as_slice() == text.as_bytes() && is_told)
+}
+
+#[test]
+fn statuses_of_objects(rt: HostRuntime) -> Result<(), Fail> {
+    for row in &OBJECTS_ROWS {
+        let (words, told) = (row.0, row.6);
+        assert!(rt; puts_as_told(rt.alloc(), row)?, "{words}: {told}");
     }
     Ok(())
 }

@@ -63,7 +63,9 @@ fn one_commit(alloc: Global) -> Result<Objects, Fail> {
     let blob = objects.store.put_blob(b"hi".as_slice())?;
     let tree = tree_of(alloc, [("100644", "a", blob)].as_slice())?;
     let tree = objects.store.put_tree(tree.as_slice())?;
-    let commit = objects.store.put_commit(commit_of(alloc, tree, "")?.as_slice())?;
+    let commit = objects
+        .store
+        .put_commit(commit_of(alloc, tree, "")?.as_slice())?;
     objects.labels.bind(label(alloc, "c")?, commit)?;
     Ok(objects)
 }
