@@ -1,0 +1,268 @@
+//! What a table that grows costs, with a copy of it after each batch of rows, and what looking up in it costs beside a plain map. See
+//! bench/README.md.
+//!
+//! Standard output tells how many rows were found, and standard error what processor time each took.
+#![tactic(auto)]
+
+use anyhow::Result;
+use eden_ids::{Id, NoMemory};
+use eden_segments::{Share, Shared, Table};
+use indexmap::IndexMap;
+use std::alloc::Global;
+use std::hint::black_box;
+use std::time::{CpuClock, Duration};
+
+/// How many times something short is done.
+const TURNS: u64 = 1_000_000;
+
+/// What a store might keep of an object: a number that stands in the row, and bytes behind a pointer.
+#[derive(Drop)]
+struct Row {
+    number: u64,
+    payload: Shared<Vec<u8>>,
+}
+
+impl Share for Row {
+    fn share(&self) -> Result<Row, NoMemory> {
+        let payload = self.payload.share()?;
+        Ok(Row {
+            number: self.number,
+            payload,
+        })
+    }
+}
+
+/// The row of a number, with a payload of some 30 bytes.
+fn new_row(alloc: Global, number: u64) -> Result<Row> {
+    let payload = vec![in alloc; 0u8; 30]?;
+    Ok(Row {
+        number,
+        payload: Shared::new(alloc, payload)?,
+    })
+}
+
+/// The id of a number, of which each byte looks as if it came by chance.
+fn id(number: u64) -> Id {
+    let mut bytes = [0; 20];
+    let mut word = number;
+    for byte in bytes.iter_mut() {
+        word = word.wrapping_add(1).wrapping_mul(0x9e37_79b9_7f4a_7c15);
+        word ^= word >> 29;
+        let [highest, ..] = word.to_be_bytes();
+        *byte = highest;
+    }
+    Id(bytes)
+}
+
+/// The number that is asked at a turn: each of so many comes once, and neighbours are far from each other.
+fn scattered(turn: u64, count: u64) -> u64 {
+    // 61,803 and a power of ten have no common divisor.
+    turn.wrapping_mul(61_803).checked_rem(count).unwrap_or(0)
+}
+
+/// The nanoseconds of a time, one of so many.
+fn each(time: Duration, count: u64) -> u64 {
+    time.as_secs()
+        .saturating_mul(1_000_000_000)
+        .saturating_add(u64::from(time.subsec_nanos()))
+        .checked_div(count)
+        .unwrap_or(0)
+}
+
+/// Adds the row of a number, unless its id has one.
+fn add<V: Drop>(table: &mut Table<V>, number: u64, value: V) -> Result<()> {
+    let key = id(number);
+    match table.get(key) {
+        Some(_) => Ok(()),
+        None => Ok(table.add(key, value)?),
+    }
+}
+
+/// What times some calls took: all together, and the longest.
+#[derive(Clone, Copy)]
+struct Times {
+    all: Duration,
+    longest: Duration,
+}
+
+impl Times {
+    fn new() -> Times {
+        Times {
+            all: Duration::ZERO,
+            longest: Duration::ZERO,
+        }
+    }
+
+    fn note(&mut self, from: Duration, to: Duration) {
+        let time = to.saturating_sub(from);
+        self.all = self.all.saturating_add(time);
+        self.longest = self.longest.max(time);
+    }
+}
+
+/// Adds so many rows in batches, freezes them after each batch and takes a copy, which is kept until the next is taken.
+fn grow(rt: &HostRuntime, count: u64, batches: u64) -> Result<()> {
+    let alloc = rt.alloc();
+    let mut table = Table::new(alloc);
+    let mut kept = Table::new(alloc);
+    let mut adding = Times::new();
+    let mut copying = Times::new();
+    let size = count.checked_div(batches).unwrap_or(0);
+    for batch in 0..batches {
+        let start = rt.thread_cpu_time()?;
+        for place in 0..size {
+            let number = batch.saturating_mul(size).saturating_add(place);
+            add(&mut table, number, new_row(alloc, number)?)?;
+        }
+        table.freeze();
+        let added = rt.thread_cpu_time()?;
+        let copy = table.share()?;
+        copying.note(added, rt.thread_cpu_time()?);
+        adding.note(start, added);
+        // What the copy before held alone is let go here, in nobody's time.
+        kept = copy;
+    }
+    println!(rt;
+        "{count} rows in {batches} batches: {} found",
+        found_all(&kept, count)
+    )?;
+    eprintln!(rt;
+        "{count} rows in {batches} batches: {} ns a row, {} ns the longest batch, {} ns a copy, {} ns the longest",
+        each(adding.all, count),
+        each(adding.longest, 1),
+        each(copying.all, batches),
+        each(copying.longest, 1)
+    )?;
+    Ok(())
+}
+
+/// How many of the first numbers have their row.
+fn found_all(table: &Table<Row>, count: u64) -> usize {
+    (0..count)
+        .filter(|number| table
+            .get(id(*number))
+            .is_some_and(|row| row.number == *number))
+        .count()
+}
+
+/// The time of a clock's call, which is in each time of a copy.
+fn clock(rt: &HostRuntime) -> Result<()> {
+    let start = rt.thread_cpu_time()?;
+    for _ in 0..10_000 {
+        black_box(rt.thread_cpu_time()?);
+    }
+    let time = rt.thread_cpu_time()?.saturating_sub(start);
+    eprintln!(rt;
+        "a call of the clock, which is in each time of one copy: {} ns",
+        each(time, 10_000)
+    )?;
+    Ok(())
+}
+
+/// A table of so many rows, added one by one with a copy after each of the last thousand, so that it has many segments.
+fn filled(alloc: Global, count: u64) -> Result<Table<Row>> {
+    let mut table = Table::new(alloc);
+    for number in 0..count {
+        add(&mut table, number, new_row(alloc, number)?)?;
+        if count.saturating_sub(number) < 1_000 {
+            table.freeze();
+        }
+    }
+    Ok(table)
+}
+
+/// Copies of a table of so many rows, to which nothing was added since.
+fn copies(rt: &HostRuntime, count: u64) -> Result<()> {
+    let mut table = filled(rt.alloc(), count)?;
+    let start = rt.thread_cpu_time()?;
+    for _ in 0..TURNS {
+        black_box(table.share()?);
+    }
+    let time = rt.thread_cpu_time()?.saturating_sub(start);
+    eprintln!(rt; "a copy of {count} rows: {} ns", each(time, TURNS))?;
+    Ok(())
+}
+
+/// Looks up scattered ids of so many rows, and reads of each the number that stands in the row, and a byte of the payload.
+fn look_ups(rt: &HostRuntime, count: u64) -> Result<()> {
+    let alloc = rt.alloc();
+    let mut one = Table::new(alloc);
+    let mut behind = Table::new(alloc);
+    let mut plain = IndexMap::new(alloc);
+    for number in 0..count {
+        add(&mut one, number, new_row(alloc, number)?)?;
+        let row = Shared::new(alloc, new_row(alloc, number)?)?;
+        add(&mut behind, number, row)?;
+        plain.insert(id(number), new_row(alloc, number)?)?;
+    }
+    let several = filled(alloc, count)?;
+    look_up(rt, "a plain map", count, &plain)?;
+    look_up(rt, "a table of one segment", count, &one)?;
+    look_up(rt, "a table of several segments", count, &several)?;
+    look_up(rt, "a table of rows behind pointers", count, &behind)
+}
+
+/// Where rows are looked up.
+trait Rows {
+    fn row(&self, id: Id) -> Option<&Row>;
+}
+
+impl Rows for IndexMap<Id, Row> {
+    fn row(&self, id: Id) -> Option<&Row> {
+        self.get(&id)
+    }
+}
+
+impl Rows for Table<Row> {
+    fn row(&self, id: Id) -> Option<&Row> {
+        self.get(id)
+    }
+}
+
+impl Rows for Table<Shared<Row>> {
+    fn row(&self, id: Id) -> Option<&Row> {
+        match self.get(id) {
+            Some(row) => Some(&**row),
+            None => None,
+        }
+    }
+}
+
+/// Times one kind of look-up.
+fn look_up<R: Rows>(rt: &HostRuntime, name: &str, count: u64, rows: &R) -> Result<()> {
+    let start = rt.thread_cpu_time()?;
+    let mut sum = 0u64;
+    for turn in 0..TURNS {
+        if let Some(row) = rows.row(id(scattered(turn, count))) {
+            sum = sum.wrapping_add(row.number);
+        }
+    }
+    let numbers = rt.thread_cpu_time()?;
+    for turn in 0..TURNS {
+        if let Some(row) = rows.row(id(scattered(turn, count))) {
+            sum = sum.wrapping_add(u64::from(row.payload.first().copied().unwrap_or(1)));
+        }
+    }
+    let bytes = rt.thread_cpu_time()?;
+    println!(rt; "{name}, {count} rows: sum {sum}")?;
+    eprintln!(rt;
+        "{name}, {count} rows: {} ns for a number of the row, {} ns for a byte behind it",
+        each(numbers.saturating_sub(start), TURNS),
+        each(bytes.saturating_sub(numbers), TURNS)
+    )?;
+    Ok(())
+}
+
+fn main(rt: HostRuntime) -> Result<()> {
+    clock(&rt)?;
+    for batches in [1, 1_000, 100_000] {
+        grow(&rt, 100_000, batches)?;
+    }
+    for count in [1_000, 100_000, 1_000_000] {
+        copies(&rt, count)?;
+    }
+    for count in [1_000, 100_000] {
+        look_ups(&rt, count)?;
+    }
+    Ok(())
+}
