@@ -39,3 +39,4 @@ echo "edend run --objects: $(measured "$edend" run --objects "$work/batch")"
 input=$work/stream
 prepare() { rm -rf "$work/imported" && git init -q --bare "$work/imported"; }
 echo "git fast-import: $(measured git -C "$work/imported" fast-import --quiet)"
+echo "git fast-import, without compression: $(measured git -C "$work/imported" -c pack.compression=0 -c core.compression=0 fast-import --quiet)"
