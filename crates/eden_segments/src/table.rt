@@ -13,8 +13,9 @@ use std::sync::Arc;
 /// A table from ids to values that only grows, and of which a copy is a few pointers.
 ///
 /// Its rows stand in segments: frozen ones, which copies share, and the newest one, to which rows are added in place. Each frozen
-/// segment has more than twice the rows of the one behind it, so that of n rows there are at most log n segments, and adding n rows
-/// takes n log n steps, however often a copy is taken between them. What has a row's value is shared, and never copied.
+/// segment has more than twice the rows of the one behind it, so of n rows there are about log n segments at the most, and adding n
+/// rows takes time in the order of n log n, however often a copy is taken between them. Where segments are merged, the values are
+/// shared, and never copied.
 #[derive(Drop)]
 pub struct Table<V> {
     /// Oldest first.
@@ -52,7 +53,7 @@ impl<V> Table<V> {
         self.newest.allocator()
     }
 
-    /// The value of an id. It takes no memory, and asks at most log n maps.
+    /// The value of an id. It takes no memory, and asks about log n maps at the most.
     pub fn get(&self, id: Id) -> Option<&V>
         ensures { option_copied result ≡ lookup (same_id id) self.now }
     {
@@ -75,10 +76,11 @@ impl<V: Drop> Table<V> {
 }
 
 impl<V: Share + Drop> Table<V> {
-    /// A copy, which has the same rows and keeps them whatever is added to either afterwards. `NoMemory` comes where memory was refused.
+    /// A copy, which has the same rows and keeps them whatever is added to either afterwards. `NoMemory` comes where memory was
+    /// refused, or a value to be shared, and changes nothing.
     ///
-    /// It takes at most log n pointers. Rows that were added since the last copy are frozen first, which may merge segments: n rows cost
-    /// n log n steps in all.
+    /// It takes about log n pointers at the most. Rows that were added since the last copy are frozen first, which may merge segments and
+    /// so share the value of each row, once in a while of all.
     pub fn share(&mut self) -> Result<Table<V>, NoMemory>
         ensures copy { IfOk result (λ copy. copy ≡ self.old) }
         ensures same { self.new ≡ self.old }

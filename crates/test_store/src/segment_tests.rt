@@ -78,13 +78,13 @@ fn has_just(table: &Table<Shared<u16>>, ids: &[Id], limit: usize) -> bool {
 fn copies_of(
     rt: &impl Abort,
     table: &mut Table<Shared<u16>>,
-    ids: &[Id],
+    ids: Ids,
 ) -> Result<Vec<Table<Shared<u16>>>, Fail> {
     let alloc = table.allocator();
     let mut copies = Vec::new(alloc);
     for number in 0..ROWS {
         let value = Shared::new(alloc, number)?;
-        assert!(rt; add_row(table, ids[usize::from(number)], value)?);
+        assert!(rt; add_row(table, ids.id(number), value)?);
         copies.push(table.share()?)?;
     }
     Ok(copies)
@@ -96,7 +96,7 @@ fn copies_keep_what_they_had(rt: HostRuntime) -> Result<(), Fail> {
     for ids in [Ids::Named, Ids::SameFront, Ids::SameEnd] {
         let all = ids.all(alloc)?;
         let mut table = Table::new(alloc);
-        let mut copies = copies_of(&rt, &mut table, all.as_slice())?;
+        let mut copies = copies_of(&rt, &mut table, ids)?;
         for (place, copy) in copies.iter().enumerate() {
             assert!(rt;
                 has_just(copy, all.as_slice(), place + 1),
