@@ -10,6 +10,7 @@ use std::test::Fail;
 fn examples(rt: HostRuntime) -> Result<(), Fail> {
     let alloc = rt.alloc();
     eden_ids_example(&rt, alloc)?;
+    eden_numbers_example(&rt, alloc)?;
     eden_stream_example(&rt, alloc)?;
     eden_frames_example(&rt, alloc)?;
     eden_globs_example(&rt, alloc)?;
@@ -17,6 +18,7 @@ fn examples(rt: HostRuntime) -> Result<(), Fail> {
     eden_segments_example(&rt, alloc)?;
     eden_git_example(&rt, alloc)?;
     eden_objects_example(&rt, alloc)?;
+    eden_batch_example(&rt, alloc)?;
     eden_treediff_example(&rt, alloc)?;
     eden_journal_example(&rt, alloc)?;
     eden_history_example(&rt, alloc)?;
@@ -57,6 +59,14 @@ fn eden_ids_example(rt: &impl Abort, alloc: Global) -> Result<(), Fail> {
     };
     files.insert(file.copy()?, content)?;
     assert!(rt; files.get(&file).is_some());
+    Ok(())
+}
+
+fn eden_numbers_example(rt: &impl Abort, _alloc: Global) -> Result<(), Fail> {
+    use eden_numbers::number;
+
+    assert_eq!(rt; number(b"65536".as_slice()), Some(65_536));
+    assert_eq!(rt; number(b"065536".as_slice()), None);
     Ok(())
 }
 
@@ -152,6 +162,20 @@ fn eden_objects_example(rt: &impl Abort, alloc: Global) -> Result<(), Fail> {
     let commit = store.put_commit(commit.as_slice())?;
     let readme = Path::parse(alloc, b"README".as_slice())?;
     assert!(rt; matches!(store.lookup(commit, &readme), Ok(Some((_, id))) if id == file));
+    Ok(())
+}
+
+fn eden_batch_example(rt: &impl Abort, alloc: Global) -> Result<(), Fail> {
+    use eden_batch::read_objects;
+    use eden_ids::GitNaming;
+    use eden_objects::Store;
+    use eden_stream::Counted;
+
+    let mut store = Store::new(alloc, GitNaming);
+    let printed = b"ce013625030ba8dba906f756967f9e9ca394464a blob 6\nhello\n\n".as_slice();
+    let ids = read_objects(alloc, &mut Counted::new(printed), &mut store)?;
+    assert_eq!(rt; ids.len(), 1);
+    assert!(rt; store.blob(ids.as_slice()[0]) == Some(b"hello\n".as_slice()));
     Ok(())
 }
 

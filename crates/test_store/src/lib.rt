@@ -1,8 +1,10 @@
-//! Tests of the store of objects, of the table that it may stand in, and of differences between commits, over objects that are put by hand.
+//! Tests of the store of objects, of batches that are read into it, of the table that it may stand in, and of differences between commits.
 //!
 //! A crate of its own, so that no crate that ships waits for them.
 #![tactic(auto)]
 
+#[cfg(test)]
+mod batch_tests;
 #[cfg(test)]
 mod difference_tests;
 #[cfg(test)]

@@ -1,0 +1,345 @@
+//! A batch that Git printed, and streams that are none.
+
+use eden_batch::{ObjectFault, ObjectsFault, read_objects};
+use eden_ids::{GitNaming, Id, Kind, Path, Sequence};
+use eden_objects::{PutFault, Store};
+use eden_stream::{Counted, Faults};
+use std::alloc::Global;
+use std::io::Read;
+use std::test::Fail;
+use test_devices::{Endless, Source};
+
+/// What `git cat-file --batch` of Git 2.39.5 printed of a repository: its four files, its two trees and its commit.
+fn printed() -> &'static [u8] {
+    b"ce013625030ba8dba906f756967f9e9ca394464a blob 6\n\
+      hello\n\n100b93820ade4c16225673b4ca62bb3ade63c313 blob 6\n\
+      README\ne69de29bb2d1d6434b8b29ae775ad8c2e48c5391 blob 0\n\
+      \nf328e4d9d04c31d0d70d16d21a07d1613be9d577 blob 13\n\
+      fn main() {}\n\ne41b312f12e51a0d5f92d5eb71f3d72672bf264f tree 68\n\
+      100644 empty\0\xe6\x9d\xe2\x9b\xb2\xd1\xd6CK\x8b)\xaewZ\xd8\xc2\xe4\x8cS\x91100755 main.rs\0\xf3\
+      (\xe4\xd9\xd0L1\xd0\xd7\x0d\x16\xd2\x1a\x07\xd1a;\xe9\xd5w\n\
+      0a4bf855b640e198381cffa7ebbf2cb70281bf10 tree 96\n\
+      100644 README\0\xce\x016%\x03\x0b\xa8\xdb\xa9\x06\xf7V\x96\x7f\x9e\x9c\xa3\x94FJ120000 link\0\x10\
+      \x0b\x93\x82\n\xdeL\x16\"Vs\xb4\xcab\xbb:\xdec\xc3\x1340000 src\0\xe4\x1b1/\x12\xe5\x1a\x0d_\x92\
+      \xd5\xebq\xf3\xd7&r\xbf&O\n3dd3e176b3f64627835bdcc8ad29e5bf639a7439 commit 140\n\
+      tree 0a4bf855b640e198381cffa7ebbf2cb70281bf10\n\
+      author A <a@example.com> 1700000000 +0000\n\
+      committer A <a@example.com> 1700000000 +0000\n\
+      \nFirst\n\n"
+}
+
+/// The ids by which Git was asked for these objects.
+const PRINTED_IDS: &str =
+    "ce013625030ba8dba906f756967f9e9ca394464a 100b93820ade4c16225673b4ca62bb3ade63c313 \
+    e69de29bb2d1d6434b8b29ae775ad8c2e48c5391 f328e4d9d04c31d0d70d16d21a07d1613be9d577 \
+    e41b312f12e51a0d5f92d5eb71f3d72672bf264f 0a4bf855b640e198381cffa7ebbf2cb70281bf10 \
+    3dd3e176b3f64627835bdcc8ad29e5bf639a7439";
+
+/// The ids of these words.
+fn ids_of(alloc: Global, text: &str) -> Result<Vec<Id>, Fail> {
+    let mut ids = Vec::new(alloc);
+    for word in text.split_ascii_whitespace() {
+        ids.push(Id::from_hex(word.as_bytes())?)?;
+    }
+    Ok(ids)
+}
+
+/// Reads what the source gives into the store.
+fn read<R: Read + Drop>(
+    alloc: Global,
+    source: R,
+    store: &mut Store<GitNaming>,
+) -> Result<Sequence<Id>, ObjectsFault> {
+    read_objects(alloc, &mut Counted::new(source), store)
+}
+
+#[test]
+fn what_git_printed(rt: HostRuntime) -> Result<(), Fail> {
+    let alloc = rt.alloc();
+    let wanted = ids_of(alloc, PRINTED_IDS)?;
+    let readme = Path::parse(alloc, b"README".as_slice())?;
+    for most in [usize::MAX, 100, 1] {
+        let mut store = Store::new(alloc, GitNaming);
+        let mut source = Source::new(printed());
+        source.most = most;
+        let ids = read(alloc, source, &mut store)?;
+        assert_eq!(rt; ids.as_slice(), wanted.as_slice(), "{most} bytes a read");
+        let commit = ids.as_slice().last().copied().unwrap_or(Id::ZERO);
+        assert!(rt;
+            store.file(commit, readme.as_bytes()) == Some((Kind::Plain, b"hello\n".as_slice()))
+        );
+    }
+    Ok(())
+}
+
+/// A stream, the blobs that are held at last, and why its reading ends, if it does before the stream.
+#[derive(Drop)]
+struct Case {
+    stream: &'static [u8],
+    blobs: &'static str,
+    end: Result<(), ObjectsFault>,
+}
+
+fn make_case(stream: &'static [u8], blobs: &'static str, end: Result<(), ObjectsFault>) -> Case {
+    Case { stream, blobs, end }
+}
+
+fn refuse(number: u64, fault: ObjectFault) -> Result<(), ObjectsFault> {
+    Err(ObjectsFault::Object { number, fault })
+}
+
+/// The id of a file of `hello` and a line feed, and that of an empty one.
+const HELLO: &str = "ce013625030ba8dba906f756967f9e9ca394464a";
+
+const EMPTY: &str = "e69de29bb2d1d6434b8b29ae775ad8c2e48c5391";
+
+const BOTH: &str =
+    "e69de29bb2d1d6434b8b29ae775ad8c2e48c5391 ce013625030ba8dba906f756967f9e9ca394464a";
+
+const TWICE: &str =
+    "e69de29bb2d1d6434b8b29ae775ad8c2e48c5391 e69de29bb2d1d6434b8b29ae775ad8c2e48c5391";
+
+fn whole_batches() -> [Case; 4] {
+    [
+        make_case(b"", "", Ok(())),
+        make_case(
+            b"e69de29bb2d1d6434b8b29ae775ad8c2e48c5391 blob 0\n\n",
+            EMPTY,
+            Ok(()),
+        ),
+        make_case(
+            b"e69de29bb2d1d6434b8b29ae775ad8c2e48c5391 blob 0\n\n\
+              ce013625030ba8dba906f756967f9e9ca394464a blob 6\nhello\n\n",
+            BOTH,
+            Ok(()),
+        ),
+        make_case(
+            b"e69de29bb2d1d6434b8b29ae775ad8c2e48c5391 blob 0\n\n\
+              e69de29bb2d1d6434b8b29ae775ad8c2e48c5391 blob 0\n\n",
+            TWICE,
+            Ok(()),
+        ),
+    ]
+}
+
+/// Streams that end within an object, or whose next bytes are no header.
+fn bad_forms() -> [Case; 18] {
+    let bad = ObjectFault::BadHeader;
+    let short = ObjectFault::CutShort;
+    [
+        make_case(b"e", "", refuse(1, short)),
+        make_case(b"g", "", refuse(1, bad)),
+        make_case(
+            b"E69de29bb2d1d6434b8b29ae775ad8c2e48c5391 blob 0\n\n",
+            "",
+            refuse(1, bad),
+        ),
+        make_case(
+            b"e69de29bb2d1d6434b8b29ae775ad8c2e48c5391",
+            "",
+            refuse(1, short),
+        ),
+        make_case(
+            b"e69de29bb2d1d6434b8b29ae775ad8c2e48c5391\n",
+            "",
+            refuse(1, bad),
+        ),
+        make_case(
+            b"e69de29bb2d1d6434b8b29ae775ad8c2e48c5391 missing\n",
+            "",
+            refuse(1, bad),
+        ),
+        make_case(
+            b"e69de29bb2d1d6434b8b29ae775ad8c2e48c5391 tag 0\n\n",
+            "",
+            refuse(1, bad),
+        ),
+        make_case(
+            b"e69de29bb2d1d6434b8b29ae775ad8c2e48c5391 t",
+            "",
+            refuse(1, short),
+        ),
+        make_case(
+            b"e69de29bb2d1d6434b8b29ae775ad8c2e48c5391 blob \n\n",
+            "",
+            refuse(1, bad),
+        ),
+        make_case(
+            b"e69de29bb2d1d6434b8b29ae775ad8c2e48c5391 blob +0\n\n",
+            "",
+            refuse(1, bad),
+        ),
+        make_case(
+            b"e69de29bb2d1d6434b8b29ae775ad8c2e48c5391 blob 00\n\n",
+            "",
+            refuse(1, bad),
+        ),
+        make_case(
+            b"e69de29bb2d1d6434b8b29ae775ad8c2e48c5391 blob 0",
+            "",
+            refuse(1, short),
+        ),
+        make_case(
+            b"e69de29bb2d1d6434b8b29ae775ad8c2e48c5391 blob 0\n",
+            "",
+            refuse(1, short),
+        ),
+        make_case(
+            b"e69de29bb2d1d6434b8b29ae775ad8c2e48c5391 blob 0\nx",
+            "",
+            refuse(1, bad),
+        ),
+        make_case(
+            b"e69de29bb2d1d6434b8b29ae775ad8c2e48c5391 blob 0\n\nce01",
+            EMPTY,
+            refuse(2, short),
+        ),
+        make_case(
+            b"e69de29bb2d1d6434b8b29ae775ad8c2e48c5391 blob 0\n\n\n",
+            EMPTY,
+            refuse(2, bad),
+        ),
+        make_case(
+            b"ce013625030ba8dba906f756967f9e9ca394464a blob 6\nhello",
+            "",
+            refuse(1, short),
+        ),
+        make_case(
+            b"ce013625030ba8dba906f756967f9e9ca394464a blob 6\nhello\nx",
+            "",
+            refuse(1, bad),
+        ),
+    ]
+}
+
+/// Objects that are too large, are refused, or have another id than their headers tell.
+fn bad_objects() -> [Case; 8] {
+    let large = ObjectFault::TooLarge;
+    [
+        make_case(
+            b"e69de29bb2d1d6434b8b29ae775ad8c2e48c5391 blob 8388608\n",
+            "",
+            refuse(1, ObjectFault::CutShort),
+        ),
+        make_case(
+            b"e69de29bb2d1d6434b8b29ae775ad8c2e48c5391 blob 8388609\n",
+            "",
+            refuse(1, large),
+        ),
+        make_case(
+            b"e69de29bb2d1d6434b8b29ae775ad8c2e48c5391 tree 18446744073709551615\n",
+            "",
+            refuse(1, large),
+        ),
+        make_case(
+            b"e69de29bb2d1d6434b8b29ae775ad8c2e48c5391 blob 18446744073709551616",
+            "",
+            refuse(1, ObjectFault::BadHeader),
+        ),
+        // The tree of a file that comes behind it.
+        make_case(
+            b"496d6428b9cf92981dc9495211e6e1120fb6f2ba tree 29\n100644 a\0\
+              \xe6\x9d\xe2\x9b\xb2\xd1\xd6\x43\x4b\x8b\x29\xae\x77\x5a\xd8\xc2\xe4\x8c\x53\x91\n\
+              e69de29bb2d1d6434b8b29ae775ad8c2e48c5391 blob 0\n\n",
+            "",
+            refuse(1, ObjectFault::Refused(PutFault::MissingChild)),
+        ),
+        make_case(
+            b"e69de29bb2d1d6434b8b29ae775ad8c2e48c5391 blob 0\n\n\
+              496d6428b9cf92981dc9495211e6e1120fb6f2ba commit 45\ntree e69de29bb2d1d6434b8b29ae775ad8c2e48c5391\n",
+            EMPTY,
+            refuse(2, ObjectFault::Refused(PutFault::CutShort)),
+        ),
+        // What it names is no tree.
+        make_case(
+            b"e69de29bb2d1d6434b8b29ae775ad8c2e48c5391 blob 0\n\n\
+              496d6428b9cf92981dc9495211e6e1120fb6f2ba commit 46\ntree e69de29bb2d1d6434b8b29ae775ad8c2e48c5391\n\n",
+            EMPTY,
+            refuse(2, ObjectFault::Refused(PutFault::WrongChildKind)),
+        ),
+        // It is put, under its own id.
+        make_case(
+            b"e69de29bb2d1d6434b8b29ae775ad8c2e48c5391 blob 6\nhello\n\n",
+            HELLO,
+            refuse(1, ObjectFault::OtherId),
+        ),
+    ]
+}
+
+/// Reads each stream whole and one byte at a time.
+fn end_as_told(alloc: Global, cases: &[Case]) -> Result<(), Fail> {
+    for case in cases {
+        let blobs = ids_of(alloc, case.blobs)?;
+        for most in [usize::MAX, 1] {
+            let mut store = Store::new(alloc, GitNaming);
+            let mut source = Source::new(case.stream);
+            source.most = most;
+            let end = match read(alloc, source, &mut store) {
+                Ok(ids) => {
+                    if ids.as_slice() != blobs.as_slice() {
+                        return Err(Fail::new("other ids"));
+                    }
+                    Ok(())
+                }
+                Err(fault) => Err(fault),
+            };
+            if end != case.end {
+                return Err(Fail::new(format_args!("{end:?} in place of {:?}", case.end)));
+            }
+            for id in [HELLO, EMPTY] {
+                let id = Id::from_hex(id.as_bytes())?;
+                if store.blob(id).is_some() != blobs.contains(&id) {
+                    return Err(Fail::new(format_args!("other blobs at {:?}", case.end)));
+                }
+            }
+        }
+    }
+    Ok(())
+}
+
+#[test]
+fn batches_end_as_told(rt: HostRuntime) -> Result<(), Fail> {
+    let alloc = rt.alloc();
+    end_as_told(alloc, whole_batches().as_slice())?;
+    end_as_told(alloc, bad_forms().as_slice())?;
+    end_as_told(alloc, bad_objects().as_slice())
+}
+
+#[test]
+fn readers_that_fail(rt: HostRuntime) -> Result<(), Fail> {
+    let alloc = rt.alloc();
+    let hello = Id::from_hex(HELLO.as_bytes())?;
+    let mut store = Store::new(alloc, GitNaming);
+    let mut source = Source::new(printed());
+    source.most = 30;
+    source.fails_at = 90;
+    source.interrupts = true;
+    assert_eq!(rt; read(alloc, source, &mut store), Err(ObjectsFault::Read));
+    assert!(rt; store.blob(hello).is_some());
+    // A source that never ends.
+    let endless = Endless::new(b"e69de29bb2d1d6434b8b29ae775ad8c2e48c5391 blob 0\n\n");
+    let mut reader = Counted::new(endless);
+    assert_eq!(rt;
+        read_objects(alloc, &mut reader, &mut store),
+        Err(ObjectsFault::TurnsSpent)
+    );
+    assert_eq!(rt; reader.calls(), 1_000_000);
+    Ok(())
+}
+
+#[test]
+fn an_object_of_8_mib(rt: HostRuntime) -> Result<(), Fail> {
+    let alloc = rt.alloc();
+    // The id that `git hash-object` gives 8,388,608 times the letter `a`.
+    let id = b"c662dc3a5837a85f38529750ef0125b9b5c28ddf".as_slice();
+    let letters = vec![in alloc; b'a'; 8_388_608]?;
+    let mut stream = Vec::new(alloc);
+    stream.extend_from_slice(id)?;
+    stream.extend_from_slice(b" blob 8388608\n".as_slice())?;
+    stream.extend_from_slice(letters.as_slice())?;
+    stream.push(b'\n')?;
+    let mut store = Store::new(alloc, GitNaming);
+    let ids = read(alloc, stream.as_slice(), &mut store)?;
+    assert_eq!(rt; ids.as_slice(), [Id::from_hex(id)?].as_slice());
+    Ok(())
+}
