@@ -104,19 +104,33 @@ module _ (name : List ℕ → List ℕ → Id) (r0 r1 w0 w1 : Option (List ℕ))
             (taken ran.items bad.0 bad.1 rest ran.stream ran.cut bad.2 ∙ ap (λ item. item ++ bad.1) fails.item_is) fails.fails;
       }
 
+  -- where of these objects alone the ids are noted, the next object has this number
+  next_number : (objects : List Held) (next : ℕ) → now.ids.now.items ≡ before.ids.now.items ++ map (λ object. object.id) objects
+      → before.ids.now.items ≡ [] → next ≡ length now.ids.now.items + 1 → next ≡ length objects + 1
+  next_number objects next ids_are none next_is =
+      omega (
+        arith,
+        next_is,
+        ap length ids_are ∙ ap (λ first. length (first ++ map (λ object. object.id) objects)) none,
+        length-map objects (λ object. object.id),
+      )
+
   between : (count : ℕ) (rest : List ℕ) → object_grammar.partial false rest
-      → Ran object_grammar (Tellings (put_story name before now)) r0 r1 w0 w1 false count rest [] → StopsBetween name r0 r1 before.store.now now.store.now
-  between count rest partial ran =
+      → Ran object_grammar (Tellings (put_story name before now)) r0 r1 w0 w1 false count rest [] → (next : ℕ) → before.ids.now.items ≡ []
+      → next ≡ length now.ids.now.items + 1 → StopsBetween name r0 r1 before.store.now now.store.now next
+  between count rest partial ran next none next_is =
       let fills = ran.says.1 in
       record {
         objects = fills.objects;
         rest = rest;
         front = reads _ false count rest [] ran fills.objects now.store.now fills.have;
+        number_is = next_number fills.objects next fills.ids_are none next_is;
         partial = partial.0;
       }
 
   overfilled : (ended : Bool) (stream : List ℕ) (items : List (List ℕ)) (text : List ℕ)
-      → Losses object_grammar (put_story name before now) ended stream items text → Overfills name before.store.now now.store.now items
+      → Losses object_grammar (put_story name before now) ended stream items text
+      → Overfills name before.store.now now.store.now before.ids.now.items now.ids.now.items items
   overfilled ended stream items text (inl lost) = lost.1
   overfilled ended stream items text (inr spent) = spent.3.1
 
@@ -129,9 +143,10 @@ module _ (name : List ℕ → List ℕ → Id) (r0 r1 w0 w1 : Option (List ℕ))
   same_filling (Err NoMemory) e = elim e.3.says [ inl f ↦ f.0 | inr f ↦ f.3.0 ]
   same_filling (Err Write) e = elim e.4.says [ inl f ↦ f.0 | inr f ↦ f.3.0 ]
 
-  pub ends : (ids : List Id) → ids ≡ now.ids.now.items → before.ids.now.items ≡ [] → (outcome : Result ℕ (Stop ObjectFault)) (result : Result (Unit {0}) ObjectsFault) → IsReadAs outcome result
+  pub ends : (ids : List Id) → ids ≡ now.ids.now.items → before.ids.now.items ≡ [] → (next : ℕ) → next ≡ length now.ids.now.items + 1
+      → (outcome : Result ℕ (Stop ObjectFault)) (result : Result (Unit {0}) ObjectsFault) → IsReadAs next outcome result
       → pumps.Ends object_grammar (put_story name before now) r0 r1 w0 w1 outcome → Ends name r0 r1 before.store.now now.store.now (with_ids ids result)
-  ends ids noted none (Ok count) result is e =
+  ends ids noted none next next_is (Ok count) result is e =
       let ran = e.2 in
       let fills = ran.says.1 in
       rw is (record {
@@ -142,10 +157,10 @@ module _ (name : List ℕ → List ℕ → Id) (r0 r1 w0 w1 : Option (List ℕ))
         at_end = ran.at_end refl;
         ids_are = noted ∙ fills.ids_are ∙ ap (λ first. first ++ map (λ object. object.id) fills.objects) none;
       })
-  ends ids noted none (Err (Item number fault)) result is e = rw is (at_object number fault e.0 e.1 e.2 e.3 e.4 e.4.says)
-  ends ids noted none (Err Read) result is e = rw is (between e.0 e.1 e.2 e.3)
-  ends ids noted none (Err TurnsSpent) result is e = rw is (between e.0 e.1 e.2 e.3)
-  ends ids noted none (Err NoMemory) result is e =
+  ends ids noted none next next_is (Err (Item number fault)) result is e = rw is (at_object number fault e.0 e.1 e.2 e.3 e.4 e.4.says)
+  ends ids noted none next next_is (Err Read) result is e = rw is (between e.0 e.1 e.2 e.3 next none next_is)
+  ends ids noted none next next_is (Err TurnsSpent) result is e = rw is (between e.0 e.1 e.2 e.3 next none next_is)
+  ends ids noted none next next_is (Err NoMemory) result is e =
       let ran = e.3 in
       let over = overfilled e.0 ran.stream ran.items (ran.sent ++ []) ran.says in
       rw is (record {
@@ -153,26 +168,29 @@ module _ (name : List ℕ → List ℕ → Id) (r0 r1 w0 w1 : Option (List ℕ))
         rest = e.2;
         held = over.held;
         front = reads _ e.0 e.1 e.2 [] ran over.objects over.held over.have;
+        number_is = next_number over.objects next over.ids_are none next_is;
         grown = over.grown;
       })
-  ends ids noted none (Err Write) result is e = absurd is
+  ends ids noted none next next_is (Err Write) result is e = absurd is
 
 -- each end is told as itself
-pub read_is : (outcome : Result ℕ (Stop ObjectFault)) (result : Result (Unit {0}) ObjectsFault) → IsReadAs outcome result → result ≡ Err faults.Read → outcome ≡ Err Read
-read_is (Ok count) result is e = cc
-read_is (Err (Item number fault)) result is e = cc
-read_is (Err Read) result is e = refl
-read_is (Err TurnsSpent) result is e = cc
-read_is (Err NoMemory) result is e = cc
-read_is (Err Write) result is e = absurd is
+pub read_is : (next number : ℕ) (outcome : Result ℕ (Stop ObjectFault)) (result : Result (Unit {0}) ObjectsFault) → IsReadAs next outcome result
+    → result ≡ Err (faults.Read number) → outcome ≡ Err Read
+read_is next number (Ok count) result is e = cc
+read_is next number (Err (Item other fault)) result is e = cc
+read_is next number (Err Read) result is e = refl
+read_is next number (Err TurnsSpent) result is e = cc
+read_is next number (Err NoMemory) result is e = cc
+read_is next number (Err Write) result is e = absurd is
 
-pub spent_is : (outcome : Result ℕ (Stop ObjectFault)) (result : Result (Unit {0}) ObjectsFault) → IsReadAs outcome result → result ≡ Err faults.TurnsSpent → outcome ≡ Err TurnsSpent
-spent_is (Ok count) result is e = cc
-spent_is (Err (Item number fault)) result is e = cc
-spent_is (Err Read) result is e = cc
-spent_is (Err TurnsSpent) result is e = refl
-spent_is (Err NoMemory) result is e = cc
-spent_is (Err Write) result is e = absurd is
+pub spent_is : (next number : ℕ) (outcome : Result ℕ (Stop ObjectFault)) (result : Result (Unit {0}) ObjectsFault) → IsReadAs next outcome result
+    → result ≡ Err (faults.TurnsSpent number) → outcome ≡ Err TurnsSpent
+spent_is next number (Ok count) result is e = cc
+spent_is next number (Err (Item other fault)) result is e = cc
+spent_is next number (Err Read) result is e = cc
+spent_is next number (Err TurnsSpent) result is e = refl
+spent_is next number (Err NoMemory) result is e = cc
+spent_is next number (Err Write) result is e = absurd is
 
 -- nothing is put yet
 pub fills_none : (name : List ℕ → List ℕ → Id) (held : List Held) → Fills name held held [] [] []

@@ -139,8 +139,8 @@ module _ (name : List ℕ → List ℕ → Id) (old held new : List Held) (noted
         ∙ ap (λ l. noted ++ l) (sym (map-append (λ o. o.id) fills.objects (object ∷ [])));
   }
 
-  pub overfills : (new ≡ held) ⊎ ((object : Held) × (new ≡ object ∷ held)) → Overfills name old new items
-  overfills grown = record { objects = fills.objects; held = held; have = fills.have; grown = grown }
+  pub overfills : (new ≡ held) ⊎ ((object : Held) × (new ≡ object ∷ held)) → Overfills name old new noted ids items
+  overfills grown = record { objects = fills.objects; held = held; have = fills.have; ids_are = fills.ids_are; grown = grown }
 
   pub fails_at : (object : Held) (item : List ℕ) (fault : ObjectFault) → IsObject object → item ≡ written object → Fails name object held new fault
       → FailsAt name old new items item fault
@@ -156,8 +156,8 @@ module _ (name : List ℕ → List ℕ → Id) (old held new : List Held) (noted
 
   -- what is told of an object that is refused
   pub tells_refusal : (cause : PutFault) (story : Story ObjectFault) (object : Held) (sent item text : List ℕ) → IsObject object → item ≡ written object
-      → Puts (Err cause) name object.word object.payload held new → (Overfills name old new items → story.lost items (sent ++ text))
-      → (Overfills name old new items → story.spent items item (sent ++ take (length text) text))
+      → Puts (Err cause) name object.word object.payload held new → (Overfills name old new noted ids items → story.lost items (sent ++ text))
+      → (Overfills name old new noted ids items → story.spent items item (sent ++ take (length text) text))
       → (FailsAt name old new items item (Refused cause) → story.refused items item (Refused cause))
       → Tells story items sent item text text (refusal_of cause)
   tells_refusal put.NoMemory story object sent item text is item_is puts lost spent fails = spent (overfills (inl puts))

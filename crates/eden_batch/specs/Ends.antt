@@ -52,19 +52,21 @@ pub record StopsAtObject (name : List ℕ → List ℕ → Id) (r0 r1 : Option (
   pub number_is : number ≡ length objects + 1
   pub fault : HasFault name r1 rest held new cause
 
--- All whole objects among the bytes that were read were put.
-pub record StopsBetween (name : List ℕ → List ℕ → Id) (r0 r1 : Option (List ℕ)) (old new : List Held) : Type 0 where
+-- All whole objects among the bytes that were read were put. It stops at the next.
+pub record StopsBetween (name : List ℕ → List ℕ → Id) (r0 r1 : Option (List ℕ)) (old new : List Held) (number : ℕ) : Type 0 where
   pub objects : List Held
   pub rest : List ℕ
   pub front : ReadsObjects name r0 r1 old objects rest new
+  pub number_is : number ≡ length objects + 1
   pub partial : IsPartial rest
 
--- Some first objects were put, and at the most one more.
-pub record StopsEarly (name : List ℕ → List ℕ → Id) (r0 r1 : Option (List ℕ)) (old new : List Held) : Type 0 where
+-- The objects before the one that it stops at were put, and at the most one more.
+pub record StopsEarly (name : List ℕ → List ℕ → Id) (r0 r1 : Option (List ℕ)) (old new : List Held) (number : ℕ) : Type 0 where
   pub objects : List Held
   pub rest : List ℕ
   pub held : List Held
   pub front : ReadsObjects name r0 r1 old objects rest held
+  pub number_is : number ≡ length objects + 1
   pub grown : (new ≡ held) ⊎ ((object : Held) × (new ≡ object ∷ held))
 
 -- How the reading ended, by its result.
@@ -72,6 +74,6 @@ abbrev pub Ends : (List ℕ → List ℕ → Id) → Option (List ℕ) → Optio
     → Result (List Id) ObjectsFault → Type 0
 Ends name r0 r1 old new (Ok ids) = EndsWell name r0 r1 old new ids
 Ends name r0 r1 old new (Err (Object number cause)) = StopsAtObject name r0 r1 old new number cause
-Ends name r0 r1 old new (Err Read) = StopsBetween name r0 r1 old new
-Ends name r0 r1 old new (Err TurnsSpent) = StopsBetween name r0 r1 old new
-Ends name r0 r1 old new (Err NoMemory) = StopsEarly name r0 r1 old new
+Ends name r0 r1 old new (Err (Read number)) = StopsBetween name r0 r1 old new number
+Ends name r0 r1 old new (Err (TurnsSpent number)) = StopsBetween name r0 r1 old new number
+Ends name r0 r1 old new (Err (NoMemory number)) = StopsEarly name r0 r1 old new number

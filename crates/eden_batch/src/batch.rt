@@ -13,17 +13,17 @@ use eden_objects::Store;
 use eden_stream::{CountedRead, Stop, pump_items};
 use std::alloc::Global;
 
-/// How a reading ended, by the pump. Its writer never fails.
-fn read_outcome(outcome: Result<u64, Stop<ObjectFault>>) -> Result<(), ObjectsFault>
+/// How a reading ended, by the pump, where the object behind those whose ids are noted has this number. The pump's writer never fails.
+fn read_outcome(number: u64, outcome: Result<u64, Stop<ObjectFault>>) -> Result<(), ObjectsFault>
     requires { outcome ≢ Err Stop.Write }
-    ensures { IsReadAs outcome result }
+    ensures { IsReadAs number outcome result }
 {
     match outcome {
         Ok(_) => Ok(()),
         Err(Stop::Item { number, fault }) => Err(ObjectsFault::Object { number, fault }),
-        Err(Stop::Read) => Err(ObjectsFault::Read),
-        Err(Stop::TurnsSpent) => Err(ObjectsFault::TurnsSpent),
-        Err(Stop::NoMemory) => Err(ObjectsFault::NoMemory),
+        Err(Stop::Read) => Err(ObjectsFault::Read { number }),
+        Err(Stop::TurnsSpent) => Err(ObjectsFault::TurnsSpent { number }),
+        Err(Stop::NoMemory) => Err(ObjectsFault::NoMemory { number }),
         Err(Stop::Write) => unreachable!(),
     }
 }
@@ -35,20 +35,23 @@ fn fill<R: CountedRead, N: Naming + Drop>(
     filling: &mut Filling<'_, N>,
 ) -> Result<(), ObjectsFault>
     requires { filling.old.ids.now.items ≡ [] }
-    ensures ends { Ends N.id (R.remaining reader.old) (R.remaining reader.new) filling.old.store.now filling.new.store.now (with_ids filling.new.ids.now.items result) }
+    ensures ends { Ends N.id (R.remaining reader.old) (R.remaining reader.new)
+        filling.old.store.now filling.new.store.now (with_ids filling.new.ids.now.items result) }
     ensures same_store { filling.new.store.ghost_name ≡ filling.old.store.ghost_name }
     ensures same_list { filling.new.ids.ghost_name ≡ filling.old.ids.ghost_name }
-    ensures read { IsErrOf result ObjectsFault.Read → Rose (R.failed reader.old) (R.failed reader.new) }
-    ensures turns_spent { IsErrOf result ObjectsFault.TurnsSpent → RoseBy 1000000 (R.called reader.old) (R.called reader.new) }
+    ensures read { (number : ℕ) → IsErrOf result (ObjectsFault.Read number) → Rose (R.failed reader.old) (R.failed reader.new) }
+    ensures turns_spent { (number : ℕ) → IsErrOf result (ObjectsFault.TurnsSpent number)
+        → RoseBy 1000000 (R.called reader.old) (R.called reader.new) }
     ensures turns { R.called reader.new ≤ R.called reader.old + 1000000 }
 {
-    read_outcome(pump_items::<Printed, R, Nowhere, Filling<'_, N>, Putting, ObjectFault>(
+    let outcome = pump_items::<Printed, R, Nowhere, Filling<'_, N>, Putting, ObjectFault>(
         alloc,
         reader,
         &mut Nowhere::new(),
         &Putting,
         filling,
-    ))
+    );
+    read_outcome(filling.ids.len() as u64 + 1, outcome)
 }
 
 /// Reads objects to the end of a stream, as `git cat-file --batch` prints them, and puts them into the store. Gives their ids, in order.
@@ -62,8 +65,8 @@ fn fill<R: CountedRead, N: Naming + Drop>(
 ///
 /// # Errors
 ///
-/// The first fault ends the reading, and what was put before it stays put. Of an object that has several faults, the first in this order
-/// is told:
+/// The first fault ends the reading, and what was put before it stays put. Each comes with the number of the object that it ends at,
+/// which is 1 and the number of the objects before it. Of an object that has several faults, the first in this order is told:
 ///
 /// - `BadHeader`: whatever bytes follow, they are no header. This is told as soon as it is so, at the latest after 69 bytes. A number of
 ///   2^64 or more is no header's. It is also told where another byte than a line feed stands behind an object's bytes.
@@ -72,19 +75,21 @@ fn fill<R: CountedRead, N: Naming + Drop>(
 /// - `Refused`: the put call refuses the object, for this cause, which is never `NoMemory`.
 /// - `OtherId`: the object has another id than its header tells. It is put, under its own id.
 ///
-/// Each of these comes with the number of the object, counted from 1. The others are:
+/// These come as `Object`. The others are:
 ///
 /// - `Read`: a read gave an error other than `Interrupted`, which only means that nothing came. All whole objects that were read are put.
 /// - `TurnsSpent`: 1,000,000 reads did not come to the end. All whole objects that were read are put.
-/// - `NoMemory`: a growth was refused. Some first objects are put, and at the most one more. It may stand in place of any other answer.
+/// - `NoMemory`: a growth was refused. All objects before the one of that number are put, and at the most one more. It may stand in place
+///   of any other answer.
 pub fn read_objects<R: CountedRead, N: Naming + Drop>(
     alloc: Global,
     reader: &mut R,
     store: &mut Store<N>,
 ) -> Result<Sequence<Id>, ObjectsFault>
     ensures ends { Ends N.id (R.remaining reader.old) (R.remaining reader.new) store.old store.new result }
-    ensures read { IsErrOf result ObjectsFault.Read → Rose (R.failed reader.old) (R.failed reader.new) }
-    ensures turns_spent { IsErrOf result ObjectsFault.TurnsSpent → RoseBy 1000000 (R.called reader.old) (R.called reader.new) }
+    ensures read { (number : ℕ) → IsErrOf result (ObjectsFault.Read number) → Rose (R.failed reader.old) (R.failed reader.new) }
+    ensures turns_spent { (number : ℕ) → IsErrOf result (ObjectsFault.TurnsSpent number)
+        → RoseBy 1000000 (R.called reader.old) (R.called reader.new) }
     ensures turns { R.called reader.new ≤ R.called reader.old + 1000000 }
 {
     let mut ids = Vec::new(alloc);

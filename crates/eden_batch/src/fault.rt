@@ -21,22 +21,22 @@ pub enum ObjectFault {
     OtherId,
 }
 
-/// Why the reading of objects ended before the stream did.
+/// Why the reading of objects ended before the stream did, and at which object. Objects are counted from 1.
 #[derive(Clone, Copy, Debug, PartialEq, Eq, Drop, Error)]
 pub enum ObjectsFault {
-    /// The object of this number, counted from 1, can't be read or put.
+    /// The object of this number can't be read or put.
     #[error("object {number}: {fault}")]
     Object { number: u64, fault: ObjectFault },
 
-    /// The reader gave an error.
-    #[error("Read")]
-    Read,
+    /// The reader gave an error before all of the object of this number was read.
+    #[error("object {number}: Read")]
+    Read { number: u64 },
 
-    /// The stream did not end within 1,000,000 reads.
-    #[error("TurnsSpent")]
-    TurnsSpent,
+    /// 1,000,000 reads were made before all of the object of this number was read.
+    #[error("object {number}: TurnsSpent")]
+    TurnsSpent { number: u64 },
 
-    /// A growth was refused.
-    #[error("NoMemory")]
-    NoMemory,
+    /// A growth was refused before the object of this number was put and its id noted.
+    #[error("object {number}: NoMemory")]
+    NoMemory { number: u64 },
 }

@@ -249,7 +249,7 @@ const OBJECTS_ROWS: [ObjectsRow; 12] = [
         ONE,
         3,
         "",
-        "edend: Read\n",
+        "edend: object 2: Read\n",
     ),
     (
         "edend run --objects none",

@@ -314,14 +314,18 @@ fn readers_that_fail(rt: HostRuntime) -> Result<(), Fail> {
     source.most = 30;
     source.fails_at = 90;
     source.interrupts = true;
-    assert_eq!(rt; read(alloc, source, &mut store), Err(ObjectsFault::Read));
+    // The first object has 55 bytes, and so has the second.
+    assert_eq!(rt;
+        read(alloc, source, &mut store),
+        Err(ObjectsFault::Read { number: 2 })
+    );
     assert!(rt; store.blob(hello).is_some());
-    // A source that never ends.
+    // A source that never ends and gives one byte a read, of objects of 49 bytes.
     let endless = Endless::new(b"e69de29bb2d1d6434b8b29ae775ad8c2e48c5391 blob 0\n\n");
     let mut reader = Counted::new(endless);
     assert_eq!(rt;
         read_objects(alloc, &mut reader, &mut store),
-        Err(ObjectsFault::TurnsSpent)
+        Err(ObjectsFault::TurnsSpent { number: 20_409 })
     );
     assert_eq!(rt; reader.calls(), 1_000_000);
     Ok(())

@@ -43,11 +43,12 @@ pub record Fills (name : List ℕ → List ℕ → Id) (old new : List Held) (no
   pub have : HavePut name old items objects new
   pub ids_are : ids ≡ noted ++ map (λ object. object.id) objects
 
--- All of them were put, and at the most one object more.
-pub record Overfills (name : List ℕ → List ℕ → Id) (old new : List Held) (items : List (List ℕ)) : Type 0 where
+-- All of them were put, and their ids noted; and at the most one object more was put.
+pub record Overfills (name : List ℕ → List ℕ → Id) (old new : List Held) (noted ids : List Id) (items : List (List ℕ)) : Type 0 where
   pub objects : List Held
   pub held : List Held
   pub have : HavePut name old items objects held
+  pub ids_are : ids ≡ noted ++ map (λ object. object.id) objects
   pub grown : (new ≡ held) ⊎ ((object : Held) × (new ≡ object ∷ held))
 
 -- why an object is not put under its id
@@ -76,15 +77,18 @@ AreSame before now = (now.store.ghost_name ≡ before.store.ghost_name) × (now.
 abbrev pub put_story : {N : Type 0} → (List ℕ → List ℕ → Id) → Filling N → Filling N → Story ObjectFault
 put_story name before now = record {
   told = λ items text. AreSame before now × Fills name before.store.now now.store.now before.ids.now.items now.ids.now.items items;
-  lost = λ items text. AreSame before now × Overfills name before.store.now now.store.now items;
+  lost = λ items text. AreSame before now × Overfills name before.store.now now.store.now before.ids.now.items now.ids.now.items items;
   refused = λ items item fault. FailsAt name before.store.now now.store.now items item fault;
-  spent = λ items item text. AreSame before now × Overfills name before.store.now now.store.now items;
+  spent = λ items item text. AreSame before now
+      × Overfills name before.store.now now.store.now before.ids.now.items now.ids.now.items items;
 }
 
 pub put_laws : {N : Type 0} (name : List ℕ → List ℕ → Id) (before now : Filling N) → IsStory object_grammar (put_story name before now)
 put_laws name before now = record {
   passes = λ items item text silent told. absurd silent;
-  stops = λ items text told. (told.0, record { objects = told.1.objects; held = now.store.now; have = told.1.have; grown = inl refl });
+  stops = λ items text told.
+      let fills = told.1 in
+      (told.0, record { objects = fills.objects; held = now.store.now; have = fills.have; ids_are = fills.ids_are; grown = inl refl });
 }
 
 -- how a reading ends, which notes these ids
@@ -92,11 +96,11 @@ abbrev pub with_ids : List Id → Result (Unit {0}) ObjectsFault → Result (Lis
 with_ids ids (Ok done) = Ok ids
 with_ids ids (Err fault) = Err fault
 
--- how a reading ended, by the pump, whose writer does not fail
-abbrev pub IsReadAs : Result ℕ (Stop ObjectFault) → Result (Unit {0}) ObjectsFault → Type 0
-IsReadAs (Ok count) result = result ≡ Ok tt
-IsReadAs (Err (stops.Item number fault)) result = result ≡ Err (faults.Object number fault)
-IsReadAs (Err stops.Read) result = result ≡ Err faults.Read
-IsReadAs (Err stops.TurnsSpent) result = result ≡ Err faults.TurnsSpent
-IsReadAs (Err stops.NoMemory) result = result ≡ Err faults.NoMemory
-IsReadAs (Err stops.Write) result = ⊥
+-- how a reading ended, by the pump, whose writer does not fail, where the object behind those whose ids are noted has this number
+abbrev pub IsReadAs : ℕ → Result ℕ (Stop ObjectFault) → Result (Unit {0}) ObjectsFault → Type 0
+IsReadAs next (Ok count) result = result ≡ Ok tt
+IsReadAs next (Err (stops.Item number fault)) result = result ≡ Err (faults.Object number fault)
+IsReadAs next (Err stops.Read) result = result ≡ Err (faults.Read next)
+IsReadAs next (Err stops.TurnsSpent) result = result ≡ Err (faults.TurnsSpent next)
+IsReadAs next (Err stops.NoMemory) result = result ≡ Err (faults.NoMemory next)
+IsReadAs next (Err stops.Write) result = ⊥

@@ -2,7 +2,7 @@
 use Rattle.std.proofs.Common.{◌≢◌, ◌∷◌, ◌++◌, [], ◌∙◌, ap, arith, sym, subst, take, Err, Ok}
 use Rattle.std.proofs.lemmas.List.{length-take}
 use Rattle.eden_stream.specs.Stories.{Tells}
-use Rattle.eden_batch.specs.internal.Loads.{Fills, AreSame, put_story}
+use Rattle.eden_batch.specs.internal.Loads.{AreSame, Fills, Overfills, put_story}
 use Rattle.eden_batch.proofs.Fillings.{equal_ids, fails_at, fills_more, grows, id_is, never_lacks, other_id, outcome_is, overfills, puts_is, tells_refusal, there}
 use Rattle.eden_batch.proofs.putting.PuttingTellerPrintedFillingObjectFault.tell.Goals as goal
 
@@ -29,7 +29,8 @@ returns-in-Ok-put g c = λ before items sent told.
     let outcome = outcome_is c.args.item.now c.requires h behind read.0 read.1 name held (Ok (id, new)) puts in (
       (
         (c.put.ensures.same_store ∙ told.0.0, c.put.ensures.same_list ∙ told.0.1),
-        overfills name before.store.now held new before.ids.now.items ids items told.1 (grows name h.word (take h.size behind) held id new puts),
+        subst (λ l. Overfills name before.store.now new before.ids.now.items l items) (ap (λ v. v.items) (sym c.put.ensures.same_ids))
+            (overfills name before.store.now held new before.ids.now.items ids items told.1 (grows name h.word (take h.size behind) held id new puts)),
       ),
       fails_at name before.store.now held new before.ids.now.items ids items told.1 c.requires.0 c.args.item.now _ c.requires.1 c.requires.2 (id, other, outcome),
     )
@@ -57,10 +58,13 @@ returns-in-Err-push g c = λ before items sent told.
     let name = g.N.Naming.id in
     let h = c.in-Ok.header in
     let held = c.args.filling.now.store.now in
-    let new = c.put.new.self.store.now in (
+    let new = c.put.new.self.store.now in
+    let ids = c.args.filling.now.ids.now.items in
+    let noted = c.in-Err-push.ensures.items ∙ ap (λ v. v.items) c.put.ensures.same_ids in (
       (c.put.ensures.same_store ∙ told.0.0, c.put.ensures.same_list ∙ told.0.1),
-      overfills name before.store.now held new before.ids.now.items c.args.filling.now.ids.now.items items told.1
-          (grows name h.word (take h.size c.in-Ok.behind.now) held c.in-Ok-put.id new c.in-Ok-put.ensures.puts),
+      subst (λ l. Overfills name before.store.now new before.ids.now.items l items) (sym noted)
+          (overfills name before.store.now held new before.ids.now.items ids items told.1
+          (grows name h.word (take h.size c.in-Ok.behind.now) held c.in-Ok-put.id new c.in-Ok-put.ensures.puts)),
     )
 
 pub returns-in-Err : goal.returns-in-Err
@@ -74,7 +78,9 @@ returns-in-Err g c = λ before items sent told.
     let read = c.in-Ok.ensures in
     let story = put_story name before c.put.new.self in
     let same : AreSame before c.put.new.self = (c.put.ensures.same_store ∙ told.0.0, c.put.ensures.same_list ∙ told.0.1) in
+    let left : Overfills name before.store.now new before.ids.now.items ids items → Overfills name before.store.now new before.ids.now.items c.put.new.self.ids.now.items items =
+    λ over. subst (λ l. Overfills name before.store.now new before.ids.now.items l items) (ap (λ v. v.items) (sym c.put.ensures.same_ids)) over in
     let puts = puts_is item c.requires c.in-Ok.header c.in-Ok.behind.now read.0 read.1 (Err c.in-Err.cause) name held new c.in-Err.ensures.puts in
     subst (λ answer. Tells story items sent item text text answer) (sym c.refusal.ensures)
     (tells_refusal name before.store.now held new before.ids.now.items ids items told.1 c.in-Err.cause story c.requires.0 sent item text c.requires.1 c.requires.2
-    puts (λ over. (same, over)) (λ over. (same, over)) (λ fails. fails))
+    puts (λ over. (same, left over)) (λ over. (same, left over)) (λ fails. fails))
