@@ -8,7 +8,6 @@ use Rattle.eden_script.specs.declared.command.Command.{Command}
 use Rattle.eden_script.specs.ScriptLines.{command_of}
 use Rattle.eden_stream.specs.Lines.{IsSpoken}
 use Rattle.eden_script.specs.ScriptText.{told, before_text, continued, script_text}
-use Rattle.eden_script.specs.Sessions.{Session}
 use Rattle.eden_accumulate.specs.Mounts.{State}
 use Rattle.eden_edend.specs.internal.SessionScript.{spoken-text}
 use Rattle.eden_edend.specs.declared.objects.Objects.{Objects}
