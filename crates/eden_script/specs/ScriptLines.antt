@@ -81,13 +81,12 @@ asks = option_map line.Ask
 abbrev mounts : List ℕ → ℕ → ℕ → Command
 mounts label generation limit = line.Mount (record { label = label; generation = generation; limit = limit })
 
-abbrev pub ask_of : List ℕ → List (List ℕ) → Option Command
-ask_of first words =
-    if same_bytes first (codes "position") then asks (none ask.Position words) else
-    if same_bytes first (codes "list") then Some (line.Ask (ask.ListFiles words)) else
-    if same_bytes first (codes "dirty") then asks (none ask.Dirty words) else
-    if same_bytes first (codes "read") then asks (one Some ask.Read words) else
-    if same_bytes first (codes "since") then asks (two number_of number_of ask.Since words) else None
+abbrev pub first_of : List ℕ → List (List ℕ) → Option Command
+first_of first words =
+    if same_bytes first (codes "blob") then puts (two label_to_bind Some put.Blob words) else
+    if same_bytes first (codes "commit") then puts (two label_to_bind label_read put.Commit words) else
+    if same_bytes first (codes "id") then one label_read line.Id words else
+    if same_bytes first (codes "mount") then three label_read number_of number_of mounts words else None
 
 abbrev pub change_of : List ℕ → List (List ℕ) → Option Command
 change_of first words =
@@ -97,16 +96,17 @@ change_of first words =
     if same_bytes first (codes "reset") then changes (one label_read change.Reset words) else
     if same_bytes first (codes "flush") then changes (none change.Flush words) else
     if same_bytes first (codes "remount") then changes (one number_of change.Remount words) else
-    if same_bytes first (codes "checkout") then changes (two label_read mode_of change.Checkout words) else ask_of first words
+    if same_bytes first (codes "checkout") then changes (two label_read mode_of change.Checkout words) else first_of first words
 
-abbrev pub row_of : List ℕ → List (List ℕ) → Option Command
-row_of first words =
-    if same_bytes first (codes "blob") then puts (two label_to_bind Some put.Blob words) else
-    if same_bytes first (codes "commit") then puts (two label_to_bind label_read put.Commit words) else
-    if same_bytes first (codes "id") then one label_read line.Id words else
-    if same_bytes first (codes "mount") then three label_read number_of number_of mounts words else change_of first words
+abbrev pub ask_of : List ℕ → List (List ℕ) → Option Command
+ask_of first words =
+    if same_bytes first (codes "position") then asks (none ask.Position words) else
+    if same_bytes first (codes "list") then Some (line.Ask (ask.ListFiles words)) else
+    if same_bytes first (codes "dirty") then asks (none ask.Dirty words) else
+    if same_bytes first (codes "read") then asks (one Some ask.Read words) else
+    if same_bytes first (codes "since") then asks (two number_of number_of ask.Since words) else change_of first words
 
 -- the words of a line
 abbrev pub command_of : List (List ℕ) → Option Command
 command_of [] = None
-command_of (first ∷ words) = if same_bytes first (codes "tree") then puts (tree_of words) else row_of first words
+command_of (first ∷ words) = if same_bytes first (codes "tree") then puts (tree_of words) else ask_of first words

@@ -2,7 +2,7 @@
 
 ghost use Rattle.std.specs.Prelude.{◌≡◌, ◌<◌, length, IfOk, OnSome};
 ghost use Rattle.eden_ids.specs.Sameness.{same_bytes};
-ghost use Rattle.eden_script.specs.ScriptLines.{kind_of, mode_of, entry_of, entry_before, entries_of, tree_of, ask_of, change_of, row_of, command_of};
+ghost use Rattle.eden_script.specs.ScriptLines.{kind_of, mode_of, entry_of, entry_before, entries_of, tree_of, ask_of, change_of, first_of, command_of};
 
 use crate::command::{AskLine, ChangeLine, Command, MountLine, PutLine, TreeEntry};
 use crate::label::Label;
@@ -96,37 +96,39 @@ fn read_tree(alloc: Global, mut words: Unread) -> Result<Option<PutLine>, AllocE
     }
 }
 
-/// What a line that asks asks for.
+/// What a line asks for that puts an object, but for a tree; tells an id; or mounts.
 #[tactic(auto, using(crate::proofs::RowLemmas::not_none, crate::proofs::RowLemmas::not_one, crate::proofs::RowLemmas::not_two, crate::proofs::RowLemmas::not_three))]
-fn read_ask(first: &Word, words: Unread) -> Option<Command>
-    ensures { result ≡ ask_of first.now words }
+fn read_first(first: &Word, words: Unread) -> Option<Command>
+    ensures { result ≡ first_of first.now words }
 {
-    if is_named(first, b"position".as_slice()) {
-        words.none()?;
-        Some(Command::Ask(AskLine::Position))
-    } else if is_named(first, b"list".as_slice()) {
-        let patterns = Sequence::from_vec(words.into_words());
-        Some(Command::Ask(AskLine::ListFiles { patterns }))
-    } else if is_named(first, b"dirty".as_slice()) {
-        words.none()?;
-        Some(Command::Ask(AskLine::Dirty))
-    } else if is_named(first, b"read".as_slice()) {
-        let path = words.one()?;
-        Some(Command::Ask(AskLine::Read { path }))
-    } else if is_named(first, b"since".as_slice()) {
-        let (generation, sequence) = words.two()?;
+    if is_named(first, b"blob".as_slice()) {
+        let (label, bytes) = words.two()?;
+        let label = Label::read_to_bind(label)?;
+        Some(Command::Put(PutLine::Blob { label, bytes }))
+    } else if is_named(first, b"commit".as_slice()) {
+        let (label, tree) = words.two()?;
+        let label = Label::read_to_bind(label)?;
+        let tree = Label::read(tree)?;
+        Some(Command::Put(PutLine::Commit { label, tree }))
+    } else if is_named(first, b"id".as_slice()) {
+        let label = Label::read(words.one()?)?;
+        Some(Command::Id { label })
+    } else if is_named(first, b"mount".as_slice()) {
+        let (label, generation, limit) = words.three()?;
+        let label = Label::read(label)?;
         let generation = number(generation.as_bytes())?;
-        let sequence = number(sequence.as_bytes())?;
-        Some(Command::Ask(AskLine::Since {
+        let limit = number(limit.as_bytes())?;
+        Some(Command::Mount(MountLine {
+            label,
             generation,
-            sequence,
+            limit,
         }))
     } else {
         None
     }
 }
 
-/// What a line that changes the mount, or asks, asks for.
+/// What a line asks for that changes a mount, or comes before there is one.
 #[tactic(auto, using(crate::proofs::RowLemmas::not_none, crate::proofs::RowLemmas::not_one, crate::proofs::RowLemmas::not_two, crate::proofs::RowLemmas::not_three))]
 fn read_change(first: &Word, words: Unread) -> Option<Command>
     ensures { result ≡ change_of first.now words }
@@ -156,36 +158,35 @@ fn read_change(first: &Word, words: Unread) -> Option<Command>
         let mode = read_mode(&mode)?;
         Some(Command::Change(ChangeLine::Checkout { label, mode }))
     } else {
-        read_ask(first, words)
+        read_first(first, words)
     }
 }
 
-/// What a line asks for that takes no memory to read: any but a tree's.
+/// What a line asks for, but for a tree's, which alone takes memory to read. A mount is asked, and changed, more often than made, so those lines
+/// are looked for first.
 #[tactic(auto, using(crate::proofs::RowLemmas::not_none, crate::proofs::RowLemmas::not_one, crate::proofs::RowLemmas::not_two, crate::proofs::RowLemmas::not_three))]
-fn read_row(first: &Word, words: Unread) -> Option<Command>
-    ensures { result ≡ row_of first.now words }
+fn read_ask(first: &Word, words: Unread) -> Option<Command>
+    ensures { result ≡ ask_of first.now words }
 {
-    if is_named(first, b"blob".as_slice()) {
-        let (label, bytes) = words.two()?;
-        let label = Label::read_to_bind(label)?;
-        Some(Command::Put(PutLine::Blob { label, bytes }))
-    } else if is_named(first, b"commit".as_slice()) {
-        let (label, tree) = words.two()?;
-        let label = Label::read_to_bind(label)?;
-        let tree = Label::read(tree)?;
-        Some(Command::Put(PutLine::Commit { label, tree }))
-    } else if is_named(first, b"id".as_slice()) {
-        let label = Label::read(words.one()?)?;
-        Some(Command::Id { label })
-    } else if is_named(first, b"mount".as_slice()) {
-        let (label, generation, limit) = words.three()?;
-        let label = Label::read(label)?;
+    if is_named(first, b"position".as_slice()) {
+        words.none()?;
+        Some(Command::Ask(AskLine::Position))
+    } else if is_named(first, b"list".as_slice()) {
+        let patterns = Sequence::from_vec(words.into_words());
+        Some(Command::Ask(AskLine::ListFiles { patterns }))
+    } else if is_named(first, b"dirty".as_slice()) {
+        words.none()?;
+        Some(Command::Ask(AskLine::Dirty))
+    } else if is_named(first, b"read".as_slice()) {
+        let path = words.one()?;
+        Some(Command::Ask(AskLine::Read { path }))
+    } else if is_named(first, b"since".as_slice()) {
+        let (generation, sequence) = words.two()?;
         let generation = number(generation.as_bytes())?;
-        let limit = number(limit.as_bytes())?;
-        Some(Command::Mount(MountLine {
-            label,
+        let sequence = number(sequence.as_bytes())?;
+        Some(Command::Ask(AskLine::Since {
             generation,
-            limit,
+            sequence,
         }))
     } else {
         read_change(first, words)
@@ -207,7 +208,7 @@ impl Command {
         }
         let first = words.take();
         if !is_named(&first, b"tree".as_slice()) {
-            return Ok(read_row(&first, words));
+            return Ok(read_ask(&first, words));
         }
         match read_tree(alloc, words)? {
             Some(line) => Ok(Some(Command::Put(line))),
