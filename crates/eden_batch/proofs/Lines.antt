@@ -1,8 +1,8 @@
 -- Bytes up to the first line feed.
-use Rattle.std.proofs.Common.{◌≡◌, ◌≢◌, ℕ, suc, min, true, ◌==◌, ◌+◌, ◌-◌, ◌<◌, ◌≤◌, ◌⊎◌, inl, inr, List, [], ◌∷◌, ◌++◌, length, get_or, take, drop, refl, sym, ap, ◌∙◌, arith}
+use Rattle.std.proofs.Common.{◌≡◌, ◌≢◌, ℕ, suc, min, true, ◌==◌, ◌+◌, ◌-◌, ◌<◌, ◌≤◌, inl, inr, List, [], ◌∷◌, ◌++◌, length, get_or, take, drop, refl, sym, ap, ◌∙◌, arith}
 use Rattle.std.proofs.Math.Seq.{drop-cons}
 use Rattle.std.proofs.lemmas.Bool.{cases_lt, eqb-true}
-use Rattle.std.proofs.lemmas.List.{get_or-take, length-drop, length-take, take_all, take_at, take-append-le, take-append-drop}
+use Rattle.std.proofs.lemmas.List.{get_or-take, length-drop, length-take, take_all, take-append-le, take-append-drop}
 
 -- no byte is a line feed
 abbrev pub Unbroken : List ℕ → Type 0
@@ -33,18 +33,6 @@ front_of_line (f ∷ fs) (l ∷ ls) rest more a e =
     let behind : fs ++ rest ≡ ls ++ 10 ∷ more = cc in
     let both = front_of_line fs ls rest more a.1 behind in
     (omega (arith, both.0), ap (λ x. x ∷ fs) first ∙ ap (λ xs. l ∷ xs) both.1)
-
--- of two fronts of the same bytes one is a front of the other
-pub overlap : (a b x y : List ℕ) → a ++ x ≡ b ++ y → (a ≡ b ++ drop (length b) a) ⊎ (b ≡ a ++ drop (length a) b)
-overlap a b x y e =
-    elim (cases_lt (length a) (length b)) [
-      | inl l ↦
-          let same : a ≡ take (length a) b = sym (take_at a x (length a) refl) ∙ ap (take (length a)) e ∙ take-append-le (length a) b y (omega arith) in
-          inr (sym (take-append-drop (length a) b) ∙ ap (λ front. front ++ drop (length a) b) (sym same))
-      | inr g ↦
-          let same : b ≡ take (length b) a = sym (take_at b y (length b) refl) ∙ sym (ap (take (length b)) e) ∙ take-append-le (length b) a x (omega arith) in
-          inl (sym (take-append-drop (length b) a) ∙ ap (λ front. front ++ drop (length b) a) (sym same))
-    ]
 
 -- as many bytes as there are of these many
 pub front_is : (bytes : List ℕ) (most n : ℕ) → n ≡ min (length bytes) most → take n bytes ≡ take most bytes

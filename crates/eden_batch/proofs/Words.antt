@@ -1,18 +1,10 @@
 -- The words for kinds of objects, as fields of a header.
-use Rattle.std.proofs.Common.{◌≡◌, ◌≢◌, ℕ, ◌<◌, inl, inr, List, [], ◌∷◌, ◌++◌, length, get_or, drop, refl, sym, ap, ◌∙◌, arith}
+use Rattle.std.proofs.Common.{◌≡◌, ◌≢◌, ℕ, ◌<◌, inl, inr, List, [], ◌++◌, length, get_or, drop, refl, sym, ap, ◌∙◌, arith}
 use Rattle.std.proofs.lemmas.Bool.{cases_lt}
 use Rattle.std.proofs.lemmas.List.{append-nil, nil_from_length}
 use Rattle.eden_git.specs.declared.word.Word.{Word}
 use Rattle.eden_git.specs.declared.word.Word.TheVariants.{Blob, Tree, Commit}
-use Rattle.eden_git.specs.Words.{word_text}
 use Rattle.eden_batch.specs.internal.Fields.{word_field}
-
--- a word's first byte is that of what begins with it
-pub first_of_word : (bytes rest more : List ℕ) (word : Word) → 0 < length bytes → bytes ++ rest ≡ word_field word ++ more → get_or (word_text word) 0 0 ≡ get_or bytes 0 0
-first_of_word [] rest more word some e = absurd (omega arith)
-first_of_word (byte ∷ bytes) rest more Blob some e = sym (ap (λ l. get_or l 0 0) e)
-first_of_word (byte ∷ bytes) rest more Tree some e = sym (ap (λ l. get_or l 0 0) e)
-first_of_word (byte ∷ bytes) rest more Commit some e = sym (ap (λ l. get_or l 0 0) e)
 
 -- what begins a word, and is not begun by it, is not all of it
 pub part_of_word : (bytes field : List ℕ) → field ≡ bytes ++ drop (length bytes) field → ((rest : List ℕ) → bytes ≢ field ++ rest) → 0 < length (drop (length bytes) field)

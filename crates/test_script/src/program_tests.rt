@@ -25,6 +25,7 @@ impl Shelf for OneFile {
             return Err(io::Error::from(ErrorKind::NotFound));
         }
         let mut source = Source::new(self.bytes);
+        source.cut = self.fails_at;
         source.fails_at = self.fails_at;
         Ok(source)
     }
