@@ -86,7 +86,10 @@ fn positions_and_patterns_are_refused_by_what_their_faults_display(
         FilterFault::NoMemory,
     ] {
         let shown = format!(in alloc; "refused {fault}\n")?;
-        assert!(rt; shown == refused(alloc, Refusal::Patterns(fault))?, "{shown}");
+        assert!(rt;
+            shown == refused(alloc, Refusal::Patterns(fault))?,
+            "{shown}"
+        );
     }
     Ok(())
 }
