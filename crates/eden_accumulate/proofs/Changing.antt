@@ -23,10 +23,11 @@ use Rattle.eden_history.specs.Worlds.{Row, Commits, WorldState, commits_of, now}
 use Rattle.eden_history.specs.Recorded.{delta_of, starts}
 use Rattle.eden_history.specs.Renames.{absent_fault, moved, place_fault, rename_fault, renamed, write_fault}
 use Rattle.eden_ids.specs.Sameness.{same_bytes}
-use Rattle.eden_history.specs.Outcome.{change_fault, event_at, is_event, next_files, next_root, next_row, refusal, takes_number, world_after}
+use Rattle.eden_history.specs.Outcome.{event_at, is_event, next_files, next_root, next_row, refusal, row_after, takes_number}
 use Rattle.eden_history.specs.Spellable.{IsChange}
 use Rattle.eden_history.proofs.RenameLaws.{first-none}
-use Rattle.eden_accumulate.specs.Mounts.{Follows, IsRefusal, Refuses, State, StandsFor, files_of, number_fault}
+use Rattle.eden_accumulate.specs.Mounts.{IsRefusal, State, StandsFor, files_of, number_fault}
+use Rattle.eden_accumulate.specs.internal.Rows.{Follows, Refuses}
 use Rattle.eden_accumulate.proofs.Histories.{answer-refused, event_of, grown, history-flushed, history-remounted}
 use Rattle.eden_accumulate.proofs.Standing.{IsPresent, has_number, number-left, number-out, refusal-free, refusal-numbered, log_recorded, made_stands}
 use Rattle.eden_history.proofs.LegalFiles.{allowed_files}
@@ -63,7 +64,7 @@ pub file_stands : (held : List Held) (old new : WorkCopy) (log more : journal.Lo
     → refusal (commits_of world) (now world) change ≡ None → is_event change ≡ true → IsChange change
     → FitsIn held new → new.root ≡ old.root → means held new ≡ next_files (commits_of world) (now world) change
     → (delta : FilesChanged) → File delta ≡ delta_of (now world) (event_of world change) → GrowsBy log more delta
-    → StandsFor (state held new more) (world_after world change)
+    → StandsFor (state held new more) (row_after world change)
 file_stands held old new log more mount view world h change e stays allowed happens text fits root files delta is grows =
     let h-old : StandsFor (state held old log) world = subst (λ m. StandsFor m world) (sym view) h in
     made_stands (state held old log) world change (state held new more) (record {
@@ -187,24 +188,21 @@ unfolding next_files
 files-renamed commits row old new = refl
 
 -- a file that was moved to another path, where nothing stood against it
-pub rename_follows : {held seen : List Held} {before after : WorkCopy} {log other more : journal.Log} {mount : State} (old new : List ℕ) → state held before log ≡ mount → seen ≡ held
+pub rename_follows : {held : List Held} {before after : WorkCopy} {log other more : journal.Log} {mount : State} (old new : List ℕ) → state held before log ≡ mount
     → IsRefusal mount (Rename old new) None → IsChange (Rename old new) → same_bytes old new ≡ false → old ≢ new → after.root ≡ before.root
-    → means seen after ≡ renamed (means seen before) old new
-    → (FitsIn seen before → rename_fault (means seen before) old new ≡ None → FitsIn seen after)
+    → means held after ≡ renamed (means held before) old new
+    → (FitsIn held before → rename_fault (means held before) old new ≡ None → FitsIn held after)
     → (delta : FilesChanged) → delta ≡ moved_delta (files_of mount) old new → other ≡ log → GrowsBy other more delta
     → Follows mount (Rename old new) (state held after more)
-rename_follows {held} {seen} {before} {after} {log} {other} {more} {mount} old new view there judged text distinct apart root files fits delta is same grows world h =
+rename_follows {held} {before} {after} {log} {other} {more} {mount} old new view judged text distinct apart root files fits delta is same grows world h =
     let allowed = sym (judged world h) in
     let here = files_are held before log mount view world h in
     let free = allowed_files (commits_of world) (now world) (Rename old new) allowed in
     let stood : is_some (file_at (now world).files old) ≡ true = present (now world).files old (first-none (absent_fault (now world).files old) _ free).0 in
-    let fits-held : FitsIn held before → rename_fault (means held before) old new ≡ None → FitsIn held after =
-    subst (λ s. FitsIn s before → rename_fault (means s before) old new ≡ None → FitsIn s after) there fits in
-    let files-held : means held after ≡ renamed (means held before) old new = subst (λ s. means s after ≡ renamed (means s before) old new) there files in
     file_stands held before after log more mount view world h (Rename old new) refl refl allowed (ap not distinct) text
-    (fits-held (fits_still held before log mount view world h) (ap (λ m. rename_fault m old new) here ∙ free))
+    (fits (fits_still held before log mount view world h) (ap (λ m. rename_fault m old new) here ∙ free))
     root
-    (files-held ∙ ap (λ m. renamed m old new) here ∙ files-renamed (commits_of world) (now world) old new)
+    (files ∙ ap (λ m. renamed m old new) here ∙ files-renamed (commits_of world) (now world) old new)
     delta
     (ap File (is ∙ ap (λ m. moved_delta m old new) h.files) ∙ delta-renamed (commits_of world) (now world) old new distinct apart stood)
     (grown_by log other more delta same grows)
@@ -216,7 +214,7 @@ still_stands : (held : List Held) (work : WorkCopy) (log more : journal.Log) (mo
     → (world : WorldState) → StandsFor mount world → (change : Change) → next_root (now world) change ≡ (now world).root
     → next_files (commits_of world) (now world) change ≡ (now world).files
     → refusal (commits_of world) (now world) change ≡ None → is_event change ≡ true → IsChange change
-    → journal.StandsFor more (history_of (grown world change)) → StandsFor (state held work more) (world_after world change)
+    → journal.StandsFor more (history_of (grown world change)) → StandsFor (state held work more) (row_after world change)
 still_stands held work log more mount view world h change stays same allowed happens text is =
     let h-old : StandsFor (state held work log) world = subst (λ m. StandsFor m world) (sym view) h in
     made_stands (state held work log) world change (state held work more) (record {

@@ -20,15 +20,15 @@ use Rattle.eden_history.specs.declared.change.Change.TheVariants.{Checkout, Rese
 use Rattle.eden_history.specs.declared.change.ChangeFault.{ChangeFault}
 use Rattle.eden_history.specs.declared.change.ChangeFault.TheVariants.{NoCommit}
 use Rattle.eden_history.specs.declared.position.Position.{Position}
-use Rattle.eden_history.proofs.RenameLaws.{first-none}
 use Rattle.eden_history.specs.Checkouts.{checked_out, conflicts, is_dry, unclean}
 use Rattle.eden_history.specs.Named.{held_files}
 use Rattle.eden_history.specs.Spellable.{IsChange}
 use Rattle.eden_ids.specs.Texts.{IsIdText}
 use Rattle.eden_history.specs.Worlds.{Row, Commits, WorldState, commits_of, now}
 use Rattle.eden_history.specs.Recorded.{delta_of, starts}
-use Rattle.eden_history.specs.Outcome.{answer_at, change_fault, commit_fault, event_at, is_event, next_files, next_root, next_row, refusal, world_after}
-use Rattle.eden_accumulate.specs.Mounts.{Follows, IsRefusal, State, StandsFor}
+use Rattle.eden_history.specs.Outcome.{answer_at, change_fault, commit_fault, event_at, is_event, next_files, next_root, next_row, refusal, row_after}
+use Rattle.eden_accumulate.specs.Mounts.{IsRefusal, State, StandsFor}
+use Rattle.eden_accumulate.specs.internal.Rows.{Follows}
 use Rattle.eden_accumulate.proofs.Histories.{event_of}
 use Rattle.eden_accumulate.proofs.Standing.{IsPresent, log_recorded, made_stands}
 use Rattle.eden_accumulate.proofs.Changing.{files_are, state}
@@ -57,7 +57,7 @@ root_stands : (held : List Held) (old new : WorkCopy) (log more : journal.Log) (
     → refusal (commits_of world) (now world) change ≡ None → is_event change ≡ true → IsChange change
     → Moved held new commit (next_files (commits_of world) (now world) change)
     → (paths : List (List ℕ)) → Root (now world).root paths ≡ delta_of (now world) (event_of world change) → MovesBy log more commit paths
-    → StandsFor (state held new more) (world_after world change)
+    → StandsFor (state held new more) (row_after world change)
 root_stands held old new log more mount view world h change commit e goes allowed happens text moved paths is moves =
     let h-old : StandsFor (state held old log) world = subst (λ m. StandsFor m world) (sym view) h in
     made_stands (state held old log) world change (state held new more) (record {
@@ -83,16 +83,15 @@ files-reset : (commits : Commits) (row : Row) (commit : Id) → row.files ≡ ne
 unfolding next_files
 files-reset commits row commit = refl
 
-pub reset_follows : {held seen : List Held} {old new : WorkCopy} {log other more : journal.Log} {mount : State} (commit : Id) → state held old log ≡ mount → seen ≡ held
-    → IsRefusal mount (Reset commit) None → IsIdText commit → FitsIn seen new → new.root ≡ commit → means seen new ≡ means seen old
+pub reset_follows : {held : List Held} {old new : WorkCopy} {log other more : journal.Log} {mount : State} (commit : Id) → state held old log ≡ mount
+    → IsRefusal mount (Reset commit) None → IsIdText commit → FitsIn held new → new.root ≡ commit → means held new ≡ means held old
     → (paths : List (List ℕ)) → paths ≡ [] → other ≡ log → MovesBy other more commit paths → Follows mount (Reset commit) (state held new more)
-reset_follows {held} {seen} {old} {new} {log} {other} {more} {mount} commit view there judged text fits root files paths none same moves world h =
-    let is-files : means held new ≡ means held old = subst (λ s. means s new ≡ means s old) there files in
+reset_follows {held} {old} {new} {log} {other} {more} {mount} commit view judged text fits root files paths none same moves world h =
     root_stands held old new log more mount view world h (Reset commit) commit refl refl (sym (judged world h)) refl text
     (record {
-      fits = subst (λ s. FitsIn s new) there fits;
+      fits = fits;
       root = root;
-      files = is-files ∙ files_are held old log mount view world h ∙ files-reset (commits_of world) (now world) commit;
+      files = files ∙ files_are held old log mount view world h ∙ files-reset (commits_of world) (now world) commit;
     })
     paths (ap (Root (now world).root) none ∙ delta-reset (commits_of world) (now world) commit) (moved_by log other more commit paths same moves)
 
@@ -110,42 +109,41 @@ unfolding next_row next_files
 delta-checked commits row commit mode = refl
 
 -- the three file maps of a checkout are the world's
-pub three : {X : Type 0} (f : FileMap → FileMap → FileMap → X) (held seen : List Held) (old : WorkCopy) (log : journal.Log) (mount : State) → state held old log ≡ mount → seen ≡ held
+pub three : {X : Type 0} (f : FileMap → FileMap → FileMap → X) (held : List Held) (old : WorkCopy) (log : journal.Log) (mount : State) → state held old log ≡ mount
     → (world : WorldState) → StandsFor mount world → (commit : Id)
-    → f (means seen old) (root_files seen old) (commit_files seen commit)
+    → f (means held old) (root_files held old) (commit_files held commit)
     ≡ f (now world).files (held_files (commits_of world) (now world).root) (held_files (commits_of world) commit)
-three f held seen old log mount view same world h commit =
+three f held old log mount view world h commit =
     let h-old : StandsFor (state held old log) world = subst (λ m. StandsFor m world) (sym view) h in
-    ap (λ s. f (means s old) (root_files s old) (commit_files s commit)) same
-    ∙ (λ i. f (h-old.files i) (commit_files (h-old.held i) (h-old.root i)) (commit_files (h-old.held i) commit))
+    λ i. f (h-old.files i) (commit_files (h-old.held i) (h-old.root i)) (commit_files (h-old.held i) commit)
 
-pub checkout_follows : {held seen : List Held} {old new : WorkCopy} {log other more : journal.Log} {mount : State} (commit : Id) (mode : Mode) → state held old log ≡ mount → seen ≡ held
-    → IsRefusal mount (Checkout commit mode) None → IsIdText commit → is_dry mode ≡ false → FitsIn seen new → new.root ≡ (if is_dry mode then old.root else commit)
-    → means seen new ≡ checked_out mode (means seen old) (root_files seen old) (commit_files seen commit)
+pub checkout_follows : {held : List Held} {old new : WorkCopy} {log other more : journal.Log} {mount : State} (commit : Id) (mode : Mode) → state held old log ≡ mount
+    → IsRefusal mount (Checkout commit mode) None → IsIdText commit → is_dry mode ≡ false → FitsIn held new → new.root ≡ (if is_dry mode then old.root else commit)
+    → means held new ≡ checked_out mode (means held old) (root_files held old) (commit_files held commit)
     → (paths : List (List ℕ))
-    → paths ≡ (if is_dry mode then [] else listing (unclean (means seen old) (root_files seen old) (means seen new) (commit_files seen commit)))
+    → paths ≡ (if is_dry mode then [] else listing (unclean (means held old) (root_files held old) (means held new) (commit_files held commit)))
     → other ≡ log → MovesBy other more commit paths → Follows mount (Checkout commit mode) (state held new more)
-checkout_follows {held} {seen} {old} {new} {log} {other} {more} {mount} commit mode view there judged text real fits root files paths is same moves world h =
+checkout_follows {held} {old} {new} {log} {other} {more} {mount} commit mode view judged text real fits root files paths is same moves world h =
     let is-files : means held new ≡ next_files (commits_of world) (now world) (Checkout commit mode) =
-    ap (λ s. means s new) (sym there) ∙ files ∙ three (checked_out mode) held seen old log mount view there world h commit
+    files ∙ three (checked_out mode) held old log mount view world h commit
     ∙ files-checked (commits_of world) (now world) commit mode in
     root_stands held old new log more mount view world h (Checkout commit mode) commit refl refl (sym (judged world h)) (ap not real) text
-    (record { fits = subst (λ s. FitsIn s new) there fits; root = root ∙ ap (λ b. if b then old.root else commit) real; files = is-files })
+    (record { fits = fits; root = root ∙ ap (λ b. if b then old.root else commit) real; files = is-files })
     paths
     (ap (Root (now world).root)
-    (is ∙ ap (λ b. if b then [] else listing (unclean (means seen old) (root_files seen old) (means seen new) (commit_files seen commit))) real
-    ∙ ap (λ next. listing (unclean (means seen old) (root_files seen old) next (commit_files seen commit))) files
-    ∙ three (λ work root target. listing (unclean work root (checked_out mode work root target) target)) held seen old log mount view there world h commit)
+    (is ∙ ap (λ b. if b then [] else listing (unclean (means held old) (root_files held old) (means held new) (commit_files held commit))) real
+    ∙ ap (λ next. listing (unclean (means held old) (root_files held old) next (commit_files held commit))) files
+    ∙ three (λ work root target. listing (unclean work root (checked_out mode work root target) target)) held old log mount view world h commit)
     ∙ delta-checked (commits_of world) (now world) commit mode)
     (moved_by log other more commit paths same moves)
 
 -- a checkout is answered with its conflicts
-pub checked-answer : (held seen : List Held) (old : WorkCopy) (log : journal.Log) (mount : State) → state held old log ≡ mount → seen ≡ held
+pub checked-answer : (held : List Held) (old : WorkCopy) (log : journal.Log) (mount : State) → state held old log ≡ mount
     → (world : WorldState) → StandsFor mount world → (commit : Id) (mode : Mode) (found : List (List ℕ)) (position : Position)
-    → found ≡ listing (conflicts (means seen old) (root_files seen old) (commit_files seen commit))
+    → found ≡ listing (conflicts (means held old) (root_files held old) (commit_files held commit))
     → answer_at (commits_of world) (now world) (Checkout commit mode) position ≡ Checked position found
-checked-answer held seen old log mount view same world h commit mode found position is =
-    ap (Checked position) (sym (is ∙ three (λ work root target. listing (conflicts work root target)) held seen old log mount view same world h commit))
+checked-answer held old log mount view world h commit mode found position is =
+    ap (Checked position) (sym (is ∙ three (λ work root target. listing (conflicts work root target)) held old log mount view world h commit))
 
 -- ---- a commit that was judged is there
 
@@ -153,11 +151,11 @@ there_by : (found : Option FileMap) → commit_fault found ≡ None → found �
 there_by None free gone = let bad : ◌≡◌ {A = Option ChangeFault} (Some NoCommit) None = free in cc
 there_by (Some files) free gone = let bad : ◌≡◌ {A = Option FileMap} (Some files) None = gone in cc
 
-pub commit_judged : {held seen : List Held} {old : WorkCopy} {log : journal.Log} {mount : State} (change : Change) (commit : Id) → state held old log ≡ mount → seen ≡ held
+pub commit_judged : {held : List Held} {old : WorkCopy} {log : journal.Log} {mount : State} (change : Change) (commit : Id) → state held old log ≡ mount
     → IsPresent (state held old log) → IsRefusal mount change None
-    → ((commits : Commits) (row : Row) → change_fault commits row change ≡ commit_fault (commits commit)) → commit_map seen commit ≡ None → ⊥
-commit_judged {held} {seen} {old} {log} {mount} change commit view there present judged asks gone =
+    → ((commits : Commits) (row : Row) → change_fault commits row change ≡ commit_fault (commits commit)) → commit_map held commit ≡ None → ⊥
+commit_judged {held} {old} {log} {mount} change commit view present judged asks gone =
     let world = present.0 in
     let h : StandsFor mount world = subst (λ m. StandsFor m world) view present.1 in
     there_by (commits_of world commit) (sym (asks (commits_of world) (now world)) ∙ allowed_files (commits_of world) (now world) change (sym (judged world h)))
-    (ap (λ held. commit_map held commit) (sym (there ∙ present.1.held)) ∙ gone)
+    (ap (λ held. commit_map held commit) (sym present.1.held) ∙ gone)

@@ -1,5 +1,5 @@
 -- A snapshot shows the paths of the files that a mount holds.
-use Rattle.std.proofs.Common.{◌≡◌, ℕ, inl, inr, Bool, true, false, not, cond, ◌&&◌, ◌||◌, List, [], ◌∷◌, map, Option, Some, None, is_some, refl, sym, ap, ◌∙◌}
+use Rattle.std.proofs.Common.{◌≡◌, ℕ, inl, inr, Bool, true, false, not, cond, ◌&&◌, ◌||◌, List, [], ◌∷◌, map, Option, is_some, refl, sym, ap, ◌∙◌}
 use Rattle.std.specs.Prelude.{filter, if◌then◌else◌}
 use Rattle.std.proofs.lemmas.Bool.{cases_Bool, or_parts}
 use Rattle.std.specs.List.{AllByRecursion, list_any}
@@ -7,7 +7,7 @@ use Rattle.std.specs.FinMap as fin
 use Rattle.eden_globs.specs.Filters.{admits}
 use Rattle.eden_ids.specs.declared.content.Content.{Content}
 use Rattle.eden_ids.specs.FileMaps.{FileMap, PathSet, file_at, has, path_set, paths, put_option, same_path}
-use Rattle.eden_ids.proofs.FileMapLemmas.{file_at-insert, file_at-remove, has-listing, has-path_set, has-union, has-where, same_path-is, put_option-at}
+use Rattle.eden_ids.proofs.FileMapLemmas.{has-listing, has-path_set, has-union, has-where, same_path-is, put_option-at}
 use Rattle.eden_ids.proofs.Sifted.{listing_of}
 use Rattle.eden_ids.proofs.TreeMaps.{listing-same}
 use Rattle.eden_objects.specs.Objects.{Held}

@@ -24,12 +24,13 @@ use Rattle.eden_history.specs.declared.change.ChangeFault.TheVariants.{SequenceE
 use Rattle.eden_history.specs.declared.position.Position.{Position}
 use Rattle.eden_history.specs.Worlds.{WorldState, commits_of, now, opened, position_of}
 use Rattle.eden_history.specs.Recorded.{delta_of, deltas, starts}
-use Rattle.eden_history.specs.Outcome.{answer_at, answer_of, change_fault, is_event, next_files, next_root, refusal, takes_number, world_after}
+use Rattle.eden_history.specs.Outcome.{answer_at, change_fault, is_event, next_files, next_root, refusal, row_after, row_answer, takes_number}
 use Rattle.eden_history.specs.Spellable.{IsChange}
 use Rattle.eden_history.proofs.Steps.{has-number}
 use Rattle.eden_history.proofs.LegalFiles.{world_opens, next_row_files}
 use Rattle.eden_history.proofs.Spelled.{spellable_grows, spellable_opens}
-use Rattle.eden_accumulate.specs.Mounts.{begun_at, Follows, IsRefusal, Refuses, State, StandsFor, files_of, number_fault}
+use Rattle.eden_accumulate.specs.Mounts.{begun_at, IsRefusal, State, StandsFor, files_of, number_fault}
+use Rattle.eden_accumulate.specs.internal.Rows.{Follows, Refuses}
 use Rattle.eden_accumulate.proofs.Histories.{after-event, after-nothing, answer-allowed, answer-refused, event_of, generation-kept, grown, grown_world, head_is, history-recorded, root-made}
 
 -- ---- the present
@@ -130,15 +131,15 @@ refused mount change found fault is some world h = answer-refused world change f
 -- the position after a change that nothing refuses is the one that it is answered with
 pub answered : (mount next : State) (change : Change) (position : Position) → IsRefusal mount change None
     → Follows mount change next → ((world : WorldState) → StandsFor next world → position ≡ position_of (now world))
-    → (world : WorldState) → StandsFor mount world → answer_of world change ≡ answer_at (commits_of world) (now world) change position
+    → (world : WorldState) → StandsFor mount world → row_answer world change ≡ answer_at (commits_of world) (now world) change position
 answered mount next change position judged follows at world h =
     answer-allowed world change (sym (judged world h))
-    ∙ ap (answer_at (commits_of world) (now world) change) (sym (at (world_after world change) (follows world h)))
+    ∙ ap (answer_at (commits_of world) (now world) change) (sym (at (row_after world change) (follows world h)))
 
 -- a mount that follows is still the present of some world
 pub still_present : (inside mount next : State) (change : Change) → inside ≡ mount → IsPresent inside → Follows mount change next → IsPresent next
 still_present inside mount next change view h follows =
-    (world_after h.0 change, follows h.0 (subst (λ m. StandsFor m h.0) view h.1))
+    (row_after h.0 change, follows h.0 (subst (λ m. StandsFor m h.0) view h.1))
 
 -- ---- steps
 
@@ -154,7 +155,7 @@ pub record IsMade (mount : State) (world : WorldState) (change : Change) (next :
   pub files : files_of next ≡ next_files (commits_of world) (now world) change
   pub log : journal.StandsFor next.log (history_of (grown world change))
 
-pub made_stands : (mount : State) (world : WorldState) (change : Change) (next : State) → IsMade mount world change next → StandsFor next (world_after world change)
+pub made_stands : (mount : State) (world : WorldState) (change : Change) (next : State) → IsMade mount world change next → StandsFor next (row_after world change)
 made_stands mount world change next h =
     subst (StandsFor next) (sym (after-event world change h.allowed h.happens)) (record {
       held = h.held ∙ h.stood.held;
@@ -168,7 +169,7 @@ made_stands mount world change next h =
 
 -- a mount is not changed by what makes no event
 pub same_stands : (mount : State) (world : WorldState) (change : Change) → StandsFor mount world → refusal (commits_of world) (now world) change ≡ None
-    → is_event change ≡ false → StandsFor mount (world_after world change)
+    → is_event change ≡ false → StandsFor mount (row_after world change)
 same_stands mount world change h allowed e = subst (StandsFor mount) (sym (after-nothing world change allowed e)) h
 
 -- the journal after an event that it records

@@ -2,6 +2,9 @@
 use Rattle.std.specs.Prelude.{◌≡◌, ℕ, ◌-◌, ◌^◌, nat_lt, if◌then◌else◌, List, [], Option, Some, None}
 use Rattle.eden_ids.specs.FileMaps.{FileMap}
 use Rattle.eden_objects.specs.Objects.{Held}
+use Rattle.eden_objects.specs.Closed.{AllNamed, IsClosed}
+use Rattle.eden_objects.specs.Laws.{HasAll}
+use Rattle.eden_objects.specs.Small.{AreSmall}
 use Rattle.eden_journal.specs.Histories as journal
 use Rattle.eden_ranges.specs.Histories.{history_of}
 use Rattle.eden_workcopy.specs.declared.work.WorkCopy.{WorkCopy}
@@ -11,7 +14,8 @@ use Rattle.eden_history.specs.declared.answer.Answer.TheVariants.{Refused}
 use Rattle.eden_history.specs.declared.change.Change.{Change}
 use Rattle.eden_history.specs.declared.change.ChangeFault.{ChangeFault}
 use Rattle.eden_history.specs.declared.change.ChangeFault.TheVariants.{SequenceExhausted}
-use Rattle.eden_history.specs.Worlds.{WorldState, commits_of, now}
+use Rattle.eden_history.specs.Worlds.{Namer, WorldState, commits_of, now}
+use Rattle.eden_history.specs.Imports.{over_held}
 use Rattle.eden_history.specs.Outcome.{answer_of, refusal, world_after}
 use Rattle.eden_history.specs.Legal.{IsSomeWorld}
 use Rattle.eden_history.specs.Spellable.{IsSpellable}
@@ -37,16 +41,21 @@ pub record StandsFor (mount : State) (world : WorldState) : Type 0 where
   pub is_world : IsSomeWorld world
   pub spellable : IsSpellable world
 
--- the answer to a change is that of each world for which the mount stands
-abbrev pub Answers : State → Change → Answer → Type 0
-Answers mount change answer = (world : WorldState) → StandsFor mount world → answer_of world change ≡ answer
+-- a mount that has more objects stands for the same worlds over these objects
+abbrev pub StandsOver : Type 0
+StandsOver = (name : Namer) (mount : State) (world : WorldState) (more : List Held) → StandsFor mount world → IsClosed more → AllNamed name more → AreSmall more
+    → HasAll mount.held more → StandsFor (record mount { held = more }) (over_held world more)
+
+-- the answer to a change is that of each world for which the mount stands; of an import, where this naming names the objects
+abbrev pub Answers : Namer → State → Change → Answer → Type 0
+Answers name mount change answer = (world : WorldState) → StandsFor mount world → answer_of name world change ≡ answer
 
 -- after a change a mount stands for each world for which it stood, as the change leaves it
-abbrev pub Follows : State → Change → State → Type 0
-Follows mount change after = (world : WorldState) → StandsFor mount world → StandsFor after (world_after world change)
+abbrev pub Follows : Namer → State → Change → State → Type 0
+Follows name mount change after = (world : WorldState) → StandsFor mount world → StandsFor after (world_after name world change)
 
-abbrev pub Refuses : State → Change → ChangeFault → Type 0
-Refuses mount change fault = Answers mount change (Refused fault)
+abbrev pub Refuses : Namer → State → Change → ChangeFault → Type 0
+Refuses name mount change fault = Answers name mount change (Refused fault)
 
 -- why a change is refused, or that it is not, in each world for which the mount stands
 abbrev pub IsRefusal : State → Change → Option ChangeFault → Type 0

@@ -49,8 +49,8 @@ impl<N: Naming + Drop> Mount<N> {
     ///
     /// `NoMemory` comes where a growth was refused. After a refusal, and after `NoMemory`, nothing has changed.
     pub fn apply(&mut self, change: &Change) -> Result<Answer, NoMemory>
-        ensures answers { IfOk result (λ answer. Answers self.old change.now answer) }
-        ensures stands { OnOk result (Follows self.old change.now self.new) }
+        ensures answers { IfOk result (λ answer. Answers N.id self.old change.now answer) }
+        ensures stands { OnOk result (Follows N.id self.old change.now self.new) }
         ensures unchanged { OnErr result (self.new ≡ self.old) }
     {
         match self.made(change) {
@@ -61,7 +61,7 @@ impl<N: Naming + Drop> Mount<N> {
 
     /// Makes a change, and tells its answer. With no memory it is not made.
     fn made(&mut self, change: &Change) -> Option<Answer>
-        ensures { applied.Applies self.old change.now result self.new }
+        ensures { applied.Applies N.id self.old change.now result self.new }
     {
         match change {
             Change::Write { path, kind, bytes } => at(self.write(path, *kind, bytes.as_slice())),
@@ -71,6 +71,7 @@ impl<N: Naming + Drop> Mount<N> {
             Change::Reset { commit } => at(self.reset(*commit)),
             Change::Flush => at(self.flush()),
             Change::Remount { generation } => at(self.remount(*generation)),
+            Change::Import { objects } => at(self.import(objects.as_slice())),
         }
     }
 }

@@ -6,9 +6,8 @@
 //! use eden_accumulate::Mount;
 //! use eden_ids::{GitNaming, Id, Kind, Path};
 //! use eden_objects::Store;
-//! use std::sync::Arc;
 //!
-//! let store = Arc::new(alloc, Store::new(alloc, GitNaming))?;
+//! let store = Store::new(alloc, GitNaming);
 //! let mut mount = Mount::mount(alloc, store, Id::ZERO, 7, 1000)?;
 //! let mounted = mount.position();
 //! let notes = Path::parse(alloc, b"notes".as_slice())?;
@@ -18,6 +17,7 @@
 //! ```
 #![tactic(auto)]
 
+pub use crate::laws::more_objects_law;
 pub use crate::mount::Mount;
 pub use crate::range::Changes;
 pub use crate::root::Checked;
@@ -27,6 +27,9 @@ pub use eden_ranges::{Range, accumulate, expand};
 
 mod apply;
 mod change;
+mod import;
+mod importer;
+mod laws;
 mod mount;
 mod parts;
 mod range;

@@ -1,5 +1,4 @@
 ghost use Rattle.std.specs.Prelude.{◌≡◌, ◌≢◌, None, Some, IfOk, IfErr, OnOk, OnErr, IsSome, not, nat_lt, ◌^◌, ◌-◌, if◌then◌else◌};
-ghost use Rattle.std.specs.Arc.{arc_value};
 ghost use Rattle.eden_ids.specs.FileMaps.{file_at};
 ghost use Rattle.eden_objects.specs.Commits.{commit_map};
 ghost use Rattle.eden_objects.specs.Files.{commit_files};
@@ -14,7 +13,6 @@ use eden_objects::{CommitFault, Store};
 use eden_workcopy::WorkCopy;
 use std::alloc::Global;
 use std::marker::Model;
-use std::sync::Arc;
 
 /// A working copy over a store, and the journal of what changed in it.
 ///
@@ -22,13 +20,12 @@ use std::sync::Arc;
 /// world's call does to the world.
 #[derive(Drop)]
 pub struct Mount<N: Naming + Drop> {
-    pub(crate) store: Arc<Store<N>>,
+    pub(crate) store: Store<N>,
     pub(crate) work: WorkCopy,
     pub(crate) journal: Journal,
 }
 
 impl<N: Naming + Drop> Model for Mount<N> {
-    ghost use Rattle.std.specs.Arc.{arc_value};
     ghost use Rattle.std.specs.Coded.{codes};
     ghost use Rattle.eden_workcopy.specs.contracts.work.WorkCopy as copied;
     ghost use Rattle.eden_history.specs.Worlds.{WorldState};
@@ -38,9 +35,9 @@ impl<N: Naming + Drop> Model for Mount<N> {
 
     ghost coded = { Prim.hlevel (codes, copied.the_row.coded) };
 
-    ghost view = { λ m. record { held = arc_value m.store; work = m.work; log = m.journal.log } };
+    ghost view = { λ m. record { held = m.store; work = m.work; log = m.journal.log } };
 
-    ghost invariant = { λ m. (world : WorldState) × StandsFor (record { held = arc_value m.store; work = m.work; log = m.journal.log }) world };
+    ghost invariant = { λ m. (world : WorldState) × StandsFor (record { held = m.store; work = m.work; log = m.journal.log }) world };
 }
 
 impl<N: Naming + Drop> Mount<N> {
@@ -51,16 +48,16 @@ impl<N: Naming + Drop> Mount<N> {
     /// `NoCommit` comes where the id is no commit's, and gives the store back. It takes no memory.
     pub fn mount(
         alloc: Global,
-        store: Arc<Store<N>>,
+        store: Store<N>,
         root: Id,
         generation: u64,
         limit: u64,
     ) -> Result<Mount<N>, MountFault<N>>
-        ensures stands { IfOk result (λ mount. StandsFor mount (opened (arc_value store) generation limit root (commit_files (arc_value store) root))) }
-        ensures accepts { IfOk result (λ _. IsSome (commit_map (arc_value store) root)) }
+        ensures stands { IfOk result (λ mount. StandsFor mount (opened store generation limit root (commit_files store root))) }
+        ensures accepts { IfOk result (λ _. IsSome (commit_map store root)) }
         ensures cause { IfErr result (λ fault. fault.cause ≡ CommitFault.NoCommit) }
-        ensures back { IfErr result (λ fault. arc_value fault.store ≡ arc_value store) }
-        ensures refuses { IfErr result (λ _. commit_map (arc_value store) root ≡ None) }
+        ensures back { IfErr result (λ fault. fault.store ≡ store) }
+        ensures refuses { IfErr result (λ _. commit_map store root ≡ None) }
     {
         store.closed_law();
         id_law(root);
@@ -76,8 +73,8 @@ impl<N: Naming + Drop> Mount<N> {
     }
 
     /// The objects. This takes no memory.
-    pub fn store(&self) -> &Arc<Store<N>>
-        ensures { arc_value result.now ≡ self.now.held }
+    pub fn store(&self) -> &Store<N>
+        ensures { result.now ≡ self.now.held }
     {
         &self.store
     }

@@ -54,9 +54,9 @@ impl<N: Naming + Drop> Mount<N> {
     /// comes where a growth was refused. After a refusal nothing has changed. Only the paths that a change touched and those on which the
     /// two commits differ are looked at.
     pub fn reset(&mut self, commit: Id) -> Result<Position, ChangeFault>
-        ensures answers { IfOk result (λ position. Answers self.old (Reset commit) (answer.At position)) }
-        ensures stands { OnOk result (Follows self.old (Reset commit) self.new) }
-        ensures refuses { IfErr result (λ fault. fault ≢ ChangeFault.NoMemory → Refuses self.old (Reset commit) fault) }
+        ensures answers { IfOk result (λ position. Answers N.id self.old (Reset commit) (answer.At position)) }
+        ensures stands { OnOk result (Follows N.id self.old (Reset commit) self.new) }
+        ensures refuses { IfErr result (λ fault. fault ≢ ChangeFault.NoMemory → Refuses N.id self.old (Reset commit) fault) }
         ensures unchanged { OnErr result (self.new ≡ self.old) }
     {
         id_law(commit);
@@ -94,9 +94,9 @@ impl<N: Naming + Drop> Mount<N> {
     /// number is left. `NoMemory` comes where a growth was refused. After a refusal nothing has changed. Only the paths that a change
     /// touched and those on which the two commits differ are looked at.
     pub fn checkout(&mut self, commit: Id, mode: Mode) -> Result<Checked, ChangeFault>
-        ensures answers { IfOk result (λ checked. Answers self.old (Checkout commit mode) (answer.Checked checked.position checked.conflicts)) }
-        ensures stands { OnOk result (Follows self.old (Checkout commit mode) self.new) }
-        ensures refuses { IfErr result (λ fault. fault ≢ ChangeFault.NoMemory → Refuses self.old (Checkout commit mode) fault) }
+        ensures answers { IfOk result (λ checked. Answers N.id self.old (Checkout commit mode) (answer.Checked checked.position checked.conflicts)) }
+        ensures stands { OnOk result (Follows N.id self.old (Checkout commit mode) self.new) }
+        ensures refuses { IfErr result (λ fault. fault ≢ ChangeFault.NoMemory → Refuses N.id self.old (Checkout commit mode) fault) }
         ensures unchanged { OnErr result (self.new ≡ self.old) }
     {
         id_law(commit);

@@ -32,10 +32,10 @@ taken items item left held stream cut next =
     sym cut ∙ next ∙ ap (λ l. l ++ left) (concat-append items (item ∷ []) ∙ ap (λ l. front ++ l) (append-nil item)) ∙ append_assoc front item left in
     sym (drop_at front held (length front) refl) ∙ ap (drop (length front)) same ∙ drop_at front (item ++ left) (length front) refl
 
-module _ (name : List ℕ → List ℕ → Id) (r0 r1 w0 w1 : Option (List ℕ)) {N : Type 0} (before now : Filling N) where
+module _ {I : Type 0} (name : List ℕ → List ℕ → Id) (has : I → List Held) (over : I → List Held → I) (r0 r1 w0 w1 : Option (List ℕ)) (before now : Filling I) where
   reads : (Says : List ℕ → List (List ℕ) → List ℕ → Type 0) (ended : Bool) (count : ℕ) (rest waiting : List ℕ)
-      → (ran : Ran object_grammar Says r0 r1 w0 w1 ended count rest waiting) (objects held : List Held) → HavePut name before.store.now ran.items objects held
-      → ReadsObjects name r0 r1 before.store.now objects rest held
+      → (ran : Ran object_grammar Says r0 r1 w0 w1 ended count rest waiting) (objects held : List Held) → HavePut name (has before.into.now) ran.items objects held
+      → ReadsObjects name r0 r1 (has before.into.now) objects rest held
   reads Says ended count rest waiting ran objects held have = record {
     stream = ran.stream;
     read = ran.read;
@@ -61,34 +61,34 @@ module _ (name : List ℕ → List ℕ → Id) (r0 r1 w0 w1 : Option (List ℕ))
   unput (Refused cause) rest left object held new is cut f = (record { object = object; more = left; is_object = is; cut = cut; is = f.0 }, f.1)
   unput OtherId rest left object held new is cut f = record { object = object; more = left; is_object = is; cut = cut; is = f }
 
-  numbered : (items : List (List ℕ)) (objects held : List Held) (number count : ℕ) → HavePut name before.store.now items objects held → number ≡ count + 1
+  numbered : (items : List (List ℕ)) (objects held : List Held) (number count : ℕ) → HavePut name (has before.into.now) items objects held → number ≡ count + 1
       → count ≡ length items → number ≡ length objects + 1
   numbered items objects held number count have is count_is =
       omega (arith, is, count_is, ap length have.items_are, length-map objects written)
 
   at_object : (number : ℕ) (fault : ObjectFault) (ended : Bool) (count : ℕ) (rest : List ℕ) → number ≡ count + 1
-      → (ran : Ran object_grammar (Faults object_grammar (put_story name before now) ended rest fault) r0 r1 w0 w1 ended count rest [])
-      → Faults object_grammar (put_story name before now) ended rest fault ran.stream ran.items (ran.sent ++ [])
-      → StopsAtObject name r0 r1 before.store.now now.store.now number fault
+      → (ran : Ran object_grammar (Faults object_grammar (put_story name has over before now) ended rest fault) r0 r1 w0 w1 ended count rest [])
+      → Faults object_grammar (put_story name has over before now) ended rest fault ran.stream ran.items (ran.sent ++ [])
+      → StopsAtObject name r0 r1 (has before.into.now) (has now.into.now) number fault
   at_object number fault ended count rest is ran (inl (told, inl faulty)) =
       let fills = told.1 in
       record {
         objects = fills.objects;
         rest = rest;
-        held = now.store.now;
-        front = reads _ ended count rest [] ran fills.objects now.store.now fills.have;
-        number_is = numbered ran.items fills.objects now.store.now number count fills.have is ran.count_is;
-        fault = unreadable fault rest now.store.now faulty;
+        held = has now.into.now;
+        front = reads _ ended count rest [] ran fills.objects (has now.into.now) fills.have;
+        number_is = numbered ran.items fills.objects (has now.into.now) number count fills.have is ran.count_is;
+        fault = unreadable fault rest (has now.into.now) faulty;
       }
   at_object number fault ended count rest is ran (inl (told, inr short)) =
       let fills = told.1 in
       record {
         objects = fills.objects;
         rest = rest;
-        held = now.store.now;
-        front = reads _ ended count rest [] ran fills.objects now.store.now fills.have;
-        number_is = numbered ran.items fills.objects now.store.now number count fills.have is ran.count_is;
-        fault = subst (HasFault name r1 rest now.store.now now.store.now) (sym short.3) (short.1, short.2, ran.at_end short.0, refl);
+        held = has now.into.now;
+        front = reads _ ended count rest [] ran fills.objects (has now.into.now) fills.have;
+        number_is = numbered ran.items fills.objects (has now.into.now) number count fills.have is ran.count_is;
+        fault = subst (HasFault name r1 rest (has now.into.now) (has now.into.now)) (sym short.3) (short.1, short.2, ran.at_end short.0, refl);
       }
   at_object number fault ended count rest is ran (inr f) =
       let bad = f.1 in
@@ -100,7 +100,7 @@ module _ (name : List ℕ → List ℕ → Id) (r0 r1 w0 w1 : Option (List ℕ))
         front = reads _ ended count rest [] ran fails.objects fails.held fails.have;
         number_is = numbered ran.items fails.objects fails.held number count fails.have is ran.count_is;
         fault =
-            unput fault rest bad.1 fails.object fails.held now.store.now fails.is_object
+            unput fault rest bad.1 fails.object fails.held (has now.into.now) fails.is_object
             (taken ran.items bad.0 bad.1 rest ran.stream ran.cut bad.2 ∙ ap (λ item. item ++ bad.1) fails.item_is) fails.fails;
       }
 
@@ -116,26 +116,26 @@ module _ (name : List ℕ → List ℕ → Id) (r0 r1 w0 w1 : Option (List ℕ))
       )
 
   between : (count : ℕ) (rest : List ℕ) → object_grammar.partial false rest
-      → Ran object_grammar (Tellings (put_story name before now)) r0 r1 w0 w1 false count rest [] → (next : ℕ) → before.ids.now.items ≡ []
-      → next ≡ length now.ids.now.items + 1 → StopsBetween name r0 r1 before.store.now now.store.now next
+      → Ran object_grammar (Tellings (put_story name has over before now)) r0 r1 w0 w1 false count rest [] → (next : ℕ) → before.ids.now.items ≡ []
+      → next ≡ length now.ids.now.items + 1 → StopsBetween name r0 r1 (has before.into.now) (has now.into.now) next
   between count rest partial ran next none next_is =
       let fills = ran.says.1 in
       record {
         objects = fills.objects;
         rest = rest;
-        front = reads _ false count rest [] ran fills.objects now.store.now fills.have;
+        front = reads _ false count rest [] ran fills.objects (has now.into.now) fills.have;
         number_is = next_number fills.objects next fills.ids_are none next_is;
         partial = partial.0;
       }
 
   overfilled : (ended : Bool) (stream : List ℕ) (items : List (List ℕ)) (text : List ℕ)
-      → Losses object_grammar (put_story name before now) ended stream items text
-      → Overfills name before.store.now now.store.now before.ids.now.items now.ids.now.items items
+      → Losses object_grammar (put_story name has over before now) ended stream items text
+      → Overfills name (has before.into.now) (has now.into.now) before.ids.now.items now.ids.now.items items
   overfilled ended stream items text (inl lost) = lost.1
   overfilled ended stream items text (inr spent) = spent.3.1
 
   -- the same store and list are filled, however the pumping ended
-  pub same_filling : (outcome : Result ℕ (Stop ObjectFault)) → pumps.Ends object_grammar (put_story name before now) r0 r1 w0 w1 outcome → AreSame before now
+  pub same_filling : (outcome : Result ℕ (Stop ObjectFault)) → pumps.Ends object_grammar (put_story name has over before now) r0 r1 w0 w1 outcome → AreSame name has over before now
   same_filling (Ok count) e = e.2.says.0
   same_filling (Err (Item number fault)) e = elim e.4.says [ inl f ↦ f.0.0 | inr f ↦ f.0.0 ]
   same_filling (Err Read) e = e.3.says.0
@@ -145,15 +145,15 @@ module _ (name : List ℕ → List ℕ → Id) (r0 r1 w0 w1 : Option (List ℕ))
 
   pub ends : (ids : List Id) → ids ≡ now.ids.now.items → before.ids.now.items ≡ [] → (next : ℕ) → next ≡ length now.ids.now.items + 1
       → (outcome : Result ℕ (Stop ObjectFault)) (result : Result (Unit {0}) ObjectsFault) → IsReadAs next outcome result
-      → pumps.Ends object_grammar (put_story name before now) r0 r1 w0 w1 outcome → Ends name r0 r1 before.store.now now.store.now (with_ids ids result)
+      → pumps.Ends object_grammar (put_story name has over before now) r0 r1 w0 w1 outcome → Ends name r0 r1 (has before.into.now) (has now.into.now) (with_ids ids result)
   ends ids noted none next next_is (Ok count) result is e =
       let ran = e.2 in
       let fills = ran.says.1 in
       rw is (record {
         objects = fills.objects;
         front =
-            subst (λ rest. ReadsObjects name r0 r1 before.store.now fills.objects rest now.store.now) (e.1.1 refl)
-            (reads _ true count e.0 [] ran fills.objects now.store.now fills.have);
+            subst (λ rest. ReadsObjects name r0 r1 (has before.into.now) fills.objects rest (has now.into.now)) (e.1.1 refl)
+            (reads _ true count e.0 [] ran fills.objects (has now.into.now) fills.have);
         at_end = ran.at_end refl;
         ids_are = noted ∙ fills.ids_are ∙ ap (λ first. first ++ map (λ object. object.id) fills.objects) none;
       })

@@ -8,22 +8,24 @@ use Rattle.eden_ids.specs.Sameness.{same_bytes, same_id}
 use Rattle.eden_git.specs.Words.{same_word}
 use Rattle.eden_git.specs.declared.word.Word.{Word}
 use Rattle.eden_git.specs.declared.word.Word.TheVariants.{Blob, Tree, Commit}
+use Rattle.eden_objects.specs.Imports.{IsOver, put_word}
 use Rattle.eden_objects.specs.Objects.{Held, find, zero_id}
 use Rattle.eden_objects.specs.Puts.{Outcome, commit_fault, kept_or_added, named, put_outcome, too_large, tree_fault, unless}
 use Rattle.eden_objects.specs.declared.fault.PutFault.{PutFault}
 use Rattle.eden_objects.specs.declared.fault.PutFault.TheVariants as put
 use Rattle.eden_batch.specs.Batches.{IsObject, header, written}
-use Rattle.eden_batch.specs.Puttings.{ArePut, IsPut, outcome_of}
+use Rattle.eden_batch.specs.Puttings.{ArePut, IsPut}
 use Rattle.eden_batch.specs.internal.Fields.{IsHeader, Reads, header_field}
 use Rattle.eden_batch.specs.internal.Grammar.{IsPrinted}
-use Rattle.eden_batch.specs.internal.Loads.{Fails, FailsAt, Fills, Overfills, Puts, refusal_of}
-use Rattle.eden_stream.specs.Stories.{Story, Tells}
+use Rattle.eden_batch.specs.internal.Loads.{AreSame, Fails, FailsAt, Fills, Overfills, Puts, put_story, refusal_of}
+use Rattle.eden_stream.specs.Stories.{Tells}
 use Rattle.eden_stream.specs.declared.teller.Answer.TheVariants.{Fault}
 use Rattle.eden_batch.specs.declared.fault.ObjectFault.TheVariants.{Refused}
 use Rattle.eden_batch.specs.declared.fault.ObjectFault.{ObjectFault}
 use Rattle.eden_batch.specs.declared.fields.Lack.{Lack}
 use Rattle.eden_batch.specs.declared.fields.Lack.TheVariants.{Partial, Bad}
 use Rattle.eden_batch.specs.declared.header.Header.{Header}
+use Rattle.eden_batch.specs.declared.putting.Filling.{Filling}
 use Rattle.eden_batch.proofs.Headers.{header_split}
 
 module _ (item : List ℕ) (printed : IsPrinted item) where
@@ -60,10 +62,10 @@ module _ (item : List ℕ) (printed : IsPrinted item) where
     pub payload_is : take h.size behind ≡ printed.0.payload
     payload_is = ap (take h.size) parts.3 ∙ take_at printed.0.payload (10 ∷ []) h.size (sym parts.2)
 
-    pub outcome_is : (name : List ℕ → List ℕ → Id) (held : List Held) (outcome : Outcome) → outcome_of name h.word (take h.size behind) held ≡ outcome
-        → outcome_of name printed.0.word printed.0.payload held ≡ outcome
+    pub outcome_is : (name : List ℕ → List ℕ → Id) (held : List Held) (outcome : Outcome) → put_word name h.word (take h.size behind) held ≡ outcome
+        → put_word name printed.0.word printed.0.payload held ≡ outcome
     outcome_is name held outcome e =
-        sym (ap (λ word. outcome_of name word (take h.size behind) held) word_is ∙ ap (λ payload. outcome_of name printed.0.word payload held) payload_is) ∙ e
+        sym (ap (λ word. put_word name word (take h.size behind) held) word_is ∙ ap (λ payload. put_word name printed.0.word payload held) payload_is) ∙ e
 
     pub puts_is : (result : Result Id PutFault) (name : List ℕ → List ℕ → Id) (held new : List Held) → Puts result name h.word (take h.size behind) held new
         → Puts result name printed.0.word printed.0.payload held new
@@ -115,7 +117,7 @@ unless_grows None new held id now e =
     outcome_grows (same_id new.id zero_id) (kept_or_added new held (find new.id held)) id held now (kept_grows new held (find new.id held) id now) e
 
 pub grows : (name : List ℕ → List ℕ → Id) (word : Word) (payload : List ℕ) (held : List Held) (id : Id) (now : List Held)
-    → outcome_of name word payload held ≡ Ok (id, now) → (now ≡ held) ⊎ ((object : Held) × (now ≡ object ∷ held))
+    → put_word name word payload held ≡ Ok (id, now) → (now ≡ held) ⊎ ((object : Held) × (now ≡ object ∷ held))
 grows name Blob payload held id now e = unless_grows (too_large payload) (named name Blob payload) held id now e
 grows name Tree payload held id now e = unless_grows (tree_fault payload held) (named name Tree payload) held id now e
 grows name Commit payload held id now e = unless_grows (commit_fault payload held) (named name Commit payload) held id now e
@@ -154,12 +156,34 @@ module _ (name : List ℕ → List ℕ → Id) (old held new : List Held) (noted
     fails = fails;
   }
 
+-- what a call that puts gives, case by case
+pub puts_of : (fault : PutFault) (name : List ℕ → List ℕ → Id) (word : Word) (payload : List ℕ) (held new : List Held) → new ≡ held
+    → (fault ≢ put.NoMemory → put_word name word payload held ≡ Err fault) → Puts (Err fault) name word payload held new
+puts_of put.NoMemory name word payload held new same refuses = same
+puts_of fault name word payload held new same refuses = (same, refuses (λ e. cc e))
+
+module _ {I : Type 0} (name : List ℕ → List ℕ → Id) (held : I → List Held) (over : I → List Held → I) (laws : IsOver held over) where
+  -- what is filled further is the same still
+  pub same_still : (before filling now : Filling I) → AreSame name held over before filling → now.into.ghost_name ≡ filling.into.ghost_name
+      → now.ids.ghost_name ≡ filling.ids.ghost_name → now.into.now ≡ over filling.into.now (held now.into.now) → AreSame name held over before now
+  same_still before filling now same into ids only = record {
+    into = into ∙ same.into;
+    ids = ids ∙ same.ids;
+    only = only ∙ ap (λ i. over i (held now.into.now)) same.only ∙ laws.again before.into.now (held filling.into.now) (held now.into.now);
+  }
+
+  pub same_at_first : (filling : Filling I) → AreSame name held over filling filling
+  same_at_first filling = record { into = refl; ids = refl; only = sym (laws.same filling.into.now) }
+
+module _ {I : Type 0} (name : List ℕ → List ℕ → Id) (has : I → List Held) (over : I → List Held → I) where
   -- what is told of an object that is refused
-  pub tells_refusal : (cause : PutFault) (story : Story ObjectFault) (object : Held) (sent item text : List ℕ) → IsObject object → item ≡ written object
-      → Puts (Err cause) name object.word object.payload held new → (Overfills name old new noted ids items → story.lost items (sent ++ text))
-      → (Overfills name old new noted ids items → story.spent items item (sent ++ take (length text) text))
-      → (FailsAt name old new items item (Refused cause) → story.refused items item (Refused cause))
-      → Tells story items sent item text text (refusal_of cause)
-  tells_refusal put.NoMemory story object sent item text is item_is puts lost spent fails = spent (overfills (inl puts))
-  tells_refusal cause story object sent item text is item_is puts lost spent fails =
-      (lost (overfills (inl puts.0)), fails (fails_at object item (Refused _) is item_is (puts.1, puts.0)))
+  pub tells_refused : (before now : Filling I) → AreSame name has over before now → (held : List Held) (items : List (List ℕ))
+      → Fills name (has before.into.now) held before.ids.now.items now.ids.now.items items → (cause : PutFault) (object : Held) (sent item text : List ℕ)
+      → IsObject object → item ≡ written object → Puts (Err cause) name object.word object.payload held (has now.into.now)
+      → Tells (put_story name has over before now) items sent item text text (refusal_of cause)
+  tells_refused before now same held items fills put.NoMemory object sent item text is item_is puts =
+      (same, overfills name (has before.into.now) held (has now.into.now) before.ids.now.items now.ids.now.items items fills (inl puts))
+  tells_refused before now same held items fills cause object sent item text is item_is puts = (
+    (same, overfills name (has before.into.now) held (has now.into.now) before.ids.now.items now.ids.now.items items fills (inl puts.0)),
+    fails_at name (has before.into.now) held (has now.into.now) before.ids.now.items now.ids.now.items items fills object item _ is item_is (puts.1, puts.0),
+  )

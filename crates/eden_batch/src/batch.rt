@@ -8,8 +8,8 @@ use crate::fault::{ObjectFault, ObjectsFault};
 use crate::framing::Printed;
 use crate::nowhere::Nowhere;
 use crate::putting::{Filling, Putting};
-use eden_ids::{Id, Naming, Sequence};
-use eden_objects::Store;
+use eden_ids::{Id, Sequence};
+use eden_objects::Importer;
 use eden_stream::{CountedRead, Stop, pump_items};
 use std::alloc::Global;
 
@@ -28,23 +28,24 @@ fn read_outcome(number: u64, outcome: Result<u64, Stop<ObjectFault>>) -> Result<
     }
 }
 
-/// Puts the objects of a stream into the store, and notes their ids.
-fn fill<R: CountedRead, N: Naming + Drop>(
+/// Puts the objects of a stream, and notes their ids.
+fn fill<R: CountedRead, I: Importer>(
     alloc: Global,
     reader: &mut R,
-    filling: &mut Filling<'_, N>,
+    filling: &mut Filling<'_, I>,
 ) -> Result<(), ObjectsFault>
     requires { filling.old.ids.now.items ≡ [] }
-    ensures ends { Ends N.id (R.remaining reader.old) (R.remaining reader.new)
-        filling.old.store.now filling.new.store.now (with_ids filling.new.ids.now.items result) }
-    ensures same_store { filling.new.store.ghost_name ≡ filling.old.store.ghost_name }
+    ensures ends { Ends I.name (R.remaining reader.old) (R.remaining reader.new)
+        (I.held filling.old.into.now) (I.held filling.new.into.now) (with_ids filling.new.ids.now.items result) }
+    ensures only { filling.new.into.now ≡ I.over filling.old.into.now (I.held filling.new.into.now) }
+    ensures same_importer { filling.new.into.ghost_name ≡ filling.old.into.ghost_name }
     ensures same_list { filling.new.ids.ghost_name ≡ filling.old.ids.ghost_name }
     ensures read { (number : ℕ) → IsErrOf result (ObjectsFault.Read number) → Rose (R.failed reader.old) (R.failed reader.new) }
     ensures turns_spent { (number : ℕ) → IsErrOf result (ObjectsFault.TurnsSpent number)
         → RoseBy 1000000 (R.called reader.old) (R.called reader.new) }
     ensures turns { R.called reader.new ≤ R.called reader.old + 1000000 }
 {
-    let outcome = pump_items::<Printed, R, Nowhere, Filling<'_, N>, Putting, ObjectFault>(
+    let outcome = pump_items::<Printed, R, Nowhere, Filling<'_, I>, Putting, ObjectFault>(
         alloc,
         reader,
         &mut Nowhere::new(),
@@ -54,14 +55,15 @@ fn fill<R: CountedRead, N: Naming + Drop>(
     read_outcome(filling.ids.len() as u64 + 1, outcome)
 }
 
-/// Reads objects to the end of a stream, as `git cat-file --batch` prints them, and puts them into the store. Gives their ids, in order.
+/// Reads objects to the end of a stream, as `git cat-file --batch` prints them, and puts them into a store, or another `Importer`, as a mount
+/// is. Gives their ids, in order.
 ///
 /// An object is a header, its bytes and a line feed. A header is an id in 40 lower-case hexadecimal digits, a space, `blob`, `tree` or
 /// `commit`, a space, the number of the bytes in decimal, with no sign and no zero in front, and a line feed: 69 bytes at the most. Each
 /// object is put by the call for its kind, `put_blob`, `put_tree` or `put_commit`, and must have the id of its header. So what an object
 /// names stands before it in the stream.
 ///
-/// A read asks for 64 KiB. Beside the store, memory is taken for one object, one read and the ids.
+/// A read asks for 64 KiB. Beside the objects, memory is taken for one object, one read and the ids.
 ///
 /// # Errors
 ///
@@ -81,12 +83,14 @@ fn fill<R: CountedRead, N: Naming + Drop>(
 /// - `TurnsSpent`: 1,000,000 reads did not come to the end. All whole objects that were read are put.
 /// - `NoMemory`: a growth was refused. All objects before the one of that number are put, and at the most one more. It may stand in place
 ///   of any other answer.
-pub fn read_objects<R: CountedRead, N: Naming + Drop>(
+pub fn read_objects<R: CountedRead, I: Importer>(
     alloc: Global,
     reader: &mut R,
-    store: &mut Store<N>,
+    into: &mut I,
 ) -> Result<Sequence<Id>, ObjectsFault>
-    ensures ends { Ends N.id (R.remaining reader.old) (R.remaining reader.new) store.old store.new result }
+    ensures ends { Ends I.name (R.remaining reader.old) (R.remaining reader.new) (I.held into.old) (I.held into.new) result }
+    // Nothing but the objects is changed.
+    ensures only { into.new ≡ I.over into.old (I.held into.new) }
     ensures read { (number : ℕ) → IsErrOf result (ObjectsFault.Read number) → Rose (R.failed reader.old) (R.failed reader.new) }
     ensures turns_spent { (number : ℕ) → IsErrOf result (ObjectsFault.TurnsSpent number)
         → RoseBy 1000000 (R.called reader.old) (R.called reader.new) }
@@ -94,7 +98,7 @@ pub fn read_objects<R: CountedRead, N: Naming + Drop>(
 {
     let mut ids = Vec::new(alloc);
     let mut filling = Filling {
-        store,
+        into,
         ids: &mut ids,
     };
     fill(alloc, reader, &mut filling)?;

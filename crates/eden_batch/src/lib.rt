@@ -1,4 +1,4 @@
-//! Objects as `git cat-file --batch` prints them, read into a store: so whole repositories come in.
+//! Objects as `git cat-file --batch` prints them, read into a store, or into a mount: so whole repositories come in.
 //!
 //! The definitions stand in `specs/`: the bytes of objects, what is held after they are put, and how a reading ends.
 //!

@@ -1,36 +1,19 @@
-//! The putting of objects into a store.
+//! The putting of objects into what takes them.
 ghost use Rattle.std.specs.Prelude.{◌≡◌};
-ghost use Rattle.eden_batch.specs.internal.Loads.{Puts, put_laws, put_story, refusal_of};
+ghost use Rattle.eden_batch.specs.internal.Loads.{put_laws, put_story, refusal_of};
 
 use crate::fault::ObjectFault;
 use crate::framing::Printed;
 use crate::header::read_header;
-use eden_git::Word;
-use eden_ids::{Id, Naming};
-use eden_objects::{PutFault, Store};
+use eden_ids::Id;
+use eden_objects::{Importer, PutFault};
 use eden_stream::{Answer, Teller};
 
-/// A store that is being filled, and the ids of the objects that were put so far.
+/// What is being filled, and the ids of the objects that were put so far.
 #[derive(Drop)]
-pub(crate) struct Filling<'a, N: Naming + Drop> {
-    pub(crate) store: &'a mut Store<N>,
+pub(crate) struct Filling<'a, I> {
+    pub(crate) into: &'a mut I,
     pub(crate) ids: &'a mut Vec<Id>,
-}
-
-impl<'a, N: Naming + Drop> Filling<'a, N> {
-    /// Puts an object by the put call of its kind.
-    fn put(&mut self, word: Word, payload: &[u8]) -> Result<Id, PutFault>
-        ensures puts { Puts result N.id word payload.now self.old.store.now self.new.store.now }
-        ensures same_store { self.new.store.ghost_name ≡ self.old.store.ghost_name }
-        ensures same_ids { self.new.ids.now ≡ self.old.ids.now }
-        ensures same_list { self.new.ids.ghost_name ≡ self.old.ids.ghost_name }
-    {
-        match word {
-            Word::Blob => self.store.put_blob(payload),
-            Word::Tree => self.store.put_tree(payload),
-            Word::Commit => self.store.put_commit(payload),
-        }
-    }
 }
 
 /// What is answered where a put call refuses an object for a cause.
@@ -43,15 +26,15 @@ fn refusal(cause: PutFault) -> Answer<ObjectFault>
     }
 }
 
-/// Has objects put into a store.
+/// Has objects put.
 pub(crate) struct Putting;
 
-impl<'a, N: Naming + Drop> Teller<Printed, Filling<'a, N>, ObjectFault> for Putting {
-    ghost story = { λ _ before now. put_story N.id before now };
+impl<'a, I: Importer> Teller<Printed, Filling<'a, I>, ObjectFault> for Putting {
+    ghost story = { λ _ before now. put_story I.name I.held I.over before now };
 
     fn tell(
         &self,
-        filling: &mut Filling<'a, N>,
+        filling: &mut Filling<'a, I>,
         item: &[u8],
         _text: &mut Vec<u8>,
     ) -> Answer<ObjectFault> {
@@ -59,7 +42,8 @@ impl<'a, N: Naming + Drop> Teller<Printed, Filling<'a, N>, ObjectFault> for Putt
             // An item is a whole object.
             unreachable!();
         };
-        match filling.put(header.word, &behind[..header.size as usize]) {
+        let payload = &behind[..header.size as usize];
+        match filling.into.put_object(header.word, payload) {
             Ok(id) if id != header.id => Answer::Fault(ObjectFault::OtherId),
             Ok(id) => match filling.ids.push(id) {
                 Ok(()) => Answer::Told,
@@ -69,5 +53,5 @@ impl<'a, N: Naming + Drop> Teller<Printed, Filling<'a, N>, ObjectFault> for Putt
         }
     }
 
-    ghost lawful = { λ _ before now. put_laws N.id before now };
+    ghost lawful = { λ _ before now. put_laws I.name I.held I.over before now };
 }

@@ -4,6 +4,8 @@ use Rattle.std.specs.Bool.{Decides}
 use Rattle.std.specs.Cmp.Lexicographic.{pointwise, bytes_decides, pointwise_decides}
 use Rattle.std.proofs.lemmas.Bool.Decides.{Decides-and, Decides-like}
 use Rattle.eden_ids.proofs.Alike.{id_decides, kind_decides, paths_decide}
+use Rattle.eden_objects.specs.declared.import.Object.{Object}
+use Rattle.eden_objects.specs.contracts.import.ObjectPartialEq.TheImpl as object
 use Rattle.eden_history.specs.declared.answer.Answer.{Answer}
 use Rattle.eden_history.specs.declared.answer.Answer.TheVariants.{At, Checked, Refused}
 use Rattle.eden_history.specs.declared.change.Change.{Change}
@@ -30,5 +32,11 @@ answer_decides (Checked p ps) (Checked q qs) =
 answer_decides (Refused f) (Refused g) = search rules
 answer_decides a b = search rules
 
+object_decides : (a b : Object) → Decides (object.ghosts.eq a b) (a ≡ b)
+object_decides a b = search (rules, bytes_decides)
+
+objects_decide : (a b : List Object) → Decides (pointwise object.ghosts.eq a b) (a ≡ b)
+objects_decide = pointwise_decides object_decides
+
 pub change_decides : (a b : Change) → Decides (change.ghosts.eq a b) (a ≡ b)
-change_decides a b = search (rules, bytes_decides, id_decides, kind_decides)
+change_decides a b = search (rules, bytes_decides, id_decides, kind_decides, objects_decide)

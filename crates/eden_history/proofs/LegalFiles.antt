@@ -10,7 +10,7 @@ use Rattle.eden_objects.specs.Commits.{commit_map}
 use Rattle.eden_objects.specs.Files.{files_of}
 use Rattle.eden_objects.proofs.CommitLaws.{file_maps}
 use Rattle.eden_history.specs.declared.change.Change.{Change}
-use Rattle.eden_history.specs.declared.change.Change.TheVariants.{Write, Remove, Rename, Checkout, Reset, Flush, Remount}
+use Rattle.eden_history.specs.declared.change.Change.TheVariants.{Write, Remove, Rename, Checkout, Reset, Flush, Remount, Import}
 use Rattle.eden_history.specs.Worlds.{Row, Event, Commits, WorldState, commits_of, last_row, now, opened}
 use Rattle.eden_history.specs.Named.{held_files}
 use Rattle.eden_history.specs.Outcome.{change_fault, next_files, next_row, outcome, refusal}
@@ -41,6 +41,7 @@ next_fits commits row (Checkout commit mode) maps e fits =
 next_fits commits row (Reset commit) maps e fits = fits
 next_fits commits row Flush maps e fits = fits
 next_fits commits row (Remount generation) maps e fits = fits
+next_fits commits row (Import objects) maps e fits = fits
 
 pub allowed_files : (commits : Commits) (row : Row) (change : Change) → refusal commits row change ≡ None → change_fault commits row change ≡ None
 unfolding refusal

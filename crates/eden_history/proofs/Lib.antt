@@ -5,6 +5,8 @@ pub mod RenameLaws
 pub mod Committed
 pub mod Steps
 pub mod LegalFiles
+pub mod Rooted
+pub mod Growing
 pub mod Touched
 pub mod Ranges
 pub mod Floors

@@ -1,5 +1,5 @@
 -- What makes replies spellable is kept by every change, and holds of each row of a world and of each path that an event names.
-use Rattle.std.proofs.Common.{◌≡◌, ℕ, ◌^◌, ◌<◌, ◌⊎◌, inl, inr, Bool, true, false, cond, ◌||◌, is_some, nat_lt, List, [], ◌∷◌, length, Option, Some, None, refl, sym, subst, ◌∙◌, arith}
+use Rattle.std.proofs.Common.{◌≡◌, ℕ, ◌^◌, ◌<◌, ◌⊎◌, inl, inr, Bool, true, false, cond, ◌||◌, is_some, nat_lt, List, [], ◌∷◌, length, Option, Some, None, Ok, refl, sym, subst, ◌∙◌, arith}
 use Rattle.std.specs.Prelude.{if◌then◌else◌}
 use Rattle.std.proofs.lemmas.Bool.{ltb-false}
 use Rattle.std.specs.List.{AllByRecursion}
@@ -13,28 +13,33 @@ use Rattle.eden_ids.specs.Texts.{AreBytes, AreTexts, IsContentText, IsIdText, Is
 use Rattle.eden_ids.proofs.FileMapLemmas.{has-none}
 use Rattle.eden_ids.proofs.Members.{all_members, all_of_set, all_of_union}
 use Rattle.eden_ids.proofs.TextLemmas.{differ_texts, texts_insert, texts_none, texts_remove}
+use Rattle.eden_objects.specs.declared.import.Object.{Object}
 use Rattle.eden_objects.specs.Objects.{Held}
 use Rattle.eden_objects.specs.Closed.{IsClosed}
 use Rattle.eden_objects.specs.Commits.{commit_map}
 use Rattle.eden_objects.specs.Files.{files_of}
+use Rattle.eden_objects.specs.Imports.{import_outcome}
 use Rattle.eden_objects.specs.Small.{AreSmall}
 use Rattle.eden_objects.proofs.CommitTexts.{commits_texts}
+use Rattle.eden_objects.proofs.Importing.{imports_small}
 use Rattle.eden_history.specs.declared.change.Mode.{Mode}
 use Rattle.eden_history.specs.declared.change.Mode.TheVariants.{Normal, Dry, Force}
 use Rattle.eden_history.specs.declared.change.Change.{Change}
-use Rattle.eden_history.specs.declared.change.Change.TheVariants.{Write, Remove, Rename, Checkout, Reset, Flush, Remount}
+use Rattle.eden_history.specs.declared.change.Change.TheVariants.{Write, Remove, Rename, Checkout, Reset, Flush, Remount, Import}
 use Rattle.eden_history.specs.declared.change.ChangeFault.{ChangeFault}
 use Rattle.eden_history.specs.declared.change.ChangeFault.TheVariants.{TooLarge}
-use Rattle.eden_history.specs.Worlds.{Row, Event, Commits, WorldState, commits_of, last_row, now, opened}
+use Rattle.eden_history.specs.Worlds.{Row, Event, Commits, Namer, WorldState, commits_of, last_row, now, opened}
 use Rattle.eden_history.specs.Checkouts.{checked_out, is_blocked, is_clean, rule_of, unclean}
 use Rattle.eden_history.specs.Named.{commits_differ, held_files, named, unclean_set}
 use Rattle.eden_history.specs.Changes.{changes, is_in_range, named_if}
-use Rattle.eden_history.specs.Outcome.{Outcome, change_fault, event_at, extended, is_event, judged, next_files, next_generation, next_root, next_row, outcome, refusal, world_after}
+use Rattle.eden_history.specs.Outcome.{Outcome, change_fault, event_at, extended, is_event, judged, next_files, next_generation, next_root, next_row, outcome, refusal, row_after, world_after}
 use Rattle.eden_history.specs.Outcome.Outcome.{Refuses, NoEvent, Next}
 use Rattle.eden_history.specs.Renames.{moved, place_fault, renamed, write_fault}
 use Rattle.eden_history.specs.Legal.{AreMade, IsWorld}
-use Rattle.eden_history.specs.Spellable.{IsChange, IsRowText, IsSpellable}
+use Rattle.eden_history.specs.Imports.{over_held, world_imported}
+use Rattle.eden_history.specs.Spellable.{AreObjects, IsChange, IsRowText, IsSpellable}
 use Rattle.eden_history.proofs.CheckoutLaws.{file_at-checked_out}
+use Rattle.eden_history.proofs.Growing.{after_by, imported_by}
 use Rattle.eden_history.proofs.LegalFiles.{allowed_files}
 use Rattle.eden_history.proofs.Ranges.{changes_more, changes_none}
 use Rattle.eden_history.proofs.RenameLaws.{first-none}
@@ -111,6 +116,7 @@ texts_next commits row (Checkout commit mode) held allowed is texts =
 texts_next commits row (Reset commit) held allowed is texts = texts
 texts_next commits row Flush held allowed is texts = texts
 texts_next commits row (Remount generation) held allowed is texts = texts
+texts_next commits row (Import objects) held allowed is texts = texts
 
 -- ---- the rows of a world
 
@@ -122,6 +128,7 @@ generation_fits row (Checkout commit mode) is fits = fits
 generation_fits row (Reset commit) is fits = fits
 generation_fits row Flush is fits = fits
 generation_fits row (Remount generation) is fits = is
+generation_fits row (Import objects) is fits = fits
 
 root_text : (row : Row) (change : Change) → IsChange change → IsIdText row.root → IsIdText (next_root row change)
 root_text row (Write path kind bytes) is root = root
@@ -131,6 +138,7 @@ root_text row (Checkout commit mode) is root = is
 root_text row (Reset commit) is root = is
 root_text row Flush is root = root
 root_text row (Remount generation) is root = root
+root_text row (Import objects) is root = root
 
 next_text : (commits : Commits) (row : Row) (change : Change) → HoldTexts commits → refusal commits row change ≡ None → is_event change ≡ true → IsChange change → IsRowText row
     → IsRowText (next_row commits row change)
@@ -178,6 +186,7 @@ names_texts commits before (Reset commit) after held is old new =
     differ_texts (held_files commits before.root) (held_files commits commit) (held_texts commits held before.root) (held_texts commits held commit)
 names_texts commits before Flush after held is old new = tt
 names_texts commits before (Remount generation) after held is old new = tt
+names_texts commits before (Import objects) after held is old new = tt
 
 event_texts : (commits : Commits) (opening : Row) (past : List Event) (event : Event) → HoldTexts commits → IsRowText opening → AllByRecursion (λ e. IsChange e.change) (event ∷ past)
     → AreMade commits opening (event ∷ past) → AllByRecursion IsPathText event.names
@@ -245,7 +254,25 @@ spellable_extended world (Refuses fault) is change = is
 spellable_extended world NoEvent is change = is
 spellable_extended world (Next event) is change = spellable_grows world event is change
 
--- after any change, also one that is refused
-pub spellable_after : (world : WorldState) (change : Change) → IsSpellable world → IsChange change → IsSpellable (world_after world change)
-spellable_after world change is allowed =
+-- by its rows, after any change, also one that is refused
+pub spellable_rows : (world : WorldState) (change : Change) → IsSpellable world → IsChange change → IsSpellable (row_after world change)
+spellable_rows world change is allowed =
     spellable_extended world (outcome (commits_of world) (now world) change) is (outcome_change (commits_of world) (now world) change allowed)
+
+-- over other objects within the limits
+spellable_over : (world : WorldState) (held : List Held) → IsSpellable world → AreSmall held → IsSpellable (over_held world held)
+spellable_over world held is small = record { small = small; opening = is.opening; changes = is.changes }
+
+pub spellable_of_import : (name : Namer) (world : WorldState) (objects : List Object) (held : List Held) → IsSpellable world → AreObjects objects
+    → import_outcome name objects world.held ≡ Ok held → IsSpellable (over_held world held)
+spellable_of_import name world objects held is are e = spellable_over world held is (imports_small name objects world.held held is.small are e)
+
+pub spellable_imports : (name : Namer) (world : WorldState) (objects : List Object) → IsSpellable world → AreObjects objects → IsSpellable (world_imported name world objects)
+spellable_imports name world objects is are =
+    imported_by IsSpellable world (import_outcome name objects world.held) is
+    (λ held e. spellable_of_import name world objects held is are e)
+
+pub spellable_after : (name : Namer) (world : WorldState) (change : Change) → IsSpellable world → IsChange change → IsSpellable (world_after name world change)
+spellable_after name world change is allowed =
+    after_by IsSpellable name world change (spellable_rows world change is allowed)
+    (λ objects e. spellable_imports name world objects is (subst IsChange e allowed))

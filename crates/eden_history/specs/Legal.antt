@@ -1,9 +1,8 @@
 -- What a world is: a store, a limit, and a history of one mount over it.
-use Rattle.std.specs.Prelude.{◌≡◌, ◌<◌, ◌^◌, ℕ, List, [], ◌∷◌, IsSome}
-use Rattle.eden_ids.specs.declared.id.Id.{Id}
+use Rattle.std.specs.Prelude.{◌≡◌, ◌<◌, ◌^◌, List, [], ◌∷◌, IsSome}
 use Rattle.eden_ids.specs.FileMaps.{IsFileMap}
 use Rattle.eden_objects.specs.Closed.{AllNamed, IsClosed}
-use Rattle.eden_history.specs.Worlds.{Row, Event, Commits, WorldState, commits_of, last_row}
+use Rattle.eden_history.specs.Worlds.{Row, Event, Commits, Namer, WorldState, commits_of, last_row}
 use Rattle.eden_history.specs.Outcome.{outcome}
 use Rattle.eden_history.specs.Outcome.Outcome.{Next}
 
@@ -17,8 +16,8 @@ abbrev pub IsLegal : WorldState → Type 0
 IsLegal world = IsFileMap world.opening.files × AreMade (commits_of world) world.opening world.past
 
 -- a world: its objects are a store's, each under the id that the naming gives it, its history is legal, and it opened on a commit, at a
--- number of eight bytes. The naming stands beside the world, since a function is no data
-pub record IsWorld (name : List ℕ → List ℕ → Id) (world : WorldState) : Type 0 where
+-- number of eight bytes
+pub record IsWorld (name : Namer) (world : WorldState) : Type 0 where
   pub closed : IsClosed world.held
   pub named : AllNamed name world.held
   pub legal : IsLegal world
@@ -27,4 +26,4 @@ pub record IsWorld (name : List ℕ → List ℕ → Id) (world : WorldState) : 
 
 -- a world whose objects some naming names
 abbrev pub IsSomeWorld : WorldState → Type 0
-IsSomeWorld world = (name : List ℕ → List ℕ → Id) × IsWorld name world
+IsSomeWorld world = (name : Namer) × IsWorld name world

@@ -3,6 +3,7 @@ pub mod Renames
 pub mod Checkouts
 pub mod DirtyFiles
 pub mod Named
+pub mod Imports
 pub mod Outcome
 pub mod Legal
 pub mod Spellable

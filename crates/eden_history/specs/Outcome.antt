@@ -1,5 +1,5 @@
 -- What a change does to a row: it is refused, or makes no event, or makes the next row.
-use Rattle.std.specs.Prelude.{ℕ, ◌+◌, ◌-◌, ◌^◌, Bool, true, false, not, ◌&&◌, nat_lt, if◌then◌else◌, ◌∷◌, Option, Some, None}
+use Rattle.std.specs.Prelude.{ℕ, ◌+◌, ◌-◌, ◌^◌, Bool, true, false, not, ◌&&◌, nat_lt, if◌then◌else◌, ◌∷◌, Option, Some, None, Ok, Err}
 use Rattle.std.specs.Option.{option_or}
 use Rattle.std.specs.FinMap as fin
 use Rattle.eden_ids.specs.declared.id.Id.{Id}
@@ -7,11 +7,14 @@ use Rattle.eden_ids.specs.FileMaps.{FileMap, listing}
 use Rattle.eden_history.specs.declared.answer.Answer.{Answer}
 use Rattle.eden_history.specs.declared.answer.Answer.TheVariants.{At, Checked, Refused}
 use Rattle.eden_history.specs.declared.change.Change.{Change}
-use Rattle.eden_history.specs.declared.change.Change.TheVariants.{Write, Remove, Rename, Checkout, Reset, Flush, Remount}
+use Rattle.eden_history.specs.declared.change.Change.TheVariants.{Write, Remove, Rename, Checkout, Reset, Flush, Remount, Import}
 use Rattle.eden_history.specs.declared.change.ChangeFault.{ChangeFault}
-use Rattle.eden_history.specs.declared.change.ChangeFault.TheVariants.{NoCommit, SequenceExhausted, GenerationNotNew}
+use Rattle.eden_history.specs.declared.change.ChangeFault.TheVariants.{NoCommit, SequenceExhausted, GenerationNotNew, BadObject, NoMemory}
 use Rattle.eden_history.specs.declared.position.Position.{Position}
-use Rattle.eden_history.specs.Worlds.{Row, Event, Commits, WorldState, commits_of, now, position_of}
+use Rattle.eden_objects.specs.declared.import.ImportFault.TheVariants as imports
+use Rattle.eden_objects.specs.Imports.{Imported, import_outcome}
+use Rattle.eden_history.specs.Worlds.{Row, Event, Commits, Namer, WorldState, commits_of, now, position_of}
+use Rattle.eden_history.specs.Imports.{world_imported}
 use Rattle.eden_history.specs.Renames.{absent_fault, write_fault, rename_fault, renamed}
 use Rattle.eden_ids.specs.Sameness.{same_bytes}
 use Rattle.eden_history.specs.Checkouts.{checked_out, conflicts, is_dry}
@@ -22,7 +25,7 @@ abbrev pub commit_fault : Option FileMap → Option ChangeFault
 commit_fault None = Some NoCommit
 commit_fault (Some files) = None
 
--- why the files, the commits or the generation refuse a change
+-- why the files, the commits or the generation refuse a change. What refuses an import are its objects, by the store: see `answer_of`
 abbrev pub change_fault : Commits → Row → Change → Option ChangeFault
 change_fault commits row (Write path kind bytes) = write_fault row.files path bytes
 change_fault commits row (Remove path) = absent_fault row.files path
@@ -31,11 +34,14 @@ change_fault commits row (Checkout commit mode) = commit_fault (commits commit)
 change_fault commits row (Reset commit) = commit_fault (commits commit)
 change_fault commits row Flush = None
 change_fault commits row (Remount generation) = if nat_lt row.generation generation then None else Some GenerationNotNew
+change_fault commits row (Import objects) = None
 
--- whether the change, where nothing refuses it, makes an event: all do but the rename of a file to itself and a checkout that is tried
+-- whether the change, where nothing refuses it, makes an event: all do but the rename of a file to itself, a checkout that is tried and an
+-- import
 abbrev pub is_event : Change → Bool
 is_event (Rename old new) = not (same_bytes old new)
 is_event (Checkout commit mode) = not (is_dry mode)
+is_event (Import objects) = false
 is_event change = true
 
 -- whether the change, where nothing refuses it, takes the next number: a remount begins anew with number 1
@@ -110,14 +116,30 @@ answered commits row change (Refuses fault) = Refused fault
 answered commits row change NoEvent = answer_at commits row change (position_of row)
 answered commits row change (Next event) = answer_at commits row change (position_of event.row)
 
--- the answer to a change, and the world after it
-abbrev pub answer_of : WorldState → Change → Answer
-answer_of world change = answered (commits_of world) (now world) change (outcome (commits_of world) (now world) change)
+-- the answer to a change that is no import, by the rows
+abbrev pub row_answer : WorldState → Change → Answer
+row_answer world change = answered (commits_of world) (now world) change (outcome (commits_of world) (now world) change)
 
 abbrev pub extended : WorldState → Outcome → WorldState
 extended world (Refuses fault) = world
 extended world NoEvent = world
 extended world (Next event) = record world { past = event ∷ world.past }
 
-abbrev pub world_after : WorldState → Change → WorldState
-world_after world change = extended world (outcome (commits_of world) (now world) change)
+-- the world after such a change
+abbrev pub row_after : WorldState → Change → WorldState
+row_after world change = extended world (outcome (commits_of world) (now world) change)
+
+-- an import is answered with the present position, also where all objects were there already
+abbrev pub import_answer : Position → Imported → Answer
+import_answer position (Ok held) = At position
+import_answer position (Err (imports.BadObject place fault)) = Refused (BadObject place fault)
+import_answer position (Err imports.NoMemory) = Refused NoMemory
+
+-- the answer to a change, and the world after it
+abbrev pub answer_of : Namer → WorldState → Change → Answer
+answer_of name world (Import objects) = import_answer (position_of (now world)) (import_outcome name objects world.held)
+answer_of name world change = row_answer world change
+
+abbrev pub world_after : Namer → WorldState → Change → WorldState
+world_after name world (Import objects) = world_imported name world objects
+world_after name world change = row_after world change

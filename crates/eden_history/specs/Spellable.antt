@@ -1,11 +1,12 @@
 -- What makes everything that a mount replies one that bytes can say: its numbers have eight bytes, its roots twenty, its paths are paths and
 -- its files have 8 MiB at the most.
-use Rattle.std.specs.Prelude.{◌<◌, ◌^◌}
+use Rattle.std.specs.Prelude.{◌<◌, ◌^◌, List}
 use Rattle.std.specs.List.{AllByRecursion}
 use Rattle.eden_ids.specs.Texts.{AreBytes, AreTexts, IsIdText, IsPathText}
+use Rattle.eden_objects.specs.declared.import.Object.{Object}
 use Rattle.eden_objects.specs.Small.{AreSmall}
 use Rattle.eden_history.specs.declared.change.Change.{Change}
-use Rattle.eden_history.specs.declared.change.Change.TheVariants.{Write, Remove, Rename, Checkout, Reset, Flush, Remount}
+use Rattle.eden_history.specs.declared.change.Change.TheVariants.{Write, Remove, Rename, Checkout, Reset, Flush, Remount, Import}
 use Rattle.eden_history.specs.Worlds.{Row, WorldState}
 
 pub record IsRowText (row : Row) : Type 0 where
@@ -14,7 +15,11 @@ pub record IsRowText (row : Row) : Type 0 where
   pub root : IsIdText row.root
   pub files : AreTexts row.files
 
--- a change that a value can be. A write may name a file of any size: one that is too large is refused
+-- objects that values can be
+abbrev pub AreObjects : List Object → Type 0
+AreObjects objects = AllByRecursion (λ object. AreBytes object.payload) objects
+
+-- a change that a value can be. A write may name a file of any size, and an import an object of any: one that is too large is refused
 abbrev pub IsChange : Change → Type 0
 IsChange (Write path kind bytes) = IsPathText path × AreBytes bytes
 IsChange (Remove path) = IsPathText path
@@ -23,6 +28,7 @@ IsChange (Checkout commit mode) = IsIdText commit
 IsChange (Reset commit) = IsIdText commit
 IsChange Flush = Unit {0}
 IsChange (Remount generation) = generation < 2 ^ 64
+IsChange (Import objects) = AreObjects objects
 
 -- The objects, the opening row and the changes that were made suffice: each later row and each name comes from these.
 pub record IsSpellable (world : WorldState) : Type 0 where

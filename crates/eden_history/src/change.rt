@@ -1,6 +1,7 @@
 ghost use Rattle.std.specs.Prelude.{◌≡◌, IfOk};
 
 use eden_ids::{Id, Kind, NoMemory, Path, Sequence};
+use eden_objects::{Object, PutFault};
 use thiserror::Error;
 
 /// How a checkout treats files that were changed since the commit that it leaves.
@@ -58,6 +59,12 @@ pub enum Change {
         /// The generation, above the present one.
         generation: u64,
     },
+    /// Puts objects into the store below the mount, one after another: all of them or, where one is refused, none. It takes no number, and
+    /// leaves the root, the files and what is told of earlier changes as they are.
+    Import {
+        /// The objects, each behind those that it names. One that is there already stays as it is.
+        objects: Sequence<Object>,
+    },
 }
 
 impl Change {
@@ -93,6 +100,14 @@ pub enum ChangeFault {
     /// The generation is not above the present one.
     #[error("GenerationNotNew")]
     GenerationNotNew,
+    /// An object of an import is refused: the first one that is, each put into the store that has those before it.
+    #[error("BadObject")]
+    BadObject {
+        /// Where it stands among the objects, the first at 0.
+        place: u64,
+        /// The first cause for which the store refuses it.
+        fault: PutFault,
+    },
     /// A growth was refused.
     #[error("NoMemory")]
     NoMemory,

@@ -2,13 +2,12 @@ use eden_ids::Naming;
 use eden_objects::{CommitFault, Store};
 use std::error::Error;
 use std::fmt;
-use std::sync::Arc;
 
 /// Why a commit can't be mounted, and the store that was handed in for it.
 #[derive(Drop)]
 pub struct MountFault<N: Naming + Drop> {
     /// The store, as it was.
-    pub store: Arc<Store<N>>,
+    pub store: Store<N>,
     /// That the id is no commit's, or that a growth was refused.
     pub cause: CommitFault,
 }

@@ -1,11 +1,21 @@
 //! What the type of a change says of its value, as the contract of a function with no work to do.
 
-ghost use Rattle.eden_history.specs.Spellable.{IsChange};
+ghost use Rattle.eden_history.specs.Spellable.{AreObjects, IsChange};
 
 use crate::change::Change;
 use eden_ids::{bytes_law, id_law, path_law};
+use eden_objects::Object;
 
-/// What holds of every change: its paths are paths, its ids are twenty bytes, and its number has eight.
+/// What holds of all objects: their payloads are bytes.
+fn objects_law(objects: &[Object])
+    ensures { AreObjects objects.now }
+{
+    for object in objects {
+        bytes_law(object.payload.as_slice());
+    }
+}
+
+/// What holds of every change: its paths are paths, its ids are twenty bytes, its number has eight, and its objects' payloads are bytes.
 pub fn change_law(change: &Change)
     ensures { IsChange change.now }
 {
@@ -25,5 +35,6 @@ pub fn change_law(change: &Change)
         Change::Remount { generation } => {
             let _generation = *generation;
         }
+        Change::Import { objects } => objects_law(objects.as_slice()),
     }
 }

@@ -7,7 +7,7 @@ use sha1::Sha1;
 /// A rule that gives each object its id, from the word for its kind (`blob`, `tree` or `commit`) and its payload.
 ///
 /// The id is a function of these two alone: two calls with the same bytes answer the same id.
-pub trait Naming {
+pub trait Naming: Copy {
     ghost use Rattle.std.specs.Prelude.{ℕ, List};
     ghost use Rattle.eden_ids.specs.declared.id.Id.{Id};
 

@@ -15,7 +15,7 @@ use Rattle.eden_objects.specs.Commits.{Row, rows_of_kind, entry_rows, entries_ro
 use Rattle.eden_git.specs.Commits.{tree_named}
 use Rattle.eden_objects.specs.Puts.{word_wanted}
 use Rattle.eden_objects.specs.Closed.{IsHeld, HasTree, IsTree, IsSound, IsClosed}
-use Rattle.eden_objects.proofs.Tables.{same_id-is}
+use Rattle.eden_segments.proofs.Distinct.{same_id-is}
 
 id_with : List ℕ → Id
 id_with bytes = record { 0 = bytes }

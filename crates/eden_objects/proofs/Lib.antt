@@ -11,6 +11,7 @@ pub mod CommitTexts
 pub mod Naming
 pub mod FilesOf
 pub mod Grown
+pub mod Importing
 pub mod Tables
 mod Putting
 pub mod TreeOf

@@ -9,7 +9,7 @@ use Rattle.eden_ids.specs.Sameness.{same_id}
 use Rattle.eden_objects.specs.Closed.{AllNamed}
 use Rattle.eden_objects.specs.Laws.{EqualObjectsAreOne, EqualFilesHaveOneBlob}
 use Rattle.eden_objects.proofs.Closed.{find-here, find-there}
-use Rattle.eden_objects.proofs.Tables.{same_id-is}
+use Rattle.eden_segments.proofs.Distinct.{same_id-is}
 
 -- an object that is found has the id that was asked for
 pub found_id : (held : List Held) (id : Id) (h : Held) → find id held ≡ Some h → id ≡ h.id

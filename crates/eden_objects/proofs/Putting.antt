@@ -1,7 +1,7 @@
 -- What a put call answers, case by case.
 use Rattle.std.proofs.Common.{◌≡◌, ◌∙◌, refl, ap, Bool, true, false, cond, List, ◌∷◌, Some, None, Ok, Err}
 use Rattle.eden_ids.specs.declared.id.Id.{Id}
-use Rattle.eden_objects.specs.declared.store.Object.{Object}
+use Rattle.eden_objects.specs.declared.stored.Stored.{Stored}
 use Rattle.eden_objects.specs.declared.fault.PutFault.TheVariants.{IdTaken}
 use Rattle.eden_objects.specs.Objects.{Held, find, zero_id}
 use Rattle.eden_ids.specs.Sameness.{same_id}
@@ -17,7 +17,7 @@ pub no_memory : (new : Held) (held : List Held) (id : Id) → new.id ≡ id → 
 no_memory new held id is zero absent =
     (new.id, new, added new held (ap (λ i. same_id i zero_id) is ∙ zero) (ap (λ i. find i held) is ∙ absent))
 
-pub standing : (new : Held) (held : List Held) (id : Id) (object : Object) → new.id ≡ id → same_id id zero_id ≡ false
+pub standing : (new : Held) (held : List Held) (id : Id) (object : Stored) → new.id ≡ id → same_id id zero_id ≡ false
     → find id held ≡ Some (held_of id object)
     → PutGives (standing_answer object id new.word new.payload) held held (put_outcome new held)
 standing new held id object is zero found =

@@ -1,5 +1,5 @@
 -- What holds in every closed store.
-use Rattle.std.specs.Prelude.{◌≡◌, ℕ, true, List, map, Some, None}
+use Rattle.std.specs.Prelude.{◌≡◌, ℕ, true, List, map, Some, None, Ok}
 use Rattle.std.specs.Ordering.{nat_cmp}
 use Rattle.std.specs.Cmp.Lexicographic.{slice_cmp}
 use Rattle.std.specs.List.{AllByRecursion}
@@ -8,9 +8,11 @@ use Rattle.eden_ids.specs.declared.id.Id.{Id}
 use Rattle.eden_ids.specs.declared.content.Kind.{Kind}
 use Rattle.eden_ids.specs.FileMaps.{FileMap, file_at, paths, IsFileMap}
 use Rattle.eden_ids.specs.Paths.{path_fault}
-use Rattle.eden_ids.specs.Texts.{AreTexts}
+use Rattle.eden_ids.specs.Texts.{AreBytes, AreTexts}
 use Rattle.eden_git.specs.declared.word.Word.TheVariants.{Blob, Tree}
+use Rattle.eden_objects.specs.declared.import.Object.{Object}
 use Rattle.eden_objects.specs.Objects.{Held, find}
+use Rattle.eden_objects.specs.Imports.{GrowsOnto, import_outcome}
 use Rattle.eden_git.specs.Trees.{Entry, cut, entries_of, is_name}
 use Rattle.eden_objects.specs.Commits.{Row, tree_rows, entries_rows, find_row, commit_rows, commit_map}
 use Rattle.eden_git.specs.Directories.{file_named, dir_named}
@@ -101,3 +103,13 @@ CommitRowsStay = (held other : List Held) → IsClosed held → IsClosed other �
 abbrev pub CommitMapsStay : Type 0
 CommitMapsStay = (held other : List Held) → IsClosed held → IsClosed other → HasAll held other → (commit : Id) (files : FileMap) → commit_map held commit ≡ Some files
     → commit_map other commit ≡ Some files
+
+-- An import leaves a store that a naming names, and that has all that was there.
+abbrev pub ImportsKeep : Type 0
+ImportsKeep = (name : List ℕ → List ℕ → Id) (objects : List Object) (held new : List Held) → IsClosed held → AllNamed name held
+    → import_outcome name objects held ≡ Ok new → IsClosed new × AllNamed name new × GrowsOnto held new × HasAll held new
+
+-- Where the payloads that it puts are bytes, each stays within its limit.
+abbrev pub ImportsStaySmall : Type 0
+ImportsStaySmall = (name : List ℕ → List ℕ → Id) (objects : List Object) (held new : List Held) → AreSmall held
+    → AllByRecursion (λ object. AreBytes object.payload) objects → import_outcome name objects held ≡ Ok new → AreSmall new

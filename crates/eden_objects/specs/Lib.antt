@@ -7,6 +7,7 @@ pub mod Small
 pub mod Laws
 pub mod Walks
 pub mod Contents
+pub mod Imports
 pub mod Listings
 pub mod Readings
 pub mod Copies

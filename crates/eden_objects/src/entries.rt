@@ -10,7 +10,8 @@ ghost use Rattle.eden_objects.specs.Readings.{tree_entries, tree_payload};
 ghost use Rattle.eden_objects.specs.Copies.{copied, copied_all};
 
 use crate::outline::Outline;
-use crate::store::{Object, Store};
+use crate::store::Store;
+use crate::stored::Stored;
 use eden_git::{RawEntry, Rows, Word, same_word};
 use eden_ids::{Id, Kind, Naming, NoMemory};
 use std::alloc::Global;
@@ -66,10 +67,10 @@ fn copies_of(alloc: Global, rows: &Rows<'_>) -> Result<Vec<Entry>, NoMemory>
     Ok(found)
 }
 
-impl Object {
+impl Stored {
     /// The payload, if the object is a tree.
     fn entries(&self) -> Option<&[u8]>
-        ensures { option_copied result ≡ (if same_word self.now.word Word.Tree then Some self.now.payload.items else None) }
+        ensures { option_copied result ≡ (if same_word self.now.word Word.Tree then Some self.now.payload else None) }
     {
         if same_word(self.word, Word::Tree) {
             Some(self.payload.as_slice())
@@ -81,7 +82,7 @@ impl Object {
     /// The entries with their columns, if the object is a tree.
     fn rows(&self) -> Option<Rows<'_>>
         requires { HasColumns self.now }
-        ensures { result ≡ (if same_word self.now.word Word.Tree then Some (entries_of self.now.payload.items) else None) }
+        ensures { result ≡ (if same_word self.now.word Word.Tree then Some (entries_of self.now.payload) else None) }
     {
         match &self.outline {
             Some(outline) => Some(Rows::new(self.payload.as_slice(), &outline.columns)),

@@ -20,6 +20,7 @@ use crate::size::Size;
 use crate::store::{PAYLOAD_LIMIT, Store};
 use eden_git::{Columns, RawEntry, Rows, Word, read_entry, same_word, tree_named};
 use eden_ids::{Id, Kind, Naming};
+use eden_segments::Shared;
 
 /// What a directory, or else a file, has to be.
 fn word_wanted(kind: Option<Kind>) -> Word
@@ -175,12 +176,12 @@ impl<N: Naming + Drop> Store<N> {
     }
 
     /// What is kept of a tree beside its payload, or why the payload is no tree's that the store may hold.
-    pub(crate) fn outline_of(&self, payload: &[u8]) -> Result<Box<Outline>, PutFault>
+    pub(crate) fn outline_of(&self, payload: &[u8]) -> Result<Shared<Outline>, PutFault>
         requires { length payload.now ≤ 8388608 }
         ensures passes { IfOk result (λ outline. tree_fault payload.now self.now ≡ None) }
         ensures sound { IfOk result (λ outline. IsSound Word.Tree payload.now self.now) }
-        ensures columns { IfOk result (λ outline. AreColumns payload.now outline.value.columns) }
-        ensures fits { IfOk result (λ outline. OutlineFits self.now payload.now outline.value) }
+        ensures columns { IfOk result (λ outline. AreColumns payload.now outline.columns) }
+        ensures fits { IfOk result (λ outline. OutlineFits self.now payload.now outline) }
         ensures refuses { IfErr result (λ fault. fault ≢ PutFault.NoMemory → tree_fault payload.now self.now ≡ Some fault) }
     {
         let size = match self.tree_size(payload) {
@@ -195,7 +196,7 @@ impl<N: Naming + Drop> Store<N> {
             files: self.files_in(&Rows::new(payload, &columns)),
             columns,
         };
-        match Box::new(self.allocator(), outline) {
+        match Shared::new(self.allocator(), outline) {
             Ok(outline) => Ok(outline),
             Err(_) => Err(PutFault::NoMemory),
         }

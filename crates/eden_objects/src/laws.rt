@@ -2,7 +2,7 @@
 
 ghost use Rattle.std.specs.Prelude.{◌≡◌, ℕ, List, Some};
 ghost use Rattle.eden_ids.specs.declared.id.Id.{Id};
-ghost use Rattle.eden_objects.specs.Laws.{TreesUnfold, NamesFound, DirectoriesFound, PathsRise, PathsAreLegal, RowsRise, RowsAreLegal, RowsNameBlobs, CommitsAreFileMaps, CommitsHoldTexts, CommitsListTheirRows, RowsAreFiles, EqualObjectsAreOne, EqualFilesHaveOneBlob, TreesStay, CommitRowsStay, CommitMapsStay};
+ghost use Rattle.eden_objects.specs.Laws.{TreesUnfold, NamesFound, DirectoriesFound, PathsRise, PathsAreLegal, RowsRise, RowsAreLegal, RowsNameBlobs, CommitsAreFileMaps, CommitsHoldTexts, CommitsListTheirRows, RowsAreFiles, EqualObjectsAreOne, EqualFilesHaveOneBlob, TreesStay, CommitRowsStay, CommitMapsStay, ImportsKeep, ImportsStaySmall};
 
 /// The files of a tree, in any store that is closed, as `Store::closed_law` says that each is.
 #[tactic(auto, using(crate::proofs::Closed::rows_of_tree, crate::proofs::Lookup::look_file, crate::proofs::Lookup::look_dir, crate::proofs::Rising::rising_law, crate::proofs::Fitting::fitting_law))]
@@ -56,4 +56,8 @@ pub fn grown_law()
     ensures rows { CommitRowsStay }
     // and stands for the same file map.
     ensures maps { CommitMapsStay }
+    // An import leaves a store that has all of its objects,
+    ensures imports { ImportsKeep }
+    // and whose payloads are within their limit.
+    ensures small { ImportsStaySmall }
 {}

@@ -1,8 +1,8 @@
-//! A store of Git's objects, in which every object names earlier ones only.
+//! A store of Git's objects, in which every object names earlier ones only, and of which a copy takes a few pointers.
 //!
 //! ```rust
-//! use eden_ids::{GitNaming, Path};
-//! use eden_objects::Store;
+//! use eden_ids::{GitNaming, Naming, Path, Sequence};
+//! use eden_objects::{Object, Store, Word};
 //!
 //! let mut store = Store::new(alloc, GitNaming);
 //! let file = store.put_blob(b"hello\n".as_slice())?;
@@ -17,6 +17,20 @@
 //! let commit = store.put_commit(commit.as_slice())?;
 //! let readme = Path::parse(alloc, b"README".as_slice())?;
 //! assert!(rt; matches!(store.lookup(commit, &readme), Ok(Some((_, id))) if id == file));
+//!
+//! // A copy keeps the objects that it has, and several objects are imported together, or none of them.
+//! let copy = store.share()?;
+//! let mut objects = Vec::new(alloc);
+//! for bytes in [b"more\n".as_slice(), b"and more\n".as_slice()] {
+//!     let payload = Sequence::from_vec(bytes.to_vec(alloc)?);
+//!     objects.push(Object {
+//!         word: Word::Blob,
+//!         payload,
+//!     })?;
+//! }
+//! store.import(objects.as_slice())?;
+//! let more = GitNaming.id_of(b"blob".as_slice(), b"more\n".as_slice());
+//! assert!(rt; store.blob(more).is_some() && copy.blob(more).is_none());
 //! ```
 #![tactic(auto)]
 
@@ -24,6 +38,8 @@ pub use crate::commit::Commit;
 pub use crate::entries::Entry;
 pub use crate::fault::{CommitFault, NoCommit, PutFault};
 pub use crate::front::{enter, is_entered, is_wanted};
+pub use crate::import::{ImportFault, Object};
+pub use crate::importer::Importer;
 pub use crate::laws::{commit_map_law, grown_law, same_object_law, tree_law};
 pub use crate::store::Store;
 pub use eden_git::{RawEntry, Rows, Word, key_order, next_entry};
@@ -33,6 +49,8 @@ mod commit;
 mod entries;
 mod fault;
 mod front;
+mod import;
+mod importer;
 mod judge;
 mod laws;
 mod list;
@@ -40,4 +58,5 @@ mod outline;
 mod seen;
 mod size;
 mod store;
+mod stored;
 mod walk;

@@ -1,64 +1,36 @@
-ghost use Rattle.std.specs.Prelude.{◌≡◌, ◌≤◌, ◌∷◌, [], None, Some, OnOk, OnErr, length, option_copied};
+ghost use Rattle.std.specs.Prelude.{◌≡◌, ◌≤◌, ◌∷◌, [], None, IfOk, OnOk, OnErr, length, option_copied};
 ghost use Rattle.eden_objects.specs.Objects.{find};
-ghost use Rattle.eden_git.specs.Words.{same_word, word_text};
-ghost use Rattle.eden_ids.specs.Sameness.{same_bytes};
+ghost use Rattle.eden_git.specs.Words.{word_text};
 ghost use Rattle.eden_objects.specs.Puts.{PutGives, TreeGives, put_outcome, blob_outcome, commit_outcome, named, tree_outcome};
 ghost use Rattle.eden_objects.specs.Closed.{IsClosed, IsSound, AllNamed};
 ghost use Rattle.eden_objects.specs.Small.{AreSmall, IsSmall};
-ghost use Rattle.eden_objects.specs.Contents.{held_of, option_held, IsOutlined, Measures, TellsOutline, is_object, standing_answer};
+ghost use Rattle.eden_objects.specs.Contents.{held_of, option_held, IsOutlined, Measures, TellsOutline};
 
 use crate::fault::PutFault;
 use crate::outline::Outline;
-use eden_git::{Word, same_word};
+use crate::stored::Stored;
+use bytes::Bytes;
+use eden_git::Word;
 use eden_ids::{Id, Naming, NoMemory};
-use indexmap::IndexMap;
+use eden_segments::{Shared, Table};
 use std::alloc::Global;
 use std::marker::Model;
 
 /// The most bytes of an object's payload: 8 MiB.
 pub(crate) const PAYLOAD_LIMIT: usize = 8_388_608;
 
-/// An object of a store.
-#[derive(Drop)]
-pub(crate) struct Object {
-    pub(crate) word: Word,
-    pub(crate) payload: Vec<u8>,
-    /// What is kept of a tree, and of no other object.
-    pub(crate) outline: Option<Box<Outline>>,
-}
-
-impl Object {
-    /// Whether the object is of this kind and has this payload.
-    fn is(&self, word: Word, payload: &[u8]) -> bool
-        ensures { result ≡ is_object self.now word payload.now }
-    {
-        same_word(self.word, word) && self.payload.as_slice() == payload
-    }
-
-    /// What is answered where this object stands under the id that another would have.
-    fn answer(&self, id: Id, word: Word, payload: &[u8]) -> Result<Id, PutFault>
-        ensures { result ≡ standing_answer self.now id word payload.now }
-    {
-        if self.is(word, payload) {
-            Ok(id)
-        } else {
-            Err(PutFault::IdTaken)
-        }
-    }
-}
-
 /// A store of Git's objects: blobs, trees and commits, each under the id that a naming gives it.
 ///
 /// An object names earlier ones only, so a tree or a commit is put after all that it names. An object that is there stays for good,
-/// and no other object is put under its id. Objects are kept in the order of their arrival, in memory, uncompressed.
+/// and no other object is put under its id. Objects are kept in memory, uncompressed, and a copy of a store shares them (`share`).
 #[derive(Drop)]
 pub struct Store<N: Naming + Drop> {
-    objects: IndexMap<Id, Object>,
+    objects: Table<Stored>,
     naming: N,
 }
 
 impl<N: Naming + Drop> Model for Store<N> {
-    ghost use Rattle.std.specs.Prelude.{List, reverse};
+    ghost use Rattle.std.specs.Prelude.{List};
     ghost use Rattle.eden_objects.specs.Objects.{Held};
     ghost use Rattle.eden_objects.specs.Closed.{IsClosed, AllNamed};
     ghost use Rattle.eden_objects.specs.Small.{AreSmall};
@@ -66,12 +38,12 @@ impl<N: Naming + Drop> Model for Store<N> {
 
     ghost Value = { List Held };
 
-    ghost view = { λ s. helds (reverse s.objects.entries) };
+    ghost view = { λ s. helds s.objects };
 
-    ghost invariant = { λ s. IsClosed (helds (reverse s.objects.entries))
-        × AllNamed N.id (helds (reverse s.objects.entries))
-        × AreMeasured (reverse s.objects.entries)
-        × AreSmall (helds (reverse s.objects.entries)) };
+    ghost invariant = { λ s. IsClosed (helds s.objects)
+        × AllNamed N.id (helds s.objects)
+        × AreMeasured s.objects
+        × AreSmall (helds s.objects) };
 }
 
 impl<N: Naming + Drop> Store<N> {
@@ -80,7 +52,7 @@ impl<N: Naming + Drop> Store<N> {
         ensures { result ≡ [] }
     {
         Store {
-            objects: IndexMap::new(alloc),
+            objects: Table::new(alloc),
             naming,
         }
     }
@@ -138,11 +110,11 @@ impl<N: Naming + Drop> Store<N> {
     }
 
     /// The object with an id.
-    pub(crate) fn object(&self, id: Id) -> Option<&Object>
+    pub(crate) fn object(&self, id: Id) -> Option<&Stored>
         ensures found { option_held id (option_copied result) ≡ find id self.now }
         ensures measured { TellsOutline self.now id (option_copied result) }
     {
-        self.objects.get(&id)
+        self.objects.get(id)
     }
 
     /// What holds of every store: an object has one id and names earlier ones of the right kinds, its id is the naming's, and its payload
@@ -157,22 +129,41 @@ impl<N: Naming + Drop> Store<N> {
 
     /// What the store takes its memory from.
     pub fn allocator(&self) -> Global {
-        *self.objects.allocator()
+        self.objects.allocator()
     }
 
-    fn add(&mut self, id: Id, object: Object) -> Result<(), NoMemory>
+    /// A copy of the store, which has the same objects and keeps them whatever is put into either afterwards. `NoMemory` comes where a
+    /// growth was refused, or an object has as many owners as can be counted; nothing is changed.
+    ///
+    /// No payload is copied: of n objects, a copy takes about log n pointers at the most. Objects that were put since the last copy are
+    /// set apart first, which takes a few pointers for each of them, and once in a while for each object.
+    pub fn share(&mut self) -> Result<Store<N>, NoMemory>
+        ensures copy { IfOk result (λ copy. copy ≡ self.old) }
+        ensures same { self.new ≡ self.old }
+    {
+        Ok(Store {
+            objects: self.objects.share()?,
+            naming: self.naming,
+        })
+    }
+
+    /// Sets the objects apart that were put since the last copy, so that the next copy takes a few pointers.
+    pub(crate) fn rest(&mut self)
+        ensures { self.new ≡ self.old }
+    {
+        self.objects.freeze();
+    }
+
+    fn add(&mut self, id: Id, object: Stored) -> Result<(), NoMemory>
         requires fresh { find id self.old ≡ None }
-        requires sound { IsSound object.word object.payload.items self.old }
-        requires named { N.id (word_text object.word) object.payload.items ≡ id }
+        requires sound { IsSound object.word object.payload self.old }
+        requires named { N.id (word_text object.word) object.payload ≡ id }
         requires measured { Measures self.old object }
         requires small { IsSmall (held_of id object) }
         ensures ok { OnOk result (self.new ≡ held_of id object ∷ self.old) }
         ensures err { OnErr result (self.new ≡ self.old) }
     {
-        let Ok(_) = self.objects.insert(id, object) else {
-            return Err(NoMemory);
-        };
-        Ok(())
+        self.objects.add(id, object)
     }
 
     /// Puts a new object, or finds it there.
@@ -180,7 +171,7 @@ impl<N: Naming + Drop> Store<N> {
         &mut self,
         word: Word,
         payload: &[u8],
-        outline: Option<Box<Outline>>,
+        outline: Option<Shared<Outline>>,
     ) -> Result<Id, PutFault>
         requires sound { IsSound word payload.now self.old }
         requires measured { IsOutlined self.old word payload.now outline }
@@ -194,12 +185,12 @@ impl<N: Naming + Drop> Store<N> {
         if let Some(held) = self.object(id) {
             return held.answer(id, word, payload);
         }
-        let Ok(payload) = payload.to_vec(self.allocator()) else {
+        let Ok(payload) = Bytes::copy_from_slice(self.allocator(), payload) else {
             return Err(PutFault::NoMemory);
         };
         match self.add(
             id,
-            Object {
+            Stored {
                 word,
                 payload,
                 outline,

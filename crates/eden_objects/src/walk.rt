@@ -10,14 +10,15 @@ ghost use Rattle.eden_objects.specs.Walks.{IsTreeOf, rows_of_tree, tree_seen};
 ghost use Rattle.eden_git.specs.Directories.{dir_named, file_named};
 
 use crate::fault::NoCommit;
-use crate::store::{Object, Store};
+use crate::store::Store;
+use crate::stored::Stored;
 use eden_git::{Word, cut, same_word, tree_named};
 use eden_ids::{Id, Kind, Naming, Path};
 
-impl Object {
+impl Stored {
     /// The payload, if the object is a blob.
     fn blob(&self) -> Option<&[u8]>
-        ensures { option_copied result ≡ (if same_word self.now.word Word.Blob then Some self.now.payload.items else None) }
+        ensures { option_copied result ≡ (if same_word self.now.word Word.Blob then Some self.now.payload else None) }
     {
         if same_word(self.word, Word::Blob) {
             Some(self.payload.as_slice())
@@ -28,7 +29,7 @@ impl Object {
 
     /// The tree that the object names, if it is a commit.
     pub(crate) fn tree(&self) -> Option<Id>
-        ensures { result ≡ (if same_word self.now.word Word.Commit then tree_named self.now.payload.items else None) }
+        ensures { result ≡ (if same_word self.now.word Word.Commit then tree_named self.now.payload else None) }
     {
         if same_word(self.word, Word::Commit) {
             tree_named(self.payload.as_slice())

@@ -19,7 +19,7 @@ use Rattle.eden_journal.specs.declared.delta.Delta.{Delta}
 use Rattle.eden_journal.specs.declared.delta.Delta.TheVariants.{File, Root}
 use Rattle.eden_journal.specs.Deltas.{touch}
 use Rattle.eden_history.specs.declared.change.Change.{Change}
-use Rattle.eden_history.specs.declared.change.Change.TheVariants.{Write, Remove, Rename, Checkout, Reset, Flush, Remount}
+use Rattle.eden_history.specs.declared.change.Change.TheVariants.{Write, Remove, Rename, Checkout, Reset, Flush, Remount, Import}
 use Rattle.eden_history.specs.Worlds.{Row}
 use Rattle.eden_history.specs.Worlds.{Event}
 use Rattle.eden_history.specs.declared.touches.Touch.{Touch}
@@ -180,6 +180,7 @@ plain_unclean commits before (Checkout commit mode) after e = cc
 plain_unclean commits before (Reset commit) after e = cc
 plain_unclean commits before Flush after e = refl
 plain_unclean commits before (Remount generation) after e = refl
+plain_unclean commits before (Import objects) after e = refl
 
 delta_file : (before : Row) (event : Event) → moves_root event.change ≡ false → delta_of before event ≡ File (record { touches = touches_of before event })
 delta_file before event e = ap (λ b. if b then Root before.root event.unclean else File (record { touches = touches_of before event })) e

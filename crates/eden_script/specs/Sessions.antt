@@ -1,5 +1,7 @@
 -- What a script's lines have made so far, and what each line makes of it and comes to.
 use Rattle.std.specs.Prelude.{ℕ, List, [], ◌∷◌, ◌++◌, codes, replicate, Option, Some, None, filter, Result, Ok, Err, option_map}
+use Rattle.eden_git.specs.declared.word.Word.{Word}
+use Rattle.eden_git.specs.declared.word.Word.TheVariants.{Blob, Tree, Commit}
 use Rattle.hex.specs.Hex.{encode_lower}
 use Rattle.eden_ids.specs.declared.id.Id.{Id}
 use Rattle.eden_ids.specs.declared.content.Content.{Content}
@@ -8,14 +10,17 @@ use Rattle.eden_ids.specs.Naming.{git_name}
 use Rattle.eden_ids.specs.Paths.{path_fault}
 use Rattle.eden_globs.specs.Filters as globs
 use Rattle.eden_objects.specs.Commits.{commit_map}
+use Rattle.eden_objects.specs.declared.import.Object.{Object}
+use Rattle.eden_objects.specs.Imports as imports
 use Rattle.eden_objects.specs.Objects.{Held}
-use Rattle.eden_objects.specs.Puts.{Outcome, blob_outcome, tree_outcome, commit_outcome}
+use Rattle.eden_objects.specs.Puts.{Outcome}
 use Rattle.eden_history.specs.declared.answer.Answer.TheVariants.{At}
 use Rattle.eden_history.specs.declared.change.Change.{Change}
 use Rattle.eden_history.specs.declared.change.Change.TheVariants as change
 use Rattle.eden_history.specs.declared.change.ChangeFault.TheVariants.{NoEntry}
 use Rattle.eden_history.specs.declared.position.Position.{Position}
 use Rattle.eden_history.specs.Worlds.{WorldState, commits_of, now, position_of, opened}
+use Rattle.eden_history.specs.Imports.{over_held}
 use Rattle.eden_history.specs.Named.{held_files}
 use Rattle.eden_history.specs.Renames.{absent_fault}
 use Rattle.eden_history.specs.Outcome.{answer_of, world_after}
@@ -38,7 +43,7 @@ use Rattle.eden_script.specs.declared.told.Told.{Told}
 use Rattle.eden_script.specs.declared.told.Told.TheVariants as told
 use Rattle.eden_script.specs.Labels.{bound}
 
--- what the lines so far have made: the mount, once there is one; the objects put, newest first; and the bindings made, newest first
+-- what the lines so far have made: the mount, once there is one; the objects put before it, newest first; and the bindings made, newest first
 pub record Session : Type 0 where
   pub mounted : Option WorldState
   pub held : List Held
@@ -62,15 +67,24 @@ unless None others = others
 
 -- ---- objects
 
+-- the objects so far: those of the mount, once there is one
+abbrev pub objects_in : List Held → Option WorldState → List Held
+objects_in held None = held
+objects_in held (Some world) = world.held
+
+abbrev pub objects_of : Session → List Held
+objects_of session = objects_in session.held session.mounted
+
+-- the session with these objects, over which its mount goes on
+abbrev pub grown : Session → List Held → Option WorldState → Session
+grown session held None = record session { held = held }
+grown session held (Some world) = record session { mounted = Some (over_held world held) }
+
 -- a put binds its label, and one that is refused changes nothing
 abbrev pub put_acted : Session → List ℕ → Outcome → Acted
 put_acted session label (Err fault) = (session, told.Refused (refusal.Put fault))
-put_acted session label (Ok made) = (record session { held = made.1; bindings = record { label = label; id = made.0 } ∷ session.bindings }, told.Done)
-
--- a label that is not bound is refused before the put is tried
-abbrev pub tried : Session → List ℕ → (List ℕ → Outcome) → Option (List ℕ) → Acted
-tried session label outcome None = (session, told.Refused refusal.NoLabel)
-tried session label outcome (Some payload) = put_acted session label (outcome payload)
+put_acted session label (Ok made) =
+    (record (grown session made.1 session.mounted) { bindings = record { label = label; id = made.0 } ∷ session.bindings }, told.Done)
 
 -- the bytes that an entry puts into a tree, where its label is bound: mode, space, name, NUL and the id's bytes
 abbrev pub entry_bytes : TreeEntry → Option Id → Option (List ℕ)
@@ -89,12 +103,25 @@ abbrev pub commit_payload : Option Id → Option (List ℕ)
 commit_payload None = None
 commit_payload (Some tree) = Some (codes "tree " ++ encode_lower tree.0 ++ (10 ∷ []))
 
-abbrev pub put_of : Session → PutLine → Acted
-put_of session (put.Blob label bytes) = put_acted session label (blob_outcome git_name bytes session.held)
-put_of session (put.Tree label entries) =
-    tried session label (λ payload. tree_outcome git_name payload session.held) (tree_payload session.bindings entries)
-put_of session (put.Commit label tree) =
-    tried session label (λ payload. commit_outcome git_name payload session.held) (commit_payload (bound session.bindings tree))
+-- the object that a line names, or none where a label in it is not bound
+abbrev pub object_with : Word → Option (List ℕ) → Option Object
+object_with word None = None
+object_with word (Some payload) = Some record { word = word; payload = payload }
+
+abbrev pub object_of : List Binding → PutLine → Option Object
+object_of bindings (put.Blob label bytes) = object_with Blob (Some bytes)
+object_of bindings (put.Tree label entries) = object_with Tree (tree_payload bindings entries)
+object_of bindings (put.Commit label tree) = object_with Commit (commit_payload (bound bindings tree))
+
+abbrev pub put_label : PutLine → List ℕ
+put_label (put.Blob label bytes) = label
+put_label (put.Tree label entries) = label
+put_label (put.Commit label tree) = label
+
+-- a label that is not bound is refused before the put is tried; the mount's objects are added to as those before it are
+abbrev pub tried : Session → List ℕ → Option Object → Acted
+tried session label None = (session, told.Refused refusal.NoLabel)
+tried session label (Some object) = put_acted session label (imports.put_of git_name object (objects_of session))
 
 abbrev pub id_told : Option Id → Told
 id_told None = told.Refused refusal.NoLabel
@@ -143,7 +170,7 @@ change_of bindings (changing.Checkout label mode) = to_commit (bound bindings la
 
 abbrev pub changed : Session → WorldState → Result Change Refusal → Acted
 changed session world (Err cause) = (session, told.Refused cause)
-changed session world (Ok change) = (record session { mounted = Some (world_after world change) }, told.Answer (answer_of world change))
+changed session world (Ok change) = (record session { mounted = Some (world_after git_name world change) }, told.Answer (answer_of git_name world change))
 
 -- ---- questions
 
@@ -171,7 +198,7 @@ asked world (asking.Since generation sequence) =
 
 -- ---- every line
 
--- objects are put, and a commit is mounted, before there is a mount
+-- a commit is mounted where there is no mount
 abbrev pub until_mounted : Option WorldState → Session → Acted → Acted
 until_mounted None session acted = acted
 until_mounted (Some world) session acted = (session, told.Refused refusal.Mounted)
@@ -182,7 +209,7 @@ once_mounted None session acts = (session, told.Refused refusal.NotMounted)
 once_mounted (Some world) session acts = acts world
 
 abbrev pub acted : Session → Command → Acted
-acted session (line.Put put) = until_mounted session.mounted session (put_of session put)
+acted session (line.Put put) = tried session (put_label put) (object_of session.bindings put)
 acted session (line.Id label) = (session, id_told (bound session.bindings label))
 acted session (line.Mount mount) = until_mounted session.mounted session (mounted_by session mount (bound session.bindings mount.label))
 acted session (line.Change change) = once_mounted session.mounted session (λ world. changed session world (change_of session.bindings change))

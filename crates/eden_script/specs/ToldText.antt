@@ -79,6 +79,7 @@ change_fault_name fault.TooLarge = codes "TooLarge"
 change_fault_name fault.NoCommit = codes "NoCommit"
 change_fault_name fault.SequenceExhausted = codes "SequenceExhausted"
 change_fault_name fault.GenerationNotNew = codes "GenerationNotNew"
+change_fault_name (fault.BadObject place cause) = codes "BadObject"
 change_fault_name fault.NoMemory = codes "NoMemory"
 
 abbrev pub filter_fault_name : FilterFault → List ℕ

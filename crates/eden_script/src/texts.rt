@@ -90,6 +90,7 @@ fn change_fault_name(fault: ChangeFault) -> &'static [u8]
         ChangeFault::NoCommit => b"NoCommit".as_slice(),
         ChangeFault::SequenceExhausted => b"SequenceExhausted".as_slice(),
         ChangeFault::GenerationNotNew => b"GenerationNotNew".as_slice(),
+        ChangeFault::BadObject { .. } => b"BadObject".as_slice(),
         ChangeFault::NoMemory => b"NoMemory".as_slice(),
     }
 }

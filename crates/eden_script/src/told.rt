@@ -13,7 +13,7 @@ use std::marker::Model;
 pub enum Refusal {
     /// A label is bound to nothing.
     NoLabel,
-    /// There is a mount: objects are put, and a commit is mounted, before there is one.
+    /// There is a mount already, and a script has one at the most.
     Mounted,
     /// There is no mount yet.
     NotMounted,

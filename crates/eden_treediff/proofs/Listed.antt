@@ -29,7 +29,7 @@ use Rattle.eden_treediff.specs.Merges.{differences, merge_rows, same_found}
 use Rattle.eden_treediff.specs.Laws.{MergesAreDifferences, Rise}
 use Rattle.eden_treediff.proofs.Exact.{exact_law}
 use Rattle.eden_treediff.proofs.Ascending.{ascending_law}
-use Rattle.eden_objects.proofs.Tables.{same_id-is}
+use Rattle.eden_segments.proofs.Distinct.{same_id-is}
 
 -- an object's id is its name
 name_of : (name : List ℕ → List ℕ → Id) (held : List Held) → AllNamed name held → (id : Id) (h : Held) → find id held ≡ Some h → name (word_text h.word) h.payload ≡ id

@@ -27,7 +27,7 @@ use Rattle.eden_treediff.specs.internal.Pairs.{Directory, Next, next_of_both, ne
 use Rattle.eden_treediff.specs.internal.Walks.{IsSide, side_rows, side_depth}
 use Rattle.eden_treediff.proofs.Blocks.{order, below, AllBelow, merge_blocks, merge_under}
 use Rattle.eden_treediff.proofs.Exact.{same_law}
-use Rattle.eden_objects.proofs.Tables.{same_id-is}
+use Rattle.eden_segments.proofs.Distinct.{same_id-is}
 use Rattle.std.proofs.Math.Bool.{or-true}
 use Rattle.eden_ids.proofs.FileMapLemmas.{same_kind-is, same_order}
 use Rattle.std.proofs.lemmas.Bool.{not-true}

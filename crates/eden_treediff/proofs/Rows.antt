@@ -8,7 +8,7 @@ use Rattle.eden_lanes.specs.Rows.{differ_from}
 use Rattle.eden_git.specs.Trees.{Entry}
 use Rattle.eden_git.specs.Columns.{ids_of, kind_byte, kinds_of, names_of}
 use Rattle.eden_treediff.specs.internal.Columns.{AreChanges, first_row, rows_after}
-use Rattle.eden_objects.proofs.Tables.{same_id-is}
+use Rattle.eden_segments.proofs.Distinct.{same_id-is}
 
 -- one list of rows: those from one on at which two lists differ
 

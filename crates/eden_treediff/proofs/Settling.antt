@@ -18,7 +18,7 @@ use Rattle.eden_treediff.specs.internal.Settled.{AreSettled, HoldSame, is_known,
 use Rattle.eden_treediff.specs.internal.Walks.{same_side, side_rows, wanted_behind}
 use Rattle.eden_treediff.proofs.Exact.{same_law}
 use Rattle.eden_treediff.proofs.Steps.{merge_entries}
-use Rattle.eden_objects.proofs.Tables.{same_id-is}
+use Rattle.eden_segments.proofs.Distinct.{same_id-is}
 
 side_is : (a b : Option Id) → same_side a b ≡ true → a ≡ b
 side_is None None h = refl

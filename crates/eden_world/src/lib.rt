@@ -11,9 +11,8 @@
 //! use eden_ids::{GitNaming, Id};
 //! use eden_objects::Store;
 //! use eden_world::World;
-//! use std::sync::Arc;
 //!
-//! let store = Arc::new(alloc, Store::new(alloc, GitNaming))?;
+//! let store = Store::new(alloc, GitNaming);
 //! let mut world = World::mount(alloc, store, Id::ZERO, 7, 1000)?;
 //! assert!(rt; matches!(world.apply(&Change::Flush)?, Answer::At(_)));
 //! assert_eq!(rt; world.position().sequence, 2);

@@ -5,6 +5,7 @@ use Rattle.eden_history.specs.declared.answer.Answer.TheVariants.{Refused}
 use Rattle.eden_history.specs.declared.change.Change.{Change}
 use Rattle.eden_history.specs.declared.change.ChangeFault.{ChangeFault}
 use Rattle.eden_history.specs.declared.change.ChangeFault.TheVariants.{NoMemory}
+use Rattle.eden_history.specs.Worlds.{Namer}
 use Rattle.eden_accumulate.specs.Mounts.{Answers, Follows, State}
 
 -- a refusal is an answer, and a want of memory is none
@@ -17,6 +18,6 @@ told_as told (Ok made) = Some (told made)
 told_as told (Err fault) = refused fault
 
 -- an answer is that of each world for which the mount stood, and the mount follows; with no answer it is as it was
-abbrev pub Applies : State → Change → Option Answer → State → Type 0
-Applies old change (Some answer) new = Answers old change answer × Follows old change new
-Applies old change None new = new ≡ old
+abbrev pub Applies : Namer → State → Change → Option Answer → State → Type 0
+Applies name old change (Some answer) new = Answers name old change answer × Follows name old change new
+Applies name old change None new = new ≡ old

@@ -1,8 +1,9 @@
--- What is told of a store that is being filled.
+-- What is told of what is being filled with objects.
 use Rattle.std.proofs.Common.{◌≡◌, refl, List, ℕ, ◌++◌, ◌∷◌, map, inl, ◌⊎◌, Result, Ok, Err}
 use Rattle.std.specs.List.{All}
 use Rattle.eden_ids.specs.declared.id.Id.{Id}
 use Rattle.eden_git.specs.declared.word.Word.{Word}
+use Rattle.eden_objects.specs.Imports.{put_word}
 use Rattle.eden_objects.specs.Objects.{Held}
 use Rattle.eden_objects.specs.declared.fault.PutFault.{PutFault}
 use Rattle.eden_objects.specs.declared.fault.PutFault.TheVariants as put
@@ -12,7 +13,7 @@ use Rattle.eden_stream.specs.declared.pump.Stop.TheVariants as stops
 use Rattle.eden_stream.specs.declared.teller.Answer.{Answer}
 use Rattle.eden_stream.specs.declared.teller.Answer.TheVariants as answer
 use Rattle.eden_batch.specs.Batches.{IsObject, written}
-use Rattle.eden_batch.specs.Puttings.{ArePut, IsPutAsOther, IsRefused, outcome_of}
+use Rattle.eden_batch.specs.Puttings.{ArePut, IsPutAsOther, IsRefused}
 use Rattle.eden_batch.specs.internal.Grammar.{object_grammar}
 use Rattle.eden_batch.specs.declared.fault.ObjectFault.{ObjectFault}
 use Rattle.eden_batch.specs.declared.fault.ObjectFault.TheVariants.{BadHeader, CutShort, OtherId, Refused, TooLarge}
@@ -22,9 +23,9 @@ use Rattle.eden_batch.specs.declared.putting.Filling.{Filling}
 
 -- a put call gave its outcome, or a growth was refused
 abbrev pub Puts : Result Id PutFault → (List ℕ → List ℕ → Id) → Word → List ℕ → List Held → List Held → Type 0
-Puts (Ok id) name word payload old new = outcome_of name word payload old ≡ Ok (id, new)
+Puts (Ok id) name word payload old new = put_word name word payload old ≡ Ok (id, new)
 Puts (Err put.NoMemory) name word payload old new = new ≡ old
-Puts (Err fault) name word payload old new = (new ≡ old) × (outcome_of name word payload old ≡ Err fault)
+Puts (Err fault) name word payload old new = (new ≡ old) × (put_word name word payload old ≡ Err fault)
 
 -- what is answered to a refusal
 abbrev pub refusal_of : PutFault → Answer ObjectFault
@@ -70,26 +71,29 @@ pub record FailsAt (name : List ℕ → List ℕ → Id) (old new : List Held) (
   pub item_is : item ≡ written object
   pub fails : Fails name object held new fault
 
--- the same store is filled, and the same list
-abbrev pub AreSame : {N : Type 0} → Filling N → Filling N → Type 0
-AreSame before now = (now.store.ghost_name ≡ before.store.ghost_name) × (now.ids.ghost_name ≡ before.ids.ghost_name)
+module _ {I : Type 0} (name : List ℕ → List ℕ → Id) (held : I → List Held) (over : I → List Held → I) where
+  -- the same is filled, with objects alone, and the same list
+  pub record AreSame (before now : Filling I) : Type 0 where
+    pub into : now.into.ghost_name ≡ before.into.ghost_name
+    pub ids : now.ids.ghost_name ≡ before.ids.ghost_name
+    pub only : now.into.now ≡ over before.into.now (held now.into.now)
 
-abbrev pub put_story : {N : Type 0} → (List ℕ → List ℕ → Id) → Filling N → Filling N → Story ObjectFault
-put_story name before now = record {
-  told = λ items text. AreSame before now × Fills name before.store.now now.store.now before.ids.now.items now.ids.now.items items;
-  lost = λ items text. AreSame before now × Overfills name before.store.now now.store.now before.ids.now.items now.ids.now.items items;
-  refused = λ items item fault. FailsAt name before.store.now now.store.now items item fault;
-  spent = λ items item text. AreSame before now
-      × Overfills name before.store.now now.store.now before.ids.now.items now.ids.now.items items;
-}
+  abbrev pub put_story : Filling I → Filling I → Story ObjectFault
+  put_story before now = record {
+    told = λ items text. AreSame before now × Fills name (held before.into.now) (held now.into.now) before.ids.now.items now.ids.now.items items;
+    lost = λ items text. AreSame before now × Overfills name (held before.into.now) (held now.into.now) before.ids.now.items now.ids.now.items items;
+    refused = λ items item fault. FailsAt name (held before.into.now) (held now.into.now) items item fault;
+    spent = λ items item text. AreSame before now
+        × Overfills name (held before.into.now) (held now.into.now) before.ids.now.items now.ids.now.items items;
+  }
 
-pub put_laws : {N : Type 0} (name : List ℕ → List ℕ → Id) (before now : Filling N) → IsStory object_grammar (put_story name before now)
-put_laws name before now = record {
-  passes = λ items item text silent told. absurd silent;
-  stops = λ items text told.
-      let fills = told.1 in
-      (told.0, record { objects = fills.objects; held = now.store.now; have = fills.have; ids_are = fills.ids_are; grown = inl refl });
-}
+  pub put_laws : (before now : Filling I) → IsStory object_grammar (put_story before now)
+  put_laws before now = record {
+    passes = λ items item text silent told. absurd silent;
+    stops = λ items text told.
+        let fills = told.1 in
+        (told.0, record { objects = fills.objects; held = held now.into.now; have = fills.have; ids_are = fills.ids_are; grown = inl refl });
+  }
 
 -- how a reading ends, which notes these ids
 abbrev pub with_ids : List Id → Result (Unit {0}) ObjectsFault → Result (List Id) ObjectsFault

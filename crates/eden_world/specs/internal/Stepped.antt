@@ -1,10 +1,10 @@
--- What a change comes to on a world: an event that is added, or nothing.
+-- What a change comes to on the rows of a world: an event that is added, or nothing.
 use Rattle.std.specs.Prelude.{◌≡◌, Option, Some, None}
 use Rattle.eden_history.specs.declared.change.Change.{Change}
 use Rattle.eden_history.specs.Worlds.{Event, WorldState, commits_of, now}
-use Rattle.eden_history.specs.Outcome.{outcome, world_after}
+use Rattle.eden_history.specs.Outcome.{outcome, row_after}
 use Rattle.eden_history.specs.Outcome.Outcome.{Next}
 
 abbrev pub Stepped : WorldState → Change → Option Event → Type 0
-Stepped world change None = world_after world change ≡ world
+Stepped world change None = row_after world change ≡ world
 Stepped world change (Some event) = (event.change ≡ change) × (outcome (commits_of world) (now world) change ≡ Next event)

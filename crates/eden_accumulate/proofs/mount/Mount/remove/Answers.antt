@@ -1,5 +1,4 @@
 use Rattle.std.proofs.Common.{refl}
-use Rattle.std.specs.Arc.{arc_value}
 use Rattle.eden_history.specs.declared.change.Change.TheVariants.{Remove}
 use Rattle.eden_accumulate.proofs.Standing.{answered, still_present}
 use Rattle.eden_accumulate.proofs.Changing.{kept, left, remove_follows, state}
@@ -8,17 +7,17 @@ use Rattle.eden_accumulate.proofs.mount.Mount.remove.Goals as goal
 pub invariant_of-self : goal.invariant_of-self
 invariant_of-self g c =
     let m = c.self.inside in
-    kept (arc_value m.store) m.work m.work m.journal.log c.reserve.new.self.log refl c.reserve.ensures.log c.self.invariant
+    kept m.store m.work m.work m.journal.log c.reserve.new.self.log refl c.reserve.ensures.log c.self.invariant
 
 pub invariant_of-self-in_err-take_file : goal.invariant_of-self-in_err-take_file
 invariant_of-self-in_err-take_file g c =
     let m = c.self.inside in
-    kept (arc_value m.store) m.work c.take_file.new.self m.journal.log c.reserve.new.self.log c.in_err-take_file.ensures.same c.reserve.ensures.log c.self.invariant
+    kept m.store m.work c.take_file.new.self m.journal.log c.reserve.new.self.log c.in_err-take_file.ensures.same c.reserve.ensures.log c.self.invariant
 
 pub append_file-requires-clause-below : goal.append_file-requires-clause-below
 append_file-requires-clause-below g c =
     let m = c.self.inside in
-    left (arc_value m.store) m.work m.journal.log c.reserve.new.self.log c.args.self.now c.self.view_is c.self.invariant c.reserve.ensures.log
+    left m.store m.work m.journal.log c.reserve.new.self.log c.args.self.now c.self.view_is c.self.invariant c.reserve.ensures.log
     (Remove c.args.path.now) c.remove_refusal.result c.remove_refusal.ensures c.in_default.is refl
 
 pub returns-clause-stands : goal.returns-clause-stands
@@ -29,11 +28,11 @@ returns-clause-stands g c =
 pub invariant_of-self-2 : goal.invariant_of-self-2
 invariant_of-self-2 g c =
     let m = c.self.inside in
-    still_present (state (arc_value m.store) m.work m.journal.log) c.args.self.now (state (arc_value m.store) c.take_file.new.self c.append_file.new.self.log) (Remove c.args.path.now) c.self.view_is c.self.invariant
+    still_present (state m.store m.work m.journal.log) c.args.self.now (state m.store c.take_file.new.self c.append_file.new.self.log) (Remove c.args.path.now) c.self.view_is c.self.invariant
     (remove_follows c.args.path.now c.self.view_is c.in_default.ensures c.path_law.ensures c.take_file.ensures.root c.in_ok-take_file.ensures.files c.in_ok-take_file.ensures.fits
     c.in_ok-delta.delta c.in_ok-delta.ensures c.reserve.ensures.log c.append_file.ensures.stands)
 
 pub returns-clause-answers : goal.returns-clause-answers
 returns-clause-answers g c =
     let m = c.self.inside in
-    answered c.args.self.now (state (arc_value m.store) c.take_file.new.self c.append_file.new.self.log) (Remove c.args.path.now) c.position.result c.in_default.ensures (returns-clause-stands g c) c.position.ensures.world
+    answered c.args.self.now (state m.store c.take_file.new.self c.append_file.new.self.log) (Remove c.args.path.now) c.position.result c.in_default.ensures (returns-clause-stands g c) c.position.ensures.world

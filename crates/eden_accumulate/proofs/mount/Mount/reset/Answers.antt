@@ -1,5 +1,4 @@
 use Rattle.std.proofs.Common.{refl}
-use Rattle.std.specs.Arc.{arc_value}
 use Rattle.eden_history.specs.declared.change.Change.TheVariants.{Reset}
 use Rattle.eden_workcopy.proofs.Rerooted.{no_memory_else}
 use Rattle.eden_accumulate.proofs.Standing.{answered, still_present}
@@ -9,33 +8,33 @@ use Rattle.eden_accumulate.proofs.mount.Mount.reset.Goals as goal
 
 pub unreachable-requires : goal.unreachable-requires
 unreachable-requires g c =
-    commit_judged (Reset c.args.commit) c.args.commit c.self.view_is c.deref.ensures c.self.invariant c.in_default.ensures (λ commits row. refl)
+    commit_judged (Reset c.args.commit) c.args.commit c.self.view_is c.self.invariant c.in_default.ensures (λ commits row. refl)
     (c.in-Err-NoCommit.ensures.refuses (no_memory_else c.in-Err-NoCommit.field-0 c.in-Err-NoCommit.field-0-is))
 
 pub invariant_of-self : goal.invariant_of-self
 invariant_of-self g c =
     let m = c.self.inside in
-    kept (arc_value m.store) m.work m.work m.journal.log c.reserve.new.self.log refl c.reserve.ensures.log c.self.invariant
+    kept m.store m.work m.work m.journal.log c.reserve.new.self.log refl c.reserve.ensures.log c.self.invariant
 
 pub append_root-requires-clause-below : goal.append_root-requires-clause-below
 append_root-requires-clause-below g c =
     let m = c.self.inside in
-    left (arc_value m.store) m.work m.journal.log c.reserve.new.self.log c.args.self.now c.self.view_is c.self.invariant c.reserve.ensures.log
+    left m.store m.work m.journal.log c.reserve.new.self.log c.args.self.now c.self.view_is c.self.invariant c.reserve.ensures.log
     (Reset c.args.commit) c.reset_refusal.result c.reset_refusal.ensures c.in_default.is refl
 
 pub returns-clause-stands : goal.returns-clause-stands
 returns-clause-stands g c =
-    reset_follows c.args.commit c.self.view_is c.deref.ensures c.in_default.ensures c.id_law.ensures c.in-Ok.ensures.fits c.in-Ok.ensures.root c.in-Ok.ensures.files
+    reset_follows c.args.commit c.self.view_is c.in_default.ensures c.id_law.ensures c.in-Ok.ensures.fits c.in-Ok.ensures.root c.in-Ok.ensures.files
     c.new.result c.new.ensures c.reserve.ensures.log c.append_root.ensures.stands
 
 pub invariant_of-self-2 : goal.invariant_of-self-2
 invariant_of-self-2 g c =
     let m = c.self.inside in
-    still_present (state (arc_value m.store) m.work m.journal.log) c.args.self.now (state (arc_value m.store) c.in-Ok.next c.append_root.new.self.log) (Reset c.args.commit) c.self.view_is c.self.invariant
-    (reset_follows c.args.commit c.self.view_is c.deref.ensures c.in_default.ensures c.id_law.ensures c.in-Ok.ensures.fits c.in-Ok.ensures.root c.in-Ok.ensures.files
+    still_present (state m.store m.work m.journal.log) c.args.self.now (state m.store c.in-Ok.next c.append_root.new.self.log) (Reset c.args.commit) c.self.view_is c.self.invariant
+    (reset_follows c.args.commit c.self.view_is c.in_default.ensures c.id_law.ensures c.in-Ok.ensures.fits c.in-Ok.ensures.root c.in-Ok.ensures.files
     c.new.result c.new.ensures c.reserve.ensures.log c.append_root.ensures.stands)
 
 pub returns-clause-answers : goal.returns-clause-answers
 returns-clause-answers g c =
     let m = c.self.inside in
-    answered c.args.self.now (state (arc_value m.store) c.in-Ok.next c.append_root.new.self.log) (Reset c.args.commit) c.position.result c.in_default.ensures (returns-clause-stands g c) c.position.ensures.world
+    answered c.args.self.now (state m.store c.in-Ok.next c.append_root.new.self.log) (Reset c.args.commit) c.position.result c.in_default.ensures (returns-clause-stands g c) c.position.ensures.world

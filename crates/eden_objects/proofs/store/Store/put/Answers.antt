@@ -14,8 +14,8 @@ returns-in-Some g c =
     let found : find c.id_of-id.result c.args.self.now ≡ Some (held_of c.id_of-id.result c.in-Some.held.now) = search rules in
     rw c.answer.ensures (standing (named g.N.Naming.id c.args.word c.args.payload.now) c.args.self.now c.id_of-id.result c.in-Some.held.now called zero found)
 
-pub returns-in_default-to_vec : goal.returns-in_default-to_vec
-returns-in_default-to_vec g c =
+pub returns-in_default-copy_from_slice : goal.returns-in_default-copy_from_slice
+returns-in_default-copy_from_slice g c =
     let called : (named g.N.Naming.id c.args.word c.args.payload.now).id ≡ c.id_of-id.result = search rules in
     let zero : same_id c.id_of-id.result zero_id ≡ false = search rules in
     let absent : find c.id_of-id.result c.args.self.now ≡ None = search rules in
@@ -34,5 +34,5 @@ returns-in-Err g c =
 pub add-requires-clause-small : goal.add-requires-clause-small
 add-requires-clause-small g c =
     let below : (i : ℕ) → get_or c.args.payload.now i 0 < 256 = λ i. omega (arith, c.type_inv.payload i) in
-    let same : c.in-Ok.payload.items ≡ c.args.payload.now = c.in-Ok.ensures.items_if_clones_equal (λ x y is. is) in
+    let same : c.in-Ok.payload ≡ c.args.payload.now = c.in-Ok.ensures in
     record { few = rw same c.requires.small; bytes = rw same (bytes_are c.args.payload.now below) }

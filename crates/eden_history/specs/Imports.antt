@@ -1,0 +1,18 @@
+-- What an import makes of a world: its store has more objects, or, where one of them is refused, nothing has changed. The rows and the
+-- events stay as they are: each was judged by the objects of its time.
+use Rattle.std.specs.Prelude.{List, Ok, Err}
+use Rattle.eden_objects.specs.declared.import.Object.{Object}
+use Rattle.eden_objects.specs.Objects.{Held}
+use Rattle.eden_objects.specs.Imports.{Imported, import_outcome}
+use Rattle.eden_history.specs.Worlds.{Namer, WorldState}
+
+-- the world over these objects
+abbrev pub over_held : WorldState → List Held → WorldState
+over_held world held = record world { held = held }
+
+abbrev pub grown_by : WorldState → Imported → WorldState
+grown_by world (Err fault) = world
+grown_by world (Ok held) = over_held world held
+
+abbrev pub world_imported : Namer → WorldState → List Object → WorldState
+world_imported name world objects = grown_by world (import_outcome name objects world.held)

@@ -1,0 +1,35 @@
+//! What takes objects one after another.
+
+use crate::fault::PutFault;
+use eden_git::Word;
+use eden_ids::Id;
+
+/// What takes objects of each kind, one after another: a store, or what stands over one.
+///
+/// So a reader of objects can fill either.
+pub trait Importer {
+    ghost use Rattle.std.specs.Prelude.{◌≡◌, ◌≢◌, ℕ, List, Ok, Err, IfOk, IfErr, OnErr};
+    ghost use Rattle.eden_ids.specs.declared.id.Id.{Id};
+    ghost use Rattle.eden_objects.specs.Objects.{Held};
+    ghost use Rattle.eden_objects.specs.Imports.{IsOver, put_word};
+
+    /// The rule that gives each object its id.
+    ghost name: { List ℕ → List ℕ → Id };
+
+    /// The objects that it has.
+    ghost held: { Self → List Held };
+
+    /// The same over these objects.
+    ghost over: { Self → List Held → Self };
+
+    ghost laws: { IsOver held over };
+
+    /// Puts an object by the call of its kind, as `Store::put_blob`, `put_tree` and `put_commit` do, and answers its id. Refused for the same
+    /// causes. `NoMemory` may stand in place of any answer where a growth was refused. Nothing but the objects is changed, and after a
+    /// refusal nothing.
+    fn put_object(&mut self, word: Word, payload: &[u8]) -> Result<Id, PutFault>
+        ensures ok { IfOk result (λ id. put_word name word payload.now (held self.old) ≡ Ok (id, held self.new)) }
+        ensures err { OnErr result (held self.new ≡ held self.old) }
+        ensures refuses { IfErr result (λ fault. fault ≢ PutFault.NoMemory → put_word name word payload.now (held self.old) ≡ Err fault) }
+        ensures only { self.new ≡ over self.old (held self.new) };
+}
