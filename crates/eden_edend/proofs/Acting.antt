@@ -1,7 +1,12 @@
 -- What a line makes of what is held, by what the line does.
-use Rattle.std.proofs.Common.{◌≡◌, ℕ, Bool, true, false, List, ◌++◌, Option, Some, None, Ok, Err, is_some, refl, sym, ap, subst, ◌∙◌}
+use Rattle.std.proofs.Common.{◌≡◌, ℕ, Bool, true, false, List, ◌++◌, Option, Some, None, Result, Ok, Err, is_some, refl, sym, ap, subst, ◌∙◌}
+use Rattle.std.specs.Prelude.{IfOk}
 use Rattle.eden_ids.specs.declared.id.Id.{Id}
+use Rattle.eden_ids.specs.declared.memory.NoMemory.{NoMemory}
 use Rattle.eden_ids.specs.FileMaps.{FileMap}
+use Rattle.eden_ids.specs.Naming.{git_name}
+use Rattle.eden_objects.specs.declared.import.Object.{Object}
+use Rattle.eden_objects.specs.Imports as imports
 use Rattle.eden_objects.specs.Objects.{Held}
 use Rattle.eden_objects.specs.Commits.{commit_map, commit_rows}
 use Rattle.eden_objects.specs.Files.{commit_files, files_of}
@@ -10,6 +15,7 @@ use Rattle.eden_history.specs.declared.answer.Answer.TheVariants.{At}
 use Rattle.eden_history.specs.declared.change.Change.{Change}
 use Rattle.eden_history.specs.declared.change.ChangeFault.TheVariants.{NoCommit}
 use Rattle.eden_history.specs.declared.position.Position.{Position}
+use Rattle.eden_history.specs.Imports.{over_held}
 use Rattle.eden_history.specs.Worlds.{WorldState, now, opened, position_of}
 use Rattle.eden_history.specs.Outcome.{commit_fault, world_after}
 use Rattle.eden_history.proofs.Committed.{commit_gone, commit_mapped}
@@ -25,7 +31,7 @@ use Rattle.eden_script.specs.declared.told.Refusal.TheVariants as refusal
 use Rattle.eden_script.specs.declared.told.Told.{Told}
 use Rattle.eden_script.specs.declared.told.Told.TheVariants as outcome
 use Rattle.eden_script.specs.Labels.{bound}
-use Rattle.eden_script.specs.Sessions.{Acted, Session, acted, asked, change_of, changed, id_told, mounted_at, mounted_by, put_of}
+use Rattle.eden_script.specs.Sessions.{Acted, Session, acted, asked, change_of, changed, id_told, mounted_at, mounted_by, object_of, objects_of, put_acted, put_label, tried}
 use Rattle.eden_script.specs.ScriptText.{told}
 use Rattle.eden_script.specs.ToldText.{told_text}
 use Rattle.eden_edend.specs.declared.objects.Objects.{Objects}
@@ -62,15 +68,66 @@ id_acts (Some mount) objects label = mounted mount objects (line.Id label) (Some
 
 -- ---- objects
 
-pub put_late : (mount : Option State) (objects : Objects) (put : PutLine) → is_some mount ≡ true
-    → Acts mount objects (line.Put put) mount objects (outcome.Refused refusal.Mounted)
-put_late None objects put e = cc
-put_late (Some mount) objects put e = mounted mount objects (line.Put put) (Some mount) objects _ (λ world held h. ((world, held, h, refl), refl))
+unbound_step : (next : Option State) (after : Objects) (session : Session) (label : List ℕ) (found : Option Object) → IsSession next after session → found ≡ None
+    → IsStep next after (outcome.Refused refusal.NoLabel) (tried session label found)
+unbound_step next after session label None is none = (is, refl)
+unbound_step next after session label (Some object) is none = cc none
 
-pub put_acts : (mount : Option State) (objects after : Objects) (put : PutLine) (came : Told) → is_some mount ≡ false
-    → put_of (session_at None objects) put ≡ (session_at None after, came) → Acts mount objects (line.Put put) mount after came
-put_acts (Some mount) objects after put came e step = absurd (not_false e)
-put_acts None objects after put came e step = unmounted objects (line.Put put) None after came (ap (λ (s : Acted). s.0) step, sym (ap (λ (s : Acted). s.1) step))
+pub put_unbound : (mount : Option State) (objects : Objects) (put : PutLine) → object_of objects.labels put ≡ None
+    → Acts mount objects (line.Put put) mount objects (outcome.Refused refusal.NoLabel)
+put_unbound None objects put none =
+    unmounted objects (line.Put put) None objects _ (unbound_step None objects (session_at None objects) (put_label put) (object_of objects.labels put) refl none)
+put_unbound (Some mount) objects put none =
+    mounted mount objects (line.Put put) (Some mount) objects _ (λ world held h.
+    unbound_step (Some mount) objects (session_of (Some world) held objects.labels) (put_label put) (object_of objects.labels put) (world, held, h, refl) none)
+
+-- a put that was tried
+put_step : (next : Option State) (after : Objects) (session to : Session) (label : List ℕ) (found : Option Object) (object : Object) (came : Told) → found ≡ Some object
+    → put_acted session label (imports.put_of git_name object (objects_of session)) ≡ (to, came) → IsSession next after to
+    → IsStep next after came (tried session label found)
+put_step next after session to label found object came there step is =
+    subst (λ o. IsStep next after came (tried session label o)) (sym there)
+    (subst (IsSession next after) (sym (ap (λ (s : Acted). s.0) step)) is, sym (ap (λ (s : Acted). s.1) step))
+
+-- before there is a mount
+put_early : (mount : Option State) (objects after : Objects) (put : PutLine) (object : Object) (came : Told) → mount ≡ None → object_of objects.labels put ≡ Some object
+    → put_acted (session_at None objects) (put_label put) (imports.put_of git_name object objects.store) ≡ (session_at None after, came)
+    → Acts mount objects (line.Put put) mount after came
+put_early (Some mount) objects after put object came e there step = absurd (not_some mount e)
+put_early None objects after put object came e there step =
+    unmounted objects (line.Put put) None after came
+    (put_step None after (session_at None objects) (session_at None after) (put_label put) (object_of objects.labels put) object came there step refl)
+
+pub put_told_early : (mount : Option State) (objects after : Objects) (put : PutLine) (object : Object) (result : Result Told NoMemory) → mount ≡ None
+    → object_of objects.labels put ≡ Some object
+    → IfOk result (λ came. put_acted (session_at None objects) (put_label put) (imports.put_of git_name object objects.store) ≡ (session_at None after, came))
+    → IfOk result (λ came. Acts mount objects (line.Put put) mount after came)
+put_told_early mount objects after put object (Ok came) e bound step = put_early mount objects after put object came e bound step
+put_told_early mount objects after put object (Err none) e bound step = tt
+
+-- and once there is one: its objects grow
+put_late : (mount : Option State) (there next : State) (objects after : Objects) (put : PutLine) (object : Object) (came : Told) → mount ≡ Some there
+    → object_of objects.labels put ≡ Some object → ((world : WorldState) → StandsFor there world → StandsFor next (over_held world next.held))
+    → ((world : WorldState) (held : List Held) → StandsFor there world
+    → put_acted (session_of (Some world) held objects.labels) (put_label put) (imports.put_of git_name object world.held)
+    ≡ (session_of (Some (over_held world next.held)) held after.labels, came))
+    → Acts mount objects (line.Put put) (Some next) after came
+put_late None there next objects after put object came e bound stands step = cc
+put_late (Some mount) there next objects after put object came e bound stands step =
+    let same : mount ≡ there = cc in
+    mounted mount objects (line.Put put) (Some next) after came (λ world held h.
+    let stood = subst (λ (m : State). StandsFor m world) same h in
+    put_step (Some next) after (session_of (Some world) held objects.labels) (session_of (Some (over_held world next.held)) held after.labels) (put_label put)
+    (object_of objects.labels put) object came bound (step world held stood) (over_held world next.held, held, stands world stood, refl))
+
+pub put_told_late : (mount : Option State) (there next : State) (objects after : Objects) (put : PutLine) (object : Object) (result : Result Told NoMemory) → mount ≡ Some there
+    → object_of objects.labels put ≡ Some object → ((world : WorldState) → StandsFor there world → StandsFor next (over_held world next.held))
+    → ((world : WorldState) (held : List Held) → StandsFor there world → IfOk result (λ came.
+    put_acted (session_of (Some world) held objects.labels) (put_label put) (imports.put_of git_name object world.held)
+    ≡ (session_of (Some (over_held world next.held)) held after.labels, came)))
+    → IfOk result (λ came. Acts mount objects (line.Put put) (Some next) after came)
+put_told_late mount there next objects after put object (Ok came) e bound stands step = put_late mount there next objects after put object came e bound stands step
+put_told_late mount there next objects after put object (Err none) e bound stands step = tt
 
 -- ---- mounting
 
@@ -145,7 +202,7 @@ change_refused (Some mount) there objects change cause e refused =
     ((world, held, subst (λ (m : State). StandsFor m world) same h, refl), refl))
 
 pub change_made : (mount : Option State) (there after : State) (objects : Objects) (wanted : ChangeLine) (change : Change) (answer : Answer) → mount ≡ Some there
-    → Ok change ≡ change_of objects.labels wanted → Answers there change answer → Follows there change after
+    → Ok change ≡ change_of objects.labels wanted → Answers git_name there change answer → Follows git_name there change after
     → Acts mount objects (line.Change wanted) (Some after) objects (outcome.Answer answer)
 change_made None there after objects wanted change answer e read answers follows = cc
 change_made (Some mount) there after objects wanted change answer e read answers follows =
@@ -153,7 +210,7 @@ change_made (Some mount) there after objects wanted change answer e read answers
     mounted mount objects (line.Change wanted) (Some after) objects _ (λ world held h.
     let stood = subst (λ (m : State). StandsFor m world) same h in
     subst (λ r. IsStep (Some after) objects (outcome.Answer answer) (changed (session_of (Some world) held objects.labels) world r)) read
-    ((world_after world change, held, follows world stood, refl), ap (λ (a : Answer). outcome.Answer a) (sym (answers world stood))))
+    ((world_after git_name world change, held, follows world stood, refl), ap (λ (a : Answer). outcome.Answer a) (sym (answers world stood))))
 
 -- ---- questions
 

@@ -5,12 +5,12 @@ ghost use Rattle.std.specs.Option.{option_map};
 ghost use Rattle.eden_objects.specs.Objects.{Held};
 ghost use Rattle.eden_objects.specs.Puts.{Outcome};
 ghost use Rattle.eden_history.specs.Worlds.{WorldState};
-ghost use Rattle.eden_script.specs.Sessions.{put_acted, put_of, tree_payload, commit_payload};
-ghost use Rattle.eden_edend.specs.internal.Standing.{session_of, session_at, Gave};
+ghost use Rattle.eden_script.specs.Sessions.{commit_payload, object_of, object_with, objects_in, put_acted, put_label, tree_payload};
+ghost use Rattle.eden_edend.specs.internal.Standing.{session_of, session_put, Gave};
 
 use crate::labels::Labels;
-use eden_ids::{GitNaming, Id, NoMemory};
-use eden_objects::{PutFault, Store};
+use eden_ids::{GitNaming, Id, NoMemory, Sequence};
+use eden_objects::{Object, PutFault, Store, Word};
 use eden_script::{Label, PutLine, Refusal, Told, TreeEntry, push_bytes, push_id};
 use std::alloc::{AllocError, Global};
 use std::mem;
@@ -59,15 +59,53 @@ fn commit_payload(alloc: Global, tree: Option<Id>) -> Result<Option<Vec<u8>>, Al
     Ok(Some(payload))
 }
 
+/// The object of this kind whose payload there is.
+fn object_with(word: Word, payload: Option<Vec<u8>>) -> Option<Object>
+    ensures { result ≡ object_with word (option_map (λ v. v.items) payload) }
+{
+    match payload {
+        Some(payload) => Some(Object {
+            word,
+            payload: Sequence::from_vec(payload),
+        }),
+        None => None,
+    }
+}
+
+/// The label that a line binds, and the object that it names; no object where a label in it is not bound.
+pub(crate) fn object_of(
+    alloc: Global,
+    labels: &Labels,
+    line: PutLine,
+) -> Result<(Label, Option<Object>), AllocError>
+    ensures { IfOk result (λ named. named ≡ (put_label line, object_of labels.now line)) }
+{
+    match line {
+        PutLine::Blob { label, bytes } => {
+            let payload = Sequence::from_vec(bytes.into_bytes());
+            let word = Word::Blob;
+            Ok((label, Some(Object { word, payload })))
+        }
+        PutLine::Tree { label, entries } => {
+            let payload = tree_payload(alloc, labels, entries.as_slice())?;
+            Ok((label, object_with(Word::Tree, payload)))
+        }
+        PutLine::Commit { label, tree } => {
+            let payload = commit_payload(alloc, labels.get(&tree))?;
+            Ok((label, object_with(Word::Commit, payload)))
+        }
+    }
+}
+
 /// Binds the label to what was put, or says why nothing was.
 #[tactic(auto, using(crate::proofs::PutSteps::put_bound, crate::proofs::PutSteps::put_refused))]
-fn bind_put(
+pub(crate) fn bind_put(
     labels: &mut Labels,
     label: Label,
     put: Result<Id, PutFault>,
 ) -> Result<Told<'static>, NoMemory>
-    ensures { (mounted : Option WorldState) (held more : List Held) (outcome : Outcome) → Gave put held more outcome
-        → IfOk result (λ told. put_acted (session_of mounted held labels.old) label outcome ≡ (session_of mounted more labels.new, told)) }
+    ensures { (mounted : Option WorldState) (held more : List Held) (outcome : Outcome) → Gave put (objects_in held mounted) more outcome
+        → IfOk result (λ told. put_acted (session_of mounted held labels.old) label outcome ≡ (session_put mounted held more labels.new, told)) }
 {
     match put {
         Ok(id) => {
@@ -108,31 +146,5 @@ impl Objects {
         ensures labels { self.new.labels ≡ self.old.labels }
     {
         mem::replace(&mut self.store, Store::new(alloc, GitNaming))
-    }
-
-    /// Puts the object that a line names, and binds the label to it.
-    pub(crate) fn put(&mut self, alloc: Global, line: PutLine) -> Result<Told<'static>, NoMemory>
-        ensures { (mounted : Option WorldState) → IfOk result (λ told. put_of (session_at mounted self.old) line ≡ (session_at mounted self.new, told)) }
-    {
-        match line {
-            PutLine::Blob { label, bytes } => {
-                let put = self.store.put_blob(bytes.as_bytes());
-                bind_put(&mut self.labels, label, put)
-            }
-            PutLine::Tree { label, entries } => {
-                let Some(payload) = tree_payload(alloc, &self.labels, entries.as_slice())? else {
-                    return Ok(Told::Refused(Refusal::NoLabel));
-                };
-                let put = self.store.put_tree(payload.as_slice());
-                bind_put(&mut self.labels, label, put)
-            }
-            PutLine::Commit { label, tree } => {
-                let Some(payload) = commit_payload(alloc, self.labels.get(&tree))? else {
-                    return Ok(Told::Refused(Refusal::NoLabel));
-                };
-                let put = self.store.put_commit(payload.as_slice());
-                bind_put(&mut self.labels, label, put)
-            }
-        }
     }
 }

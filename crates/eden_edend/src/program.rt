@@ -4,16 +4,16 @@ ghost use Rattle.std.specs.Prelude.{◌≤◌, IfErr};
 
 use crate::objects::Objects;
 use crate::script::run_over;
-use clap::error::ErrorKind;
 use clap::{Arg, ArgAction, Command};
 use eden_batch::{ObjectsFault, read_objects};
+use eden_command::{VERSION, end_unrun, fail};
 use eden_stream::{Counted, RunFault};
 use std::alloc::Global;
 use std::io;
 use std::io::{Read, Write};
 
-/// The version that `--version` tells.
-const VERSION: &str = "0.1.0";
+/// The program's name, in what it tells.
+const NAME: &str = "edend";
 
 /// What `edend run` is for, and the lines of its script.
 const ABOUT_RUN: &str = "Runs a script: edend run < FILE
@@ -47,7 +47,7 @@ fn read_words<'a>(alloc: Global, words: &'a [String]) -> Result<Option<&'a str>,
         .help(ABOUT_OBJECTS)
         .action(ArgAction::Set);
     let run = Command::new(alloc, "run").about(ABOUT_RUN).arg(objects)?;
-    let command = Command::new(alloc, "edend")
+    let command = Command::new(alloc, NAME)
         .version(VERSION)
         .about("A mount whose changes are journaled, driven by a script")
         .subcommand_required(true)
@@ -57,14 +57,6 @@ fn read_words<'a>(alloc: Global, words: &'a [String]) -> Result<Option<&'a str>,
         Some(run) => Ok(run.get_str("objects")),
         None => Ok(None),
     }
-}
-
-/// Tells that the program failed, and gives its status. That this can't be told is told to nobody.
-fn fail<E: Write>(errors: &mut E, name: &str) -> u8
-    ensures { result ≤ 3 }
-{
-    let _ = write!(errors, "edend: {name}\n");
-    3
 }
 
 /// Puts the objects of a file, and binds each commit to its own label; or tells why that can't be done, and gives the status that the program
@@ -80,7 +72,7 @@ fn read_first<F: Read + Drop, E: Write>(
     match read_objects(alloc, &mut Counted::new(file), &mut objects.store) {
         Ok(ids) => match objects.name_commits(ids.as_slice()) {
             Ok(()) => Ok(objects),
-            Err(_) => Err(fail(errors, "NoMemory")),
+            Err(_) => Err(fail(errors, NAME, "NoMemory")),
         },
         Err(fault) => {
             let _ = write!(errors, "edend: {fault}\n");
@@ -131,21 +123,11 @@ fn run_script<I: Read + Drop, O: Write + Drop, E: Write>(
             let _ = write!(errors, "line {number}: BadLine\n");
             1
         }
-        Err(RunFault::Read) => fail(errors, "Read"),
-        Err(RunFault::Write) => fail(errors, "Write"),
-        Err(RunFault::TurnsSpent) => fail(errors, "TurnsSpent"),
-        Err(RunFault::NoMemory) => fail(errors, "NoMemory"),
+        Err(RunFault::Read) => fail(errors, NAME, "Read"),
+        Err(RunFault::Write) => fail(errors, NAME, "Write"),
+        Err(RunFault::TurnsSpent) => fail(errors, NAME, "TurnsSpent"),
+        Err(RunFault::NoMemory) => fail(errors, NAME, "NoMemory"),
     }
-}
-
-/// Writes the version, and gives the status that the program ends with.
-fn tell_version<O: Write, E: Write>(output: &mut O, errors: &mut E, text: &clap::Error) -> u8
-    ensures { result ≤ 3 }
-{
-    if write!(output, "{text}").is_err() || output.flush().is_err() {
-        return fail(errors, "Write");
-    }
-    0
 }
 
 /// Runs `edend` with the words of a command line, of which the first is its name, and gives the status that it ends with.
@@ -172,24 +154,14 @@ pub fn edend<S: Shelf, I: Read + Drop, O: Write + Drop, E: Write>(
 ) -> u8
     ensures { result ≤ 3 }
 {
-    let error = match read_words(alloc, words) {
-        Ok(name) => {
-            return match first_objects(alloc, shelf, name, errors) {
-                Ok(objects) => run_script(alloc, objects, input, output, errors),
-                Err(status) => status,
-            };
-        }
-        Err(error) => error,
-    };
-    match error.kind() {
-        ErrorKind::DisplayVersion => {
+    match read_words(alloc, words) {
+        Ok(name) => match first_objects(alloc, shelf, name, errors) {
+            Ok(objects) => run_script(alloc, objects, input, output, errors),
+            Err(status) => status,
+        },
+        Err(error) => {
             let mut output = output;
-            tell_version(&mut output, errors, &error)
-        }
-        ErrorKind::OutOfMemory => fail(errors, "NoMemory"),
-        _ => {
-            let _ = write!(errors, "{error}");
-            2
+            end_unrun(&mut output, errors, NAME, &error)
         }
     }
 }

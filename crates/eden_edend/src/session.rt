@@ -15,17 +15,16 @@ ghost use Rattle.eden_edend.specs.internal.Standing.{Acts, Tells, SessionStands}
 
 use crate::changes::change_of;
 use crate::labels::Labels;
-use crate::objects::Objects;
+use crate::objects::{Objects, bind_put, object_of};
 use crate::questions::ask;
 use crate::telling::push_told;
 use eden_accumulate::Mount;
 use eden_history::Answer;
 use eden_ids::{GitNaming, Id, NoMemory};
-use eden_objects::Store;
+use eden_objects::{Importer, Object, Store};
 use eden_script::{AskLine, ChangeLine, Command, Label, MountLine, PutLine, Refusal, Told, words};
 use eden_stream::{Answered, LineMachine};
 use std::alloc::{AllocError, Global};
-use std::sync::Arc;
 
 /// What a line asks for, or none where it can't be read.
 fn read_line(alloc: Global, line: &[u8]) -> Result<Option<Command>, AllocError>
@@ -58,7 +57,6 @@ fn mount_commit(
     requires { IsSome (commit_map store root) }
     ensures { IfOk result (λ mount. StandsFor mount (opened store generation limit root (commit_files store root))) }
 {
-    let store = Arc::new(alloc, store)?;
     match Mount::mount(alloc, store, root, generation, limit) {
         Ok(mount) => Ok(mount),
         // The commit is there.
@@ -86,15 +84,25 @@ impl Session {
         }
     }
 
-    /// Puts an object.
-    #[tactic(auto, using(crate::proofs::Acting::put_late))]
+    /// Puts an object, among those of the mount once there is one.
+    #[tactic(auto, using(crate::proofs::Acting::put_unbound))]
     fn put(&mut self, line: PutLine) -> Result<Told<'static>, NoMemory>
         ensures { IfOk result (λ told. Acts self.old.mount self.old.objects (Command.Put line) self.new.mount self.new.objects told) }
     {
-        if self.mount.is_some() {
-            return Ok(Told::Refused(Refusal::Mounted));
+        let (label, object) = object_of(self.alloc, &self.objects.labels, line)?;
+        let Some(Object { word, payload }) = object else {
+            return Ok(Told::Refused(Refusal::NoLabel));
+        };
+        match &mut self.mount {
+            Some(mount) => {
+                let put = mount.put_object(word, payload.as_slice());
+                bind_put(&mut self.objects.labels, label, put)
+            }
+            None => {
+                let put = self.objects.store.put_object(word, payload.as_slice());
+                bind_put(&mut self.objects.labels, label, put)
+            }
         }
-        self.objects.put(self.alloc, line)
     }
 
     /// Mounts a commit. The mount takes the store.

@@ -1,28 +1,29 @@
 -- A path that no event names keeps what stands there, from any row of a generation to its last; and what a world has had it goes on to
 -- have had.
-use Rattle.std.proofs.Common.{◌≡◌, ℕ, ◌<◌, ◌≤◌, ◌⊎◌, inl, inr, Bool, true, false, cond, not, List, [], ◌∷◌, Option, Some, None, refl, sym, ap, subst, ◌∙◌, arith}
+use Rattle.std.proofs.Common.{◌≡◌, ℕ, ◌<◌, ◌≤◌, ◌⊎◌, inl, inr, Bool, true, false, cond, List, [], ◌∷◌, Option, Some, None, refl, sym, ap, subst, ◌∙◌, arith}
 use Rattle.std.specs.Prelude.{if◌then◌else◌}
-use Rattle.std.proofs.lemmas.Bool.{or_parts, not-false}
+use Rattle.std.proofs.lemmas.Bool.{or_parts}
 use Rattle.std.specs.FinMap as fin
 use Rattle.eden_ids.specs.declared.content.Content.{Content}
-use Rattle.eden_ids.specs.FileMaps.{FileMap, differ, file_at, has, listing, path_set, same_file, same_path, union}
+use Rattle.eden_ids.specs.FileMaps.{FileMap, differ, file_at, has, listing, path_set, same_path, union}
 use Rattle.eden_ids.specs.Sameness.{same_bytes}
-use Rattle.eden_ids.proofs.FileMapLemmas.{file_at-insert, file_at-remove, has-differ, has-path_set, has-union, path_set-listing, same_file-is}
+use Rattle.eden_ids.proofs.FileMapLemmas.{file_at-insert, file_at-remove, has-path_set, has-union, path_set-listing}
 use Rattle.eden_history.specs.declared.change.Change.{Change}
-use Rattle.eden_history.specs.declared.change.Change.TheVariants.{Write, Remove, Rename, Checkout, Reset, Flush, Remount}
-use Rattle.eden_history.specs.declared.change.ChangeFault.{ChangeFault}
-use Rattle.eden_history.specs.Worlds.{Row, Event, Commits, WorldState, commits_of, last_row, now, position_of}
+use Rattle.eden_history.specs.declared.change.Change.TheVariants.{Write, Remove, Rename, Checkout, Reset, Flush, Remount, Import}
+use Rattle.eden_objects.specs.Objects.{Held}
+use Rattle.eden_history.specs.Worlds.{Row, Event, Commits, Namer, WorldState, commits_of, last_row, now, position_of}
 use Rattle.eden_history.specs.Renames as renames
 use Rattle.eden_history.specs.Checkouts.{unclean}
 use Rattle.eden_history.specs.Named.{held_files, named}
-use Rattle.eden_history.specs.Outcome.{Outcome, event_at, extended, is_event, judged, next_files, next_row, outcome, refusal, world_after}
-use Rattle.eden_history.specs.Outcome.Outcome.{Refuses, NoEvent, Next}
+use Rattle.eden_history.specs.Imports.{over_held}
+use Rattle.eden_history.specs.Outcome.{next_files, next_row, world_after}
 use Rattle.eden_history.specs.Legal.{AreMade, IsLegal}
 use Rattle.eden_history.specs.Changes.{changes, named_if}
 use Rattle.eden_history.specs.Rows.{IsPlace, IsRow, IsRowOf, Stands}
 use Rattle.eden_history.specs.declared.position.Position.{Position}
 use Rattle.eden_history.proofs.CheckoutLaws.{has-unclean, same_where}
 use Rattle.eden_history.proofs.Following.{Follows, IsNotAfter, counted, earlier, event_follows}
+use Rattle.eden_history.proofs.Growing.{goes_on, grown}
 use Rattle.eden_history.proofs.Ranges.{changes_more}
 use Rattle.eden_history.proofs.Steps.{is_made}
 
@@ -69,6 +70,7 @@ next_kept commits row (Checkout commit mode) p none =
 next_kept commits row (Reset commit) p none = refl
 next_kept commits row Flush p none = refl
 next_kept commits row (Remount generation) p none = refl
+next_kept commits row (Import objects) p none = refl
 
 kept : (commits : Commits) (opening : Row) (past : List Event) (event : Event) (p : List ℕ) → AreMade commits opening (event ∷ past)
     → has (path_set event.names) p ≡ false → file_at event.row.files p ≡ file_at (last_row opening past).files p
@@ -124,33 +126,6 @@ still commits generation since until opening (event ∷ past) row p made (inr ol
 
 -- ---- a world goes on
 
-made_change : (commits : Commits) (row : Row) (change : Change) (fault : Option ChangeFault) (event : Event) → judged commits row change fault ≡ Next event → event.change ≡ change
-made_change commits row change (Some fault) event e = absurd (let bad : ◌≡◌ {A = Outcome} (Refuses fault) (Next event) = e in cc)
-made_change commits row change None event e = by (is_event change) e
-  where
-    by : (b : Bool) → (if b then Next (event_at commits row change (next_row commits row change)) else NoEvent) ≡ Next event → event.change ≡ change
-    by true is =
-        let same : event_at commits row change (next_row commits row change) ≡ event = cc in
-        sym (ap (λ x. x.change) same)
-    by false is = absurd (let bad : ◌≡◌ {A = Outcome} NoEvent (Next event) = is in cc)
-
-abbrev pub grown : WorldState → Event → WorldState
-grown world event = record world { past = event ∷ world.past }
-
--- after a change the world is as it was, or has one more event that its own change makes
-pub goes_on : (Holds : WorldState → Type 0) (world : WorldState) (change : Change) → Holds world
-    → ((event : Event) → outcome (commits_of world) (now world) event.change ≡ Next event → Holds (grown world event)) → Holds (world_after world change)
-goes_on Holds world change stays grows = by (outcome (commits_of world) (now world) change) refl
-  where
-    by : (o : Outcome) → outcome (commits_of world) (now world) change ≡ o → Holds (extended world o)
-    by (Refuses fault) e = stays
-    by NoEvent e = stays
-    by (Next event) e =
-        grows event (ap (outcome (commits_of world) (now world)) (made_change (commits_of world) (now world) change (refusal (commits_of world) (now world) change) event e) ∙ e)
-
-pub legal_on : (world : WorldState) (change : Change) → IsLegal world → IsLegal (world_after world change)
-legal_on world change legal = goes_on IsLegal world change legal (λ event made. (legal.0, (made, legal.1)))
-
 pub stands_grown : (world : WorldState) (event : Event) (generation number : ℕ) (p : List ℕ) (file : Option Content) → Stands world generation number p file
     → Stands (grown world event) generation number p file
 stands_grown world event generation number p file is =
@@ -159,13 +134,24 @@ stands_grown world event generation number p file is =
 pub place_grown : (world : WorldState) (event : Event) (position : Position) → IsPlace world position → IsPlace (grown world event) position
 place_grown world event position is = record { row = is.row; is_row = inr is.is_row; is = is.is }
 
-pub stands_on : (world : WorldState) (change : Change) (generation number : ℕ) (p : List ℕ) (file : Option Content) → Stands world generation number p file
-    → Stands (world_after world change) generation number p file
-stands_on world change generation number p file is =
-    goes_on (λ w. Stands w generation number p file) world change is (λ event made. stands_grown world event generation number p file is)
+-- over other objects the rows are the same
+pub stands_over : (world : WorldState) (held : List Held) (generation number : ℕ) (p : List ℕ) (file : Option Content) → Stands world generation number p file
+    → Stands (over_held world held) generation number p file
+stands_over world held generation number p file is =
+    record { row = is.row; is_row = is.is_row; alike = is.alike; after = is.after; value = is.value }
 
-pub place_on : (world : WorldState) (change : Change) (position : Position) → IsPlace world position → IsPlace (world_after world change) position
-place_on world change position is = goes_on (λ w. IsPlace w position) world change is (λ event made. place_grown world event position is)
+pub place_over : (world : WorldState) (held : List Held) (position : Position) → IsPlace world position → IsPlace (over_held world held) position
+place_over world held position is = record { row = is.row; is_row = is.is_row; is = is.is }
+
+pub stands_on : (name : Namer) (world : WorldState) (change : Change) (generation number : ℕ) (p : List ℕ) (file : Option Content) → Stands world generation number p file
+    → Stands (world_after name world change) generation number p file
+stands_on name world change generation number p file is =
+    goes_on (λ w. Stands w generation number p file) name world change is (λ event made. stands_grown world event generation number p file is)
+    (λ held. stands_over world held generation number p file is)
+
+pub place_on : (name : Namer) (world : WorldState) (change : Change) (position : Position) → IsPlace world position → IsPlace (world_after name world change) position
+place_on name world change position is =
+    goes_on (λ w. IsPlace w position) name world change is (λ event made. place_grown world event position is) (λ held. place_over world held position is)
 
 -- ---- the present row
 

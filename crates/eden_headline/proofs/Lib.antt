@@ -2,3 +2,7 @@ mod Keeping
 mod Telling
 mod Mirroring
 mod Scheduling
+mod Living
+mod Merging
+pub mod Noting
+pub mod Vouching

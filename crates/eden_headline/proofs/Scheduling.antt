@@ -16,10 +16,10 @@ use Rattle.eden_messages.specs.declared.message.Reply.{Reply}
 use Rattle.eden_messages.specs.declared.message.Reply.TheVariants.{ChangesAre, Refused}
 use Rattle.eden_messages.specs.declared.message.Request.{Request}
 use Rattle.eden_history.specs.declared.position.Position.{Position}
-use Rattle.eden_history.specs.Worlds.{WorldState, commits_of, now, position_of}
+use Rattle.eden_history.specs.Worlds.{Namer, WorldState, commits_of, now, position_of}
 use Rattle.eden_history.specs.Changes.{changes}
 use Rattle.eden_headline.specs.Headline.{AgreeTogether, AgreesAtHead, Differs, HasPlace, HasValues, IsCovered, IsRefused, IsTold, OfMirrors, OfPairs, Tells, changes_after}
-use Rattle.eden_history.specs.Legal.{IsLegal}
+use Rattle.eden_history.specs.Legal.{IsLegal, IsWorld}
 use Rattle.eden_history.specs.Marks.{marked_since}
 use Rattle.eden_messages.specs.Mirrors.{MirrorState, Round, begun, delivered, new_mirror, outstanding_of, query_of, refiltered, requests_in}
 use Rattle.eden_messages.specs.Mirrors.Round.{Idle, Asked, Gathering}
@@ -34,24 +34,25 @@ use Rattle.eden_messages.specs.Spells.{reply_bytes}
 use Rattle.eden_frames.specs.Frames.{body_limit}
 use Rattle.eden_history.specs.Status.{status_of}
 use Rattle.eden_history.proofs.Following.{none_named}
-use Rattle.eden_headline.proofs.Keeping.{legal_on, place_in_time, place_on, stands_on, still}
+use Rattle.eden_history.proofs.Growing.{world_changes}
+use Rattle.eden_headline.proofs.Keeping.{place_in_time, place_on, stands_on, still}
 use Rattle.eden_headline.proofs.Mirroring.{IsGoodRound, IsOwn, IsSound, own_query, own_request, sound_begun, sound_delivered, sound_new, sound_refiltered}
 use Rattle.eden_headline.proofs.Telling.{IsTrueOf, among_changes, by_status, reply_true, true_of_more, true_on}
 
 -- ---- what holds of all
 
-pub record HoldsAll (s : Scene) : Type 0 where
-  pub legal : IsLegal s.world
+pub record HoldsAll (name : Namer) (s : Scene) : Type 0 where
+  pub world : IsWorld name s.world
   pub honest : (reply : Reply) → Contains s.replies reply → IsTrueOf s.world s.sent reply
   pub sound : (id : ℕ) (m : MirrorState) → s.mirrors id ≡ Some m → IsSound s.world s.sent id m
 
 nothing_in : {X : Type 0} (xs : List X) (x : X) → xs ≡ [] → Contains xs x → ⊥
 nothing_in xs x none there = let within = there.1 in let few = ap length none in omega arith
 
-all_fresh : (s : Scene) → IsFresh s → HoldsAll s
-all_fresh s fresh =
+all_fresh : (name : Namer) (s : Scene) → IsFresh name s → HoldsAll name s
+all_fresh name s fresh =
     record {
-      legal = fresh.world;
+      world = fresh.world;
       honest = λ reply there. absurd (nothing_in s.replies reply fresh.replies there);
       sound = λ id m e. subst (IsSound s.world s.sent id) (sym (fresh.mirrors id m e))
           (sound_new s.world s.sent id m.life m.patterns (λ request there mirror life. nothing_in s.sent request fresh.sent there));
@@ -60,7 +61,7 @@ all_fresh s fresh =
 -- ---- one mirror moves
 
 -- where one mirror moves, what holds of its new state and of the others' holds of all
-all_moved : (Holds : ℕ → MirrorState → Type 0) (mirrors : Mirrors) (id : ℕ) (move : MirrorState → MirrorState)
+pub all_moved : (Holds : ℕ → MirrorState → Type 0) (mirrors : Mirrors) (id : ℕ) (move : MirrorState → MirrorState)
     → ((m : MirrorState) → mirrors id ≡ Some m → Holds id (move m)) → ((other : ℕ) (m : MirrorState) → mirrors other ≡ Some m → Holds other m)
     → (other : ℕ) (m : MirrorState) → moved mirrors id move other ≡ Some m → Holds other m
 all_moved Holds mirrors id move new old other m e = by (other == id) refl e
@@ -114,27 +115,27 @@ more_sent world sent more id m own is =
 
 -- ---- each step
 
-all_changed : (s : Scene) (change : Change) → HoldsAll s → HoldsAll (record s { world = world_after s.world change })
-all_changed s change is =
+all_changed : (name : Namer) (s : Scene) (change : Change) → HoldsAll name s → HoldsAll name (record s { world = world_after name s.world change })
+all_changed name s change is =
     record {
-      legal = legal_on s.world change is.legal;
-      honest = λ reply there. true_on s.world s.sent change reply is.legal (is.honest reply there);
+      world = world_changes name s.world change is.world;
+      honest = λ reply there. true_on name s.world s.sent change reply is.world.legal (is.honest reply there);
       sound = λ id m e. sound_on id m (is.sound id m e);
     }
   where
-    in_round : (m : MirrorState) (round : Round) → IsGoodRound s.world s.sent m round → IsGoodRound (world_after s.world change) s.sent m round
+    in_round : (m : MirrorState) (round : Round) → IsGoodRound s.world s.sent m round → IsGoodRound (world_after name s.world change) s.sent m round
     in_round m Idle good = tt
     in_round m (Asked request) good = good
     in_round m (Gathering query target awaited) good =
         record {
           asks = good.asks;
-          reached = place_on s.world change target good.reached;
+          reached = place_on name s.world change target good.reached;
           outside = good.outside;
-          gathered = λ p wanted none. stands_on s.world change target.generation target.sequence p (file_at m.files p) (good.gathered p wanted none);
+          gathered = λ p wanted none. stands_on name s.world change target.generation target.sequence p (file_at m.files p) (good.gathered p wanted none);
           later = good.later;
         }
 
-    sound_on : (id : ℕ) (m : MirrorState) → IsSound s.world s.sent id m → IsSound (world_after s.world change) s.sent id m
+    sound_on : (id : ℕ) (m : MirrorState) → IsSound s.world s.sent id m → IsSound (world_after name s.world change) s.sent id m
     sound_on id m sound =
         record {
           kept =
@@ -142,29 +143,29 @@ all_changed s change is =
                 named = sound.kept.named;
                 numbers = sound.kept.numbers;
                 outside = sound.kept.outside;
-                placed = λ place e. place_on s.world change place (sound.kept.placed place e);
-                values = λ place p e wanted. stands_on s.world change place.generation place.sequence p (file_at m.files p) (sound.kept.values place p e wanted);
+                placed = λ place e. place_on name s.world change place (sound.kept.placed place e);
+                values = λ place p e wanted. stands_on name s.world change place.generation place.sequence p (file_at m.files p) (sound.kept.values place p e wanted);
               };
           round = in_round m m.round sound.round;
         }
 
-all_sent : (s : Scene) (more : List Request)
+all_sent : (name : Namer) (s : Scene) (more : List Request)
     → ((id : ℕ) (m : MirrorState) → s.mirrors id ≡ Some m → (request : Request) → Contains more request → IsOwn m request
     → ((query_of request).number ≤ m.last) × Contains (outstanding_of m) request)
-    → HoldsAll s → HoldsAll (record s { sent = s.sent ++ more })
-all_sent s more own is =
+    → HoldsAll name s → HoldsAll name (record s { sent = s.sent ++ more })
+all_sent name s more own is =
     record {
-      legal = is.legal;
+      world = is.world;
       honest = λ reply there. true_of_more s.world s.sent more reply (is.honest reply there);
       sound = λ id m e. more_sent s.world s.sent more id m (own id m e) (is.sound id m e);
     }
 
 -- what a mirror sends is its own, and no other mirror's
-own_sent : (s : Scene) (id : ℕ) → HoldsAll s → (found : Option MirrorState) → s.mirrors id ≡ found → (other : ℕ) (m : MirrorState) → s.mirrors other ≡ Some m
+own_sent : (name : Namer) (s : Scene) (id : ℕ) → HoldsAll name s → (found : Option MirrorState) → s.mirrors id ≡ found → (other : ℕ) (m : MirrorState) → s.mirrors other ≡ Some m
     → (request : Request) → Contains (asked_by found) request → IsOwn m request → ((query_of request).number ≤ m.last) × Contains (outstanding_of m) request
 unfolding outstanding_of
-own_sent s id is None at other m e request there mine = absurd (nothing_in [] request refl there)
-own_sent s id is (Some n) at other m e request there mine =
+own_sent name s id is None at other m e request there mine = absurd (nothing_in [] request refl there)
+own_sent name s id is (Some n) at other m e request there mine =
     let query = own_query s.world s.sent n request n.round (is.sound id n at).round there in
     let same : id ≡ other =
     sym (is.sound id n at).kept.named ∙ sym (ap (λ q. q.mirror) query) ∙ mine.mirror ∙ (is.sound other m e).kept.named in
@@ -174,9 +175,9 @@ own_sent s id is (Some n) at other m e request there mine =
     number : (query_of request).number ≡ n.last → (query_of request).number ≤ n.last
     number e = omega arith
 
-strange_sent : (s : Scene) (request : Request) → IsStrange s request → HoldsAll s → HoldsAll (record s { sent = s.sent ++ request ∷ [] })
-strange_sent s request strange is =
-    all_sent s (request ∷ []) (λ id m e other there mine. absurd (not_own id m e other (same_one other (Contains-push_cases [] request other there)) mine)) is
+strange_sent : (name : Namer) (s : Scene) (request : Request) → IsStrange s request → HoldsAll name s → HoldsAll name (record s { sent = s.sent ++ request ∷ [] })
+strange_sent name s request strange is =
+    all_sent name s (request ∷ []) (λ id m e other there mine. absurd (not_own id m e other (same_one other (Contains-push_cases [] request other there)) mine)) is
   where
     same_one : (other : Request) → Contains [] other ⊎ (request ≡ other) → request ≡ other
     same_one other (inl there) = absurd (nothing_in [] other refl there)
@@ -187,40 +188,40 @@ strange_sent s request strange is =
         let own : IsOwn m request = subst (IsOwn m) (sym one) mine in
         strange m (ap s.mirrors (own.mirror ∙ (is.sound id m e).kept.named) ∙ e) (sym own.life)
 
-all_with : (s : Scene) (id : ℕ) (move : MirrorState → MirrorState) → ((m : MirrorState) → s.mirrors id ≡ Some m → IsSound s.world s.sent id (move m))
-    → HoldsAll s → HoldsAll (record s { mirrors = moved s.mirrors id move })
-all_with s id move new is =
-    record { legal = is.legal; honest = is.honest; sound = all_moved (IsSound s.world s.sent) s.mirrors id move new is.sound }
+all_with : (name : Namer) (s : Scene) (id : ℕ) (move : MirrorState → MirrorState) → ((m : MirrorState) → s.mirrors id ≡ Some m → IsSound s.world s.sent id (move m))
+    → HoldsAll name s → HoldsAll name (record s { mirrors = moved s.mirrors id move })
+all_with name s id move new is =
+    record { world = is.world; honest = is.honest; sound = all_moved (IsSound s.world s.sent) s.mirrors id move new is.sound }
 
-all_happens : (s : Scene) (step : Step) → MayHappen s step → HoldsAll s → HoldsAll (happens s step)
+all_happens : (name : Namer) (s : Scene) (step : Step) → MayHappen s step → HoldsAll name s → HoldsAll name (happens name s step)
 unfolding happens
-all_happens s (Changes change) may is = all_changed s change is
-all_happens s (Begins id) may is = all_with s id begun (λ m e. sound_begun s.world s.sent id m (is.sound id m e)) is
-all_happens s (Sends id) may is = all_sent s (asked_by (s.mirrors id)) (own_sent s id is (s.mirrors id) refl) is
-all_happens s (Serves request) may is =
+all_happens name s (Changes change) may is = all_changed name s change is
+all_happens name s (Begins id) may is = all_with name s id begun (λ m e. sound_begun s.world s.sent id m (is.sound id m e)) is
+all_happens name s (Sends id) may is = all_sent name s (asked_by (s.mirrors id)) (own_sent name s id is (s.mirrors id) refl) is
+all_happens name s (Serves request) may is =
     record {
-      legal = is.legal;
+      world = is.world;
       honest = λ reply there. by reply (Contains-push_cases s.replies (reply_of s.world request) reply there);
       sound = is.sound;
     }
   where
     by : (reply : Reply) → Contains s.replies reply ⊎ (reply_of s.world request ≡ reply) → IsTrueOf s.world s.sent reply
     by reply (inl old) = is.honest reply old
-    by reply (inr new) = subst (IsTrueOf s.world s.sent) new (reply_true s.world s.sent request is.legal may)
-all_happens s (Comes reply id) may is =
-    all_with s id (λ m. (delivered m reply).0) (λ m e. sound_delivered s.world s.sent id m reply (is.sound id m e) (is.honest reply may)) is
-all_happens s (Refilters id patterns) may is =
-    all_with s id (λ m. refiltered m patterns) (λ m e. sound_refiltered s.world s.sent id m patterns (is.sound id m e)) is
-all_happens s (Restarts id life patterns) may is =
-    all_with s id (λ m. new_mirror m.id life patterns)
+    by reply (inr new) = subst (IsTrueOf s.world s.sent) new (reply_true s.world s.sent request is.world.legal may)
+all_happens name s (Comes reply id) may is =
+    all_with name s id (λ m. (delivered m reply).0) (λ m e. sound_delivered s.world s.sent id m reply (is.sound id m e) (is.honest reply may)) is
+all_happens name s (Refilters id patterns) may is =
+    all_with name s id (λ m. refiltered m patterns) (λ m e. sound_refiltered s.world s.sent id m patterns (is.sound id m e)) is
+all_happens name s (Restarts id life patterns) may is =
+    all_with name s id (λ m. new_mirror m.id life patterns)
     (λ m e. subst (λ i. IsSound s.world s.sent id (new_mirror i life patterns)) (sym (is.sound id m e).kept.named)
     (sound_new s.world s.sent id life patterns (λ request there mirror same. may.unused request there mirror same))) is
-all_happens s (Strange request) may is = strange_sent s request may is
-all_happens s Nothing may is = is
+all_happens name s (Strange request) may is = strange_sent name s request may is
+all_happens name s Nothing may is = is
 
-all_run : (s : Scene) (steps : List Step) → IsSchedule s steps → HoldsAll s → HoldsAll (run_schedule s steps)
-all_run s [] may is = is
-all_run s (step ∷ steps) may is = all_run (happens s step) steps may.1 (all_happens s step may.0 is)
+all_run : (name : Namer) (s : Scene) (steps : List Step) → IsSchedule name s steps → HoldsAll name s → HoldsAll name (run_schedule name s steps)
+all_run name s [] may is = is
+all_run name s (step ∷ steps) may is = all_run name (happens name s step) steps may.1 (all_happens name s step may.0 is)
 
 -- ---- what it means at the end
 
@@ -249,14 +250,14 @@ never_ahead world sent id m place legal sound at same = by (place_in_time world 
     by (inl lt) = absurd (omega arith)
     by (inr both) = both.1
 
-covered : (s : Scene) → HoldsAll s → OfMirrors IsCovered s
-covered s is id m e place p at differs =
+covered : (name : Namer) (s : Scene) → HoldsAll name s → OfMirrors IsCovered s
+covered name s is id m e place p at differs =
     by_status (λ fault. status_of s.world place ≡ fault → (has (changes_after s.world place) p ≡ true) ⊎ IsRefused s.world place)
     (now s.world).generation (now s.world).sequence (floor_of s.world) place
     (λ apart found. inr (inl found)) (λ same late found. inl (named same)) (λ same before found. inl (named same)) (λ same before found. inl (named same)) refl
   where
     named : place.generation ≡ (now s.world).generation → has (changes_after s.world place) p ≡ true
-    named = named_since s.world s.sent id m place p is.legal (is.sound id m e) at differs
+    named = named_since s.world s.sent id m place p is.world.legal (is.sound id m e) at differs
 
 bounded_tells : (query : Query) (reply : Reply) (p : List ℕ) → Tells reply p → Tells (bounded query reply) p
 unfolding bounded
@@ -266,49 +267,49 @@ bounded_tells query reply p tells = by (nat_lt body_limit (length (reply_bytes r
     by true = tt
     by false = tells
 
-told : (s : Scene) → HoldsAll s → OfMirrors IsTold s
-told s is id m e place p query at differs =
+told : (name : Namer) (s : Scene) → HoldsAll name s → OfMirrors IsTold s
+told name s is id m e place p query at differs =
     by_status (λ fault. Tells (polled s.world query place.sequence m.patterns fault) p) (now s.world).generation (now s.world).sequence (floor_of s.world) place
-    (λ apart. tt) (λ same late. absurd (let low = never_ahead s.world s.sent id m place is.legal (is.sound id m e) at same in omega arith)) (λ same before. tt)
+    (λ apart. tt) (λ same late. absurd (let low = never_ahead s.world s.sent id m place is.world.legal (is.sound id m e) at same in omega arith)) (λ same before. tt)
     (λ same before. bounded_tells query (ChangesAre query (position_of (now s.world)) (admitted m.patterns (marked_since s.world place.sequence))) p
     (among_changes s.world place.sequence m.patterns p
     ∙ ap (λ b. b && has (changes (now s.world).generation place.sequence (now s.world).sequence s.world.past) p) differs.wanted
     ∙ ap (λ g. has (changes g place.sequence (now s.world).sequence s.world.past) p) (sym same)
-    ∙ named_since s.world s.sent id m place p is.legal (is.sound id m e) at differs same))
+    ∙ named_since s.world s.sent id m place p is.world.legal (is.sound id m e) at differs same))
 
-at_head : (s : Scene) → HoldsAll s → OfMirrors AgreesAtHead s
-at_head s is id m e place at head p = by (admits m.patterns p) refl
+at_head : (name : Namer) (s : Scene) → HoldsAll name s → OfMirrors AgreesAtHead s
+at_head name s is id m e place at head p = by (admits m.patterns p) refl
   where
     none : has (changes place.generation place.sequence (now s.world).sequence s.world.past) p ≡ false
     none =
         ap (λ named. has named p)
-        (none_named (commits_of s.world) place.generation place.sequence (now s.world).sequence s.world.opening s.world.past is.legal.1
+        (none_named (commits_of s.world) place.generation place.sequence (now s.world).sequence s.world.opening s.world.past is.world.legal.1
         (inr (sym head.generation, let last = head.sequence in omega arith)))
         ∙ has-none p
 
     by : (b : Bool) → admits m.patterns p ≡ b → file_at m.files p ≡ (if b then file_at (now s.world).files p else None)
-    by true wanted = stood s.world place p (file_at m.files p) is.legal head.generation none ((is.sound id m e).kept.values place p at wanted)
+    by true wanted = stood s.world place p (file_at m.files p) is.world.legal head.generation none ((is.sound id m e).kept.values place p at wanted)
     by false out = (is.sound id m e).kept.outside p out
 
-together : (s : Scene) → HoldsAll s → OfPairs AgreeTogether s
-together s is id other m n e f here there at_m at_n head_m head_n p wanted_m wanted_n =
-    (at_head s is id m e here at_m head_m p ∙ ap (λ b. if b then file_at (now s.world).files p else None) wanted_m)
-    ∙ sym (at_head s is other n f there at_n head_n p ∙ ap (λ b. if b then file_at (now s.world).files p else None) wanted_n)
+together : (name : Namer) (s : Scene) → HoldsAll name s → OfPairs AgreeTogether s
+together name s is id other m n e f here there at_m at_n head_m head_n p wanted_m wanted_n =
+    (at_head name s is id m e here at_m head_m p ∙ ap (λ b. if b then file_at (now s.world).files p else None) wanted_m)
+    ∙ sym (at_head name s is other n f there at_n head_n p ∙ ap (λ b. if b then file_at (now s.world).files p else None) wanted_n)
 
-places : (s : Scene) → HoldsAll s → OfMirrors HasPlace s
-places s is id m e place at =
+places : (name : Namer) (s : Scene) → HoldsAll name s → OfMirrors HasPlace s
+places name s is id m e place at =
     record {
       is_place = (is.sound id m e).kept.placed place at;
-      in_time = never_ahead s.world s.sent id m place is.legal (is.sound id m e) at;
+      in_time = never_ahead s.world s.sent id m place is.world.legal (is.sound id m e) at;
     }
 
-values : (s : Scene) → HoldsAll s → OfMirrors HasValues s
-values s is id m e place p at wanted = (is.sound id m e).kept.values place p at wanted
+values : (name : Namer) (s : Scene) → HoldsAll name s → OfMirrors HasValues s
+values name s is id m e place p at wanted = (is.sound id m e).kept.values place p at wanted
 
 -- ---- after every schedule
 
-after_all : (Holds : Scene → Type 0) → ((s : Scene) → HoldsAll s → Holds s) → OnFreshRuns Holds
-after_all Holds means s steps fresh may = means (run_schedule s steps) (all_run s steps may (all_fresh s fresh))
+after_all : (Holds : Scene → Type 0) → ((name : Namer) (s : Scene) → HoldsAll name s → Holds s) → OnFreshRuns Holds
+after_all Holds means name s steps fresh may = means name (run_schedule name s steps) (all_run name s steps may (all_fresh name s fresh))
 
 pub runs_covered : OnFreshRuns (OfMirrors IsCovered)
 runs_covered = after_all (OfMirrors IsCovered) covered

@@ -20,11 +20,13 @@ use Rattle.eden_messages.specs.declared.message.Reply.TheVariants.{BasisIs, Chan
 use Rattle.eden_messages.specs.declared.message.Request.{Request}
 use Rattle.eden_messages.specs.declared.message.Request.TheVariants.{Basis, Poll, Fetch}
 use Rattle.eden_history.specs.declared.position.Position.{Position}
-use Rattle.eden_history.specs.Worlds.{Event, WorldState, commits_of, now, position_of}
+use Rattle.eden_objects.specs.Objects.{Held}
+use Rattle.eden_history.specs.Worlds.{Event, Namer, WorldState, commits_of, now, position_of}
 use Rattle.eden_history.specs.Changes.{changes}
 use Rattle.eden_history.specs.Legal.{IsLegal}
 use Rattle.eden_history.specs.Marks.{mark_of, marked_since}
 use Rattle.eden_messages.specs.Mirrors.{is_among}
+use Rattle.eden_history.specs.Imports.{over_held}
 use Rattle.eden_history.specs.Outcome.{outcome, world_after}
 use Rattle.eden_history.specs.Outcome.Outcome.{Next}
 use Rattle.eden_history.specs.Recorded.{floor_of}
@@ -35,7 +37,8 @@ use Rattle.eden_messages.specs.Spells.{paths_of, reply_bytes}
 use Rattle.eden_frames.specs.Frames.{body_limit}
 use Rattle.eden_history.specs.Status.{status, status_of}
 use Rattle.eden_history.proofs.Following.{Follows, event_follows}
-use Rattle.eden_headline.proofs.Keeping.{goes_on, grown, now_is_place, now_is_row, place_grown, place_in_time, place_on, stands_grown, stands_now, stands_on, still}
+use Rattle.eden_history.proofs.Growing.{goes_on, grown}
+use Rattle.eden_headline.proofs.Keeping.{now_is_place, now_is_row, place_grown, place_in_time, place_on, place_over, stands_grown, stands_now, stands_on, stands_over, still}
 
 -- ---- what is true of a reply
 
@@ -128,20 +131,37 @@ poll_grown world event sent query target ps legal made is =
       stays = λ p file a none. stays_grown world event is.since target p file legal is.place made is.alike (is.stays p file a none);
     }
 
-pub true_on : (world : WorldState) (sent : List Request) (change : Change) (reply : Reply) → IsLegal world → IsTrueOf world sent reply → IsTrueOf (world_after world change) sent reply
-true_on world sent change (BasisIs query position ps) legal is =
+-- the rows of a world that is given back its objects are its own
+poll_over : (world : WorldState) (held : List Held) (sent : List Request) (query : Query) (target : Position) (ps : List (List ℕ)) → PollTells world sent query target ps
+    → PollTells (over_held world held) sent query target ps
+poll_over world held sent query target ps is =
+    record {
+      since = is.since;
+      patterns = is.patterns;
+      asked = is.asked;
+      place = place_over world held target is.place;
+      alike = is.alike;
+      before = is.before;
+      refused = is.refused;
+      stays = λ p file a none stood. stands_over world held target.generation target.sequence p file
+          (is.stays p file a none (stands_over (over_held world held) world.held is.since.generation is.since.sequence p file stood));
+    }
+
+pub true_on : (name : Namer) (world : WorldState) (sent : List Request) (change : Change) (reply : Reply) → IsLegal world → IsTrueOf world sent reply
+    → IsTrueOf (world_after name world change) sent reply
+true_on name world sent change (BasisIs query position ps) legal is =
     record {
       patterns = is.patterns;
       asked = is.asked;
-      place = place_on world change position is.place;
+      place = place_on name world change position is.place;
       refused = is.refused;
-      absent = λ p a none. stands_on world change position.generation position.sequence p None (is.absent p a none);
+      absent = λ p a none. stands_on name world change position.generation position.sequence p None (is.absent p a none);
     }
-true_on world sent change (ChangesAre query target marked) legal is =
-    goes_on (λ w. PollTells w sent query target (paths_of marked)) world change is
-    (λ event made. poll_grown world event sent query target (paths_of marked) legal made is)
-true_on world sent change (ContentIs query position path content) legal is = stands_on world change position.generation position.sequence path content is
-true_on world sent change (Refused query cause) legal is = tt
+true_on name world sent change (ChangesAre query target marked) legal is =
+    goes_on (λ w. PollTells w sent query target (paths_of marked)) name world change is
+    (λ event made. poll_grown world event sent query target (paths_of marked) legal made is) (λ held. poll_over world held sent query target (paths_of marked) is)
+true_on name world sent change (ContentIs query position path content) legal is = stands_on name world change position.generation position.sequence path content is
+true_on name world sent change (Refused query cause) legal is = tt
 
 -- ---- lists of paths
 

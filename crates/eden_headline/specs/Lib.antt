@@ -1,2 +1,5 @@
 pub mod Schedules
 pub mod Headline
+pub mod Notes
+pub mod Vouched
+pub mod Merges

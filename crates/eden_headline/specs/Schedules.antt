@@ -6,8 +6,8 @@ use Rattle.std.specs.Option.{option_map}
 use Rattle.eden_history.specs.declared.change.Change.{Change}
 use Rattle.eden_messages.specs.declared.message.Reply.{Reply}
 use Rattle.eden_messages.specs.declared.message.Request.{Request}
-use Rattle.eden_history.specs.Worlds.{WorldState}
-use Rattle.eden_history.specs.Legal.{IsLegal}
+use Rattle.eden_history.specs.Worlds.{Namer, WorldState}
+use Rattle.eden_history.specs.Legal.{IsWorld}
 use Rattle.eden_history.specs.Outcome.{world_after}
 use Rattle.eden_messages.specs.Replies.{reply_of}
 use Rattle.eden_messages.specs.Mirrors.{MirrorState, new_mirror, begun, outstanding_of, delivered, refiltered, query_of}
@@ -26,7 +26,7 @@ pub record Scene : Type 0 where
 -- ---- what may happen
 
 pub data Step : Type 0 where
-  -- the mount is changed, or the change is refused
+  -- the mount is changed, or its store gets more objects, or the change is refused
   Changes : Change → Step
   -- the mirror of this id begins a round
   Begins : (id : ℕ) → Step
@@ -54,16 +54,17 @@ abbrev pub asked_by : Option MirrorState → List Request
 asked_by None = []
 asked_by (Some m) = outstanding_of m
 
-unfoldable pub happens : Scene → Step → Scene
-happens s (Changes change) = record s { world = world_after s.world change }
-happens s (Begins id) = record s { mirrors = moved s.mirrors id begun }
-happens s (Sends id) = record s { sent = s.sent ++ asked_by (s.mirrors id) }
-happens s (Serves request) = record s { replies = s.replies ++ reply_of s.world request ∷ [] }
-happens s (Comes reply id) = record s { mirrors = moved s.mirrors id (λ m. (delivered m reply).0) }
-happens s (Refilters id patterns) = record s { mirrors = moved s.mirrors id (λ m. refiltered m patterns) }
-happens s (Restarts id life patterns) = record s { mirrors = moved s.mirrors id (λ m. new_mirror m.id life patterns) }
-happens s (Strange request) = record s { sent = s.sent ++ request ∷ [] }
-happens s Nothing = s
+-- the naming is that of the objects that the changes import
+unfoldable pub happens : Namer → Scene → Step → Scene
+happens name s (Changes change) = record s { world = world_after name s.world change }
+happens name s (Begins id) = record s { mirrors = moved s.mirrors id begun }
+happens name s (Sends id) = record s { sent = s.sent ++ asked_by (s.mirrors id) }
+happens name s (Serves request) = record s { replies = s.replies ++ reply_of s.world request ∷ [] }
+happens name s (Comes reply id) = record s { mirrors = moved s.mirrors id (λ m. (delivered m reply).0) }
+happens name s (Refilters id patterns) = record s { mirrors = moved s.mirrors id (λ m. refiltered m patterns) }
+happens name s (Restarts id life patterns) = record s { mirrors = moved s.mirrors id (λ m. new_mirror m.id life patterns) }
+happens name s (Strange request) = record s { sent = s.sent ++ request ∷ [] }
+happens name s Nothing = s
 
 -- ---- when it may
 
@@ -85,23 +86,23 @@ MayHappen s (Strange request) = IsStrange s request
 MayHappen s step = Unit {0}
 
 -- each step may happen where it stands
-abbrev pub IsSchedule : Scene → List Step → Type 0
-IsSchedule s [] = Unit {0}
-IsSchedule s (step ∷ steps) = MayHappen s step × IsSchedule (happens s step) steps
+abbrev pub IsSchedule : Namer → Scene → List Step → Type 0
+IsSchedule name s [] = Unit {0}
+IsSchedule name s (step ∷ steps) = MayHappen s step × IsSchedule name (happens name s step) steps
 
-abbrev pub run_schedule : Scene → List Step → Scene
-run_schedule s [] = s
-run_schedule s (step ∷ steps) = run_schedule (happens s step) steps
+abbrev pub run_schedule : Namer → Scene → List Step → Scene
+run_schedule name s [] = s
+run_schedule name s (step ∷ steps) = run_schedule name (happens name s step) steps
 
 -- ---- beginnings
 
 -- a world with the history that it has had so far, mirrors that are new, each under its own id, and nothing sent
-pub record IsFresh (s : Scene) : Type 0 where
-  pub world : IsLegal s.world
+pub record IsFresh (name : Namer) (s : Scene) : Type 0 where
+  pub world : IsWorld name s.world
   pub sent : s.sent ≡ []
   pub replies : s.replies ≡ []
   pub mirrors : (id : ℕ) (m : MirrorState) → s.mirrors id ≡ Some m → m ≡ new_mirror id m.life m.patterns
 
--- after every schedule from a fresh beginning
+-- after every schedule from a fresh beginning, under any naming
 abbrev pub OnFreshRuns : (Scene → Type 0) → Type 0
-OnFreshRuns Holds = (s : Scene) (steps : List Step) → IsFresh s → IsSchedule s steps → Holds (run_schedule s steps)
+OnFreshRuns Holds = (name : Namer) (s : Scene) (steps : List Step) → IsFresh name s → IsSchedule name s steps → Holds (run_schedule name s steps)

@@ -3,9 +3,9 @@
 ghost use Rattle.eden_headline.specs.Headline.{AgreeTogether, AgreesAtHead, HasPlace, HasValues, IsCovered, IsTold, OfMirrors, OfPairs};
 ghost use Rattle.eden_headline.specs.Schedules.{OnFreshRuns};
 
-/// Over every schedule of changes, checkouts, resets, flushes, remounts, restarts of mirrors, and of requests and replies that are
-/// served, delivered, lost, repeated or reordered: each path on which a placed mirror and the working copy differ is told since the
-/// mirror's place, or the place is refused; so mirrors at the head agree with the working copy and with each other.
+/// Over every schedule of changes, checkouts, resets, flushes, remounts, imports of objects, restarts of mirrors, and of requests and
+/// replies that are served, delivered, lost, repeated or reordered: each path on which a placed mirror and the working copy differ is told
+/// since the mirror's place, or the place is refused; so mirrors at the head agree with the working copy and with each other.
 ///
 /// A schedule's steps are those of the definitions to which the mount, the service and the mirror are proved equal. Nothing is assumed
 /// of it but that what is served was sent, that what comes was replied, that a mirror begins anew under a greater life, and that no

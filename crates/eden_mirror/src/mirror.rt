@@ -108,6 +108,13 @@ impl Mirror {
         self.life
     }
 
+    /// Which paths it wants. This takes no memory.
+    pub fn filter(&self) -> &Filter
+        ensures { result.now ≡ self.now.patterns }
+    {
+        &self.filter
+    }
+
     /// The position that it was placed at last and that can still be followed, if there is one. This takes no memory.
     pub fn position(&self) -> Option<Position>
         ensures { result ≡ self.now.place }
@@ -185,6 +192,13 @@ impl Mirror {
         let mut requests = Vec::new(self.alloc);
         requests.push(self.list_request(query)?)?;
         Ok(requests)
+    }
+
+    /// Whether a round can begin: a number is left for it. This takes no memory.
+    pub fn can_begin(&self) -> bool
+        ensures { result ≡ has_number self.now }
+    {
+        self.last < u64::MAX
     }
 
     /// Begins a round, under the next number; one that is under way is given up. It asks what changed since the mirror's position, or for

@@ -1,5 +1,5 @@
 -- What frames tell of a server, carried on from body to body, and what it says at the end.
-use Rattle.std.proofs.Common.{◌≡◌, ℕ, inl, inr, List, [], ◌∷◌, ◌++◌, map, Option, Result, Ok, Err, refl, sym, ap, ◌∙◌, subst}
+use Rattle.std.proofs.Common.{ℕ, inl, inr, List, [], ◌∷◌, ◌++◌, map, Option, Result, Ok, Err, refl, sym, ap, ◌∙◌, subst}
 use Rattle.std.proofs.lemmas.List.{map-append}
 use Rattle.eden_frames.proofs.FrameEndings.{at_each_end, serve_ends}
 use Rattle.eden_frames.proofs.Replying.{answers_tell, replied_none}

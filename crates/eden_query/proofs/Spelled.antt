@@ -1,9 +1,6 @@
 -- What a spellable world answers has a spelling.
-use Rattle.std.proofs.Common.{◌≡◌, ℕ, List, Result, Ok, Err, refl, subst, sym}
-use Rattle.eden_ids.specs.declared.id.Id.{Id}
-use Rattle.eden_ids.specs.Texts.{AreBytes}
+use Rattle.std.proofs.Common.{◌≡◌, Result, Ok, Err, refl, subst, sym}
 use Rattle.eden_ids.proofs.Texts.{bytes_at}
-use Rattle.eden_frames.specs.declared.fault.FrameFault.{FrameFault}
 use Rattle.eden_frames.specs.Frames.{frame}
 use Rattle.eden_history.specs.Legal.{IsSomeWorld}
 use Rattle.eden_history.specs.Spellable.{IsSpellable}

@@ -25,7 +25,8 @@ use Rattle.eden_messages.specs.Replies.{admitted_paths, bounded, cause_of, polle
 use Rattle.eden_query.specs.declared.raw.Raw.{Raw}
 use Rattle.eden_query.specs.declared.raw.Raw.TheVariants as raw
 use Rattle.eden_query.specs.Raws.{NamesCommits, is_answerable, told}
-use Rattle.eden_query.specs.Settled.{settled, settled_by, settled_of}
+use Rattle.eden_logs.specs.Histories.{settled_by, settled_of}
+use Rattle.eden_query.specs.Settled.{settled}
 
 pub ranged_tells : (mount : State) (query : Query) (since : Position) (patterns : List (List ℕ)) (range : Range)
     → IsStatus mount since None → EndsNow mount range → Tells mount since range → (world : WorldState) → StandsFor mount world

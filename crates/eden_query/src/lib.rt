@@ -9,9 +9,8 @@
 //! use eden_objects::Store;
 //! use eden_query::{encode_request, serve};
 //! use eden_stream::Counted;
-//! use std::sync::Arc;
 //!
-//! let store = Arc::new(alloc, Store::new(alloc, GitNaming))?;
+//! let store = Store::new(alloc, GitNaming);
 //! let mut mount = Mount::mount(alloc, store, Id::ZERO, 7, 1000)?;
 //! let query = Query {
 //!     mirror: 1,

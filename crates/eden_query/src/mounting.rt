@@ -8,7 +8,8 @@ ghost use Rattle.eden_history.specs.Worlds.{WorldState, now, position_of};
 ghost use Rattle.eden_history.specs.Status.{status_of};
 ghost use Rattle.eden_messages.specs.Replies.{reply_of};
 ghost use Rattle.eden_query.specs.Raws.{NamesCommits, patterns_of, told};
-ghost use Rattle.eden_query.specs.Settled.{settled, settled_by, settled_of};
+ghost use Rattle.eden_logs.specs.Histories.{settled_by, settled_of};
+ghost use Rattle.eden_query.specs.Settled.{settled};
 
 use crate::raw::Raw;
 use crate::served::Served;
@@ -17,7 +18,6 @@ use eden_history::{Answer, Change, Position};
 use eden_ids::{Content, Naming, NoMemory, Path, Sequence};
 use eden_messages::{Cause, Query, Request};
 use eden_objects::Store;
-use std::sync::Arc;
 
 /// Which files are held, as a basis asks for them.
 #[tactic(auto, using(crate::proofs::Telling::based_tells, crate::proofs::Telling::based_commits, crate::proofs::Telling::based_settled))]
@@ -100,7 +100,7 @@ impl<N: Naming + Drop> Served<N> for Mount<N> {
 
     ghost hold_gives = { λ _ _ _ _ _. Unit {0} };
 
-    fn store(&self) -> &Arc<Store<N>> {
+    fn store(&self) -> &Store<N> {
         self.store()
     }
 
@@ -109,9 +109,10 @@ impl<N: Naming + Drop> Served<N> for Mount<N> {
     }
 
     #[tactic(auto, using(crate::proofs::Telling::named_answerable))]
-    fn hold(&mut self, _caller: u64, request: &Request) -> Result<Raw, NoMemory> {
+    fn hold(&mut self, _caller: u64, request: &Request) -> Result<(Raw, Store<N>), NoMemory> {
         self.stands_law();
-        raw_of(self, request)
+        let raw = raw_of(self, request)?;
+        Ok((raw, self.share()?))
     }
 
     fn apply(&mut self, _caller: u64, change: &Change) -> Result<Answer, NoMemory> {

@@ -49,8 +49,8 @@ pub fn fault_of_frame(fault: DecodeFault) -> Option<FrameFault>
     }
 }
 
-/// What a server replies to a request of this caller: what it holds for the request, answered with the request's filter over the
-/// server's objects.
+/// What a server replies to a request of this caller: what it holds for the request, answered with the request's filter over the objects
+/// that it had then.
 ///
 /// `NoMemory` comes where a growth was refused. What was held keeps its entry then, where a history is stored.
 pub fn reply_to<N: Naming + Drop, T: Served<N>>(
@@ -69,9 +69,8 @@ pub fn reply_to<N: Naming + Drop, T: Served<N>>(
     ensures left { OnErr result ((server.new ≡ server.old) ⊎ ((raw : Raw) × T.hold_gives server.old caller request.now raw server.new)) }
 {
     request_text_law(request);
-    let raw = server.hold(caller, request)?;
-    let store = server.store();
-    answer_request(store.allocator(), raw, store, request)
+    let (raw, store) = server.hold(caller, request)?;
+    answer_request(store.allocator(), raw, &store, request)
 }
 
 /// What the server answers to a body.

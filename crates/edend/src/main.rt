@@ -8,11 +8,11 @@
 //! tells which.
 #![tactic(auto)]
 
+use eden_command::words;
 use eden_edend::{Shelf, edend};
-use std::alloc::AllocError;
 use std::fs::File;
+use std::io;
 use std::process::ExitCode;
-use std::{env, io};
 
 /// The files of the system.
 #[derive(Drop)]
@@ -29,25 +29,17 @@ impl<'a> Shelf for Disk<'a> {
 }
 
 fn main(rt: HostRuntime) -> ExitCode {
-    let words: Result<Vec<String>, _> = match env::args(&rt) {
-        Ok(words) => words.collect(rt.alloc()),
-        Err(error) if error.kind() == io::ErrorKind::InvalidData => {
-            let _ = eprintln!(rt; "error: a word of the command line is not UTF-8");
-            return ExitCode::from(2);
-        }
-        Err(_) => Err(AllocError),
+    let mut errors = rt.stderr();
+    let status = match words(&rt, &mut errors, "edend") {
+        Ok(words) => edend(
+            rt.alloc(),
+            &Disk { rt: &rt },
+            words.as_slice(),
+            rt.stdin(),
+            rt.stdout(),
+            &mut errors,
+        ),
+        Err(status) => status,
     };
-    let Ok(words) = words else {
-        let _ = eprintln!(rt; "edend: NoMemory");
-        return ExitCode::from(3);
-    };
-    let status = edend(
-        rt.alloc(),
-        &Disk { rt: &rt },
-        words.as_slice(),
-        rt.stdin(),
-        rt.stdout(),
-        &mut rt.stderr(),
-    );
     ExitCode::from(status)
 }

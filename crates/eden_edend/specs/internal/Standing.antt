@@ -5,6 +5,7 @@ use Rattle.eden_objects.specs.declared.fault.PutFault.{PutFault}
 use Rattle.eden_objects.specs.declared.fault.PutFault.TheVariants.{NoMemory}
 use Rattle.eden_objects.specs.Objects.{Held}
 use Rattle.eden_objects.specs.Puts.{Outcome}
+use Rattle.eden_history.specs.Imports.{over_held}
 use Rattle.eden_history.specs.Worlds.{WorldState}
 use Rattle.eden_accumulate.specs.Mounts.{State, StandsFor}
 use Rattle.eden_script.specs.declared.command.Command.{Command}
@@ -20,6 +21,11 @@ session_of mounted held bindings = record { mounted = mounted; held = held; bind
 
 abbrev pub session_at : Option WorldState → Objects → Session
 session_at mounted objects = session_of mounted objects.store objects.labels
+
+-- the session over more objects: those of its mount, once there is one
+abbrev pub session_put : Option WorldState → List Held → List Held → List Binding → Session
+session_put None held more bindings = session_of None more bindings
+session_put (Some world) held more bindings = session_of (Some (over_held world more)) held bindings
 
 -- What is held is that of the session: until there is a mount, its objects and bindings; then its bindings, and a mount that stands for the
 -- session's world. The mount has taken the store.

@@ -8,8 +8,7 @@ pub returns-clause-spelled : goal.returns-clause-spelled
 returns-clause-spelled g c =
     let some = c.hold.ensures.world in
     let law = g.T.Served.spelled c.args.server.now some.0 some.1 in
-    let held = c.deref-2.ensures ∙ c.store-store.ensures.held ∙ c.hold.ensures.held in
-    let right = ap (λ objects. told objects (patterns_of c.args.request.now) c.in_ok-raw.raw) held ∙ c.in_ok-raw.ensures.replies some.0 some.1 in
+    let right = ap (λ objects. told objects (patterns_of c.args.request.now) c.in_ok-raw.raw) c.in_ok-raw.ensures.objects ∙ c.in_ok-raw.ensures.replies some.0 some.1 in
     spelled_as c.answer_request.result _ c.answer_request.ensures.reply
     (subst (λ reply. SpellsReply (reply_bytes reply) reply) (sym right)
     (reply_spelled law.0.0 some.0 c.args.request.now law.0.1 law.1 c.request_text_law.ensures))

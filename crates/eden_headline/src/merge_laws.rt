@@ -1,0 +1,32 @@
+//! What a history and a follower's notes come to together, as the contract of a function with no work to do.
+
+ghost use Rattle.std.specs.Prelude.{◌≡◌, Some};
+ghost use Rattle.eden_headline.specs.Headline.{AgreesAtHead, HasPlace, HasValues, IsCovered, IsTold};
+ghost use Rattle.eden_headline.specs.Merges.{OnMerges, ending_of, merged, opening_of};
+ghost use Rattle.eden_headline.specs.Schedules.{IsSchedule};
+ghost use Rattle.eden_logs.specs.Histories.{replay};
+
+/// From any world, with any history that is legal from it and with which logs agree, and for any follower for which these logs vouch: the
+/// history and the follower's notes merge into one schedule, at whose end the world is the one that the history makes and the mirror is
+/// the follower's. So what is true after every schedule is true of that mirror against that world.
+///
+/// This speaks of lists alone. Whoever took part may have run in any number of threads and machines, over any network.
+pub fn merge_law()
+    // Each step of the merge may happen where it stands.
+    ensures schedule { OnMerges (λ name world entries m notes. IsSchedule name (opening_of world m) (merged m entries notes)) }
+    // It ends with the world that the history makes.
+    ensures world { OnMerges (λ name world entries m notes. (ending_of name world m entries notes).world ≡ replay name world entries) }
+    // And with the follower's mirror.
+    ensures mirror { OnMerges (λ name world entries m notes. (ending_of name world m entries notes).mirrors m.id ≡ Some m) }
+    // So each path that the mirror wants, and on which it and the working copy differ, is among the changes since its place, or the
+    // place is refused.
+    ensures covered { OnMerges (λ name world entries m notes. IsCovered (replay name world entries) m) }
+    // A poll since the place lists that path, or refuses the place, or is refused as too large.
+    ensures told { OnMerges (λ name world entries m notes. IsTold (replay name world entries) m) }
+    // At the head the mirror holds what the working copy does on the paths that it wants, and nothing else.
+    ensures at_head { OnMerges (λ name world entries m notes. AgreesAtHead (replay name world entries) m) }
+    // Its place is that of a row of the world, and in the present generation not ahead of the head.
+    ensures place { OnMerges (λ name world entries m notes. HasPlace (replay name world entries) m) }
+    // Each value that it holds stood in some row of its place's generation, at the place or after it.
+    ensures values { OnMerges (λ name world entries m notes. HasValues (replay name world entries) m) }
+{}
