@@ -1,0 +1,5 @@
+pub mod Grouped
+pub mod Judged
+pub mod Marked
+pub mod RowLists
+pub mod Stepping

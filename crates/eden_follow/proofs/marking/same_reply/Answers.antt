@@ -1,0 +1,6 @@
+use Rattle.std.proofs.lemmas.Bool.Decides.{Decides-at}
+use Rattle.eden_messages.proofs.Alike.{reply_decides}
+use Rattle.eden_follow.proofs.marking.same_reply.Goals as goal
+
+pub returns : goal.returns
+returns c = Decides-at _ _ c.eq.ensures (reply_decides c.args.one.now c.args.other.now)

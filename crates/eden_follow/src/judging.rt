@@ -1,0 +1,123 @@
+//! The notes of a follower, judged in their order beside the rows of logs.
+
+ghost use Rattle.std.specs.Prelude.{◌≡◌, ℕ, ◌++◌, ◌∷◌, [], List, map, All, true, IfOk, IfErr, OnOk};
+ghost use Rattle.std.specs.List.Sorted.{IsNonDecreasingBy};
+ghost use Rattle.eden_headline.specs.declared.note.Note.{Note};
+ghost use Rattle.eden_headline.specs.Notes.{sent_in};
+ghost use Rattle.eden_headline.specs.Vouched.{AreVouched, IsVouched, IsVouchedNote, is_own};
+ghost use Rattle.eden_logs.specs.declared.log.CallLog.{CallLog};
+ghost use Rattle.eden_logs.specs.declared.log.LogEntry.{LogEntry};
+ghost use Rattle.eden_logs.specs.Logs.{entries_in};
+ghost use Rattle.eden_messages.specs.Mirrors.{MirrorState};
+ghost use Rattle.eden_follow.specs.declared.rows.Asked.{Asked};
+ghost use Rattle.eden_follow.specs.Causes.{FirstCause, IsAgainst, IsCause};
+ghost use Rattle.eden_follow.specs.internal.Rows.{IsHighest, IsMarked, IsUnsent, asked, told};
+ghost use Rattle.eden_follow.specs.declared.rows.Told.{Told};
+ghost use Rattle.eden_follow.specs.internal.Orders.{AreInOrder};
+ghost use Rattle.eden_follow.specs.internal.Judged.{HasStrange, IsAt, Lists};
+
+use crate::fault::VouchFault;
+use crate::marking::{is_above, is_told, send_all};
+use crate::rows::{Asked, Told};
+use eden_headline::Note;
+use eden_messages::Request;
+
+/// The higher of a ticket and the highest so far.
+fn higher(highest: Option<u64>, ticket: u64) -> Option<u64>
+    ensures { (tickets : List ℕ) → IsHighest tickets highest → IsHighest (tickets ++ ticket ∷ []) result }
+{
+    if is_above(ticket, highest) {
+        return Some(ticket);
+    }
+    highest
+}
+
+/// Judges a note that stands behind others, after which replies came under tickets up to the highest one, and gives the highest one
+/// after it.
+fn judge_note(
+    replies: &[Told],
+    rows: &mut [Asked],
+    highest: Option<u64>,
+    note: &Note,
+) -> Result<Option<u64>, VouchFault>
+    requires replies { IsNonDecreasingBy (λ (row : Told). row.ticket) replies.now }
+    requires requests { AreInOrder rows.old }
+    ensures rows { map asked rows.new ≡ map asked rows.old }
+    ensures at { IfOk result (λ higher. (earlier : List Note) → IsAt earlier rows.old highest → IsAt (earlier ++ note.now ∷ []) rows.new higher) }
+    ensures vouched { OnOk result ((entries : List LogEntry) (earlier : List Note) → Lists entries (map told replies.now) (map asked rows.old)
+        → IsAt earlier rows.old highest → IsVouchedNote entries earlier note.now) }
+    ensures cause { IfErr result (λ fault. (entries : List LogEntry) (earlier : List Note) → Lists entries (map told replies.now) (map asked rows.old)
+        → IsAt earlier rows.old highest → IsCause entries earlier note.now fault) }
+{
+    match note {
+        Note::Began => Ok(highest),
+        Note::Sent { requests } => {
+            send_all(rows, requests.as_slice(), highest)?;
+            Ok(highest)
+        }
+        Note::Came { ticket, reply } => {
+            if !is_told(replies, *ticket, reply) {
+                return Err(VouchFault::StrangeReply);
+            }
+            Ok(higher(highest, *ticket))
+        }
+    }
+}
+
+/// Judges notes in their order, and marks what was sent.
+fn judge_notes(replies: &[Told], rows: &mut [Asked], notes: &[Note]) -> Result<(), VouchFault>
+    requires replies { IsNonDecreasingBy (λ (row : Told). row.ticket) replies.now }
+    requires requests { AreInOrder rows.old }
+    requires unsent { All IsUnsent rows.old }
+    ensures rows { map asked rows.new ≡ map asked rows.old }
+    ensures marked { OnOk result (All (IsMarked (sent_in notes.now)) rows.new) }
+    ensures vouched { OnOk result ((entries : List LogEntry) → Lists entries (map told replies.now) (map asked rows.old) → AreVouched entries [] notes.now) }
+    ensures cause { IfErr result (λ fault. (entries : List LogEntry) → Lists entries (map told replies.now) (map asked rows.old) → FirstCause entries [] notes.now fault) }
+{
+    let mut highest = None;
+    for note in notes {
+        highest = judge_note(replies, rows, highest, note)?;
+    }
+    Ok(())
+}
+
+/// Whether a request is under an id and a life.
+fn is_own(request: &Request, id: u64, life: u64) -> bool
+    ensures { result ≡ is_own id life request.now }
+{
+    let query = request.query();
+    query.mirror == id && query.life == life
+}
+
+/// Judges the requests of the logs that are under an id and a life: all are to be marked.
+fn judge_requests(rows: &[Asked], id: u64, life: u64) -> Result<(), VouchFault>
+    ensures all { OnOk result (All (λ (row : Asked). is_own id life row.request.now ≡ true → row.sent ≡ true) rows.now) }
+    ensures strange { IfErr result (λ fault. HasStrange rows.now id life fault) }
+{
+    for row in rows {
+        if !row.sent && is_own(row.request, id, life) {
+            return Err(VouchFault::StrangeRequest);
+        }
+    }
+    Ok(())
+}
+
+/// Judges notes beside rows of logs, and then the requests of the logs that are under an id and a life.
+pub(crate) fn judge(
+    replies: &[Told],
+    rows: &mut [Asked],
+    notes: &[Note],
+    id: u64,
+    life: u64,
+) -> Result<(), VouchFault>
+    requires replies { IsNonDecreasingBy (λ (row : Told). row.ticket) replies.now }
+    requires requests { AreInOrder rows.old }
+    requires unsent { All IsUnsent rows.old }
+    ensures vouched { OnOk result ((logs : List CallLog) (m : MirrorState) → Lists (entries_in logs) (map told replies.now) (map asked rows.old)
+        → id ≡ m.id → life ≡ m.life → IsVouched logs m notes.now) }
+    ensures against { IfErr result (λ fault. (logs : List CallLog) (m : MirrorState) → Lists (entries_in logs) (map told replies.now) (map asked rows.old)
+        → id ≡ m.id → life ≡ m.life → IsAgainst logs m notes.now fault) }
+{
+    judge_notes(replies, rows, notes)?;
+    judge_requests(rows, id, life)
+}

@@ -1,0 +1,150 @@
+//! Rows of what logs note, searched and marked.
+
+ghost use Rattle.std.specs.Prelude.{◌≡◌, ◌↔◌, ◌++◌, ◌∷◌, [], true, false, List, map, All, Contains, IsTrue, IfErr, OnOk};
+ghost use Rattle.std.specs.List.Sorted.{IsNonDecreasingBy};
+ghost use Rattle.eden_messages.specs.declared.message.Request.{Request};
+ghost use Rattle.eden_follow.specs.declared.rows.Asked.{Asked};
+ghost use Rattle.eden_follow.specs.declared.rows.Told.{Told};
+ghost use Rattle.eden_follow.specs.internal.Orders.{AreInOrder, IsGroup};
+ghost use Rattle.eden_follow.specs.internal.Rows.{HasLate, HasLow, IsAbove, IsLateRow, IsMarked, IsTimelyRow, asked, told};
+
+use crate::fault::VouchFault;
+use crate::ordering::{rows_of, rows_under};
+use crate::rows::{Asked, Told};
+use eden_messages::{Reply, Request};
+
+/// Whether two replies are equal.
+fn same_reply(one: &Reply, other: &Reply) -> bool
+    ensures { IsTrue result ↔ (one.now ≡ other.now) }
+{
+    one == other
+}
+
+/// Whether two requests are equal.
+fn same_request(one: &Request, other: &Request) -> bool
+    ensures { IsTrue result ↔ (one.now ≡ other.now) }
+{
+    one == other
+}
+
+/// Whether a ticket is above the highest one, if there is one.
+pub(crate) fn is_above(ticket: u64, highest: Option<u64>) -> bool
+    ensures { IsTrue result ↔ IsAbove highest ticket }
+{
+    match highest {
+        Some(highest) => highest < ticket,
+        None => true,
+    }
+}
+
+/// Whether one of these rows has the reply under the ticket.
+fn has_reply(rows: &[Told], ticket: u64, reply: &Reply) -> bool
+    ensures told { result ≡ true → Contains (map told rows.now) (ticket, reply.now) }
+    ensures untold { result ≡ false → All (λ (row : Told). row.ticket ≡ ticket → row.reply.now ≡ reply.now → ⊥) rows.now }
+{
+    for row in rows {
+        if row.ticket == ticket && same_reply(row.reply, reply) {
+            return true;
+        }
+    }
+    false
+}
+
+/// Whether a row has the reply under the ticket, where the rows are in the order of their tickets.
+pub(crate) fn is_told(rows: &[Told], ticket: u64, reply: &Reply) -> bool
+    requires { IsNonDecreasingBy (λ (row : Told). row.ticket) rows.now }
+    ensures told { result ≡ true → Contains (map told rows.now) (ticket, reply.now) }
+    ensures untold { result ≡ false → All (λ (row : Told). row.ticket ≡ ticket → row.reply.now ≡ reply.now → ⊥) rows.now }
+{
+    let (start, end) = rows_under(rows, ticket);
+    has_reply(&rows[start..end], ticket, reply)
+}
+
+/// Whether the request was sent, as the rows that have it are marked.
+fn was_sent(rows: &[Asked], request: &Request) -> bool
+    ensures sent { result ≡ true → (sent : List Request) → All (IsMarked sent) rows.now → Contains sent request.now }
+    ensures unsent { result ≡ false → All (λ (row : Asked). row.request.now ≡ request.now → row.sent ≡ false) rows.now }
+{
+    for row in rows {
+        if row.sent && same_request(row.request, request) {
+            return true;
+        }
+    }
+    false
+}
+
+/// Whether all rows of the request are above the highest ticket.
+fn are_above(rows: &[Asked], request: &Request, highest: Option<u64>) -> bool
+    ensures above { result ≡ true → All (λ (row : Asked). row.request.now ≡ request.now → IsAbove highest row.ticket) rows.now }
+    ensures low { result ≡ false → HasLow rows.now request.now highest }
+{
+    for row in rows {
+        if !is_above(row.ticket, highest) && same_request(row.request, request) {
+            return false;
+        }
+    }
+    true
+}
+
+/// Marks a row that has the request.
+fn mark_row(row: &mut Asked, request: &Request)
+    ensures row { asked row.new ≡ asked row.old }
+    ensures marked { (sent : List Request) → IsMarked sent row.old → IsMarked (sent ++ request.now ∷ []) row.new }
+{
+    if same_request(row.request, request) {
+        row.sent = true;
+    }
+}
+
+/// Marks the rows of a request, which are all between two places.
+fn mark(rows: &mut [Asked], start: usize, end: usize, request: &Request)
+    requires { IsGroup (λ (row : Asked). row.request.now ≡ request.now) rows.old start end }
+    ensures rows { map asked rows.new ≡ map asked rows.old }
+    ensures marked { (sent : List Request) → All (IsMarked sent) rows.old → All (IsMarked (sent ++ request.now ∷ [])) rows.new }
+{
+    for at in start..end {
+        mark_row(&mut rows[at], request);
+    }
+}
+
+/// Notes that a request is sent, where replies came under tickets up to the highest one. Its rows are searched for by halves; where it was
+/// sent before, the first that is marked tells so.
+fn send(rows: &mut [Asked], request: &Request, highest: Option<u64>) -> Result<(), VouchFault>
+    requires { AreInOrder rows.old }
+    ensures rows { map asked rows.new ≡ map asked rows.old }
+    ensures marked { OnOk result ((sent : List Request) → All (IsMarked sent) rows.old → All (IsMarked (sent ++ request.now ∷ [])) rows.new) }
+    ensures timely { OnOk result ((sent : List Request) → All (IsMarked sent) rows.old → IsTimelyRow (map asked rows.old) sent highest request.now) }
+    ensures late { IfErr result (λ fault. (fault ≡ VouchFault.BeforeCause)
+        × ((sent : List Request) → All (IsMarked sent) rows.old → IsLateRow (map asked rows.old) sent highest request.now)) }
+{
+    let (start, end) = rows_of(rows, request);
+    let group = &rows[start..end];
+    if was_sent(group, request) {
+        return Ok(());
+    }
+    if !are_above(group, request, highest) {
+        return Err(VouchFault::BeforeCause);
+    }
+    mark(rows, start, end, request);
+    Ok(())
+}
+
+/// Notes that requests are sent together.
+pub(crate) fn send_all(
+    rows: &mut [Asked],
+    requests: &[Request],
+    highest: Option<u64>,
+) -> Result<(), VouchFault>
+    requires { AreInOrder rows.old }
+    ensures rows { map asked rows.new ≡ map asked rows.old }
+    ensures marked { OnOk result ((sent : List Request) → All (IsMarked sent) rows.old → All (IsMarked (sent ++ requests.now)) rows.new) }
+    ensures timely { OnOk result ((sent : List Request) → All (IsMarked sent) rows.old
+        → All (IsTimelyRow (map asked rows.old) sent highest) requests.now) }
+    ensures late { IfErr result (λ fault. (fault ≡ VouchFault.BeforeCause)
+        × ((sent : List Request) → All (IsMarked sent) rows.old → HasLate (map asked rows.old) sent highest requests.now)) }
+{
+    for request in requests {
+        send(rows, request, highest)?;
+    }
+    Ok(())
+}

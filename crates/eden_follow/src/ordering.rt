@@ -1,0 +1,76 @@
+//! Rows put in order, and found by halves.
+
+ghost use Rattle.std.specs.Prelude.{◌≡◌, map, All, OnOk};
+ghost use Rattle.std.specs.List.Sorted.{IsNonDecreasingBy, IsPermutation};
+ghost use Rattle.eden_follow.specs.declared.rows.Asked.{Asked};
+ghost use Rattle.eden_follow.specs.declared.rows.Told.{Told};
+ghost use Rattle.eden_follow.specs.internal.Orders.{AreInOrder, IsGroup, path_in, question_cmp};
+ghost use Rattle.eden_follow.specs.internal.Rows.{IsUnsent};
+
+use crate::rows::{Asked, Told};
+use eden_ids::NoMemory;
+use eden_messages::Request;
+use std::cmp::Ordering;
+
+/// The path of which a content is asked.
+fn path_of(request: &Request) -> &[u8]
+    ensures { result.now ≡ path_in request.now }
+{
+    match request {
+        Request::Basis { .. } => &[],
+        Request::Poll { .. } => &[],
+        Request::Fetch { path, .. } => path.as_bytes(),
+    }
+}
+
+/// The order of two requests by their questions: by mirror, life and number, and then by path.
+fn by_question(one: &Request, other: &Request) -> Ordering
+    ensures { result ≡ question_cmp one.now other.now }
+{
+    let (first, second) = (one.query(), other.query());
+    first
+        .mirror
+        .cmp(&second.mirror)
+        .then(first.life.cmp(&second.life))
+        .then(first.number.cmp(&second.number))
+        .then(path_of(one).cmp(path_of(other)))
+}
+
+/// Puts rows in the order of their tickets.
+pub(crate) fn sort_replies(rows: &mut Vec<Told>) -> Result<(), NoMemory>
+    ensures same { IsPermutation rows.old.items rows.new.items }
+    ensures sorted { OnOk result (IsNonDecreasingBy (λ (row : Told). row.ticket) rows.new.items) }
+{
+    rows.sort_by_key(|row| row.ticket)?;
+    Ok(())
+}
+
+/// Puts rows in the order of their questions.
+pub(crate) fn sort_requests(rows: &mut Vec<Asked>) -> Result<(), NoMemory>
+    ensures same { IsPermutation rows.old.items rows.new.items }
+    ensures sorted { OnOk result (AreInOrder rows.new.items) }
+    ensures unsent { All IsUnsent rows.old.items → All IsUnsent rows.new.items }
+{
+    rows.sort_by(|one, other| by_question(one.request, other.request))?;
+    Ok(())
+}
+
+/// Where the rows of a ticket begin and end.
+pub(crate) fn rows_under(rows: &[Told], ticket: u64) -> (usize, usize)
+    requires { IsNonDecreasingBy (λ (row : Told). row.ticket) rows.now }
+    ensures { IsGroup (λ (row : Told). row.ticket ≡ ticket) rows.now result.0 result.1 }
+{
+    let start = rows.partition_point(|row| row.ticket < ticket);
+    let end = rows.partition_point(|row| row.ticket <= ticket);
+    (start, end)
+}
+
+/// Where the rows of a request's question begin and end.
+pub(crate) fn rows_of(rows: &[Asked], request: &Request) -> (usize, usize)
+    requires { AreInOrder rows.now }
+    ensures { IsGroup (λ (row : Asked). row.request.now ≡ request.now) rows.now result.0 result.1 }
+{
+    let start = rows.partition_point(|row| by_question(row.request, request).is_lt());
+    let end = rows.partition_point(|row| by_question(row.request, request).is_le());
+    (start, end)
+}

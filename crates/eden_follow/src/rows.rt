@@ -1,0 +1,114 @@
+//! What logs note of replies and of requests, row by row.
+
+ghost use Rattle.std.specs.Prelude.{◌≡◌, ◌++◌, map, All, IfOk, OnOk};
+ghost use Rattle.eden_logs.specs.Logs.{entries_in};
+ghost use Rattle.eden_follow.specs.internal.Rows.{IsUnsent, asked, asked_by, asked_in, told, told_by, told_in};
+
+use eden_ids::NoMemory;
+use eden_logs::{CallLog, LogEntry};
+use eden_messages::{Answer, Call, Reply, Request};
+use std::alloc::Global;
+
+/// A reply that a log has as the answer under a ticket.
+#[derive(Clone, Copy)]
+pub(crate) struct Told<'a> {
+    pub(crate) ticket: u64,
+    pub(crate) reply: &'a Reply,
+}
+
+/// A request that a log has under a ticket, and whether it was sent so far.
+#[derive(Clone, Copy)]
+pub(crate) struct Asked<'a> {
+    pub(crate) ticket: u64,
+    pub(crate) request: &'a Request,
+    pub(crate) sent: bool,
+}
+
+/// Adds a row for the reply of an entry, if it has one.
+fn add_reply<'a>(rows: &mut Vec<Told<'a>>, entry: &'a LogEntry) -> Result<(), NoMemory>
+    ensures { OnOk result (map told rows.new.items ≡ map told rows.old.items ++ told_by entry.now.ticket entry.now.answer) }
+{
+    let ticket = entry.ticket;
+    match &entry.answer {
+        Answer::Replied(reply) => {
+            rows.push(Told { ticket, reply })?;
+            Ok(())
+        }
+        Answer::At(_) => Ok(()),
+        Answer::Checked { .. } => Ok(()),
+        Answer::Refused(_) => Ok(()),
+        Answer::Unanswered => Ok(()),
+    }
+}
+
+/// Adds a row for each reply of a log.
+fn add_replies<'a>(rows: &mut Vec<Told<'a>>, entries: &'a [LogEntry]) -> Result<(), NoMemory>
+    ensures { OnOk result (map told rows.new.items ≡ map told rows.old.items ++ told_in entries.now) }
+{
+    for entry in entries {
+        add_reply(rows, entry)?;
+    }
+    Ok(())
+}
+
+/// A row for each reply of the logs.
+#[tactic(auto, using(crate::proofs::RowLists::told_next))]
+pub(crate) fn list_replies<'a>(
+    alloc: Global,
+    logs: &'a [CallLog],
+) -> Result<Vec<Told<'a>>, NoMemory>
+    ensures { IfOk result (λ rows. map told rows.items ≡ told_in (entries_in logs.now)) }
+{
+    let mut rows = Vec::new(alloc);
+    for log in logs {
+        add_replies(&mut rows, log.entries.as_slice())?;
+    }
+    Ok(rows)
+}
+
+/// Adds a row for the request of an entry, if it has one.
+fn add_request<'a>(rows: &mut Vec<Asked<'a>>, entry: &'a LogEntry) -> Result<(), NoMemory>
+    ensures rows { OnOk result (map asked rows.new.items ≡ map asked rows.old.items ++ asked_by entry.now.ticket entry.now.call) }
+    ensures unsent { OnOk result (All IsUnsent rows.old.items → All IsUnsent rows.new.items) }
+{
+    let ticket = entry.ticket;
+    match &entry.call {
+        Call::Change(_) => Ok(()),
+        Call::Ask(request) => {
+            let sent = false;
+            rows.push(Asked {
+                ticket,
+                request,
+                sent,
+            })?;
+            Ok(())
+        }
+    }
+}
+
+/// Adds a row for each request of a log, which is not sent.
+fn add_requests<'a>(rows: &mut Vec<Asked<'a>>, entries: &'a [LogEntry]) -> Result<(), NoMemory>
+    ensures rows { OnOk result (map asked rows.new.items ≡ map asked rows.old.items ++ asked_in entries.now) }
+    ensures unsent { OnOk result (All IsUnsent rows.old.items → All IsUnsent rows.new.items) }
+{
+    for entry in entries {
+        add_request(rows, entry)?;
+    }
+    Ok(())
+}
+
+/// A row for each request of the logs, none of which is sent.
+#[tactic(auto, using(crate::proofs::RowLists::asked_next))]
+pub(crate) fn list_requests<'a>(
+    alloc: Global,
+    logs: &'a [CallLog],
+) -> Result<Vec<Asked<'a>>, NoMemory>
+    ensures rows { IfOk result (λ rows. map asked rows.items ≡ asked_in (entries_in logs.now)) }
+    ensures unsent { IfOk result (λ rows. All IsUnsent rows.items) }
+{
+    let mut rows = Vec::new(alloc);
+    for log in logs {
+        add_requests(&mut rows, log.entries.as_slice())?;
+    }
+    Ok(rows)
+}

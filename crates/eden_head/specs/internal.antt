@@ -1,0 +1,2 @@
+-- What the implementation uses alone.
+pub mod Steps
