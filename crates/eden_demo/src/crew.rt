@@ -1,0 +1,84 @@
+//! Who takes part: each with its desk, its view of the head word, and its line.
+
+use crate::following::Following;
+use crate::line::open_line;
+use crate::serving::Service;
+use crate::threads::{Behind, Crew, Pair};
+use crate::watch::Watch;
+use crate::writing::Writer;
+use crossbeam_channel::Sender;
+use eden_follow::Follower;
+use eden_globs::Filter;
+use eden_history::Position;
+use eden_ids::NoMemory;
+use eden_shared::Desk;
+use std::alloc::Global;
+use std::sync::Wait;
+use std::sync::ledger::Ledger;
+
+/// The life of each follower.
+const LIFE: u64 = 1;
+
+fn open_desk<L: Ledger>(
+    rt: &impl Wait,
+    alloc: Global,
+    shared: &Behind<L>,
+) -> Result<Desk<L>, NoMemory> {
+    let Ok(pass) = shared.pass(rt) else {
+        // Four of 255 are given.
+        return Err(NoMemory);
+    };
+    Ok(Desk::new(alloc, pass))
+}
+
+/// A follower and its service, and where the follower is told what the last position is.
+fn open_pair<L: Ledger>(
+    rt: &impl Wait,
+    alloc: Global,
+    shared: &Behind<L>,
+    number: u64,
+    watch: Watch,
+) -> Result<(Pair<L>, Sender<Position>), NoMemory> {
+    let (caller, callee) = open_line(alloc)?;
+    let (tells, told) = crossbeam_channel::bounded(alloc, 1)?;
+    let service = Service {
+        desk: open_desk(rt, alloc, shared)?,
+        line: callee,
+    };
+    let following = Following {
+        follower: Follower::new(alloc, number, LIFE, Filter::all(alloc)),
+        line: caller,
+        watch,
+        last: told,
+    };
+    Ok((Pair { service, following }, tells))
+}
+
+/// Two writers, and two followers, over a mount at a position.
+pub(crate) fn open_crew<L: Ledger>(
+    rt: &impl Wait,
+    alloc: Global,
+    shared: &Behind<L>,
+    opened: Position,
+) -> Result<Crew<L>, NoMemory> {
+    let mut first = Watch::new(alloc)?;
+    let mut crew = Crew {
+        writers: Vec::new(alloc),
+        pairs: Vec::new(alloc),
+        last: Vec::new(alloc),
+    };
+    for number in 1..=2 {
+        let desk = open_desk(rt, alloc, shared)?;
+        let watch = first.split()?;
+        crew.writers.push(Writer {
+            number,
+            desk,
+            watch,
+            opened,
+        })?;
+        let (pair, last) = open_pair(rt, alloc, shared, number, first.split()?)?;
+        crew.pairs.push(pair)?;
+        crew.last.push(last)?;
+    }
+    Ok(crew)
+}

@@ -1,0 +1,75 @@
+//! What a follower and its service say to each other: frames, through two channels.
+
+use crossbeam_channel::{Receiver, Sender};
+use eden_ids::NoMemory;
+use eden_messages::{Reply, Request};
+use eden_wire::{DecodeFault, decode_reply, encode_request};
+use std::alloc::Global;
+use std::sync::Wait;
+
+/// The frame of a reply, with the ticket of its request beside it.
+#[derive(Drop)]
+pub(crate) struct Told {
+    pub(crate) ticket: u64,
+    pub(crate) frame: Vec<u8>,
+}
+
+/// The end of a follower.
+#[derive(Drop)]
+pub(crate) struct Caller {
+    requests: Sender<Vec<u8>>,
+    replies: Receiver<Told>,
+}
+
+/// The end of its service.
+#[derive(Drop)]
+pub(crate) struct Callee {
+    pub(crate) requests: Receiver<Vec<u8>>,
+    pub(crate) replies: Sender<Told>,
+}
+
+/// A line between a follower and its service, on which one frame at a time stands each way.
+pub(crate) fn open_line(alloc: Global) -> Result<(Caller, Callee), NoMemory> {
+    let (asks, asked) = crossbeam_channel::bounded(alloc, 1)?;
+    let (tells, told) = crossbeam_channel::bounded(alloc, 1)?;
+    let caller = Caller {
+        requests: asks,
+        replies: told,
+    };
+    let callee = Callee {
+        requests: asked,
+        replies: tells,
+    };
+    Ok((caller, callee))
+}
+
+/// What a frame holds behind the four bytes of its length.
+pub(crate) fn body_of(frame: &[u8]) -> &[u8] {
+    frame.get(4..).unwrap_or(&[])
+}
+
+impl Caller {
+    /// Sends a request, and waits for its reply with the ticket. There is none where the service has ended, or tells no reply.
+    pub(crate) fn ask(
+        &self,
+        rt: &impl Wait,
+        alloc: Global,
+        request: &Request,
+    ) -> Result<Option<(u64, Reply)>, NoMemory> {
+        let Ok(frame) = encode_request(alloc, request) else {
+            // Each request has a frame.
+            return Err(NoMemory);
+        };
+        if self.requests.send(rt, frame).is_err() {
+            return Ok(None);
+        }
+        let Ok(told) = self.replies.recv(rt) else {
+            return Ok(None);
+        };
+        match decode_reply(alloc, body_of(told.frame.as_slice())) {
+            Ok(reply) => Ok(Some((told.ticket, reply))),
+            Err(DecodeFault::NoMemory) => Err(NoMemory),
+            Err(_) => Ok(None),
+        }
+    }
+}

@@ -1,0 +1,90 @@
+//! A writer.
+
+use crate::threads::Behind;
+use crate::watch::Watch;
+use eden_history::{Answer, Change, Position};
+use eden_ids::{Content, Kind, NoMemory, Path};
+use eden_shared::{CallLog, Desk, Pass};
+use std::alloc::Global;
+use std::sync::Wait;
+use std::sync::ledger::Ledger;
+
+/// How many changes a writer makes.
+const CHANGES: u64 = 50;
+
+/// What the thread of a writer begins with.
+#[derive(Drop)]
+pub(crate) struct Writer<L: Ledger> {
+    pub(crate) number: u64,
+    pub(crate) desk: Desk<L>,
+    pub(crate) watch: Watch,
+    /// Where the mount is before any change.
+    pub(crate) opened: Position,
+}
+
+/// What it ends with.
+#[derive(Drop)]
+pub(crate) struct Wrote<L: Ledger> {
+    pub(crate) pass: Pass<L>,
+    pub(crate) log: CallLog,
+    /// Where the mount was after its last change.
+    pub(crate) last: Position,
+}
+
+/// A change of a writer: at the path of the change's last digit, a text of both numbers.
+fn change_of(alloc: Global, writer: u64, change: u64) -> Result<Change, NoMemory> {
+    let path = format!(in alloc; "d/{}", change % 10)?;
+    let text = format!(in alloc; "{writer}-{change}")?;
+    let Ok(path) = Path::parse(alloc, path.as_bytes()) else {
+        // That is a path.
+        return Err(NoMemory);
+    };
+    let Content { kind, bytes } = Content::from_bytes(alloc, Kind::Plain, text.as_bytes())?;
+    Ok(Change::Write { path, kind, bytes })
+}
+
+impl<L: Ledger> Writer<L> {
+    /// Makes a change, and raises the head word to its ticket. Gives where the mount was then, which a refused change does not tell.
+    fn make(
+        &mut self,
+        rt: &impl Wait,
+        shared: &Behind<L>,
+        change: &Change,
+    ) -> Result<Option<Position>, NoMemory> {
+        let (ticket, answer) = self.desk.change(rt, shared, change)?;
+        self.watch.raise(ticket);
+        match answer {
+            Answer::At(position) => Ok(Some(position)),
+            _ => Ok(None),
+        }
+    }
+
+    /// Makes all changes. Gives where the mount was after the last one.
+    fn make_all(
+        &mut self,
+        rt: &impl Wait,
+        alloc: Global,
+        shared: &Behind<L>,
+    ) -> Result<Position, NoMemory> {
+        let mut last = self.opened;
+        for number in 1..=CHANGES {
+            let change = change_of(alloc, self.number, number)?;
+            last = self.make(rt, shared, &change)?.unwrap_or(last);
+        }
+        Ok(last)
+    }
+
+    /// Writes to the last change.
+    pub(crate) fn run(
+        self,
+        rt: &impl Wait,
+        alloc: Global,
+        shared: &Behind<L>,
+    ) -> Result<Wrote<L>, NoMemory> {
+        let mut writer = self;
+        let last = writer.make_all(rt, alloc, shared)?;
+        let Writer { desk, .. } = writer;
+        let (pass, log) = desk.finish();
+        Ok(Wrote { pass, log, last })
+    }
+}
