@@ -14,7 +14,6 @@ use eden_messages::{Query, Request};
 use eden_objects::Store;
 use eden_query::{Served, reply_to};
 use std::alloc::Global;
-use std::sync::Arc;
 use std::time::{CpuClock, Duration};
 
 /// How many calls are made.
@@ -22,7 +21,7 @@ const CALLS: u64 = 100_000;
 
 /// A mount of the empty commit that stores its history, and whose journal keeps all of it.
 fn opened(alloc: Global) -> Result<Audited<GitNaming>> {
-    let store = Arc::new(alloc, Store::new(alloc, GitNaming))?;
+    let store = Store::new(alloc, GitNaming);
     Ok(Audited::new(
         alloc,
         Mount::mount(alloc, store, Id::ZERO, 1, 1_000_000_000)?,
@@ -107,7 +106,7 @@ fn milliseconds(time: Duration) -> u64 {
 }
 
 /// Audits a log, tells what the audit says, and gives the time that it took.
-fn told(rt: &HostRuntime, audited: &Audited<GitNaming>, log: CallLog) -> Result<Duration> {
+fn told(rt: &HostRuntime, audited: &mut Audited<GitNaming>, log: CallLog) -> Result<Duration> {
     let logs = vec![in rt.alloc(); log]?;
     let start = rt.thread_cpu_time()?;
     let said = audit(rt.alloc(), audited, logs.as_slice());
@@ -124,7 +123,7 @@ fn main(rt: HostRuntime) -> Result<()> {
     let start = rt.thread_cpu_time()?;
     let log = calls(rt.alloc(), &mut audited)?;
     let made = rt.thread_cpu_time()?.saturating_sub(start);
-    let judged = told(&rt, &audited, log)?;
+    let judged = told(&rt, &mut audited, log)?;
     eprintln!(rt;
         "{CALLS} calls: {} ms, audit {} ms",
         milliseconds(made),

@@ -14,7 +14,6 @@ use eden_objects::Store;
 use eden_query::{encode_request, serve};
 use eden_stream::Counted;
 use std::alloc::Global;
-use std::sync::Arc;
 use std::time::{CpuClock, Duration};
 use test_kit::{commit_of, push_entry};
 
@@ -55,7 +54,7 @@ fn put_commit(alloc: Global, store: &mut Store<GitNaming>) -> Result<Id> {
 fn mounted(alloc: Global) -> Result<Mount<GitNaming>> {
     let mut store = Store::new(alloc, GitNaming);
     let commit = put_commit(alloc, &mut store)?;
-    Ok(Mount::mount(alloc, Arc::new(alloc, store)?, commit, 1, 1_000)?)
+    Ok(Mount::mount(alloc, store, commit, 1, 1_000)?)
 }
 
 /// How many files the filter admits, and what time it takes to list them.

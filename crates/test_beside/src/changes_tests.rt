@@ -7,40 +7,51 @@ use eden_ids::{Id, Kind, Sequence};
 use std::alloc::Global;
 use std::test::Fail;
 
-fn write(alloc: Global, at: &str, text: &str) -> Result<Change, Fail> {
-    Ok(Change::Write {
-        path: path(alloc, at)?,
-        kind: Kind::Plain,
-        bytes: Sequence::from_vec(text.as_bytes().to_vec(alloc)?),
+/// What is done to a file.
+#[derive(Clone, Copy)]
+enum Act {
+    /// It gets this text.
+    Write(&'static str),
+    /// It goes to this path.
+    Rename(&'static str),
+    /// It goes away.
+    Remove,
+}
+
+/// The change that does so to the file at a path.
+fn change_of(alloc: Global, at: &str, act: Act) -> Result<Change, Fail> {
+    let old = path(alloc, at)?;
+    Ok(match act {
+        Act::Write(text) => Change::Write {
+            path: old,
+            kind: Kind::Plain,
+            bytes: Sequence::from_vec(text.as_bytes().to_vec(alloc)?),
+        },
+        Act::Rename(new) => Change::Rename {
+            old,
+            new: path(alloc, new)?,
+        },
+        Act::Remove => Change::Remove { path: old },
     })
 }
 
-fn remove(alloc: Global, at: &str) -> Result<Change, Fail> {
-    Ok(Change::Remove {
-        path: path(alloc, at)?,
-    })
-}
+/// Changes of files of each kind, and of each refusal but that of a file that is too large.
+const OF_FILES: &[(&str, Act)] = &[
+    ("a", Act::Write("1")),
+    ("d/e", Act::Write("2")),
+    ("d", Act::Write("3")),
+    ("a/z", Act::Write("3")),
+    ("a", Act::Rename("a")),
+    ("b", Act::Rename("f")),
+    ("f", Act::Rename("d/e")),
+    ("b", Act::Remove),
+];
 
-fn rename(alloc: Global, old: &str, new: &str) -> Result<Change, Fail> {
-    Ok(Change::Rename {
-        old: path(alloc, old)?,
-        new: path(alloc, new)?,
-    })
-}
-
-/// Changes of each kind, and of each refusal but those of a file that is too large and of the last number.
-fn changes(alloc: Global, commits: &[Id; 2]) -> Result<Vec<Change>, Fail> {
+/// Changes of the root and of the mount, of each kind and of each refusal but that of the last number.
+fn of_roots(alloc: Global, commits: &[Id; 2]) -> Result<Vec<Change>, Fail> {
     let checkout = |commit, mode| Change::Checkout { commit, mode };
     let [first, second] = *commits;
     Ok(vec![in alloc;
-        write(alloc, "a", "1")?,
-        write(alloc, "d/e", "2")?,
-        write(alloc, "d", "3")?,
-        write(alloc, "a/z", "3")?,
-        rename(alloc, "a", "a")?,
-        rename(alloc, "b", "f")?,
-        rename(alloc, "f", "d/e")?,
-        remove(alloc, "b")?,
         checkout(second, Mode::Dry),
         checkout(second, Mode::Normal),
         checkout(Id([7; 20]), Mode::Force),
@@ -49,22 +60,35 @@ fn changes(alloc: Global, commits: &[Id; 2]) -> Result<Vec<Change>, Fail> {
         Change::Remount { generation: 7 },
         Change::Remount { generation: 8 },
         checkout(second, Mode::Force),
-        remove(alloc, "c")?,
     ]?)
+}
+
+/// All of these, one after another, and then the removal of a file of the second commit.
+fn changes(alloc: Global, commits: &[Id; 2]) -> Result<Vec<Change>, Fail> {
+    let mut changes = Vec::new(alloc);
+    for (at, act) in OF_FILES {
+        changes.push(change_of(alloc, at, *act)?)?;
+    }
+    for change in of_roots(alloc, commits)? {
+        changes.push(change)?;
+    }
+    changes.push(change_of(alloc, "c", Act::Remove)?)?;
+    Ok(changes)
 }
 
 #[test]
 fn beside_world(rt: HostRuntime) -> Result<(), Fail> {
     let alloc = rt.alloc();
-    let commits = two_commits(alloc)?;
-    let mut pair = Pair::mounted(alloc, &commits.store, commits.ids[0], 1000)?;
+    let mut commits = two_commits(alloc)?;
+    let first = commits.ids[0];
+    let mut pair = Pair::mounted(alloc, &mut commits.store, first, 1000)?;
     for (number, change) in changes(alloc, &commits.ids)?.iter().enumerate() {
         let step = Step {
             seed: 0,
             number,
             change,
         };
-        pair.apply(&step)?;
+        let _ = pair.apply(&step)?;
         pair.same_files(alloc, &step)?;
     }
     let journal = pair.mount.journal();
@@ -80,8 +104,9 @@ fn beside_world(rt: HostRuntime) -> Result<(), Fail> {
 #[test]
 fn checkout_of_small_subtrees(rt: HostRuntime) -> Result<(), Fail> {
     let alloc = rt.alloc();
-    let commits = sharing(alloc, 3)?;
-    let mut pair = Pair::mounted(alloc, &commits.store, commits.ids[0], 1000)?;
+    let mut commits = sharing(alloc, 3)?;
+    let first = commits.ids[0];
+    let mut pair = Pair::mounted(alloc, &mut commits.store, first, 1000)?;
     let change = Change::Checkout {
         commit: commits.ids[1],
         mode: Mode::Normal,
@@ -91,6 +116,6 @@ fn checkout_of_small_subtrees(rt: HostRuntime) -> Result<(), Fail> {
         number: 1,
         change: &change,
     };
-    pair.apply(&step)?;
+    let _ = pair.apply(&step)?;
     pair.same_past(alloc, &step)
 }

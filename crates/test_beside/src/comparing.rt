@@ -4,13 +4,12 @@ use crate::lot::PATHS;
 use crate::stores::path;
 use eden_accumulate::{Mount, expand};
 use eden_globs::Filter;
-use eden_history::{Change, Marked, Position, SinceFault};
+use eden_history::{Answer, Change, Marked, Position, SinceFault};
 use eden_ids::{Content, GitNaming, Id, Kind, Sequence};
 use eden_objects::Store;
 use eden_world::World;
 use std::alloc::Global;
 use std::fmt::Debug;
-use std::sync::Arc;
 use std::test::Fail;
 
 /// The change that both made last, and where it stands among those of its lot.
@@ -44,7 +43,7 @@ fn seen(file: Option<&Content>) -> Option<(Kind, &[u8])> {
     Some((content.kind, content.bytes.as_slice()))
 }
 
-/// A mount and a world over the same store.
+/// A mount and a world over copies of one store.
 #[derive(Drop)]
 pub(crate) struct Pair {
     pub(crate) mount: Mount<GitNaming>,
@@ -55,23 +54,22 @@ impl Pair {
     /// Both of a commit, in generation 7, with a journal of this limit.
     pub(crate) fn mounted(
         alloc: Global,
-        store: &Arc<Store<GitNaming>>,
+        store: &mut Store<GitNaming>,
         root: Id,
         limit: u64,
     ) -> Result<Pair, Fail> {
         Ok(Pair {
-            mount: Mount::mount(alloc, store.clone()?, root, 7, limit)?,
-            world: World::mount(alloc, store.clone()?, root, 7, limit)?,
+            mount: Mount::mount(alloc, store.share()?, root, 7, limit)?,
+            world: World::mount(alloc, store.share()?, root, 7, limit)?,
         })
     }
 
     /// Makes the change on both: they answer alike.
-    pub(crate) fn apply(&mut self, step: &Step) -> Result<(), Fail> {
-        step.alike(
-            self.mount.apply(step.change)?,
-            self.world.apply(step.change)?,
-        )?;
-        step.alike(self.mount.position(), self.world.position())
+    pub(crate) fn apply(&mut self, step: &Step) -> Result<Answer, Fail> {
+        let told = self.mount.apply(step.change)?;
+        step.alike(&told, &self.world.apply(step.change)?)?;
+        step.alike(self.mount.position(), self.world.position())?;
+        Ok(told)
     }
 
     /// The mount lists just the world's files, and reads each of them.
@@ -90,10 +88,10 @@ impl Pair {
     }
 
     /// Of all paths that are used, just those are dirty on which the world differs from a world of its root.
-    pub(crate) fn same_dirty(&self, alloc: Global, step: &Step) -> Result<(), Fail> {
-        let store = self.mount.store();
-        let clean = World::mount(alloc, store.clone()?, self.mount.work().root(), 1, 0)?;
-        let dirty = self.mount.work().dirty(store)?;
+    pub(crate) fn same_dirty(&mut self, alloc: Global, step: &Step) -> Result<(), Fail> {
+        let store = self.mount.share()?;
+        let clean = World::mount(alloc, store, self.mount.work().root(), 1, 0)?;
+        let dirty = self.mount.work().dirty(self.mount.store())?;
         for text in PATHS {
             let path = path(alloc, text)?;
             let differs = self.world.now().files().get(&path) != clean.now().files().get(&path);

@@ -6,6 +6,8 @@
 #![tactic(auto)]
 
 #[cfg(test)]
+mod audit_tests;
+#[cfg(test)]
 mod changes_tests;
 #[cfg(test)]
 mod comparing;
@@ -15,6 +17,10 @@ mod filters_tests;
 mod frames;
 #[cfg(test)]
 mod generated_tests;
+#[cfg(test)]
+mod import_tests;
+#[cfg(test)]
+mod imports;
 #[cfg(test)]
 mod lot;
 #[cfg(test)]

@@ -2,10 +2,12 @@
 
 ghost use Rattle.std.specs.Prelude.{◌<◌};
 
+use crate::imports::Roots;
 use crate::stores::path;
 use eden_globs::Filter;
-use eden_history::{Change, Mode};
-use eden_ids::{Id, Kind, Path, Sequence};
+use eden_history::{Change, Mode, Position};
+use eden_ids::{Kind, Path, Sequence};
+use eden_messages::{Query, Request};
 use rand_core::utils::NextWord;
 use rand_pcg::Pcg32;
 use std::alloc::Global;
@@ -55,6 +57,38 @@ impl Lot {
             PATTERNS[self.below(8)].as_bytes(),
         ];
         Ok(Filter::parse(alloc, &patterns[..self.below(3)])?)
+    }
+
+    /// A basis, a poll since a place not far from the present one, and a fetch, by a filter.
+    pub(crate) fn requests(
+        &mut self,
+        alloc: Global,
+        query: Query,
+        now: &Position,
+        filter: &Filter,
+    ) -> Result<Vec<Request>, Fail> {
+        let since = Position {
+            generation: now.generation.saturating_sub(self.below(8) as u64 / 7),
+            sequence: now
+                .sequence
+                .saturating_add(1)
+                .saturating_sub(self.below(16) as u64),
+            root: now.root,
+        };
+        let basis = Request::Basis {
+            query,
+            filter: filter.copy()?,
+        };
+        let poll = Request::Poll {
+            query,
+            since,
+            filter: filter.copy()?,
+        };
+        let fetch = Request::Fetch {
+            query,
+            path: self.path(alloc)?,
+        };
+        Ok(vec![in alloc; basis, poll, fetch]?)
     }
 
     /// One to three of these.
@@ -135,10 +169,10 @@ impl Lot {
     pub(crate) fn change(
         &mut self,
         alloc: Global,
-        commits: &[Id; 4],
+        roots: &mut Roots,
         generation: u64,
     ) -> Result<Change, Fail> {
-        let commit = commits[self.below(4)];
+        let commit = roots.one(self);
         Ok(match self.below(16) {
             0 | 1 => Change::Checkout {
                 commit,
@@ -149,6 +183,7 @@ impl Lot {
             4 => Change::Remount {
                 generation: generation.saturating_add(self.below(2) as u64),
             },
+            5 | 6 => self.import(alloc, roots)?,
             _ => self.file_change(alloc)?,
         })
     }

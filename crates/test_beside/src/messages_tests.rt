@@ -1,76 +1,163 @@
-//! What a mount replies to frames, beside what the world says.
+//! What a mount replies, to frames and from what it held, beside what the world says.
 
 use crate::comparing::{Pair, Step};
 use crate::frames::replied;
+use crate::imports::{Imported, Roots};
 use crate::lot::Lot;
 use crate::stores::{Commits, family};
 use eden_globs::Filter;
-use eden_history::Position;
-use eden_messages::{Query, Request};
+use eden_history::Change;
+use eden_ids::GitNaming;
+use eden_messages::{Query, Reply, Request};
+use eden_objects::Store;
+use eden_query::{Raw, Served, answer};
 use std::alloc::Global;
 use std::test::Fail;
 
-/// That the mount replies to the request what the world says.
-fn same_reply(alloc: Global, pair: &mut Pair, step: &Step, request: &Request) -> Result<(), Fail> {
-    let told = replied(alloc, &mut pair.mount, request)?;
-    let expected = pair.world.reply(request)?;
-    if told == expected {
-        return Ok(());
+/// What a mount held for a request, with the objects that it had then, and what it was to reply then.
+#[derive(Drop)]
+struct Held {
+    request: Request,
+    filter: Filter,
+    raw: Raw,
+    store: Store<GitNaming>,
+    reply: Reply,
+}
+
+impl Held {
+    /// That this reply, made of what was held, is the right one.
+    fn is_right(&self, step: &Step, told: &Reply) -> Result<(), Fail> {
+        step.alike((&self.request, told), (&self.request, &self.reply))
     }
-    Err(Fail::new(format_args!(
-        "seed {}, step {}: after {:?} the mount replies {told:?} to {request:?}, and the world {expected:?}",
-        step.seed, step.number, step.change
-    )))
+
+    /// That the reply is the right one, over the objects of then and over those of now.
+    fn keeps(&self, alloc: Global, now: &Store<GitNaming>, step: &Step) -> Result<(), Fail> {
+        for store in [&self.store, now] {
+            let told = answer(alloc, &self.raw, store, &self.filter)?;
+            self.is_right(step, &told)?;
+        }
+        Ok(())
+    }
 }
 
-/// A basis, a poll since a place drawn by lot, and a fetch of a path, by a filter drawn by lot.
-fn same_replies(alloc: Global, pair: &mut Pair, lot: &mut Lot, step: &Step) -> Result<(), Fail> {
-    let query = Query {
-        mirror: 1,
-        life: step.seed,
-        number: step.number as u64,
-    };
-    let filter = lot.filter(alloc)?;
-    let now = pair.mount.position();
-    let since = Position {
-        generation: now.generation.saturating_sub(lot.below(8) as u64 / 7),
-        sequence: now
-            .sequence
-            .saturating_add(1)
-            .saturating_sub(lot.below(16) as u64),
-        root: now.root,
-    };
-    let basis = Request::Basis {
-        query,
-        filter: filter.copy()?,
-    };
-    same_reply(alloc, pair, step, &basis)?;
-    let poll = Request::Poll {
-        query,
-        since,
+/// That the mount replies to a request, by frames, what the world says; and what it holds for the request.
+fn held_alike(
+    alloc: Global,
+    pair: &mut Pair,
+    step: &Step,
+    request: Request,
+    filter: Filter,
+) -> Result<Held, Fail> {
+    let told = replied(alloc, &mut pair.mount, &request)?;
+    let reply = pair.world.reply(&request)?;
+    let (raw, store) = pair.mount.hold(1, &request)?;
+    let held = Held {
+        request,
         filter,
+        raw,
+        store,
+        reply,
     };
-    same_reply(alloc, pair, step, &poll)?;
-    let fetch = Request::Fetch {
-        query,
-        path: lot.path(alloc)?,
-    };
-    same_reply(alloc, pair, step, &fetch)
+    held.is_right(step, &told)?;
+    Ok(held)
 }
 
-/// A mount and a world with this limit reply alike after each change.
-fn reply_alike(alloc: Global, commits: &Commits<4>, limit: u64) -> Result<(), Fail> {
-    let mut pair = Pair::mounted(alloc, &commits.store, commits.ids[1], limit)?;
-    let mut lot = Lot::new(limit);
+/// A mount and a world that reply alike, and what was held after the last of their changes.
+#[derive(Drop)]
+struct Replies {
+    pair: Pair,
+    lot: Lot,
+    roots: Roots,
+    kept: Vec<Held>,
+}
+
+impl Replies {
+    /// Of the second commit, with a journal of this limit. Nothing is held yet.
+    fn opened(alloc: Global, commits: &mut Commits<4>, limit: u64) -> Result<Replies, Fail> {
+        Ok(Replies {
+            pair: Pair::mounted(alloc, &mut commits.store, commits.ids[1], limit)?,
+            lot: Lot::new(limit),
+            roots: Roots::new(&commits.ids),
+            kept: Vec::new(alloc),
+        })
+    }
+
+    /// The change that both make next.
+    fn next_change(&mut self, alloc: Global) -> Result<Change, Fail> {
+        let generation = self.pair.mount.position().generation;
+        self.lot.change(alloc, &mut self.roots, generation)
+    }
+
+    /// That what was held is still answered as it was to be.
+    fn keep(&self, alloc: Global, step: &Step) -> Result<(), Fail> {
+        for held in &self.kept {
+            held.keeps(alloc, self.pair.mount.store(), step)?;
+        }
+        Ok(())
+    }
+
+    /// Asks a request, and keeps what is held for it.
+    fn ask_one(
+        &mut self,
+        alloc: Global,
+        step: &Step,
+        request: Request,
+        filter: Filter,
+    ) -> Result<(), Fail> {
+        let held = held_alike(alloc, &mut self.pair, step, request, filter)?;
+        Ok(self.kept.push(held)?)
+    }
+
+    /// Three requests by a filter drawn by lot.
+    fn draw(&mut self, alloc: Global, step: &Step) -> Result<(Vec<Request>, Filter), Fail> {
+        let query = Query {
+            mirror: 1,
+            life: step.seed,
+            number: step.number as u64,
+        };
+        let filter = self.lot.filter(alloc)?;
+        let now = self.pair.mount.position();
+        let requests = self.lot.requests(alloc, query, &now, &filter)?;
+        Ok((requests, filter))
+    }
+
+    /// Asks three requests by a filter drawn by lot, and keeps what is held for them.
+    fn ask(&mut self, alloc: Global, step: &Step) -> Result<(), Fail> {
+        let (requests, filter) = self.draw(alloc, step)?;
+        for request in &requests {
+            self.ask_one(alloc, step, request.copy()?, filter.copy()?)?;
+        }
+        Ok(())
+    }
+
+    /// Makes the change on both, and asks.
+    fn go_on(&mut self, alloc: Global, step: &Step, imported: &mut Imported) -> Result<(), Fail> {
+        let answer = self.pair.apply(step)?;
+        imported.count(step.change, &answer, &self.roots);
+        self.keep(alloc, step)?;
+        if step.number % 4 == 0 {
+            self.kept.clear();
+        }
+        self.ask(alloc, step)
+    }
+}
+
+/// A mount and a world with this limit reply alike after each change, and from what was held after one of the last four.
+fn reply_alike(
+    alloc: Global,
+    commits: &mut Commits<4>,
+    limit: u64,
+    imported: &mut Imported,
+) -> Result<(), Fail> {
+    let mut replies = Replies::opened(alloc, commits, limit)?;
     for number in 1..=80 {
-        let change = lot.change(alloc, &commits.ids, pair.mount.position().generation)?;
+        let change = replies.next_change(alloc)?;
         let step = Step {
             seed: limit,
             number,
             change: &change,
         };
-        pair.apply(&step)?;
-        same_replies(alloc, &mut pair, &mut lot, &step)?;
+        replies.go_on(alloc, &step, imported)?;
     }
     Ok(())
 }
@@ -78,9 +165,11 @@ fn reply_alike(alloc: Global, commits: &Commits<4>, limit: u64) -> Result<(), Fa
 #[test]
 fn generated_requests(rt: HostRuntime) -> Result<(), Fail> {
     let alloc = rt.alloc();
-    let commits = family(alloc)?;
+    let mut commits = family(alloc)?;
+    let mut imported = Imported::new();
     for limit in [0, 150, 400, 2000, 1_000_000] {
-        reply_alike(alloc, &commits, limit)?;
+        reply_alike(alloc, &mut commits, limit, &mut imported)?;
     }
+    assert!(rt; imported.has_all(), "{imported:?}");
     Ok(())
 }

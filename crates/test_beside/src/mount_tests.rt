@@ -6,73 +6,201 @@ use eden_globs::Filter;
 use eden_history::{Answer, Change, Mark, Marked, Position, SinceFault};
 use eden_ids::{GitNaming, Id, Kind, Sequence};
 use eden_journal::Journal;
+use eden_objects::{Object, Store, Word};
 use eden_workcopy::WorkCopy;
 use std::alloc::Global;
 use std::test::Fail;
 
-fn mount_first(alloc: Global, commits: &Commits<2>) -> Result<Mount<GitNaming>, Fail> {
-    Ok(Mount::mount(alloc, commits.store.clone()?, commits.ids[0], 7, 1000)?)
+fn mount_first(alloc: Global, commits: &mut Commits<2>) -> Result<Mount<GitNaming>, Fail> {
+    Ok(Mount::mount(alloc, commits.store.share()?, commits.ids[0], 7, 1000)?)
 }
 
 /// A mount of a commit at the last number, at which its journal begins.
-fn last(alloc: Global, commits: &Commits<2>, root: Id) -> Result<Mount<GitNaming>, Fail> {
-    let store = commits.store.clone()?;
+fn last(alloc: Global, commits: &mut Commits<2>, root: Id) -> Result<Mount<GitNaming>, Fail> {
+    let store = commits.store.share()?;
     let work = WorkCopy::new(alloc, &store, root)?;
     let journal = Journal::starting_at(alloc, 7, root, 1000, u64::MAX);
     Ok(Mount::from_parts(store, work, journal))
 }
 
+/// A file that no commit has.
+fn file(alloc: Global) -> Result<Vec<Object>, Fail> {
+    let object = Object {
+        word: Word::Blob,
+        payload: Sequence::from_vec(b"z".as_slice().to_vec(alloc)?),
+    };
+    Ok(vec![in alloc; object]?)
+}
+
+/// One call of a mount.
+#[derive(Clone, Copy)]
+enum Act {
+    Write(&'static str),
+    Remove(&'static str),
+    Rename(&'static str, &'static str),
+    Reset(Id),
+    Checkout(Id, Mode),
+    Flush,
+    /// Of a file that no commit has.
+    Import,
+    Remount(u64),
+}
+
+/// Makes a call that changes files. Gives the position, or why it is refused.
+fn change_file(
+    alloc: Global,
+    mount: &mut Mount<GitNaming>,
+    act: Act,
+) -> Result<Result<Position, ChangeFault>, Fail> {
+    Ok(match act {
+        Act::Write(at) => mount.write(&path(alloc, at)?, Kind::Plain, b"1".as_slice()),
+        Act::Remove(at) => mount.remove(&path(alloc, at)?),
+        Act::Rename(old, new) => mount.rename(&path(alloc, old)?, &path(alloc, new)?),
+        _ => return Err(Fail::new("no change of a file")),
+    })
+}
+
+/// Goes over to a commit. Gives the position, or why that is refused.
+fn check_out(
+    mount: &mut Mount<GitNaming>,
+    commit: Id,
+    mode: Mode,
+) -> Result<Position, ChangeFault> {
+    match mount.checkout(commit, mode) {
+        Ok(_) => Ok(mount.position()),
+        Err(fault) => Err(fault),
+    }
+}
+
+/// Makes a call. Gives the position, or why it is refused.
+fn make(
+    alloc: Global,
+    mount: &mut Mount<GitNaming>,
+    act: Act,
+) -> Result<Result<Position, ChangeFault>, Fail> {
+    Ok(match act {
+        Act::Reset(commit) => mount.reset(commit),
+        Act::Checkout(commit, mode) => check_out(mount, commit, mode),
+        Act::Flush => mount.flush(),
+        Act::Import => mount.import(file(alloc)?.as_slice()),
+        Act::Remount(generation) => mount.remount(generation),
+        _ => return change_file(alloc, mount, act),
+    })
+}
+
+/// What is told of a mount at the last number: no file, and no path that changed since; what changed since the fifth number is truncated.
+fn tells_nothing(alloc: Global, mount: &Mount<GitNaming>) -> Result<bool, Fail> {
+    let mut place = mount.position();
+    let none = mount.changes_since(&place)?.marked.is_empty();
+    place.sequence = 5;
+    let fault = mount.changes_since(&place).err();
+    let files = listed(alloc, mount, &Filter::all(alloc))?;
+    Ok(none && files.is_empty() && fault == Some(SinceFault::Truncated(u64::MAX)))
+}
+
 #[test]
 fn sequence_exhausted(rt: HostRuntime) -> Result<(), Fail> {
     let alloc = rt.alloc();
-    let commits = two_commits(alloc)?;
-    let mut mount = last(alloc, &commits, Id::ZERO)?;
-    let out = ChangeFault::SequenceExhausted;
-    let a = path(alloc, "a")?;
-    assert_eq!(rt; mount.write(&a, Kind::Plain, b"1".as_slice()), Err(out));
-    assert_eq!(rt; mount.read(&a), Err(ChangeFault::NoEntry));
-    assert!(rt; listed(alloc, &mount, &Filter::all(alloc))?.is_empty());
-    let mut place = mount.position();
-    assert_eq!(rt; place.sequence, u64::MAX);
-    assert!(rt; mount.changes_since(&place)?.marked.is_empty());
-    place.sequence = 5;
-    let fault = mount.changes_since(&place).err();
-    assert_eq!(rt; fault, Some(SinceFault::Truncated(u64::MAX)));
+    let mut commits = two_commits(alloc)?;
+    let mut mount = last(alloc, &mut commits, Id::ZERO)?;
+    let answer = make(alloc, &mut mount, Act::Write("a"))?;
+    assert!(rt; answer == Err(ChangeFault::SequenceExhausted));
+    assert!(rt; mount.read(&path(alloc, "a")?) == Err(ChangeFault::NoEntry));
+    assert!(rt; mount.position().sequence == u64::MAX);
+    assert!(rt; tells_nothing(alloc, &mount)?);
     Ok(())
 }
 
 #[test]
 fn sequence_exhausted_over_files(rt: HostRuntime) -> Result<(), Fail> {
     let alloc = rt.alloc();
-    let commits = two_commits(alloc)?;
-    let mut mount = last(alloc, &commits, commits.ids[0])?;
-    let out = ChangeFault::SequenceExhausted;
-    let a = path(alloc, "a")?;
-    assert_eq!(rt; mount.write(&a, Kind::Plain, b"1".as_slice()), Err(out));
-    assert_eq!(rt; mount.remove(&a), Err(out));
-    assert_eq!(rt; mount.rename(&a, &path(alloc, "n")?), Err(out));
-    assert_eq!(rt; mount.rename(&a, &a), Ok(mount.position()));
-    assert_eq!(rt; mount.reset(commits.ids[1]), Err(out));
-    assert!(rt; mount.checkout(commits.ids[1], Mode::Force).err() == Some(out));
-    assert!(rt; mount.checkout(commits.ids[1], Mode::Dry).is_ok());
-    assert_eq!(rt; mount.flush(), Err(out));
-    assert!(rt; mount.read(&a)? == (Kind::Plain, b"x".as_slice()));
-    assert_eq!(rt; mount.remount(8)?.sequence, 1);
+    let mut commits = two_commits(alloc)?;
+    let [first, second] = commits.ids;
+    let mut mount = last(alloc, &mut commits, first)?;
+    let now = mount.position();
+    for (call, made) in &[
+        (Act::Write("a"), false),
+        (Act::Remove("a"), false),
+        (Act::Rename("a", "n"), false),
+        (Act::Rename("a", "a"), true),
+        (Act::Reset(second), false),
+        (Act::Checkout(second, Mode::Force), false),
+        (Act::Checkout(second, Mode::Dry), true),
+        (Act::Flush, false),
+        // An import takes no number.
+        (Act::Import, true),
+    ] {
+        let answer = make(alloc, &mut mount, *call)?;
+        let expected = if *made {
+            Ok(now)
+        } else {
+            Err(ChangeFault::SequenceExhausted)
+        };
+        assert!(rt; answer == expected);
+        assert!(rt; mount.position() == now);
+    }
+    assert!(rt; holds(alloc, &mount, "a", (Kind::Plain, b"x".as_slice()))?);
+    let answer = make(alloc, &mut mount, Act::Remount(8))?;
+    assert!(rt;
+        answer
+            == Ok(Position {
+                generation: 8,
+                sequence: 1,
+                root: first
+            })
+    );
     Ok(())
+}
+
+/// A mount, and its copy that was made before a file was written and another one imported.
+fn parted(
+    alloc: Global,
+    commits: &mut Commits<2>,
+) -> Result<(Mount<GitNaming>, Mount<GitNaming>), Fail> {
+    let mut mount = mount_first(alloc, commits)?;
+    let before = mount.copy()?;
+    mount.write(&path(alloc, "a")?, Kind::Exec, b"1".as_slice())?;
+    mount.import(file(alloc)?.as_slice())?;
+    Ok((before, mount))
+}
+
+/// Whether a store has that file, by the id that `git hash-object` gives to its bytes.
+fn has_file(store: &Store<GitNaming>) -> bool {
+    match Id::from_hex(b"fa7af8bf5fdd704f73beb3adc5612682a98e1af5".as_slice()) {
+        Ok(file) => store.blob(file) == Some(b"z".as_slice()),
+        Err(_) => false,
+    }
+}
+
+/// Whether a file of this kind and text stands at a path.
+fn holds(
+    alloc: Global,
+    mount: &Mount<GitNaming>,
+    at: &str,
+    file: (Kind, &[u8]),
+) -> Result<bool, Fail> {
+    Ok(mount.read(&path(alloc, at)?)? == file)
+}
+
+/// Whether a file was written to a mount, and not to its copy, which stands one number before it.
+fn are_parted(
+    alloc: Global,
+    before: &Mount<GitNaming>,
+    mount: &Mount<GitNaming>,
+) -> Result<bool, Fail> {
+    let written = holds(alloc, mount, "a", (Kind::Exec, b"1".as_slice()))?;
+    let kept = holds(alloc, before, "a", (Kind::Plain, b"x".as_slice()))?;
+    let numbers = (before.position().sequence, mount.position().sequence);
+    Ok(written && kept && numbers == (1, 2))
 }
 
 #[test]
 fn copies_part(rt: HostRuntime) -> Result<(), Fail> {
     let alloc = rt.alloc();
-    let commits = two_commits(alloc)?;
-    let mut mount = mount_first(alloc, &commits)?;
-    let a = path(alloc, "a")?;
-    let before = mount.copy()?;
-    mount.write(&a, Kind::Exec, b"1".as_slice())?;
-    assert!(rt; mount.read(&a)? == (Kind::Exec, b"1".as_slice()));
-    assert!(rt; before.read(&a)? == (Kind::Plain, b"x".as_slice()));
-    assert!(rt; before.read(&path(alloc, "z")?) == Err(ChangeFault::NoEntry));
-    assert!(rt; (before.position().sequence, mount.position().sequence) == (1, 2));
+    let mut commits = two_commits(alloc)?;
+    let (before, mount) = parted(alloc, &mut commits)?;
+    let has = has_file(mount.store()) && !has_file(before.store()) && !has_file(&commits.store);
+    assert!(rt; has && are_parted(alloc, &before, &mount)?);
     Ok(())
 }
 
@@ -87,16 +215,23 @@ fn listed(alloc: Global, mount: &Mount<GitNaming>, filter: &Filter) -> Result<Ve
     Ok(text)
 }
 
+/// A mount of the first commit where one file was written and another one removed.
+fn changed(alloc: Global, commits: &mut Commits<2>) -> Result<Mount<GitNaming>, Fail> {
+    let mut mount = mount_first(alloc, commits)?;
+    mount.write(&path(alloc, "d/e")?, Kind::Link, b"1".as_slice())?;
+    mount.remove(&path(alloc, "a")?)?;
+    Ok(mount)
+}
+
 #[test]
 fn snapshot_lists(rt: HostRuntime) -> Result<(), Fail> {
     let alloc = rt.alloc();
-    let commits = two_commits(alloc)?;
-    let mut mount = mount_first(alloc, &commits)?;
-    mount.write(&path(alloc, "d/e")?, Kind::Link, b"1".as_slice())?;
-    mount.remove(&path(alloc, "a")?)?;
-    let all = Filter::parse(alloc, &[])?;
-    assert!(rt; listed(alloc, &mount, &all)?.as_slice() == b"b d/e ".as_slice());
-    assert_eq!(rt; mount.snapshot()?.position(), mount.position());
+    let mut commits = two_commits(alloc)?;
+    let mount = changed(alloc, &mut commits)?;
+    let text = listed(alloc, &mount, &Filter::all(alloc))?;
+    assert!(rt; text.as_slice() == b"b d/e ".as_slice());
+    let place = mount.snapshot()?.position();
+    assert!(rt; place == mount.position());
     Ok(())
 }
 
@@ -135,15 +270,26 @@ fn names_one(alloc: Global, mount: &Mount<GitNaming>, since: &Position) -> Resul
     )
 }
 
+/// Whether the mount goes over to the second commit, with no conflict.
+fn goes_over(
+    alloc: Global,
+    mount: &mut Mount<GitNaming>,
+    commits: &Commits<2>,
+) -> Result<bool, Fail> {
+    let change = checkout_of(commits);
+    let answer = mount.apply(&change)?;
+    Ok(answer == made(alloc, commits))
+}
+
 // Of the two to the fortieth files that the commits share none is read or listed, or the test would not end.
 #[test]
 fn checkout_of_shared_subtrees(rt: HostRuntime) -> Result<(), Fail> {
     let alloc = rt.alloc();
-    let commits = sharing(alloc, 40)?;
-    let mut mount = mount_first(alloc, &commits)?;
+    let mut commits = sharing(alloc, 40)?;
+    let mut mount = mount_first(alloc, &mut commits)?;
     let since = mount.position();
-    assert_eq!(rt; mount.apply(&checkout_of(&commits))?, made(alloc, &commits));
+    assert!(rt; goes_over(alloc, &mut mount, &commits)?);
     assert!(rt; names_one(alloc, &mount, &since)?);
-    assert!(rt; mount.read(&path(alloc, "f")?)? == (Kind::Plain, b"y".as_slice()));
+    assert!(rt; holds(alloc, &mount, "f", (Kind::Plain, b"y".as_slice()))?);
     Ok(())
 }

@@ -1,6 +1,7 @@
 //! A mount, mirrors of it, and every frame that was ever sent between them.
 
 use crate::frames::{asked, replied, reply_in, served};
+use crate::imports::{Imported, Roots};
 use crate::lot::PATHS;
 use crate::past::Past;
 use crate::stores::path;
@@ -55,7 +56,7 @@ pub(crate) struct Follower {
 }
 
 /// In how many states, after a step, a mirror had a place, had one at the head, held something else than the working copy, and then was
-/// refused what changed since or was told it by a list; and how often two mirrors at the head held the same file.
+/// refused what changed since or was told it by a list; how often two mirrors at the head held the same file; and what was imported.
 #[derive(Clone, Copy, Debug, PartialEq)]
 pub(crate) struct Tally {
     placed: u64,
@@ -64,6 +65,7 @@ pub(crate) struct Tally {
     refused: u64,
     told: u64,
     together: u64,
+    imported: Imported,
 }
 
 /// The kind and the bytes of a file.
@@ -136,6 +138,7 @@ impl Tally {
             refused: 0,
             told: 0,
             together: 0,
+            imported: Imported::new(),
         }
     }
 
@@ -146,6 +149,7 @@ impl Tally {
             && self.behind > 0
             && self.refused > 0
             && self.together > 0
+            && self.imported.has_all()
     }
 
     /// Whether a list told a mirror what it lacks.
@@ -272,9 +276,10 @@ impl Scene {
     }
 
     /// The mount and the world make a change, or refuse it.
-    fn change(&mut self, change: &Change) -> Result<(), Fail> {
+    fn change(&mut self, change: &Change, roots: &Roots, tally: &mut Tally) -> Result<(), Fail> {
         let told = self.mount.apply(change)?;
         let expected = self.past.apply(change)?;
+        tally.imported.count(change, &told, roots);
         if told == expected && self.mount.position() == self.past.position() {
             return Ok(());
         }
@@ -321,9 +326,15 @@ impl Scene {
     }
 
     /// What the step says happens.
-    pub(crate) fn happen(&mut self, alloc: Global, step: &Step) -> Result<(), Fail> {
+    pub(crate) fn happen(
+        &mut self,
+        alloc: Global,
+        step: &Step,
+        roots: &Roots,
+        tally: &mut Tally,
+    ) -> Result<(), Fail> {
         match step {
-            Step::Change(change) => self.change(change)?,
+            Step::Change(change) => self.change(change, roots, tally)?,
             Step::Begin(mirror) => {
                 if let Some(follower) = self.followers.get_mut(*mirror) {
                     follower.mirror.begin()?;

@@ -1,9 +1,9 @@
 //! Schedules drawn by lot.
 
+use crate::imports::Roots;
 use crate::lot::Lot;
 use crate::scene::{Scene, Step};
 use eden_globs::Filter;
-use eden_ids::Id;
 use eden_messages::{Query, Request};
 use std::alloc::Global;
 use std::test::Fail;
@@ -105,14 +105,14 @@ impl ScheduleLot {
     pub(crate) fn step(
         &mut self,
         alloc: Global,
-        commits: &[Id; 4],
+        roots: &mut Roots,
         scene: &Scene,
     ) -> Result<Step, Fail> {
         let mirror = self.any(scene.followers.len());
-        Ok(match self.lot.below(24) {
+        Ok(match self.lot.below(32) {
             0..=4 => {
                 let generation = scene.mount.position().generation;
-                Step::Change(self.lot.change(alloc, commits, generation)?)
+                Step::Change(self.lot.change(alloc, roots, generation)?)
             }
             5 => Step::Refilter(mirror, self.filter(alloc)?),
             6 => Step::Restart(mirror, self.filter(alloc)?),

@@ -3,14 +3,13 @@
 use eden_ids::{GitNaming, Id, Path};
 use eden_objects::Store;
 use std::alloc::Global;
-use std::sync::Arc;
 use std::test::Fail;
 use test_kit::{commit_of, push_entry};
 
 /// A store, and commits that it has.
 #[derive(Drop)]
 pub(crate) struct Commits<const COUNT: usize> {
-    pub(crate) store: Arc<Store<GitNaming>>,
+    pub(crate) store: Store<GitNaming>,
     pub(crate) ids: [Id; COUNT],
 }
 
@@ -49,9 +48,24 @@ pub(crate) fn two_commits(alloc: Global) -> Result<Commits<2>, Fail> {
     let first = put_commit(alloc, &mut store, &[("100644", "a", x), ("100644", "b", x)])?;
     let second = put_commit(alloc, &mut store, &[("100644", "a", y), ("100644", "c", y)])?;
     Ok(Commits {
-        store: Arc::new(alloc, store)?,
+        store,
         ids: [first, second],
     })
+}
+
+/// Puts a tree that names this one twice, and so on for so many levels.
+fn put_levels(
+    alloc: Global,
+    store: &mut Store<GitNaming>,
+    lowest: Id,
+    levels: u32,
+) -> Result<Id, Fail> {
+    let mut below = lowest;
+    for _ in 0..levels {
+        let twice = [("40000", "a", below), ("40000", "b", below)];
+        below = put_tree(alloc, store, &twice)?;
+    }
+    Ok(below)
 }
 
 /// Two commits that differ in the file `f`, and share the directory `z`: a tree of one file below so many levels, each of which names the
@@ -60,17 +74,14 @@ pub(crate) fn sharing(alloc: Global, levels: u32) -> Result<Commits<2>, Fail> {
     let mut store = Store::new(alloc, GitNaming);
     let x = store.put_blob(b"x".as_slice())?;
     let y = store.put_blob(b"y".as_slice())?;
-    let mut below = put_tree(alloc, &mut store, &[("100644", "a", x)])?;
-    for _ in 0..levels {
-        let twice = [("40000", "a", below), ("40000", "b", below)];
-        below = put_tree(alloc, &mut store, &twice)?;
-    }
+    let lowest = put_tree(alloc, &mut store, &[("100644", "a", x)])?;
+    let below = put_levels(alloc, &mut store, lowest, levels)?;
     let first = [("100644", "f", x), ("40000", "z", below)];
     let second = [("100644", "f", y), ("40000", "z", below)];
     let first = put_commit(alloc, &mut store, &first)?;
     let second = put_commit(alloc, &mut store, &second)?;
     Ok(Commits {
-        store: Arc::new(alloc, store)?,
+        store,
         ids: [first, second],
     })
 }
@@ -98,7 +109,7 @@ pub(crate) fn family(alloc: Global) -> Result<Commits<4>, Fail> {
     let two = put_commit(alloc, &mut store, &two)?;
     let three = put_commit(alloc, &mut store, &three)?;
     Ok(Commits {
-        store: Arc::new(alloc, store)?,
+        store,
         ids: [Id::ZERO, one, two, three],
     })
 }

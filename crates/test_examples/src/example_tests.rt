@@ -1,10 +1,17 @@
 // The body of each function but its last line is the text of the example at the head of that crate's lib.rt, and must stay so:
 // docs/examples.py, which `./test` runs, compares them.
 
+ghost use Rattle.std.specs.Prelude.{◌≡◌};
+
 use crate::following::following;
 use std::alloc::Global;
+use std::marker::Brand;
 use std::process::Abort;
+use std::sync::Wait;
+use std::sync::ledger::{Blank, Ledger};
 use std::test::Fail;
+use std::thread::Threads;
+use std::time::Clock;
 
 #[test]
 fn examples(rt: HostRuntime) -> Result<(), Fail> {
@@ -13,6 +20,7 @@ fn examples(rt: HostRuntime) -> Result<(), Fail> {
     eden_numbers_example(&rt, alloc)?;
     eden_stream_example(&rt, alloc)?;
     eden_frames_example(&rt, alloc)?;
+    eden_head_example(&rt, alloc)?;
     eden_globs_example(&rt, alloc)?;
     eden_lanes_example(&rt, alloc)?;
     eden_segments_example(&rt, alloc)?;
@@ -25,15 +33,20 @@ fn examples(rt: HostRuntime) -> Result<(), Fail> {
     eden_messages_example(&rt, alloc)?;
     eden_wire_example(&rt, alloc)?;
     eden_mirror_example(&rt, alloc)?;
+    eden_logs_example(&rt, alloc)?;
     eden_headline_example(&rt, alloc)?;
+    eden_follow_example(&rt, alloc)?;
     eden_workcopy_example(&rt, alloc)?;
     eden_checkout_example(&rt, alloc)?;
     eden_ranges_example(&rt, alloc)?;
     eden_accumulate_example(&rt, alloc)?;
     eden_query_example(&rt, alloc)?;
     eden_audit_example(&rt, alloc)?;
+    eden_shared_example::<HostRuntime, Brand>(&rt, alloc, Blank::new(256))?;
+    eden_command_example(&rt, alloc)?;
     eden_script_example(&rt, alloc)?;
     eden_edend_example(&rt, alloc)?;
+    eden_demo_example(&rt, alloc)?;
     eden_world_example(&rt, alloc)?;
     test_kit_example(&rt, alloc)?;
     test_devices_example(&rt, alloc)?;
@@ -92,6 +105,18 @@ fn eden_frames_example(rt: &impl Abort, alloc: Global) -> Result<(), Fail> {
     Ok(())
 }
 
+fn eden_head_example(rt: &impl Abort, alloc: Global) -> Result<(), Fail> {
+    use eden_head::HeadWord;
+
+    let (head, mut writer) = HeadWord::new(alloc)?;
+    let mut follower = head.split(&mut writer);
+    assert_eq!(rt; head.load(&mut follower), 0);
+    head.raise(&mut writer, 5);
+    head.raise(&mut writer, 3);
+    assert_eq!(rt; head.load(&mut follower), 5);
+    Ok(())
+}
+
 fn eden_globs_example(rt: &impl Abort, alloc: Global) -> Result<(), Fail> {
     use eden_globs::Filter;
     use eden_ids::Path;
@@ -146,8 +171,8 @@ fn eden_git_example(rt: &impl Abort, alloc: Global) -> Result<(), Fail> {
 }
 
 fn eden_objects_example(rt: &impl Abort, alloc: Global) -> Result<(), Fail> {
-    use eden_ids::{GitNaming, Path};
-    use eden_objects::Store;
+    use eden_ids::{GitNaming, Naming, Path, Sequence};
+    use eden_objects::{Object, Store, Word};
 
     let mut store = Store::new(alloc, GitNaming);
     let file = store.put_blob(b"hello\n".as_slice())?;
@@ -162,6 +187,20 @@ fn eden_objects_example(rt: &impl Abort, alloc: Global) -> Result<(), Fail> {
     let commit = store.put_commit(commit.as_slice())?;
     let readme = Path::parse(alloc, b"README".as_slice())?;
     assert!(rt; matches!(store.lookup(commit, &readme), Ok(Some((_, id))) if id == file));
+
+    // A copy keeps the objects that it has, and several objects are imported together, or none of them.
+    let copy = store.share()?;
+    let mut objects = Vec::new(alloc);
+    for bytes in [b"more\n".as_slice(), b"and more\n".as_slice()] {
+        let payload = Sequence::from_vec(bytes.to_vec(alloc)?);
+        objects.push(Object {
+            word: Word::Blob,
+            payload,
+        })?;
+    }
+    store.import(objects.as_slice())?;
+    let more = GitNaming.id_of(b"blob".as_slice(), b"more\n".as_slice());
+    assert!(rt; store.blob(more).is_some() && copy.blob(more).is_none());
     Ok(())
 }
 
@@ -265,10 +304,53 @@ fn eden_mirror_example(rt: &impl Abort, alloc: Global) -> Result<(), Fail> {
     Ok(())
 }
 
+fn eden_logs_example(rt: &impl Abort, alloc: Global) -> Result<(), Fail> {
+    use eden_history::Change;
+    use eden_ids::Sequence;
+    use eden_logs::{CallLog, LogEntry};
+    use eden_messages::{Answer, Call};
+
+    // A caller that asked for a flush, and was told nothing.
+    let entry = LogEntry {
+        ticket: 1,
+        call: Call::Change(Change::Flush),
+        answer: Answer::Unanswered,
+    };
+    let entries = Sequence::from_vec(vec![in alloc; entry]?);
+    let log = CallLog { caller: 1, entries };
+    assert_eq!(rt; log.entries.len(), 1);
+    Ok(())
+}
+
 fn eden_headline_example(rt: &impl Abort, alloc: Global) -> Result<(), Fail> {
-    use eden_headline::schedule_law;
+    use eden_headline::{merge_law, schedule_law};
 
     schedule_law();
+    merge_law();
+    Ok(())
+}
+
+fn eden_follow_example(rt: &impl Abort, alloc: Global) -> Result<(), Fail> {
+    use eden_follow::{Follower, VouchFault, vouch};
+    use eden_globs::Filter;
+    use eden_messages::{Cause, Query, Reply, Request};
+
+    let mut follower = Follower::new(alloc, 1, 1, Filter::all(alloc));
+    let requests = follower.step()?;
+    assert!(rt; matches!(requests.as_slice(), [Request::Basis { .. }]));
+    assert!(rt; vouch(alloc, &[], &follower).is_ok());
+    // No log has this reply.
+    let query = Query {
+        mirror: 1,
+        life: 1,
+        number: 1,
+    };
+    let reply = Reply::Refused {
+        query,
+        cause: Cause::TooLarge,
+    };
+    follower.deliver(1, &reply)?;
+    assert!(rt; matches!(vouch(alloc, &[], &follower), Err(VouchFault::StrangeReply)));
     Ok(())
 }
 
@@ -324,9 +406,8 @@ fn eden_accumulate_example(rt: &impl Abort, alloc: Global) -> Result<(), Fail> {
     use eden_accumulate::Mount;
     use eden_ids::{GitNaming, Id, Kind, Path};
     use eden_objects::Store;
-    use std::sync::Arc;
 
-    let store = Arc::new(alloc, Store::new(alloc, GitNaming))?;
+    let store = Store::new(alloc, GitNaming);
     let mut mount = Mount::mount(alloc, store, Id::ZERO, 7, 1000)?;
     let mounted = mount.position();
     let notes = Path::parse(alloc, b"notes".as_slice())?;
@@ -343,9 +424,8 @@ fn eden_query_example(rt: &impl Abort, alloc: Global) -> Result<(), Fail> {
     use eden_objects::Store;
     use eden_query::{encode_request, serve};
     use eden_stream::Counted;
-    use std::sync::Arc;
 
-    let store = Arc::new(alloc, Store::new(alloc, GitNaming))?;
+    let store = Store::new(alloc, GitNaming);
     let mut mount = Mount::mount(alloc, store, Id::ZERO, 7, 1000)?;
     let query = Query {
         mirror: 1,
@@ -368,9 +448,8 @@ fn eden_audit_example(rt: &impl Abort, alloc: Global) -> Result<(), Fail> {
     use eden_ids::{GitNaming, Id, Sequence};
     use eden_objects::Store;
     use eden_query::Served;
-    use std::sync::Arc;
 
-    let store = Arc::new(alloc, Store::new(alloc, GitNaming))?;
+    let store = Store::new(alloc, GitNaming);
     let mut audited = Audited::new(alloc, Mount::mount(alloc, store, Id::ZERO, 7, 1000)?)?;
     let answer = Answer::from(audited.apply(1, &Change::Flush)?);
     let entry = LogEntry {
@@ -380,7 +459,44 @@ fn eden_audit_example(rt: &impl Abort, alloc: Global) -> Result<(), Fail> {
     };
     let entries = Sequence::from_vec(vec![in alloc; entry]?);
     let logs = vec![in alloc; CallLog { caller: 1, entries }]?;
-    assert_eq!(rt; audit(alloc, &audited, logs.as_slice()), Ok(()));
+    assert_eq!(rt; audit(alloc, &mut audited, logs.as_slice()), Ok(()));
+    Ok(())
+}
+
+fn eden_shared_example<R: Abort + Wait, L: Ledger>(
+    rt: &R,
+    alloc: Global,
+    blank: Blank,
+) -> Result<(), Fail>
+    requires name { blank.name ≡ L.name }
+    requires parts { blank.parts ≡ L.parts }
+    requires whole { blank.parts ≡ 256 }
+{
+    use eden_accumulate::Mount;
+    use eden_history::Change;
+    use eden_ids::{GitNaming, Id};
+    use eden_objects::Store;
+    use eden_shared::{Audited, Desk, Shared, audit};
+
+    let store = Store::new(alloc, GitNaming);
+    let mount = Mount::mount(alloc, store, Id::ZERO, 7, 1000)?;
+    let shared = Shared::<GitNaming, _, L>::new(Audited::new(alloc, mount)?, blank);
+    let mut desk = Desk::new(alloc, shared.pass(rt)?);
+    let (ticket, _) = desk.change(rt, &shared, &Change::Flush)?;
+    assert_eq!(rt; ticket, 1);
+    let (pass, log) = desk.finish();
+    let mut audited = shared.finish(vec![in alloc; pass]?)?;
+    let logs = vec![in alloc; log]?;
+    assert_eq!(rt; audit(alloc, &mut audited, logs.as_slice()), Ok(()));
+    Ok(())
+}
+
+fn eden_command_example(rt: &impl Abort, alloc: Global) -> Result<(), Fail> {
+    use eden_command::fail;
+
+    let mut errors = Vec::new(alloc);
+    assert_eq!(rt; fail(&mut errors, "edend", "NoMemory"), 3);
+    assert!(rt; errors.as_slice() == b"edend: NoMemory\n".as_slice());
     Ok(())
 }
 
@@ -405,14 +521,25 @@ fn eden_edend_example(rt: &impl Abort, alloc: Global) -> Result<(), Fail> {
     Ok(())
 }
 
+fn eden_demo_example<R: Abort + Threads + Wait + Clock + Sync>(
+    rt: &R,
+    alloc: Global,
+) -> Result<(), Fail> {
+    use eden_demo::demo;
+
+    let mut text = Vec::new(alloc);
+    assert_eq!(rt; demo(rt, alloc, &mut text), Ok(()));
+    assert!(rt; text.as_slice() == b"audit ok\nfollowers agree\n".as_slice());
+    Ok(())
+}
+
 fn eden_world_example(rt: &impl Abort, alloc: Global) -> Result<(), Fail> {
     use eden_history::{Answer, Change};
     use eden_ids::{GitNaming, Id};
     use eden_objects::Store;
     use eden_world::World;
-    use std::sync::Arc;
 
-    let store = Arc::new(alloc, Store::new(alloc, GitNaming))?;
+    let store = Store::new(alloc, GitNaming);
     let mut world = World::mount(alloc, store, Id::ZERO, 7, 1000)?;
     assert!(rt; matches!(world.apply(&Change::Flush)?, Answer::At(_)));
     assert_eq!(rt; world.position().sequence, 2);

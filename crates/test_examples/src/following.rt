@@ -11,7 +11,6 @@ use eden_stream::Counted;
 use eden_wire::{decode_reply, encode_request};
 use std::alloc::Global;
 use std::process::Abort;
-use std::sync::Arc;
 use std::test::Fail;
 
 /// What a service replies to the frame of a request. Here both ends are lists of bytes; they may be any reader and writer.
@@ -47,7 +46,7 @@ fn follow(alloc: Global, mount: &mut Mount<GitNaming>, mirror: &mut Mirror) -> R
 
 /// A file is written, and a mirror that wants what is below `src` has it after its next round.
 pub(crate) fn following(rt: &impl Abort, alloc: Global) -> Result<(), Fail> {
-    let store = Arc::new(alloc, Store::new(alloc, GitNaming))?;
+    let store = Store::new(alloc, GitNaming);
     let mut mount = Mount::mount(alloc, store, Id::ZERO, 7, 1000)?;
     let wanted = Filter::parse(alloc, &[b"src/**".as_slice()])?;
     let mut mirror = Mirror::new(alloc, 1, 1, wanted);

@@ -1,5 +1,5 @@
-//! What tests share: stores that lines of a script put, changes, payloads in Git's format, right or wrong as the test wants them, and a
-//! table of scripts with what each prints, which can be played over whatever stands for a mount.
+//! What tests share: stores that lines of a script put, changes, payloads in Git's format, right or wrong as the test wants them, a naming
+//! under which objects collide, and a table of scripts with what each prints, which can be played over whatever stands for a mount.
 //!
 //! ```rust
 //! use eden_ids::Id;
@@ -15,6 +15,7 @@
 #![tactic(auto)]
 
 pub use crate::changes::{path, plain, remove, rename, write, write_too_large};
+pub use crate::naming::FirstByte;
 pub use crate::objects::Objects;
 pub use crate::payload::{commit_of, push_entry, tree_of};
 pub use crate::played::Played;
@@ -25,6 +26,7 @@ pub use crate::text::{differing_line, joined, lines, spaced};
 mod changes;
 mod labels;
 mod mounted;
+mod naming;
 mod objects;
 mod payload;
 mod played;

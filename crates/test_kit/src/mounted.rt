@@ -1,11 +1,10 @@
 use crate::played::Played;
 use eden_globs::Filter;
-use eden_history::{ChangeFault, Marked, Position, SinceFault};
+use eden_history::{Answer, Change, ChangeFault, Marked, Position, SinceFault};
 use eden_ids::{Content, GitNaming, Id, Kind, Path, PathTable, Sequence};
 use eden_messages::{Cause, Query, Reply, Request};
-use eden_objects::Store;
+use eden_objects::{Object, PutFault, Store};
 use std::alloc::Global;
-use std::sync::Arc;
 use std::test::Fail;
 
 /// Whose questions they are.
@@ -15,11 +14,10 @@ const QUERY: Query = Query {
     number: 3,
 };
 
-/// What stands for a mount, and the store that it was begun over.
+/// What stands for a mount.
 #[derive(Drop)]
 pub(crate) struct Mounted<P> {
     pub(crate) played: P,
-    pub(crate) store: Arc<Store<GitNaming>>,
 }
 
 /// The kind and the bytes of a file.
@@ -61,6 +59,21 @@ impl<P: Played + Drop> Mounted<P> {
             return Ok(reply);
         }
         Err(Fail::new("another query is answered"))
+    }
+
+    /// Imports one object. Tells why it is refused, where it is.
+    pub(crate) fn import(
+        &mut self,
+        alloc: Global,
+        object: Object,
+    ) -> Result<Result<(), PutFault>, Fail> {
+        let (before, _) = self.basis(alloc, Filter::all(alloc))?;
+        let objects = Sequence::from_vec(vec![in alloc; object]?);
+        match self.played.change(&Change::Import { objects })? {
+            Answer::At(position) if position == before => Ok(Ok(())),
+            Answer::Refused(ChangeFault::BadObject { place: 0, fault }) => Ok(Err(fault)),
+            _ => Err(Fail::new("an import is answered otherwise")),
+        }
     }
 
     /// The present position, and the paths that hold a file and a filter admits.
@@ -131,24 +144,32 @@ impl<P: Played + Drop> Mounted<P> {
         }
     }
 
-    /// The paths of the files, and of those of the commit of the root; and that commit.
-    fn all_paths(&mut self, alloc: Global) -> Result<(Id, Vec<Path>), Fail> {
+    /// The paths of the files, and of those of the commit of the root in the store; and that commit.
+    fn all_paths(
+        &mut self,
+        alloc: Global,
+        store: &Store<GitNaming>,
+    ) -> Result<(Id, Vec<Path>), Fail> {
         let (position, files) = self.basis(alloc, Filter::all(alloc))?;
         let mut table = PathTable::new(alloc);
         table.add_all(files.as_slice())?;
-        for (path, _, _) in &self.store.list(position.root, &Filter::all(alloc))? {
+        for (path, _, _) in &store.list(position.root, &Filter::all(alloc))? {
             table.add(path)?;
         }
         Ok((position.root, table.list(alloc)?))
     }
 
-    /// The paths at which another file stands than in the commit of the root, found one by one.
-    pub(crate) fn dirty(&mut self, alloc: Global) -> Result<Vec<Path>, Fail> {
-        let (root, paths) = self.all_paths(alloc)?;
+    /// The paths at which another file stands than in the commit of the root, which the store has, found one by one.
+    pub(crate) fn dirty(
+        &mut self,
+        alloc: Global,
+        store: &Store<GitNaming>,
+    ) -> Result<Vec<Path>, Fail> {
+        let (root, paths) = self.all_paths(alloc, store)?;
         let mut dirty = Vec::new(alloc);
         for path in paths {
             let content = self.fetch(alloc, &path)?;
-            let clean = self.store.commit_files(root).file(path.as_bytes());
+            let clean = store.commit_files(root).file(path.as_bytes());
             if seen(&content) != clean {
                 dirty.push(path)?;
             }

@@ -1,7 +1,7 @@
 use crate::labels::Labels;
 use crate::payload::{commit_of, push_entry};
-use eden_ids::{GitNaming, Id};
-use eden_objects::{PutFault, Store};
+use eden_ids::{GitNaming, Id, Sequence};
+use eden_objects::{Importer, Object, PutFault, Store, Word};
 use eden_script::{
     Command, Label, PutLine, Refusal, TreeEntry, push_id_line, push_ok, push_refusal, words,
 };
@@ -21,6 +21,21 @@ pub struct Objects {
 pub(crate) fn command_of(alloc: Global, line: &str) -> Result<Command, Fail> {
     let words = words(alloc, line.as_bytes())?.ok_or("a line has no words")?;
     Ok(Command::read(alloc, words)?.ok_or("a line can't be read")?)
+}
+
+/// The label that a line binds.
+fn label_of(line: PutLine) -> Label {
+    match line {
+        PutLine::Blob {
+            label,
+            bytes: _bytes,
+        } => label,
+        PutLine::Tree {
+            label,
+            entries: _entries,
+        } => label,
+        PutLine::Commit { label, tree: _tree } => label,
+    }
 }
 
 impl Objects {
@@ -46,7 +61,9 @@ impl Objects {
     pub fn put(&mut self, alloc: Global, line: &str) -> Result<(), Fail> {
         let mut text = Vec::new(alloc);
         match command_of(alloc, line)? {
-            Command::Put(line) => self.tell_put(alloc, line, &mut text)?,
+            Command::Put(line) => {
+                self.tell_put(alloc, line, &mut text)?;
+            }
             _ => return Err(Fail::new("a line puts nothing")),
         }
         if text.as_slice() == b"ok\n".as_slice() {
@@ -82,31 +99,40 @@ impl Objects {
         Ok(Some(payload))
     }
 
-    /// What is answered to a tree, or none where a label is not bound.
-    fn put_tree(
-        &mut self,
-        alloc: Global,
-        entries: &[TreeEntry],
-    ) -> Result<Option<Result<Id, PutFault>>, Fail> {
-        match self.tree_payload(alloc, entries)? {
-            Some(payload) => Ok(Some(self.store.put_tree(payload.as_slice()))),
-            None => Ok(None),
-        }
+    /// The object that a line names, or none where a label in it is not bound.
+    pub(crate) fn object_of(&self, alloc: Global, line: &PutLine) -> Result<Option<Object>, Fail> {
+        let (word, payload) = match line {
+            PutLine::Blob { bytes, .. } => (Word::Blob, Some(bytes.as_bytes().to_vec(alloc)?)),
+            PutLine::Tree { entries, .. } => {
+                (Word::Tree, self.tree_payload(alloc, entries.as_slice())?)
+            }
+            PutLine::Commit { tree, .. } => {
+                let payload = match self.labels.get(tree.as_bytes()) {
+                    Some(tree) => Some(commit_of(alloc, tree, "")?),
+                    None => None,
+                };
+                (Word::Commit, payload)
+            }
+        };
+        Ok(payload.map(|payload| Object {
+            word,
+            payload: Sequence::from_vec(payload),
+        }))
     }
 
-    /// What is answered to a commit, or none where the label is not bound.
-    fn put_commit(
-        &mut self,
-        alloc: Global,
-        tree: &Label,
-    ) -> Result<Option<Result<Id, PutFault>>, Fail> {
-        match self.labels.get(tree.as_bytes()) {
-            Some(tree) => {
-                let payload = commit_of(alloc, tree, "")?;
-                Ok(Some(self.store.put_commit(payload.as_slice())))
+    /// Puts more objects, as these lines say, of which a semicolon ends each but the last; and gives them, so that they are imported
+    /// elsewhere. It fails where one of them is refused.
+    pub fn more(&mut self, alloc: Global, script: &str) -> Result<Sequence<Object>, Fail> {
+        let mut objects = Vec::new(alloc);
+        for line in script.split(';') {
+            if let Command::Put(put) = command_of(alloc, line)? {
+                if let Some(object) = self.object_of(alloc, &put)? {
+                    objects.push(object)?;
+                }
             }
-            None => Ok(None),
+            self.put(alloc, line)?;
         }
+        Ok(Sequence::from_vec(objects))
     }
 
     /// Binds a label to what was put, and tells that, or why nothing was put.
@@ -127,27 +153,22 @@ impl Objects {
         Ok(())
     }
 
-    /// Puts an object, as a line says, and adds what that prints.
+    /// Puts an object, as a line says, and adds what that prints. Gives what was answered, and none where a label is not bound.
     pub(crate) fn tell_put(
         &mut self,
         alloc: Global,
         line: PutLine,
         text: &mut Vec<u8>,
-    ) -> Result<(), Fail> {
-        match line {
-            PutLine::Blob { label, bytes } => {
-                let put = self.store.put_blob(bytes.as_bytes());
-                self.bind(label, Some(put), text)
+    ) -> Result<Option<Result<Id, PutFault>>, Fail> {
+        let put = match self.object_of(alloc, &line)? {
+            Some(object) => {
+                let payload = object.payload.as_slice();
+                Some(self.store.put_object(object.word, payload))
             }
-            PutLine::Tree { label, entries } => {
-                let put = self.put_tree(alloc, entries.as_slice())?;
-                self.bind(label, put, text)
-            }
-            PutLine::Commit { label, tree } => {
-                let put = self.put_commit(alloc, &tree)?;
-                self.bind(label, put, text)
-            }
-        }
+            None => None,
+        };
+        self.bind(label_of(line), put, text)?;
+        Ok(put)
     }
 
     /// Adds the id that a label is bound to.

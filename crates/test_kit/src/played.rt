@@ -3,7 +3,6 @@ use eden_ids::{GitNaming, Id};
 use eden_messages::{Reply, Request};
 use eden_objects::Store;
 use std::alloc::Global;
-use std::sync::Arc;
 use std::test::Fail;
 
 /// What a row can be played over: it stands for a mount, is changed, and replies to requests.
@@ -11,7 +10,7 @@ pub trait Played {
     /// One of a commit, under a generation and with a limit, or why there is none.
     fn mount(
         alloc: Global,
-        store: Arc<Store<GitNaming>>,
+        store: Store<GitNaming>,
         root: Id,
         generation: u64,
         limit: u64,

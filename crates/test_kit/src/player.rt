@@ -6,15 +6,13 @@ use crate::rows::Row;
 use crate::text::{differing_line, lines};
 use eden_globs::{Filter, FilterFault};
 use eden_history::{Answer, Change, ChangeFault, Position};
-use eden_ids::{GitNaming, Id, Path, Sequence};
-use eden_objects::{CommitFault, Store};
+use eden_ids::{Id, Path, Sequence};
+use eden_objects::CommitFault;
 use eden_script::{
-    AskLine, ChangeLine, Command, Label, MountLine, Refusal, Word, push_all_marked, push_bytes,
-    push_content, push_listed, push_number, push_refusal,
+    AskLine, ChangeLine, Command, Label, MountLine, PutLine, Refusal, Word, push_all_marked,
+    push_bytes, push_content, push_listed, push_number, push_refusal,
 };
 use std::alloc::{AllocError, Global};
-use std::mem;
-use std::sync::Arc;
 use std::test::Fail;
 
 /// The path that a word is, or why it is none.
@@ -149,25 +147,28 @@ fn tell_since<P: Played + Drop>(
 fn tell_asked<P: Played + Drop>(
     alloc: Global,
     mounted: &mut Mounted<P>,
-    labels: &Labels,
+    objects: &Objects,
     line: &AskLine,
     text: &mut Vec<u8>,
 ) -> Result<(), Fail> {
     match line {
         AskLine::Position => {
             let (position, _) = mounted.basis(alloc, Filter::all(alloc))?;
-            Ok(push_at(text, labels, &position)?)
+            Ok(push_at(text, &objects.labels, &position)?)
         }
         AskLine::ListFiles { patterns } => tell_list(alloc, mounted, patterns.as_slice(), text),
         AskLine::Dirty => {
-            let paths = mounted.dirty(alloc)?;
+            let paths = mounted.dirty(alloc, &objects.store)?;
             Ok(push_listed(text, b"dirty ".as_slice(), paths.as_slice())?)
         }
         AskLine::Read { path } => tell_read(alloc, mounted, path, text),
         AskLine::Since {
             generation,
             sequence,
-        } => tell_since(alloc, mounted, labels, (*generation, *sequence), text),
+        } => {
+            let since = (*generation, *sequence);
+            tell_since(alloc, mounted, &objects.labels, since, text)
+        }
     }
 }
 
@@ -186,16 +187,33 @@ impl<P: Played + Drop> Player<P> {
         Ok(push_refusal(&mut self.text, cause)?)
     }
 
-    /// Mounts the commit that a label names. Where it names none the store is gone.
+    /// Puts an object, as a line says. Once there is a mount, it is imported there too, and is to be answered alike.
+    fn put(&mut self, line: PutLine) -> Result<(), Fail> {
+        let alloc = self.alloc;
+        let imported = match (&mut self.mounted, self.objects.object_of(alloc, &line)?) {
+            (Some(mounted), Some(object)) => Some(mounted.import(alloc, object)?),
+            _ => None,
+        };
+        let put = self.objects.tell_put(alloc, line, &mut self.text)?;
+        match (imported, put) {
+            (Some(Ok(())), Some(Ok(_))) | (None, _) => Ok(()),
+            (Some(Err(cause)), Some(Err(fault))) if cause == fault => Ok(()),
+            _ => Err(Fail::new("a mount imports an object otherwise")),
+        }
+    }
+
+    /// Mounts the commit that a label names, over a copy of the store.
     fn mount(&mut self, line: &MountLine) -> Result<(), Fail> {
         let alloc = self.alloc;
+        if self.mounted.is_some() {
+            return self.refuse(Refusal::Mounted);
+        }
         let Some(root) = self.objects.labels.get(line.label.as_bytes()) else {
             return self.refuse(Refusal::NoLabel);
         };
-        let empty = Store::new(alloc, GitNaming);
-        let store = Arc::new(alloc, mem::replace(&mut self.objects.store, empty))?;
-        match P::mount(alloc, store.clone()?, root, line.generation, line.limit) {
-            Ok(played) => self.mounted = Some(Mounted { played, store }),
+        let store = self.objects.store.share()?;
+        match P::mount(alloc, store, root, line.generation, line.limit) {
+            Ok(played) => self.mounted = Some(Mounted { played }),
             Err(fault) => match fault.cause {
                 CommitFault::NoCommit => return self.refuse(Refusal::NoCommit),
                 CommitFault::NoMemory => return Err(Fail::from(fault)),
@@ -209,13 +227,7 @@ impl<P: Played + Drop> Player<P> {
         let Some(mounted) = &mut self.mounted else {
             return self.refuse(Refusal::NotMounted);
         };
-        tell_asked(
-            self.alloc,
-            mounted,
-            &self.objects.labels,
-            line,
-            &mut self.text,
-        )
+        tell_asked(self.alloc, mounted, &self.objects, line, &mut self.text)
     }
 
     /// Changes the mount as a line says.
@@ -236,12 +248,8 @@ impl<P: Played + Drop> Player<P> {
 
     /// Does what a line asks for.
     fn tell(&mut self, command: Command) -> Result<(), Fail> {
-        let comes_before = matches!(&command, Command::Put(_) | Command::Mount(_));
-        if comes_before && self.mounted.is_some() {
-            return self.refuse(Refusal::Mounted);
-        }
         match command {
-            Command::Put(line) => self.objects.tell_put(self.alloc, line, &mut self.text),
+            Command::Put(line) => self.put(line),
             Command::Id { label } => self.objects.tell_id(&label, &mut self.text),
             Command::Mount(line) => self.mount(&line),
             Command::Change(line) => self.change(&line),

@@ -10,7 +10,7 @@ pub struct Row {
 }
 
 /// Scripts that were worked out by hand: what changes and checkouts do, and what is told of them.
-pub const CHANGE_ROWS: [Row; 18] = [
+pub const CHANGE_ROWS: [Row; 19] = [
     Row {
         name: "first_run",
         script: "mount empty 7 1000;since 7 1;write a plain hi;write b plain yo;remove a;since 7 1;since 7 3;since 7 4",
@@ -120,6 +120,13 @@ pub const CHANGE_ROWS: [Row; 18] = [
         script: "mount empty 7 130;write a plain 1;write a plain 2;write a plain 3;since 7 1;since 7 2;since 7 3;since 7 4",
         prints: "at 7 1 empty;at 7 2 empty;at 7 3 empty;at 7 4 empty;changes 1 to 7 4 empty;Created a;changes 1 to 7 4 empty;Changed a;\
             changes 1 to 7 4 empty;Changed a;changes 0 to 7 4 empty",
+    },
+    Row {
+        name: "import then checkout",
+        script: "mount empty 7 1000;blob x x;tree t 100644 a x;commit c t;checkout c normal;since 7 1;blob y y;tree u 100644 a y;\
+            commit d u;checkout d normal;since 7 2;mount c 7 1",
+        prints: "at 7 1 empty;ok;ok;ok;at 7 2 c;conflicts 0;changes 1 to 7 2 c;Root a;ok;ok;ok;at 7 3 d;conflicts 0;\
+            changes 1 to 7 3 d;Root a;refused Mounted",
     },
 ];
 
@@ -306,10 +313,12 @@ pub const LABEL_ROWS: [Row; 9] = [
         prints: "ok;id c1b0730e0133447badcfd47fd144e254807b06e1;ok;id c1b0730e0133447badcfd47fd144e254807b06e1;refused NoLabel",
     },
     Row {
-        name: "after the mount objects are refused before their labels, and before what would be wrong with them",
-        script: "blob x x;mount empty 7 1;blob y y;tree t;tree t 160000 a z;commit c x;commit c z;id y;id t;id x",
-        prints: "ok;at 7 1 empty;refused Mounted;refused Mounted;refused Mounted;refused Mounted;refused Mounted;refused NoLabel;\
-            refused NoLabel;id c1b0730e0133447badcfd47fd144e254807b06e1",
+        name: "objects after the mount",
+        script: "blob x x;mount empty 7 1;blob y y;tree t;tree u 160000 a z;tree u 160000 a y;commit c x;commit c z;id y;id t;id x;\
+            id u;position",
+        prints: "ok;at 7 1 empty;ok;ok;refused NoLabel;refused BadMode;refused WrongChildKind;refused NoLabel;\
+            id e25f1814e51579d5f55c0f1fe0135ddb28a47f4a;id 4b825dc642cb6eb9a060e54bf8d69288fbee4904;\
+            id c1b0730e0133447badcfd47fd144e254807b06e1;refused NoLabel;at 7 1 empty",
     },
     Row {
         name: "a second mount is refused before its label",

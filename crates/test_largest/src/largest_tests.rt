@@ -7,7 +7,6 @@ use eden_objects::Store;
 use eden_query::serve;
 use eden_stream::Counted;
 use std::alloc::Global;
-use std::sync::Arc;
 use std::test::Fail;
 
 /// Three times the number 1: the query.
@@ -98,7 +97,7 @@ fn is_basis(
 #[test]
 fn largest_basis(rt: HostRuntime) -> Result<(), Fail> {
     let alloc = rt.alloc();
-    let store = Arc::new(alloc, Store::new(alloc, GitNaming))?;
+    let store = Store::new(alloc, GitNaming);
     let mut mount = Mount::mount(alloc, store, Id::ZERO, 7, 0)?;
     let first = long_path(alloc, 0, 1024)?;
     for number in 0..FILES {

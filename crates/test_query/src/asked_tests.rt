@@ -100,7 +100,7 @@ fn frames_are_asked_as_caller_0(rt: HostRuntime) -> Result<(), Fail> {
     assert_eq!(rt; kept.as_slice(), wanted.as_slice());
     for (caller, said) in [(0, Ok(())), (1, Err(AuditFault::UnknownCall))] {
         let noted = logs(alloc, caller)?;
-        assert_eq!(rt; audit(alloc, &audited, noted.as_slice()), said);
+        assert_eq!(rt; audit(alloc, &mut audited, noted.as_slice()), said);
     }
     Ok(())
 }
@@ -112,8 +112,8 @@ fn replies_are_appended_to_a_text(rt: HostRuntime) -> Result<(), Fail> {
     let mut audited = written(alloc)?;
     let mut text = Vec::new(alloc);
     for (request, _) in &asked(alloc)? {
-        let raw = audited.hold(0, request)?;
-        let reply = answer(alloc, &raw, audited.store(), &Filter::all(alloc))?;
+        let (raw, store) = audited.hold(0, request)?;
+        let reply = answer(alloc, &raw, &store, &Filter::all(alloc))?;
         append_reply(&mut text, &reply)?;
     }
     assert_eq!(rt; text.as_slice(), replies.as_slice());

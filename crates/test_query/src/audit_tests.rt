@@ -3,19 +3,18 @@
 use eden_accumulate::Mount;
 use eden_audit::{AuditFault, Audited, CallLog, LogEntry, audit};
 use eden_globs::Filter;
-use eden_history::{Change, Mark, Marked, Position};
+use eden_history::{Change, ChangeFault, Mark, Marked, Position};
 use eden_ids::{GitNaming, Id, Sequence};
 use eden_messages::{Answer, Call, Query, Reply, Request};
-use eden_objects::Store;
+use eden_objects::{Object, PutFault, Store, Word};
 use eden_query::Served;
 use std::alloc::Global;
-use std::sync::Arc;
 use std::test::Fail;
 use test_kit::{path, write};
 
 /// A mount of the empty commit, as generation 7.
 pub(crate) fn opened(alloc: Global) -> Result<Audited<GitNaming>, Fail> {
-    let store = Arc::new(alloc, Store::new(alloc, GitNaming))?;
+    let store = Store::new(alloc, GitNaming);
     let mount = Mount::mount(alloc, store, Id::ZERO, 7, 1000)?;
     Ok(Audited::new(alloc, mount)?)
 }
@@ -84,10 +83,10 @@ fn audit_faults(rt: HostRuntime) -> Result<(), Fail> {
         for (caller, writes) in noted {
             logs.push(log(alloc, *caller, writes)?)?;
         }
-        assert_eq!(rt; audit(alloc, &written(alloc)?, logs.as_slice()), said);
+        assert_eq!(rt; audit(alloc, &mut written(alloc)?, logs.as_slice()), said);
     }
     let none: Vec<CallLog> = Vec::new(alloc);
-    assert_eq!(rt; audit(alloc, &opened(alloc)?, none.as_slice()), Ok(()));
+    assert_eq!(rt; audit(alloc, &mut opened(alloc)?, none.as_slice()), Ok(()));
     Ok(())
 }
 
@@ -121,7 +120,7 @@ pub(crate) fn changes(number: u64, sequence: u64, marked: Vec<Marked>) -> Reply 
 /// What is said where caller 1, after both writes, has asked what changed since the mount, and has noted this answer.
 fn told(alloc: Global, answer: Answer) -> Result<Result<(), AuditFault>, Fail> {
     let mut audited = written(alloc)?;
-    let _raw = audited.hold(1, &poll(alloc, 1, 1))?;
+    let _held = audited.hold(1, &poll(alloc, 1, 1))?;
     let asked = LogEntry {
         ticket: 3,
         call: Call::Ask(poll(alloc, 1, 1)),
@@ -132,7 +131,7 @@ fn told(alloc: Global, answer: Answer) -> Result<Result<(), AuditFault>, Fail> {
     let entries = Sequence::from_vec(entries);
     let second = log(alloc, SECOND.0, SECOND.1)?;
     let logs = vec![in alloc; CallLog { caller: 1, entries }, second]?;
-    Ok(audit(alloc, &audited, logs.as_slice()))
+    Ok(audit(alloc, &mut audited, logs.as_slice()))
 }
 
 pub(crate) fn created(alloc: Global, at: &str) -> Result<Marked, Fail> {
@@ -164,5 +163,91 @@ fn copies_say_the_same(rt: HostRuntime) -> Result<(), Fail> {
     }
     let answer = Answer::At(position(2));
     assert!(rt; answer.copy()? == answer);
+    Ok(())
+}
+
+/// An import of files of these texts.
+fn import(alloc: Global, texts: &[&str]) -> Result<Change, Fail> {
+    let mut objects = Vec::new(alloc);
+    for text in texts {
+        let payload = Sequence::from_vec(text.as_bytes().to_vec(alloc)?);
+        objects.push(Object {
+            word: Word::Blob,
+            payload,
+        })?;
+    }
+    let objects = Sequence::from_vec(objects);
+    Ok(Change::Import { objects })
+}
+
+/// An import of an empty tree and of a text that is none, which is refused.
+fn refused(alloc: Global) -> Result<Change, Fail> {
+    let word = Word::Tree;
+    let mut objects = Vec::new(alloc);
+    for payload in [b"".as_slice(), b"x".as_slice()] {
+        let payload = Sequence::from_vec(payload.to_vec(alloc)?);
+        objects.push(Object { word, payload })?;
+    }
+    let objects = Sequence::from_vec(objects);
+    Ok(Change::Import { objects })
+}
+
+/// The answer that the object at a place is refused.
+fn bad(place: u64, fault: PutFault) -> Answer {
+    Answer::Refused(ChangeFault::BadObject { place, fault })
+}
+
+/// What is said where caller 1 has imported the files `x` and `y` and then a tree that is none, and notes for the first an import of files of
+/// these texts, and both answers.
+fn said(
+    alloc: Global,
+    texts: &[&str],
+    first: Answer,
+    second: Answer,
+) -> Result<Result<(), AuditFault>, Fail> {
+    let mut audited = opened(alloc)?;
+    audited.apply(1, &import(alloc, &["x", "y"])?)?;
+    audited.apply(1, &refused(alloc)?)?;
+    let first = LogEntry {
+        ticket: 1,
+        call: Call::Change(import(alloc, texts)?),
+        answer: first,
+    };
+    let second = LogEntry {
+        ticket: 2,
+        call: Call::Change(refused(alloc)?),
+        answer: second,
+    };
+    let entries = Sequence::from_vec(vec![in alloc; first, second]?);
+    let logs = vec![in alloc; CallLog { caller: 1, entries }]?;
+    Ok(audit(alloc, &mut audited, logs.as_slice()))
+}
+
+// An import takes no number.
+#[test]
+fn imports_are_audited(rt: HostRuntime) -> Result<(), Fail> {
+    let alloc = rt.alloc();
+    let (at, short) = (|number| Answer::At(position(number)), PutFault::CutShort);
+    let wrong = Err(AuditFault::WrongReply);
+    for (first, second, told) in [
+        (at(1), bad(1, short), Ok(())),
+        (at(1), Answer::Unanswered, Ok(())),
+        (at(2), bad(1, short), wrong),
+        (at(1), bad(0, short), wrong),
+        (at(1), bad(1, PutFault::BadMode), wrong),
+        (at(1), at(1), wrong),
+    ] {
+        assert_eq!(rt; said(alloc, &["x", "y"], first, second)?, told);
+    }
+    // Another object, the two in another order, one less, and one more.
+    for texts in [
+        ["x", "z"].as_slice(),
+        ["y", "x"].as_slice(),
+        ["x"].as_slice(),
+        ["x", "y", "y"].as_slice(),
+    ] {
+        let told = said(alloc, texts, at(1), bad(1, short))?;
+        assert_eq!(rt; told, Err(AuditFault::UnknownCall), "{texts:?}");
+    }
     Ok(())
 }

@@ -8,6 +8,8 @@ mod asked_tests;
 #[cfg(test)]
 mod audit_tests;
 #[cfg(test)]
+mod held_tests;
+#[cfg(test)]
 mod message_tests;
 #[cfg(test)]
 mod reading_tests;

@@ -9,7 +9,6 @@ use eden_query::{decode_reply, encode_request, reply_to, serve};
 use eden_stream::Counted;
 use std::alloc::Global;
 use std::process::Abort;
-use std::sync::Arc;
 use std::test::Fail;
 use test_kit::{
     ANSWER_ROWS, CHANGE_ROWS, LABEL_ROWS, OBJECT_ROWS, Played, Row, first_wrong, write_too_large,
@@ -39,7 +38,7 @@ fn framed(alloc: Global, mount: &mut Mount<GitNaming>, request: &Request) -> Res
 impl Played for Asked {
     fn mount(
         alloc: Global,
-        store: Arc<Store<GitNaming>>,
+        store: Store<GitNaming>,
         root: Id,
         generation: u64,
         limit: u64,
@@ -83,7 +82,7 @@ fn worked_rows(rt: HostRuntime) -> Result<(), Fail> {
 #[test]
 fn change_refusals(rt: HostRuntime) -> Result<(), Fail> {
     let alloc = rt.alloc();
-    let store = Arc::new(alloc, Store::new(alloc, GitNaming))?;
+    let store = Store::new(alloc, GitNaming);
     let mut mount = Mount::mount(alloc, store, Id::ZERO, 7, 1000)?;
     let answer = mount.apply(&write_too_large(alloc)?)?;
     assert!(rt; answer == Answer::Refused(ChangeFault::TooLarge));

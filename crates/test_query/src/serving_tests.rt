@@ -7,7 +7,6 @@ use eden_objects::Store;
 use eden_query::{FrameFault, ServeFault, Served, serve};
 use eden_stream::Counted;
 use std::alloc::Global;
-use std::sync::Arc;
 use std::test::Fail;
 use test_devices::{Endless, Source};
 
@@ -63,7 +62,7 @@ fn refusal(alloc: Global, cause: u8, number: u8) -> Result<Vec<u8>, Fail> {
 
 /// A mount of the empty commit, in generation 7.
 fn opened(alloc: Global, limit: u64) -> Result<Mount<GitNaming>, Fail> {
-    let store = Arc::new(alloc, Store::new(alloc, GitNaming))?;
+    let store = Store::new(alloc, GitNaming);
     Ok(Mount::mount(alloc, store, Id::ZERO, 7, limit)?)
 }
 

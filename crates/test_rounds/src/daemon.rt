@@ -12,7 +12,6 @@ use eden_query::{decode_reply, encode_request, serve};
 use eden_stream::Counted;
 use eden_world::World;
 use std::alloc::Global;
-use std::sync::Arc;
 use std::test::Fail;
 
 /// What makes changes and replies to requests.
@@ -56,13 +55,13 @@ impl Daemon for Mount<GitNaming> {
 
 /// A world of the empty commit, in generation 7.
 pub(crate) fn opened_world(alloc: Global) -> Result<World<GitNaming>, Fail> {
-    let store = Arc::new(alloc, Store::new(alloc, GitNaming))?;
+    let store = Store::new(alloc, GitNaming);
     Ok(World::mount(alloc, store, Id::ZERO, 7, 1000)?)
 }
 
 /// A mount of the empty commit, in generation 7.
 pub(crate) fn opened_mount(alloc: Global) -> Result<Mount<GitNaming>, Fail> {
-    let store = Arc::new(alloc, Store::new(alloc, GitNaming))?;
+    let store = Store::new(alloc, GitNaming);
     Ok(Mount::mount(alloc, store, Id::ZERO, 7, 1000)?)
 }
 

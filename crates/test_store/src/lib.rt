@@ -10,6 +10,8 @@ mod difference_tests;
 #[cfg(test)]
 mod entries_tests;
 #[cfg(test)]
+mod import_tests;
+#[cfg(test)]
 mod lookup_tests;
 #[cfg(test)]
 mod put_tests;

@@ -4,24 +4,7 @@ use eden_ids::{GitNaming, Id, Naming};
 use eden_objects::{PutFault, Store};
 use std::alloc::Global;
 use std::test::Fail;
-use test_kit::{Objects, commit_of, push_entry, tree_of};
-
-/// Twenty copies of the payload's first byte, 0 where it has none.
-#[derive(Drop)]
-struct FirstByte;
-
-impl Naming for FirstByte {
-    ghost use Rattle.std.specs.Prelude.{slice_index, replicate};
-
-    ghost id = { λ word payload. record { 0 = replicate 20 (slice_index payload 0) } };
-
-    fn id_of(&self, _word: &[u8], payload: &[u8]) -> Id {
-        match payload.first() {
-            Some(byte) => Id([*byte; 20]),
-            None => Id([0; 20]),
-        }
-    }
-}
+use test_kit::{FirstByte, Objects, commit_of, push_entry, tree_of};
 
 #[test]
 fn colliding_naming(rt: HostRuntime) -> Result<(), Fail> {
@@ -139,7 +122,7 @@ fn is_marked(payload: &[u8], byte: u8) -> bool
 }
 
 /// Zero where the payload is marked with a `Z`, the id of twenty bytes `Y` where it is with a `Y`, and else Git's.
-#[derive(Drop)]
+#[derive(Clone, Copy)]
 struct Marked;
 
 impl Naming for Marked {

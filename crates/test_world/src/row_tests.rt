@@ -7,7 +7,6 @@ use eden_objects::{CommitFault, Store};
 use eden_world::World;
 use std::alloc::Global;
 use std::process::Abort;
-use std::sync::Arc;
 use std::test::Fail;
 use test_kit::{
     ANSWER_ROWS, CHANGE_ROWS, LABEL_ROWS, OBJECT_ROWS, Objects, Played, Row, first_wrong,
@@ -23,7 +22,7 @@ struct Plain {
 impl Played for Plain {
     fn mount(
         alloc: Global,
-        store: Arc<Store<GitNaming>>,
+        store: Store<GitNaming>,
         root: Id,
         generation: u64,
         limit: u64,
@@ -65,8 +64,7 @@ fn no_such_commit(rt: HostRuntime) -> Result<(), Fail> {
     let alloc = rt.alloc();
     let objects = Objects::of(alloc, "blob b x")?;
     let blob = objects.id("b");
-    let store = Arc::new(alloc, objects.store)?;
-    let Err(fault) = World::mount(alloc, store, blob, 7, 1000) else {
+    let Err(fault) = World::mount(alloc, objects.store, blob, 7, 1000) else {
         return Err(Fail::new("a blob is no commit"));
     };
     assert!(rt; fault.cause == CommitFault::NoCommit);
@@ -78,7 +76,7 @@ fn no_such_commit(rt: HostRuntime) -> Result<(), Fail> {
 #[test]
 fn change_refusals(rt: HostRuntime) -> Result<(), Fail> {
     let alloc = rt.alloc();
-    let store = Arc::new(alloc, Store::new(alloc, GitNaming))?;
+    let store = Store::new(alloc, GitNaming);
     let mut world = World::mount(alloc, store, Id::ZERO, 7, 1000)?;
     let answer = world.apply(&write_too_large(alloc)?)?;
     assert!(rt; answer == Answer::Refused(ChangeFault::TooLarge));

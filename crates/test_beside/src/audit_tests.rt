@@ -1,0 +1,198 @@
+//! Audits of what was drawn by lot: callers note what the world says, and a mount that stores its history is audited by that.
+
+use crate::imports::{Imported, Roots};
+use crate::lot::Lot;
+use crate::stores::{Commits, family};
+use eden_accumulate::Mount;
+use eden_audit::{Answer, AuditFault, Audited, Call, CallLog, LogEntry, audit};
+use eden_history::{Change, ChangeFault};
+use eden_ids::{GitNaming, Id, Sequence};
+use eden_messages::{Query, Request};
+use eden_query::Served;
+use eden_world::World;
+use std::alloc::Global;
+use std::process::Abort;
+use std::test::Fail;
+
+/// How many callers there are.
+const CALLERS: u64 = 3;
+
+/// A mount that stores its history, a world beside it, and what the callers note, each entry with its caller.
+#[derive(Drop)]
+struct Scribes {
+    audited: Audited<GitNaming>,
+    world: World<GitNaming>,
+    notes: Vec<(u64, LogEntry)>,
+}
+
+impl Scribes {
+    /// Of a commit, with a journal of this limit. Nothing is noted yet.
+    fn opened(alloc: Global, commits: &mut Commits<4>, limit: u64) -> Result<Scribes, Fail> {
+        let mount = Mount::mount(alloc, commits.store.share()?, commits.ids[1], 7, limit)?;
+        let world = World::mount(alloc, commits.store.share()?, commits.ids[1], 7, limit)?;
+        Ok(Scribes {
+            audited: Audited::new(alloc, mount)?,
+            world,
+            notes: Vec::new(alloc),
+        })
+    }
+
+    fn note(&mut self, caller: u64, call: Call, answer: Answer) -> Result<(), Fail> {
+        let ticket = (self.notes.len() as u64).saturating_add(1);
+        let entry = LogEntry {
+            ticket,
+            call,
+            answer,
+        };
+        Ok(self.notes.push((caller, entry))?)
+    }
+
+    /// A caller makes a change drawn by lot.
+    fn change(
+        &mut self,
+        alloc: Global,
+        lot: &mut Lot,
+        roots: &mut Roots,
+        imported: &mut Imported,
+    ) -> Result<(), Fail> {
+        let caller = lot.below(3) as u64;
+        let change = lot.change(alloc, roots, self.world.position().generation)?;
+        let _ = self.audited.apply(caller, &change)?;
+        let told = self.world.apply(&change)?;
+        imported.count(&change, &told, roots);
+        self.note(caller, Call::Change(change), Answer::from(told))
+    }
+
+    /// A caller asks for a basis, a poll and a fetch.
+    fn ask(&mut self, alloc: Global, lot: &mut Lot) -> Result<(), Fail> {
+        let caller = lot.below(3) as u64;
+        let query = Query {
+            mirror: caller,
+            life: 1,
+            number: self.notes.len() as u64,
+        };
+        let filter = lot.filter(alloc)?;
+        for request in lot.requests(alloc, query, &self.world.position(), &filter)? {
+            self.ask_one(caller, request)?;
+        }
+        Ok(())
+    }
+
+    fn ask_one(&mut self, caller: u64, request: Request) -> Result<(), Fail> {
+        let _ = self.audited.hold(caller, &request)?;
+        let reply = self.world.reply(&request)?;
+        self.note(caller, Call::Ask(request), Answer::Replied(reply))
+    }
+
+    /// What an audit says of all that is noted, with this entry in place of the one under the same ticket.
+    fn said(
+        &mut self,
+        alloc: Global,
+        other: Option<&LogEntry>,
+    ) -> Result<Result<(), AuditFault>, Fail> {
+        let mut logs = Vec::new(alloc);
+        for caller in 0..CALLERS {
+            let mut entries = Vec::new(alloc);
+            for (by, entry) in &self.notes {
+                if *by == caller {
+                    entries.push(copy_of(chosen(entry, other))?)?;
+                }
+            }
+            let entries = Sequence::from_vec(entries);
+            logs.push(CallLog { caller, entries })?;
+        }
+        Ok(audit(alloc, &mut self.audited, logs.as_slice()))
+    }
+
+    /// For each import another answer and another call, and what is wrong with them.
+    fn wrong(&self, alloc: Global) -> Result<Vec<(LogEntry, AuditFault)>, Fail> {
+        let mut wrong = Vec::new(alloc);
+        for (_, entry) in &self.notes {
+            if let Call::Change(Change::Import { .. }) = &entry.call {
+                let mut other = copy_of(entry)?;
+                other.answer = Answer::Refused(ChangeFault::TooLarge);
+                wrong.push((other, AuditFault::WrongReply))?;
+                let mut other = copy_of(entry)?;
+                let objects = Sequence::new(alloc);
+                other.call = Call::Change(Change::Import { objects });
+                wrong.push((other, AuditFault::UnknownCall))?;
+            }
+        }
+        Ok(wrong)
+    }
+}
+
+/// The entry, or the other one under the same ticket.
+fn chosen<'a>(entry: &'a LogEntry, other: Option<&'a LogEntry>) -> &'a LogEntry {
+    match other {
+        Some(other) if other.ticket == entry.ticket => other,
+        _ => entry,
+    }
+}
+
+fn copy_of(entry: &LogEntry) -> Result<LogEntry, Fail> {
+    Ok(LogEntry {
+        ticket: entry.ticket,
+        call: entry.call.copy()?,
+        answer: entry.answer.copy()?,
+    })
+}
+
+impl Scribes {
+    /// Makes thirty changes drawn by lot, and asks in between.
+    fn go_on(
+        &mut self,
+        alloc: Global,
+        seed: u64,
+        first: &[Id; 4],
+        imported: &mut Imported,
+    ) -> Result<(), Fail> {
+        let mut lot = Lot::new(seed);
+        let mut roots = Roots::new(first);
+        for _ in 0..30 {
+            self.change(alloc, &mut lot, &mut roots, imported)?;
+            if lot.below(3) == 0 {
+                self.ask(alloc, &mut lot)?;
+            }
+        }
+        Ok(())
+    }
+
+    /// The ticket of an entry with which a wrong one is not told by its name, if there is one.
+    fn untold(&mut self, alloc: Global) -> Result<Option<u64>, Fail> {
+        for (other, fault) in &self.wrong(alloc)? {
+            if self.said(alloc, Some(other))? != Err(*fault) {
+                return Ok(Some(other.ticket));
+            }
+        }
+        Ok(None)
+    }
+}
+
+/// What the callers note of thirty changes, and of what they ask in between, agrees with the history; and nothing else is said of an import.
+fn audit_alike(
+    rt: &impl Abort,
+    alloc: Global,
+    commits: &mut Commits<4>,
+    seed: u64,
+    imported: &mut Imported,
+) -> Result<(), Fail> {
+    let mut scribes = Scribes::opened(alloc, commits, 400)?;
+    scribes.go_on(alloc, seed, &commits.ids, imported)?;
+    assert!(rt; scribes.said(alloc, None)? == Ok(()), "seed {seed}");
+    let untold = scribes.untold(alloc)?;
+    assert!(rt; untold.is_none(), "seed {seed}, ticket {untold:?}");
+    Ok(())
+}
+
+#[test]
+fn generated_audits(rt: HostRuntime) -> Result<(), Fail> {
+    let alloc = rt.alloc();
+    let mut commits = family(alloc)?;
+    let mut imported = Imported::new();
+    for seed in 0..12_u64 {
+        audit_alike(&rt, alloc, &mut commits, seed, &mut imported)?;
+    }
+    assert!(rt; imported.has_all(), "{imported:?}");
+    Ok(())
+}

@@ -1,0 +1,82 @@
+//! The program over devices: each status that can be brought about, and what is told with it.
+
+use eden_audit::AuditFault;
+use eden_demo::{ProgramFault, follow};
+use std::alloc::Global;
+use std::sync::Wait;
+use std::test::Fail;
+use std::thread::Threads;
+use std::time::Clock;
+use test_devices::Sink;
+
+/// No place.
+const ALL: usize = usize::MAX;
+
+/// The words of a call, the place at which the output is full, and what the program comes to: its status, its output, and what it tells of a
+/// fault, or how that begins where `clap` says it.
+type Row = (&'static str, usize, u8, &'static str, &'static str);
+
+const ROWS: [Row; 9] = [
+    ("follow demo", ALL, 0, "audit ok\nfollowers agree\n", ""),
+    ("follow demo", 4, 3, "audi", "follow: Write\n"),
+    ("follow --version", ALL, 0, "follow 0.1.0\n", ""),
+    ("follow -V", ALL, 0, "follow 0.1.0\n", ""),
+    ("follow --version", 0, 3, "", "follow: Write\n"),
+    ("follow", ALL, 2, "", "error: "),
+    ("follow deom", ALL, 2, "", "error: "),
+    ("follow demo x", ALL, 2, "", "error: "),
+    ("follow --help", ALL, 2, "", "Keeps mirrors of a mount"),
+];
+
+/// Whether the program comes to what its row says.
+fn is_as_told<R: Threads + Wait + Clock + Sync>(
+    rt: &R,
+    alloc: Global,
+    row: &Row,
+) -> Result<bool, Fail> {
+    let (words, full_at, status, text, told) = *row;
+    let mut list = Vec::new(alloc);
+    for word in words.split(' ') {
+        list.push(String::from_str(alloc, word)?)?;
+    }
+    let mut output = Sink::new(alloc);
+    output.full_at = full_at;
+    let mut errors = Sink::new(alloc);
+    let ended = follow(rt, alloc, list.as_slice(), &mut output, &mut errors);
+    let is_told = if status == 2 {
+        errors.bytes.starts_with(told.as_bytes())
+    } else {
+        errors.bytes.as_slice() == told.as_bytes()
+    };
+    Ok(ended == status && output.bytes.as_slice() == text.as_bytes() && is_told)
+}
+
+#[test]
+fn statuses(rt: HostRuntime) -> Result<(), Fail> {
+    for row in &ROWS {
+        let words = row.0;
+        assert!(rt; is_as_told(&rt, rt.alloc(), row)?, "{words}");
+    }
+    Ok(())
+}
+
+/// Each fault, its name and its status.
+const FAULTS: [(ProgramFault, &str, u8); 4] = [
+    (ProgramFault::Write, "Write", 3),
+    (ProgramFault::NoMemory, "NoMemory", 3),
+    (
+        ProgramFault::Refused(AuditFault::WrongReply),
+        "WrongReply",
+        4,
+    ),
+    (ProgramFault::Differ, "Differ", 4),
+];
+
+#[test]
+fn faults(rt: HostRuntime) -> Result<(), Fail> {
+    for (fault, name, status) in &FAULTS {
+        assert!(rt; format!(in rt.alloc(); "{fault}")?.as_str() == *name);
+        assert_eq!(rt; fault.status(), *status);
+    }
+    Ok(())
+}

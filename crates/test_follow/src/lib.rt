@@ -1,0 +1,5 @@
+//! Followers beside logs that a test writes.
+#![tactic(auto)]
+
+#[cfg(test)]
+mod vouch_tests;

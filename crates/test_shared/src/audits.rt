@@ -1,0 +1,133 @@
+//! A lock over a mount, and what an audit says of what its callers note.
+
+ghost use Rattle.std.specs.Prelude.{◌≡◌};
+
+use eden_accumulate::Mount;
+use eden_history::ChangeFault;
+use eden_ids::{GitNaming, Id, Sequence};
+use eden_objects::Store;
+use eden_shared::{Answer, AuditFault, Audited, CallLog, Desk, LogEntry, Pass, Shared, audit};
+use std::alloc::Global;
+use std::process::Abort;
+use std::sync::ledger::{Blank, Ledger};
+use std::test::Fail;
+
+/// A mount that stores its history, behind a lock.
+pub(crate) type Behind<L> = Shared<GitNaming, Audited<GitNaming>, L>;
+
+/// A lock over the mount of a commit, in generation 7.
+pub(crate) fn opened<L: Ledger>(
+    alloc: Global,
+    store: Store<GitNaming>,
+    root: Id,
+    blank: Blank,
+) -> Result<Behind<L>, Fail>
+    requires name { blank.name ≡ L.name }
+    requires parts { blank.parts ≡ L.parts }
+    requires whole { blank.parts ≡ 256 }
+{
+    let mount = Mount::mount(alloc, store, root, 7, 100_000)?;
+    Ok(Shared::new(Audited::new(alloc, mount)?, blank))
+}
+
+fn copy_of(entry: &LogEntry) -> Result<LogEntry, Fail> {
+    Ok(LogEntry {
+        ticket: entry.ticket,
+        call: entry.call.copy()?,
+        answer: entry.answer.copy()?,
+    })
+}
+
+fn log_copy(alloc: Global, log: &CallLog) -> Result<CallLog, Fail> {
+    let mut entries = Vec::new(alloc);
+    for entry in log.entries.as_slice() {
+        entries.push(copy_of(entry)?)?;
+    }
+    Ok(CallLog {
+        caller: log.caller,
+        entries: Sequence::from_vec(entries),
+    })
+}
+
+/// These logs, of which the last one is altered so that this is wrong with them.
+fn altered(alloc: Global, logs: &[CallLog], fault: AuditFault) -> Result<Vec<CallLog>, Fail> {
+    let mut copies = Vec::new(alloc);
+    for log in logs {
+        copies.push(log_copy(alloc, log)?)?;
+    }
+    let CallLog { caller, entries } = copies.pop().ok_or("no log")?;
+    let mut entries = entries.into_vec();
+    let first = entries.first_mut().ok_or("an empty log")?;
+    match fault {
+        AuditFault::UnknownCall => first.ticket = u64::MAX,
+        AuditFault::WrongReply => first.answer = Answer::Refused(ChangeFault::TooLarge),
+        AuditFault::OutOfOrder => {
+            let again = copy_of(first)?;
+            entries.push(again)?;
+        }
+        AuditFault::Twice => {
+            if let Some(last) = logs.last() {
+                copies.push(log_copy(alloc, last)?)?;
+            }
+        }
+        _ => return Ok(copies),
+    }
+    let entries = Sequence::from_vec(entries);
+    copies.push(CallLog { caller, entries })?;
+    Ok(copies)
+}
+
+/// That the logs agree with the history, and what is wrong with others is named.
+fn agree(
+    rt: &impl Abort,
+    alloc: Global,
+    audited: &mut Audited<GitNaming>,
+    logs: &[CallLog],
+) -> Result<(), Fail> {
+    assert_eq!(rt; audit(alloc, audited, logs), Ok(()));
+    for fault in [
+        AuditFault::UnknownCall,
+        AuditFault::WrongReply,
+        AuditFault::OutOfOrder,
+        AuditFault::Twice,
+        AuditFault::CountsDiffer,
+    ] {
+        let wrong = altered(alloc, logs, fault)?;
+        assert_eq!(rt; audit(alloc, audited, wrong.as_slice()), Err(fault));
+    }
+    Ok(())
+}
+
+/// What callers hand back.
+#[derive(Drop)]
+pub(crate) struct Ended<L: Ledger> {
+    pub(crate) passes: Vec<Pass<L>>,
+    pub(crate) logs: Vec<CallLog>,
+}
+
+/// What these two hand back.
+pub(crate) fn end_both<L: Ledger>(
+    alloc: Global,
+    first: Desk<L>,
+    second: Desk<L>,
+) -> Result<Ended<L>, Fail> {
+    let (first, first_log) = first.finish();
+    let (second, second_log) = second.finish();
+    let passes = vec![in alloc; first, second]?;
+    let logs = vec![in alloc; first_log, second_log]?;
+    Ok(Ended { passes, logs })
+}
+
+/// The lock is given up: it took as many calls as the logs note, and they agree with its history.
+pub(crate) fn close<L: Ledger>(
+    rt: &impl Abort,
+    alloc: Global,
+    shared: Behind<L>,
+    given: Ended<L>,
+) -> Result<(), Fail>
+    requires { L.parts ≡ 256 }
+{
+    let Ended { passes, logs } = given;
+    let mut audited = shared.finish(passes)?;
+    agree(rt, alloc, &mut audited, logs.as_slice())
+}

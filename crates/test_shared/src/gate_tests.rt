@@ -1,0 +1,224 @@
+//! A caller changes the mount while another one's reply is made.
+
+ghost use Rattle.std.specs.Prelude.{◌≡◌};
+
+use crate::audits::{Behind, Ended, close, end_both, opened};
+use eden_globs::Filter;
+use eden_history::{Change, Mode, Position};
+use eden_ids::{GitNaming, Id};
+use eden_messages::{Query, Reply, Request};
+use eden_objects::Store;
+use eden_shared::{Desk, Gate};
+use eden_world::World;
+use std::alloc::Global;
+use std::marker::Brand;
+use std::process::Abort;
+use std::sync::Wait;
+use std::sync::atomic::{AtomicBool, Ordering};
+use std::sync::ledger::{Blank, Ledger};
+use std::test::Fail;
+use std::thread;
+use std::thread::Threads;
+use std::time::{Clock, Duration};
+use test_kit::{Objects, write};
+
+/// Two commits; the second one has another file `a`, and a file `d`.
+const BEFORE: &str =
+    "blob x x;tree t 100644 a x;commit c t;blob y y;tree u 100644 a y 100644 d x;commit e u";
+
+/// A commit that is imported later. It has none of their files.
+const LATER: &str = "blob z z;tree v 100644 b z;commit g v";
+
+const QUERY: Query = Query {
+    mirror: 1,
+    life: 1,
+    number: 1,
+};
+
+/// How far the two callers have come.
+#[derive(Drop)]
+struct Flags {
+    held: AtomicBool,
+    changed: AtomicBool,
+    seen: AtomicBool,
+}
+
+/// Waits for a flag, ten seconds or so at the most. Says whether it was set.
+fn wait_for(rt: &impl Clock, flag: &AtomicBool) -> bool {
+    for _ in 0..10_000 {
+        if flag.load(Ordering::SeqCst) {
+            return true;
+        }
+        thread::sleep(rt, Duration::from_millis(1));
+    }
+    false
+}
+
+/// A gate that opens once the other caller's changes have been answered.
+#[derive(Drop)]
+struct Meanwhile<'a, R: Clock> {
+    rt: &'a R,
+    flags: &'a Flags,
+}
+
+impl<R: Clock> Gate for Meanwhile<'_, R> {
+    fn between(&self, query: &Query) {
+        self.flags.held.store(*query == QUERY, Ordering::SeqCst);
+        let seen = wait_for(self.rt, &self.flags.changed);
+        self.flags.seen.store(seen, Ordering::SeqCst);
+    }
+}
+
+/// What the two callers do, and what the first is to be told.
+#[derive(Drop)]
+struct Plan {
+    request: Request,
+    reply: Reply,
+    changes: Vec<Change>,
+}
+
+/// Asks, and waits at the gate for the other caller.
+fn ask_one<L: Ledger>(
+    rt: &(impl Wait + Clock),
+    shared: &Behind<L>,
+    desk: &mut Desk<L>,
+    request: &Request,
+    flags: &Flags,
+) -> Option<Reply> {
+    let gate = Meanwhile { rt, flags };
+    match desk.ask(rt, shared, request, &gate) {
+        Ok((_, reply)) => Some(reply),
+        Err(_) => None,
+    }
+}
+
+/// Makes changes once the other caller's request is held, and says so. Says whether they were made.
+fn change_all<L: Ledger>(
+    rt: &(impl Wait + Clock),
+    shared: &Behind<L>,
+    desk: &mut Desk<L>,
+    changes: &[Change],
+    flags: &Flags,
+) -> bool {
+    let held = wait_for(rt, &flags.held);
+    for change in changes {
+        if desk.change(rt, shared, change).is_err() {
+            return false;
+        }
+    }
+    flags.changed.store(true, Ordering::SeqCst);
+    held
+}
+
+/// One caller asks, and another one makes changes while the reply is made. Gives the reply, and whether the changes were made.
+fn call_both<L: Ledger + Send + Sync, R: Threads + Wait + Clock + Sync>(
+    rt: &R,
+    shared: &Behind<L>,
+    first: &mut Desk<L>,
+    second: &mut Desk<L>,
+    plan: &Plan,
+    flags: &Flags,
+) -> (Option<Reply>, bool) {
+    thread::join(
+        rt,
+        || ask_one(rt, shared, first, &plan.request, flags),
+        || change_all(rt, shared, second, plan.changes.as_slice(), flags),
+    )
+}
+
+/// Two callers, of whom one goes over to a commit first.
+fn play<L: Ledger + Send + Sync, R: Threads + Wait + Abort + Clock + Sync>(
+    rt: &R,
+    alloc: Global,
+    shared: &Behind<L>,
+    commit: Id,
+    plan: &Plan,
+) -> Result<Ended<L>, Fail> {
+    let mut first = Desk::new(alloc, shared.pass(rt)?);
+    let mut second = Desk::new(alloc, shared.pass(rt)?);
+    let mode = Mode::Normal;
+    let _ = second.change(rt, shared, &Change::Checkout { commit, mode })?;
+    let flags = Flags {
+        held: AtomicBool::new(false),
+        changed: AtomicBool::new(false),
+        seen: AtomicBool::new(false),
+    };
+    let (reply, changed) = call_both(rt, shared, &mut first, &mut second, plan, &flags);
+    assert!(rt; changed && flags.seen.load(Ordering::SeqCst));
+    assert!(rt; reply.as_ref() == Some(&plan.reply));
+    end_both(alloc, first, second)
+}
+
+/// What a world of the first commit replies once it has gone over to another one.
+fn reply_after(
+    alloc: Global,
+    store: Store<GitNaming>,
+    root: Id,
+    commit: Id,
+    request: &Request,
+) -> Result<Reply, Fail> {
+    let mut world = World::mount(alloc, store, root, 7, 100_000)?;
+    let mode = Mode::Normal;
+    let _ = world.apply(&Change::Checkout { commit, mode })?;
+    Ok(world.reply(request)?)
+}
+
+/// What the second caller does meanwhile: it writes a file, or it imports a commit and goes over to it.
+fn later(alloc: Global, objects: &mut Objects, imports: bool) -> Result<Vec<Change>, Fail> {
+    if !imports {
+        return Ok(vec![in alloc; write(alloc, "d", "2")?]?);
+    }
+    let import = Change::Import {
+        objects: objects.more(alloc, LATER)?,
+    };
+    let commit = objects.id("g");
+    let mode = Mode::Force;
+    Ok(vec![in alloc; import, Change::Checkout { commit, mode }]?)
+}
+
+/// The first caller asks what changed since the mount was at its first commit.
+fn planned(alloc: Global, objects: &mut Objects, imports: bool) -> Result<Plan, Fail> {
+    let (root, commit) = (objects.id("c"), objects.id("e"));
+    let since = Position {
+        generation: 7,
+        sequence: 1,
+        root,
+    };
+    let request = Request::Poll {
+        query: QUERY,
+        since,
+        filter: Filter::all(alloc),
+    };
+    let reply = reply_after(alloc, objects.store.share()?, root, commit, &request)?;
+    let changes = later(alloc, objects, imports)?;
+    Ok(Plan {
+        request,
+        reply,
+        changes,
+    })
+}
+
+/// While the reply to one caller is made, which is of a change of the root, another caller changes the mount.
+fn overlapped<L: Ledger + Send + Sync, R: Threads + Wait + Abort + Clock + Sync>(
+    rt: &R,
+    alloc: Global,
+    blank: Blank,
+    imports: bool,
+) -> Result<(), Fail>
+    requires name { blank.name ≡ L.name }
+    requires parts { blank.parts ≡ L.parts }
+    requires whole { blank.parts ≡ 256 }
+{
+    let mut objects = Objects::of(alloc, BEFORE)?;
+    let store = objects.store.share()?;
+    let plan = planned(alloc, &mut objects, imports)?;
+    let shared = opened::<L>(alloc, store, objects.id("c"), blank)?;
+    let given = play(rt, alloc, &shared, objects.id("e"), &plan)?;
+    close(rt, alloc, shared, given)
+}
+
+#[test]
+fn write_during_comparison(rt: HostRuntime) -> Result<(), Fail> {
+    overlapped::<Brand, HostRuntime>(&rt, rt.alloc(), Blank::new(256), false)?;
+    overlapped::<Brand, HostRuntime>(&rt, rt.alloc(), Blank::new(256), true)
+}
