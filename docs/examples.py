@@ -29,7 +29,8 @@ def head_example(file):
 def function_examples():
     """Of each function NAME_example the lines of its body, without the indent and the last line `Ok(())`."""
     text = open(FUNCTIONS).read()
-    found = re.finditer(r"^fn (\w+)_example\([^)]*\)[^{]*\{\n(.*?)^    Ok\(\(\)\)\n\}$", text, re.M | re.S)
+    head = r"^fn (\w+)_example(?:<[^(]*>)?\([^)]*\)[^{]*(?:^    requires [^\n]*\n)*\{\n"
+    found = re.finditer(head + r"(.*?)^    Ok\(\(\)\)\n\}$", text, re.M | re.S)
     return {function[1]: [line[4:] for line in function[2].splitlines()] for function in found}
 
 

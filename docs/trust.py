@@ -21,12 +21,15 @@ PROMISES = [
     ("a journal (`add_file`, `add_root`, `flush`)", "eden_journal", ["add_file", "add_root", "flush"]),
     ("two commits' difference (`diff`)", "eden_treediff", ["diff"]),
     ("the store (`put_blob`, `put_tree`, `put_commit`, `lookup`, `list`)", "eden_objects", ["put_blob", "put_tree", "put_commit", "lookup", "list"]),
+    ("a store that grows (`Store::import`, `Mount::import`, `share`)", "eden_objects eden_accumulate", ["import", "share", "grown_law", "more_objects_law"]),
     ("a batch of objects (`read_objects`)", "eden_batch eden_objects", ["read_objects", "put_blob", "put_tree", "put_commit"]),
     ("ids (`GitNaming::id_of`)", "eden_ids", ["git_name"]),
     ("messages as bytes (`encode_request`, `encode_reply`, `append_reply`, `decode_request`, `decode_reply`)", "eden_wire", ["encode_request", "encode_reply", "append_reply", "decode_request", "decode_reply", "request_law", "reply_law"]),
     ("a mirror (`begin`, `deliver`, `round_law`)", "eden_mirror", ["begin", "deliver", "round_law"]),
     ("replies have a spelling (`reply_spelling_law`), and frames are answered (`serve`)", "eden_messages eden_query", ["reply_spelling_law", "serve"]),
     ("an audit (`audit`)", "eden_audit", ["audit"]),
+    ("callers behind a lock (`Shared`, `Desk`, `serve_shared`)", "eden_shared", ["change", "hold", "finish", "ask", "serve_shared"]),
+    ("a follower, and what vouches for it (`Follower`, `vouch`, `merge_law`)", "eden_follow eden_headline", ["step", "deliver", "vouch", "merge_law"]),
     ("a script (`run`)", "eden_edend", ["run"]),
 ]
 
@@ -63,6 +66,13 @@ class Definitions:
         self.module = {}        # file -> module
         for file in sorted(glob.glob("crates/*/specs/**/*.antt", recursive=True)):
             self.read(file)
+        # what a crate hands on of another one's files
+        for file in sorted(glob.glob("crates/*/specs/Lib.antt")):
+            crate = file.split("/")[1]
+            for module in re.findall(r"^pub use (Rattle\.[\w.]+)$", open(file).read(), re.M):
+                last = module.rpartition(".")[2]
+                handed = {(f"Rattle.{crate}.specs.{last}", name): place for (where, name), place in self.at.items() if where == module}
+                self.at.update(handed)
 
     def read(self, file):
         parts = file[:-len(".antt")].split("/")
@@ -120,7 +130,7 @@ def lines(definitions, places):
 
 
 def count(definitions, places):
-    names = [name for name, place in definitions.at.items() if place in places]
+    names = {(place, name) for (_, name), place in definitions.at.items() if place in places}
     return len(names), lines(definitions, places), len({file for file, _ in places})
 
 
