@@ -1,4 +1,4 @@
-//! What the programs have in common: a version, and how they end where they can't do what they are for.
+//! What the programs have in common: a version, why they end, and how they end where they can't do what they are for.
 //!
 //! ```rust
 //! use eden_command::fail;
@@ -11,12 +11,16 @@
 
 ghost use Rattle.std.specs.Prelude.{◌≡◌, ◌≤◌, IfErr};
 
+pub use crate::fault::ProgramFault;
+
 use clap::Error;
 use clap::error::ErrorKind;
 use std::alloc::{Alloc, Global};
 use std::env::Env;
 use std::io::Write;
 use std::{env, io};
+
+mod fault;
 
 /// The version that `--version` tells.
 pub const VERSION: &str = "0.1.0";

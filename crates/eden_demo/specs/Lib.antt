@@ -1,2 +1,1 @@
 pub mod Followings
-pub mod Statuses

@@ -4,12 +4,12 @@ ghost use Rattle.std.specs.Prelude.{◌≡◌, [], IfOk, OnOk, IsErrOf, codes};
 ghost use Rattle.std.specs.Io.KnownBytes.{Appends, Keeps};
 
 use crate::crew::open_crew;
-use crate::fault::ProgramFault;
 use crate::judging::judge;
 use crate::threads::{Behind, Ended, run_crew};
 use crate::verdict::Verdict;
 use eden_accumulate::Mount;
 use eden_audit::{AuditFault, Audited};
+use eden_command::ProgramFault;
 use eden_ids::{GitNaming, Id, NoMemory};
 use eden_objects::Store;
 use eden_shared::Shared;

@@ -11,12 +11,11 @@
 #![tactic(auto)]
 
 pub use crate::demonstration::demo;
-pub use crate::fault::ProgramFault;
 pub use crate::program::follow;
+pub use eden_command::ProgramFault;
 
 mod crew;
 mod demonstration;
-mod fault;
 mod following;
 mod judging;
 mod line;

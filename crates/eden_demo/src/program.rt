@@ -3,9 +3,8 @@
 ghost use Rattle.std.specs.Prelude.{◌≤◌};
 
 use crate::demonstration::demo;
-use crate::fault::ProgramFault;
 use clap::{Command, Error};
-use eden_command::{VERSION, end_unrun, fail};
+use eden_command::{VERSION, end_unrun};
 use std::alloc::Global;
 use std::io::Write;
 use std::sync::Wait;
@@ -40,13 +39,9 @@ fn run_demo<R: Threads + Wait + Clock + Sync, O: Write, E: Write>(
 ) -> u8
     ensures { result ≤ 4 }
 {
-    let Err(fault) = demo(rt, alloc, output) else {
-        return 0;
-    };
-    match fault {
-        ProgramFault::Write => fail(errors, NAME, "Write"),
-        ProgramFault::NoMemory => fail(errors, NAME, "NoMemory"),
-        ProgramFault::Refused(_) | ProgramFault::Differ => fault.status(),
+    match demo(rt, alloc, output) {
+        Ok(()) => 0,
+        Err(fault) => fault.tell(errors, NAME),
     }
 }
 

@@ -4,8 +4,8 @@ ghost use Rattle.std.specs.Prelude.{◌≡◌, true, false, Ok, IfOk, OnOk, IsEr
 ghost use Rattle.std.specs.String.{string_bytes};
 ghost use Rattle.std.specs.Io.KnownBytes.{Appends, Keeps};
 
-use crate::fault::ProgramFault;
 use eden_audit::AuditFault;
+use eden_command::ProgramFault;
 use eden_ids::NoMemory;
 use std::alloc::Global;
 use std::io::Write;
