@@ -12,23 +12,49 @@ use eden_globs::Filter;
 use eden_history::Position;
 use eden_ids::NoMemory;
 use eden_shared::Desk;
-use std::alloc::Global;
+use std::alloc::{AllocError, AllocFailed, Global};
 use std::sync::Wait;
 use std::sync::ledger::Ledger;
 
 /// The life of each follower.
 const LIFE: u64 = 1;
 
+/// Why nothing was done.
+#[derive(Clone, Copy, Debug, PartialEq, Eq)]
+pub(crate) enum CrewFault {
+    /// The lock has no pass left. It has 255, and four are asked for.
+    NoPass,
+    /// A growth was refused.
+    NoMemory,
+}
+
+impl From<NoMemory> for CrewFault {
+    fn from(_fault: NoMemory) -> CrewFault {
+        CrewFault::NoMemory
+    }
+}
+
+impl From<AllocError> for CrewFault {
+    fn from(_fault: AllocError) -> CrewFault {
+        CrewFault::NoMemory
+    }
+}
+
+impl<T: Drop> From<AllocFailed<T>> for CrewFault {
+    fn from(_fault: AllocFailed<T>) -> CrewFault {
+        CrewFault::NoMemory
+    }
+}
+
 fn open_desk<L: Ledger>(
     rt: &impl Wait,
     alloc: Global,
     shared: &Behind<L>,
-) -> Result<Desk<L>, NoMemory> {
-    let Ok(pass) = shared.pass(rt) else {
-        // Four of 255 are given.
-        return Err(NoMemory);
-    };
-    Ok(Desk::new(alloc, pass))
+) -> Result<Desk<L>, CrewFault> {
+    match shared.pass(rt) {
+        Ok(pass) => Ok(Desk::new(alloc, pass)),
+        Err(_) => Err(CrewFault::NoPass),
+    }
 }
 
 /// A follower and its service, and where the follower is told what the last position is.
@@ -38,7 +64,7 @@ fn open_pair<L: Ledger>(
     shared: &Behind<L>,
     number: u64,
     watch: Watch,
-) -> Result<(Pair<L>, Sender<Position>), NoMemory> {
+) -> Result<(Pair<L>, Sender<Position>), CrewFault> {
     let (caller, callee) = open_line(alloc)?;
     let (tells, told) = crossbeam_channel::bounded(alloc, 1)?;
     let service = Service {
@@ -60,7 +86,7 @@ pub(crate) fn open_crew<L: Ledger>(
     alloc: Global,
     shared: &Behind<L>,
     opened: Position,
-) -> Result<Crew<L>, NoMemory> {
+) -> Result<Crew<L>, CrewFault> {
     let mut first = Watch::new(alloc)?;
     let mut crew = Crew {
         writers: Vec::new(alloc),

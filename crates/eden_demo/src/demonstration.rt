@@ -3,7 +3,7 @@
 ghost use Rattle.std.specs.Prelude.{◌≡◌, [], IfOk, OnOk, IsErrOf, codes};
 ghost use Rattle.std.specs.Io.KnownBytes.{Appends, Keeps};
 
-use crate::crew::open_crew;
+use crate::crew::{CrewFault, open_crew};
 use crate::judging::judge;
 use crate::threads::{Behind, Ended, run_crew};
 use crate::verdict::Verdict;
@@ -32,9 +32,10 @@ fn open_mount(alloc: Global) -> Result<Audited<GitNaming>, NoMemory>
     ensures { IfOk result (λ audited. audited.entries ≡ []) }
 {
     let store = Store::new(alloc, GitNaming);
-    let Ok(mount) = Mount::mount(alloc, store, Id::ZERO, GENERATION, LIMIT) else {
+    let mount = match Mount::mount(alloc, store, Id::ZERO, GENERATION, LIMIT) {
+        Ok(mount) => mount,
         // Each store has the empty commit.
-        return Err(NoMemory);
+        Err(_) => unreachable!(),
     };
     match Audited::new(alloc, mount) {
         Ok(audited) => Ok(audited),
@@ -66,7 +67,7 @@ fn run_behind<L: Ledger + Send + Sync, R: Threads + Wait + Clock + Sync>(
     rt: &R,
     alloc: Global,
     blank: Blank,
-) -> Result<Verdict, NoMemory>
+) -> Result<Verdict, CrewFault>
     requires name { blank.name ≡ L.name }
     requires parts { blank.parts ≡ L.parts }
     requires whole { blank.parts ≡ 256 }
@@ -76,7 +77,7 @@ fn run_behind<L: Ledger + Send + Sync, R: Threads + Wait + Clock + Sync>(
     let shared: Behind<L> = Shared::new(audited, blank);
     let crew = open_crew(rt, alloc, &shared, opened)?;
     let ended = run_crew(rt, alloc, &shared, crew)?;
-    close(alloc, shared, ended)
+    Ok(close(alloc, shared, ended)?)
 }
 
 /// Mounts the empty commit, and has two writers make 50 changes each while two followers keep mirrors of it, each of them in a thread, and
@@ -90,6 +91,7 @@ fn run_behind<L: Ledger + Send + Sync, R: Threads + Wait + Clock + Sync>(
 ///
 /// - `Write`, where the writer fails: a first part of that is written.
 /// - `NoMemory`, where a growth was refused, or no thread could be made: nothing is written.
+/// - `NoConnection`, where the mount's lock has no pass for one of the four: nothing is written. It has 255.
 /// - `Refused`, where the audit names a fault, and else `Differ`, where the followers differ: all is written.
 pub fn demo<R: Threads + Wait + Clock + Sync, W: Write>(
     rt: &R,
@@ -100,9 +102,11 @@ pub fn demo<R: Threads + Wait + Clock + Sync, W: Write>(
     ensures differ { IsErrOf result ProgramFault.Differ
         → Appends (W.contents writer.old) (W.contents writer.new) (codes "audit ok\nfollowers differ\n") }
     ensures unwritten { IsErrOf result ProgramFault.NoMemory → Keeps (W.contents writer.old) (W.contents writer.new) }
+    ensures unserved { IsErrOf result ProgramFault.NoConnection → Keeps (W.contents writer.old) (W.contents writer.new) }
 {
     match run_behind::<Brand, R>(rt, alloc, Blank::new(256)) {
         Ok(verdict) => verdict.tell(alloc, writer),
-        Err(NoMemory) => Err(ProgramFault::NoMemory),
+        Err(CrewFault::NoMemory) => Err(ProgramFault::NoMemory),
+        Err(CrewFault::NoPass) => Err(ProgramFault::NoConnection),
     }
 }

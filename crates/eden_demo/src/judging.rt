@@ -15,6 +15,7 @@ use eden_audit::{AuditFault, Audited, audit};
 use eden_follow::{Follower, VouchFault, vouch};
 use eden_ids::{GitNaming, NoMemory, Path};
 use eden_mirror::Mirror;
+use eden_objects::CommitFault;
 use eden_shared::CallLog;
 use std::alloc::Global;
 
@@ -22,10 +23,12 @@ use std::alloc::Global;
 fn wanted(mirror: &Mirror, mount: &Mount<GitNaming>) -> Result<Vec<Path>, NoMemory>
     ensures { IfOk result (λ list. (world : WorldState) → StandsFor mount.now world → list.items ≡ admitted mirror.now.patterns (now world).files) }
 {
+    mount.stands_law();
     match mount.snapshot()?.files(mount.store(), mirror.filter()) {
         Ok(paths) => Ok(paths),
+        Err(CommitFault::NoMemory) => Err(NoMemory),
         // A store has the commit of its mount.
-        Err(_) => Err(NoMemory),
+        Err(CommitFault::NoCommit) => unreachable!(),
     }
 }
 

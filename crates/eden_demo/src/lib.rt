@@ -11,7 +11,6 @@
 #![tactic(auto)]
 
 pub use crate::demonstration::demo;
-pub use crate::program::follow;
 pub use eden_command::ProgramFault;
 
 mod crew;
@@ -19,7 +18,6 @@ mod demonstration;
 mod following;
 mod judging;
 mod line;
-mod program;
 mod serving;
 mod threads;
 mod verdict;

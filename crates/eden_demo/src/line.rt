@@ -3,7 +3,7 @@
 use crossbeam_channel::{Receiver, Sender};
 use eden_ids::NoMemory;
 use eden_messages::{Reply, Request};
-use eden_wire::{DecodeFault, decode_reply, encode_request};
+use eden_wire::{DecodeFault, EncodeFault, decode_reply, encode_request};
 use std::alloc::Global;
 use std::sync::Wait;
 
@@ -56,9 +56,11 @@ impl Caller {
         alloc: Global,
         request: &Request,
     ) -> Result<Option<(u64, Reply)>, NoMemory> {
-        let Ok(frame) = encode_request(alloc, request) else {
+        let frame = match encode_request(alloc, request) {
+            Ok(frame) => frame,
+            Err(EncodeFault::NoMemory) => return Err(NoMemory),
             // Each request has a frame.
-            return Err(NoMemory);
+            Err(EncodeFault::TooLarge) => unreachable!(),
         };
         if self.requests.send(rt, frame).is_err() {
             return Ok(None);

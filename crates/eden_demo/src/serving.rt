@@ -4,7 +4,7 @@ use crate::line::{Callee, Told, body_of};
 use crate::threads::Behind;
 use eden_ids::NoMemory;
 use eden_shared::{CallLog, Desk, OpenGate, Pass};
-use eden_wire::{DecodeFault, decode_request, encode_reply};
+use eden_wire::{DecodeFault, EncodeFault, decode_request, encode_reply};
 use std::alloc::Global;
 use std::sync::Wait;
 use std::sync::ledger::Ledger;
@@ -30,9 +30,11 @@ fn answer_frame<L: Ledger>(
         Err(_) => return Ok(None),
     };
     let (ticket, reply) = desk.ask(rt, shared, &request, &OpenGate)?;
-    let Ok(frame) = encode_reply(alloc, &reply) else {
-        // A desk tells no reply that is too long.
-        return Err(NoMemory);
+    let frame = match encode_reply(alloc, &reply) {
+        Ok(frame) => frame,
+        Err(EncodeFault::NoMemory) => return Err(NoMemory),
+        // A desk tells replies that have a spelling.
+        Err(EncodeFault::TooLarge) => unreachable!(),
     };
     Ok(Some(Told { ticket, frame }))
 }

@@ -3,7 +3,7 @@
 use crate::threads::Behind;
 use crate::watch::Watch;
 use eden_history::{Answer, Change, Position};
-use eden_ids::{Content, Kind, NoMemory, Path};
+use eden_ids::{Content, Kind, NoMemory, Path, PathFault};
 use eden_shared::{CallLog, Desk, Pass};
 use std::alloc::Global;
 use std::sync::Wait;
@@ -31,14 +31,21 @@ pub(crate) struct Wrote<L: Ledger> {
     pub(crate) last: Position,
 }
 
+/// The path `d/` and the last digit of a number.
+fn path_of(alloc: Global, number: u64) -> Result<Path, NoMemory> {
+    let digit = b'0' + (number % 10) as u8;
+    match Path::parse(alloc, &[b'd', b'/', digit]) {
+        Ok(path) => Ok(path),
+        Err(PathFault::NoMemory) => Err(NoMemory),
+        // That is a path.
+        Err(_) => unreachable!(),
+    }
+}
+
 /// A change of a writer: at the path of the change's last digit, a text of both numbers.
 fn change_of(alloc: Global, writer: u64, change: u64) -> Result<Change, NoMemory> {
-    let path = format!(in alloc; "d/{}", change % 10)?;
+    let path = path_of(alloc, change)?;
     let text = format!(in alloc; "{writer}-{change}")?;
-    let Ok(path) = Path::parse(alloc, path.as_bytes()) else {
-        // That is a path.
-        return Err(NoMemory);
-    };
     let Content { kind, bytes } = Content::from_bytes(alloc, Kind::Plain, text.as_bytes())?;
     Ok(Change::Write { path, kind, bytes })
 }
