@@ -1,5 +1,4 @@
-//! The program `edend` as a library: a script of objects, changes and questions, run over a store and a mount; and the program with its
-//! command line and its statuses, over any devices.
+//! A script of objects, changes and questions, run over a store and a mount.
 //!
 //! ```rust
 //! use eden_edend::run;
@@ -14,7 +13,6 @@
 pub use crate::changes::change_of;
 pub use crate::labels::Labels;
 pub use crate::objects::Objects;
-pub use crate::program::{Shelf, edend};
 pub use crate::script::{run, run_over};
 pub use eden_stream::RunFault;
 
@@ -22,7 +20,6 @@ mod changes;
 mod commits;
 mod labels;
 mod objects;
-mod program;
 mod questions;
 mod script;
 mod session;

@@ -1,10 +1,13 @@
-//! The program over devices: each status, and what is told with it.
+//! `edend` over devices: each status, and what is told with it.
 
-use eden_edend::{Shelf, edend};
+use eden_programs::{Shelf, edend};
 use std::alloc::Global;
 use std::io;
 use std::io::ErrorKind;
+use std::net::{Net, TcpListener, TcpStream};
+use std::sync::Wait;
 use std::test::Fail;
+use std::thread::Threads;
 use test_devices::{Sink, Source};
 
 /// What a program came to: its status, what it wrote, and what it told of a fault.
@@ -33,7 +36,8 @@ impl Shelf for OneFile {
 
 /// What `edend` comes to with words that are parted by spaces, beside one file, a script that can't be read from a place on, and an output and
 /// a place to tell faults that are full at another.
-fn ran(
+fn ran<R: Threads + Wait + Net<Listener = TcpListener, Stream = TcpStream> + Sync>(
+    rt: &R,
     alloc: Global,
     words: &str,
     file: &OneFile,
@@ -50,7 +54,15 @@ fn ran(
     let mut sink = Sink::new(alloc);
     sink.full_at = full_at;
     let mut errors = Sink::new(alloc);
-    let status = edend(alloc, file, list.as_slice(), source, &mut sink, &mut errors);
+    let status = edend(
+        rt,
+        alloc,
+        file,
+        list.as_slice(),
+        source,
+        &mut sink,
+        &mut errors,
+    );
     Ok((status, sink.bytes, errors.bytes))
 }
 
@@ -72,7 +84,7 @@ const ALL: usize = usize::MAX;
 /// A script of one line.
 const ONE: &str = "mount empty 7 1000\n";
 
-const ROWS: [Row; 15] = [
+const ROWS: [Row; 25] = [
     ("edend run", ONE, ALL, ALL, 0, "at 7 1 empty\n", ""),
     ("edend run", "", ALL, ALL, 0, "", ""),
     ("edend --version", "x", 0, ALL, 0, "edend 0.1.0\n", ""),
@@ -112,16 +124,55 @@ const ROWS: [Row; 15] = [
         "edend 0.",
         "edend: Write\n",
     ),
+    ("edend serve", ONE, ALL, ALL, 2, "", "error: "),
+    ("edend serve --port 0 --connections 1", ONE, ALL, ALL, 2, "", "error: "),
+    ("edend serve --port 65536 --connections 1", ONE, ALL, ALL, 2, "", "error: "),
+    ("edend serve --port 1 --connections 0", ONE, ALL, ALL, 2, "", "error: "),
+    ("edend serve --port 1 --connections 65", ONE, ALL, ALL, 2, "", "error: "),
+    ("edend serve --connections 1 --stay", ONE, ALL, ALL, 2, "", "error: "),
+    ("edend serve --help", ONE, ALL, ALL, 2, "", "Serves a mount over TCP"),
+    // (nothing is listened at, since the script has no such line)
+    (
+        "edend serve --port 1 --connections 1",
+        ONE,
+        ALL,
+        ALL,
+        1,
+        "at 7 1 empty\n",
+        "line 2: BadLine\n",
+    ),
+    (
+        "edend serve --port 1 --connections 64 --stay",
+        "listen\n",
+        ALL,
+        ALL,
+        1,
+        "",
+        "line 1: BadLine\n",
+    ),
+    (
+        "edend serve --port 1 --connections 1",
+        ONE,
+        0,
+        ALL,
+        3,
+        "",
+        "edend: Read\n",
+    ),
 ];
 
 /// Whether a program comes to what its row says.
-fn is_as_told(alloc: Global, row: &Row) -> Result<bool, Fail> {
+fn is_as_told<R: Threads + Wait + Net<Listener = TcpListener, Stream = TcpStream> + Sync>(
+    rt: &R,
+    alloc: Global,
+    row: &Row,
+) -> Result<bool, Fail> {
     let (words, script, fails_at, full_at, status, text, told) = *row;
     let file = OneFile {
         bytes: b"",
         fails_at: ALL,
     };
-    let (ended, output, errors) = ran(alloc, words, &file, script, fails_at, full_at)?;
+    let (ended, output, errors) = ran(rt, alloc, words, &file, script, fails_at, full_at)?;
     let is_told = if status == 2 {
         errors.starts_with(told.as_bytes())
     } else {
@@ -134,7 +185,7 @@ fn is_as_told(alloc: Global, row: &Row) -> Result<bool, Fail> {
 fn statuses(rt: HostRuntime) -> Result<(), Fail> {
     for row in &ROWS {
         let words = row.0;
-        assert!(rt; is_as_told(rt.alloc(), row)?, "{words}");
+        assert!(rt; is_as_told(&rt, rt.alloc(), row)?, "{words}");
     }
     Ok(())
 }
@@ -274,10 +325,14 @@ const OBJECTS_ROWS: [ObjectsRow; 12] = [
 ];
 
 /// Whether a program that is given objects comes to what its row says.
-fn puts_as_told(alloc: Global, row: &ObjectsRow) -> Result<bool, Fail> {
+fn puts_as_told<R: Threads + Wait + Net<Listener = TcpListener, Stream = TcpStream> + Sync>(
+    rt: &R,
+    alloc: Global,
+    row: &ObjectsRow,
+) -> Result<bool, Fail> {
     let (words, bytes, fails_at, script, status, text, told) = *row;
     let file = OneFile { bytes, fails_at };
-    let (ended, output, errors) = ran(alloc, words, &file, script, ALL, ALL)?;
+    let (ended, output, errors) = ran(rt, alloc, words, &file, script, ALL, ALL)?;
     let is_told = if told.is_empty() {
         errors.is_empty()
     } else {
@@ -290,7 +345,7 @@ fn puts_as_told(alloc: Global, row: &ObjectsRow) -> Result<bool, Fail> {
 fn statuses_of_objects(rt: HostRuntime) -> Result<(), Fail> {
     for row in &OBJECTS_ROWS {
         let (words, told) = (row.0, row.6);
-        assert!(rt; puts_as_told(rt.alloc(), row)?, "{words}: {told}");
+        assert!(rt; puts_as_told(&rt, rt.alloc(), row)?, "{words}: {told}");
     }
     Ok(())
 }

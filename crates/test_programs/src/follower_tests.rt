@@ -1,8 +1,10 @@
-//! The program over devices: each status that can be brought about, and what is told with it.
+//! `follow` over devices: each status that can be brought about, and what is told with it; and what each fault of a program is called.
 
-use eden_audit::AuditFault;
-use eden_demo::{ProgramFault, follow};
+use eden_command::ProgramFault;
+use eden_logs::AuditFault;
+use eden_programs::{Screen, follow};
 use std::alloc::Global;
+use std::net::{Net, TcpStream};
 use std::sync::Wait;
 use std::test::Fail;
 use std::thread::Threads;
@@ -16,7 +18,7 @@ const ALL: usize = usize::MAX;
 /// fault, or how that begins where `clap` says it.
 type Row = (&'static str, usize, u8, &'static str, &'static str);
 
-const ROWS: [Row; 9] = [
+const ROWS: [Row; 14] = [
     ("follow demo", ALL, 0, "audit ok\nfollowers agree\n", ""),
     ("follow demo", 4, 3, "audi", "follow: Write\n"),
     ("follow --version", ALL, 0, "follow 0.1.0\n", ""),
@@ -26,10 +28,34 @@ const ROWS: [Row; 9] = [
     ("follow deom", ALL, 2, "", "error: "),
     ("follow demo x", ALL, 2, "", "error: "),
     ("follow --help", ALL, 2, "", "Keeps mirrors of a mount"),
+    ("follow connect", ALL, 2, "", "error: "),
+    (
+        "follow connect --port 1 --mirror 1 --life 1 --rounds 1001",
+        ALL,
+        2,
+        "",
+        "error: ",
+    ),
+    (
+        "follow connect --port 1 --mirror 1 --life 1 --rounds 1 a [b]",
+        ALL,
+        2,
+        "",
+        "follow: BadPattern 1\n",
+    ),
+    ("follow connect --help", ALL, 2, "", "Keeps a mirror of a mount"),
+    // (nobody listens there, or nobody that speaks frames)
+    (
+        "follow connect --port 1 --mirror 1 --life 1 --rounds 1",
+        ALL,
+        3,
+        "",
+        "follow: NoConnection\n",
+    ),
 ];
 
 /// Whether the program comes to what its row says.
-fn is_as_told<R: Threads + Wait + Clock + Sync>(
+fn is_as_told<R: Threads + Wait + Clock + Net<Stream = TcpStream> + Sync>(
     rt: &R,
     alloc: Global,
     row: &Row,
@@ -42,7 +68,14 @@ fn is_as_told<R: Threads + Wait + Clock + Sync>(
     let mut output = Sink::new(alloc);
     output.full_at = full_at;
     let mut errors = Sink::new(alloc);
-    let ended = follow(rt, alloc, list.as_slice(), &mut output, &mut errors);
+    let ended = follow(
+        rt,
+        alloc,
+        list.as_slice(),
+        &mut output,
+        &mut errors,
+        Screen::None,
+    );
     let is_told = if status == 2 {
         errors.bytes.starts_with(told.as_bytes())
     } else {
@@ -60,23 +93,41 @@ fn statuses(rt: HostRuntime) -> Result<(), Fail> {
     Ok(())
 }
 
-/// Each fault, its name and its status.
-const FAULTS: [(ProgramFault, &str, u8); 4] = [
-    (ProgramFault::Write, "Write", 3),
-    (ProgramFault::NoMemory, "NoMemory", 3),
+/// Each fault, its name, its status, and what standard error is told of it.
+const FAULTS: [(ProgramFault, &str, u8, &str); 9] = [
+    (ProgramFault::BadLine(3), "BadLine", 1, "line 3: BadLine\n"),
+    (ProgramFault::Unplaced, "Unplaced", 1, ""),
+    (ProgramFault::Read, "Read", 3, "edend: Read\n"),
+    (ProgramFault::Write, "Write", 3, "edend: Write\n"),
+    (
+        ProgramFault::TurnsSpent,
+        "TurnsSpent",
+        3,
+        "edend: TurnsSpent\n",
+    ),
+    (ProgramFault::NoMemory, "NoMemory", 3, "edend: NoMemory\n"),
+    (
+        ProgramFault::NoConnection,
+        "NoConnection",
+        3,
+        "edend: NoConnection\n",
+    ),
     (
         ProgramFault::Refused(AuditFault::WrongReply),
         "WrongReply",
         4,
+        "",
     ),
-    (ProgramFault::Differ, "Differ", 4),
+    (ProgramFault::Differ, "Differ", 4, ""),
 ];
 
 #[test]
 fn faults(rt: HostRuntime) -> Result<(), Fail> {
-    for (fault, name, status) in &FAULTS {
+    for (fault, name, status, told) in &FAULTS {
         assert!(rt; format!(in rt.alloc(); "{fault}")?.as_str() == *name);
-        assert_eq!(rt; fault.status(), *status);
+        let mut errors = Sink::new(rt.alloc());
+        assert_eq!(rt; fault.tell(&mut errors, "edend"), *status);
+        assert!(rt; errors.bytes.as_slice() == told.as_bytes(), "{name}");
     }
     Ok(())
 }

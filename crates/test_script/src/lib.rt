@@ -1,13 +1,10 @@
-//! Tests of scripts: what each line prints, over devices that give and take all at once, little at a time, or fail. And of the program
-//! that runs them: its command line and its statuses.
+//! Tests of scripts: what each line prints, over devices that give and take all at once, little at a time, or fail.
 //!
 //! A crate of its own, so that the program doesn't wait for them.
 #![tactic(auto)]
 
 #[cfg(test)]
 mod device_tests;
-#[cfg(test)]
-mod program_tests;
 #[cfg(test)]
 mod row_tests;
 #[cfg(test)]

@@ -1,0 +1,135 @@
+//! The program `follow`: what it does with its command line, its statuses, and what it tells when it can't go on.
+
+ghost use Rattle.std.specs.Prelude.{◌≤◌};
+
+use crate::follower_words::{NAME, Task, Wanted, read_words};
+use eden_command::{ProgramFault, end_unrun, fail};
+use eden_connect::{Progress, Quiet, Shown, connect_program};
+use eden_demo::demo;
+use eden_globs::{Filter, FilterFault};
+use std::alloc::Global;
+use std::io::Write;
+use std::net::{Net, TcpStream};
+use std::sync::Wait;
+use std::thread::Threads;
+use std::time::Clock;
+
+/// Whether somebody sees what goes to standard error, and so is shown how far the work is.
+#[derive(Clone, Copy, Debug, PartialEq, Eq)]
+pub enum Screen {
+    /// It goes to a terminal.
+    Terminal,
+    /// It goes to a file, a pipe, or nowhere.
+    None,
+}
+
+/// The filter of some patterns, in the order in which they are given.
+fn filter_of(alloc: Global, patterns: &[&str]) -> Result<Filter, FilterFault> {
+    let mut words = Vec::new(alloc);
+    for pattern in patterns {
+        let Ok(()) = words.push(pattern.as_bytes()) else {
+            return Err(FilterFault::NoMemory);
+        };
+    }
+    Filter::parse(alloc, words.as_slice())
+}
+
+/// Keeps a mirror with this filter, as the command line says.
+fn keep<R: Net<Stream = TcpStream>, O: Write, P: Progress>(
+    rt: &R,
+    alloc: Global,
+    wanted: &Wanted<'_>,
+    filter: &Filter,
+    output: &mut O,
+    progress: &mut P,
+) -> Result<(), ProgramFault> {
+    let Wanted {
+        port,
+        mirror,
+        life,
+        rounds,
+        ..
+    } = *wanted;
+    connect_program(rt, alloc, output, port, mirror, life, rounds, filter, progress)
+}
+
+/// Keeps a mirror, as the command line says, and gives the status that the program ends with.
+fn connect<R: Net<Stream = TcpStream> + Clock, O: Write, E: Write>(
+    rt: &R,
+    alloc: Global,
+    wanted: &Wanted<'_>,
+    output: &mut O,
+    errors: &mut E,
+    screen: Screen,
+) -> u8
+    ensures { result ≤ 4 }
+{
+    let filter = match filter_of(alloc, wanted.patterns.as_slice()) {
+        Ok(filter) => filter,
+        Err(FilterFault::NoMemory) => return fail(errors, NAME, "NoMemory"),
+        Err(fault) => {
+            let _ = write!(errors, "{NAME}: {fault}\n");
+            return 2;
+        }
+    };
+    let ended = match screen {
+        Screen::Terminal => {
+            let mut shown = Shown::new(&mut *errors, rt);
+            keep(rt, alloc, wanted, &filter, output, &mut shown)
+        }
+        Screen::None => keep(rt, alloc, wanted, &filter, output, &mut Quiet),
+    };
+    match ended {
+        Ok(()) => 0,
+        Err(fault) => fault.tell(errors, NAME),
+    }
+}
+
+/// Runs the demonstration, and gives the status that the program ends with.
+fn run_demo<R: Threads + Wait + Clock + Sync, O: Write, E: Write>(
+    rt: &R,
+    alloc: Global,
+    output: &mut O,
+    errors: &mut E,
+) -> u8
+    ensures { result ≤ 4 }
+{
+    match demo(rt, alloc, output) {
+        Ok(()) => 0,
+        Err(fault) => fault.tell(errors, NAME),
+    }
+}
+
+/// Runs `follow` with the words of a command line, of which the first is its name, and gives the status that it ends with.
+///
+/// `demo` runs the demonstration, as `eden_demo::demo` does. `connect` keeps a mirror of a mount that is served over TCP, as
+/// `eden_connect::connect_program` does; where somebody looks at a screen, it shows there how many of the contents have come. `--version` writes
+/// name and version to the output.
+///
+/// - 0: the demonstration ended well, the mirror is placed, or the version was written.
+/// - 1: the mirror is placed nowhere, which the output tells.
+/// - 2: the command line is refused, or asks for help: what `clap` says; or a pattern is refused: `follow: ` and the fault.
+/// - 3: writing or memory failed, or no connection was had: `follow: ` and `Write`, `NoMemory` or `NoConnection`.
+/// - 4: the audit refused the logs, or the followers differ, which the output tells.
+///
+/// What is told goes to `errors`; that it can't be told changes no status.
+pub fn follow<
+    R: Threads + Wait + Clock + Net<Stream = TcpStream> + Sync,
+    O: Write,
+    E: Write,
+>(
+    rt: &R,
+    alloc: Global,
+    words: &[String],
+    output: &mut O,
+    errors: &mut E,
+    screen: Screen,
+) -> u8
+    ensures { result ≤ 4 }
+{
+    match read_words(alloc, words) {
+        Ok(Task::Demo) => run_demo(rt, alloc, output, errors),
+        Ok(Task::Connect(wanted)) => connect(rt, alloc, &wanted, output, errors, screen),
+        Err(error) => end_unrun(output, errors, NAME, &error),
+    }
+}

@@ -1,0 +1,114 @@
+//! The command line of `follow`.
+
+use crate::options::{number_of, number_option, small_of};
+use clap::{Arg, ArgAction, ArgMatches, Command, Error};
+use eden_command::VERSION;
+use std::alloc::Global;
+
+/// The program's name, in what it tells.
+pub(crate) const NAME: &str = "follow";
+
+/// What `follow demo` is for.
+const ABOUT_DEMO: &str =
+    "Has two writers change a mount while two followers keep mirrors of it, and audits what they did";
+
+/// What `follow connect` is for.
+const ABOUT_CONNECT: &str = "Keeps a mirror of a mount that `edend serve` serves on 127.0.0.1, and tells what it holds
+
+Prints where it is placed, as `placed GENERATION SEQUENCE ROOT`, or `unplaced`; then `files N`
+and a line `KIND LENGTH PATH` for each file. A PATTERN is a path in which `*` stands for any part
+of a name, and `**` for any directories; with none, all files are wanted.";
+
+/// What `follow connect` is to do.
+#[derive(Drop)]
+pub(crate) struct Wanted<'a> {
+    /// Where the mount is served.
+    pub(crate) port: u16,
+    /// The number of the mirror.
+    pub(crate) mirror: u64,
+    /// Its life.
+    pub(crate) life: u64,
+    /// How many rounds it makes.
+    pub(crate) rounds: u32,
+    /// The patterns of the paths that it wants.
+    pub(crate) patterns: Vec<&'a str>,
+}
+
+/// What the words of a command line ask for.
+#[derive(Drop)]
+pub(crate) enum Task<'a> {
+    /// The demonstration.
+    Demo,
+    /// A mirror.
+    Connect(Wanted<'a>),
+}
+
+/// `follow connect` with its options.
+fn connect_command<'a>(alloc: Global) -> Result<Command<'a>, Error> {
+    let port = number_option(alloc, "port", "P", 1, 65_535, "The port of the mount");
+    let mirror = number_option(alloc, "mirror", "M", 0, u64::MAX, "The mirror's number");
+    let life = number_option(
+        alloc,
+        "life",
+        "L",
+        0,
+        u64::MAX,
+        "The mirror's life: one that it never had before",
+    );
+    let rounds = number_option(
+        alloc,
+        "rounds",
+        "N",
+        1,
+        1_000,
+        "How often it asks what has changed",
+    );
+    let patterns = Arg::new(alloc, "pattern")
+        .value_name("PATTERN")
+        .help("What paths the mirror wants")
+        .num_args(0..)
+        .action(ArgAction::Append);
+    let command = Command::new(alloc, "connect")
+        .about(ABOUT_CONNECT)
+        .arg(port)?
+        .arg(mirror)?
+        .arg(life)?
+        .arg(rounds)?
+        .arg(patterns)?;
+    Ok(command)
+}
+
+/// What the words say that `follow connect` is to do.
+fn wanted_of<'a>(
+    alloc: Global,
+    command: &mut Command<'_>,
+    connect: &ArgMatches<'a>,
+) -> Result<Wanted<'a>, Error> {
+    let patterns = match connect.get_strs("pattern") {
+        Some(patterns) => patterns.to_vec(alloc)?,
+        None => Vec::new(alloc),
+    };
+    Ok(Wanted {
+        port: small_of(command, connect, "port")?,
+        mirror: number_of(command, connect, "mirror")?,
+        life: number_of(command, connect, "life")?,
+        rounds: small_of(command, connect, "rounds")?,
+        patterns,
+    })
+}
+
+/// What the words of a command line ask for. Help and the version are errors here too: they run nothing.
+pub(crate) fn read_words<'a>(alloc: Global, words: &'a [String]) -> Result<Task<'a>, Error> {
+    let demo = Command::new(alloc, "demo").about(ABOUT_DEMO);
+    let mut command = Command::new(alloc, NAME)
+        .version(VERSION)
+        .about("Keeps mirrors of a mount")
+        .subcommand_required(true)
+        .subcommand(demo)?
+        .subcommand(connect_command(alloc)?)?;
+    let matches = command.try_get_matches_from_mut(words)?;
+    match matches.subcommand_matches("connect") {
+        Some(connect) => Ok(Task::Connect(wanted_of(alloc, &mut command, connect)?)),
+        None => Ok(Task::Demo),
+    }
+}

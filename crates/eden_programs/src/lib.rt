@@ -1,0 +1,21 @@
+//! The programs `edend` and `follow` as functions over any devices: their command lines, what they do, and the statuses that they end with.
+//!
+//! ```rust
+//! use eden_programs::{Screen, follow};
+//!
+//! let words = vec![in alloc; "follow", "--version"]?;
+//! let (mut output, mut errors) = (Vec::new(alloc), Vec::new(alloc));
+//! let status = follow(rt, alloc, words.as_slice(), &mut output, &mut errors, Screen::None);
+//! assert_eq!(rt; status, 0);
+//! assert!(rt; output.as_slice() == b"follow 0.1.0\n".as_slice());
+//! ```
+#![tactic(auto)]
+
+pub use crate::daemon::{Shelf, edend};
+pub use crate::follower::{Screen, follow};
+
+mod daemon;
+mod daemon_words;
+mod follower;
+mod follower_words;
+mod options;
