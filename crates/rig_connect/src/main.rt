@@ -1,0 +1,233 @@
+//! What polls and a basis take over a socket of this machine, from a daemon that stays, in threads of one process. See bench/README.md.
+//!
+//! Standard output tells how many paths the replies list, and standard error what time they took by the clock.
+#![tactic(auto)]
+
+use anyhow::Result;
+use eden_connect::{Quiet, connect_program};
+use eden_edend::Objects;
+use eden_globs::Filter;
+use eden_history::Position;
+use eden_ids::Id;
+use eden_messages::{Query, Reply, Request};
+use eden_stay::stay_program;
+use eden_wire::encode_request;
+use std::alloc::Global;
+use std::net::{Net, TcpListener, TcpStream};
+use std::sync::Wait;
+use std::sync::atomic::{AtomicBool, Ordering};
+use std::thread;
+use std::thread::Threads;
+use std::time::{Clock, Duration, Instant};
+use test_sockets::{Feed, ask, connect, free_port};
+
+/// How many files a poll tells.
+const CHANGED: [u64; 4] = [0, 100, 1_000, 10_000];
+
+/// How often each poll is measured. The least time counts, since other work on the machine makes it longer and never shorter.
+const TRIES: u32 = 50;
+
+/// How many connections poll at once, and how often they poll in all.
+const CONNECTIONS: [u64; 3] = [1, 8, 64];
+
+const POLLS: u64 = 32_000;
+
+/// How many files a basis lists, and how many bytes each of them has.
+const FILES: u64 = 100_000;
+
+const BYTES: u64 = 500;
+
+/// What the daemon's input goes on with while it is polled.
+const LINES: &[u8] = b"write w plain x\nwrite w plain y\n";
+
+/// What all this needs of the system.
+trait Machine: Threads + Wait + Clock + Net<Listener = TcpListener, Stream = TcpStream> + Sync {}
+
+impl Machine for HostRuntime {}
+
+/// A script that mounts, and writes so many files with so many bytes each, up to `listen`.
+fn script(alloc: Global, files: u64, bytes: u64) -> Result<Vec<u8>> {
+    let mut content = Vec::new(alloc);
+    content.resize(usize::try_from(bytes)?, b'x')?;
+    let mut script = Vec::new(alloc);
+    script.extend_from_slice(b"mount empty 7 1000000000\n".as_slice())?;
+    for number in 0..files {
+        let (directory, file) = (number / 100, number % 100);
+        let line = format!(in alloc; "write directory{directory:04}/file{file:02} plain ")?;
+        script.extend_from_slice(line.as_bytes())?;
+        script.extend_from_slice(content.as_slice())?;
+        script.push(b'\n')?;
+    }
+    script.extend_from_slice(b"listen\n".as_slice())?;
+    Ok(script)
+}
+
+/// The frame that asks which of the script's files have changed since the mount.
+fn poll_since(alloc: Global) -> Result<Vec<u8>> {
+    let query = Query {
+        mirror: 1,
+        life: 1,
+        number: 1,
+    };
+    let since = Position {
+        generation: 7,
+        sequence: 1,
+        root: Id::ZERO,
+    };
+    let filter = Filter::parse(alloc, &[b"directory*/**".as_slice()])?;
+    Ok(encode_request(alloc, &Request::Poll { query, since, filter })?)
+}
+
+/// How many paths a reply lists.
+fn listed(reply: &Reply) -> u64 {
+    match reply {
+        Reply::ChangesAre { marked, .. } => marked.len() as u64,
+        _ => 0,
+    }
+}
+
+/// How many nanoseconds a time has.
+fn nanoseconds(time: Duration) -> u64 {
+    u64::try_from(time.as_nanos()).unwrap_or(u64::MAX)
+}
+
+/// What a client came to: how many paths it was told, and how many nanoseconds that took.
+#[derive(Clone, Copy)]
+struct Told {
+    paths: u64,
+    time: u64,
+}
+
+/// Polls one connection again and again: what the last poll told, and the least time.
+fn poll_alone<R: Machine>(rt: &R, alloc: Global, port: u16, frame: &[u8]) -> Option<Told> {
+    let stream = connect(rt, port)?;
+    let mut told = Told {
+        paths: 0,
+        time: u64::MAX,
+    };
+    for _ in 0..TRIES {
+        let start = Instant::now(rt).ok()?;
+        let reply = ask(alloc, &stream, frame)?;
+        let time = nanoseconds(start.elapsed(rt).ok()?);
+        told = Told {
+            paths: listed(&reply),
+            time: told.time.min(time),
+        };
+    }
+    Some(told)
+}
+
+/// Polls one connection so many times, and tells whether all were answered.
+fn poll_often<R: Machine>(rt: &R, alloc: Global, port: u16, frame: &[u8], polls: u64) -> bool {
+    let Some(stream) = connect(rt, port) else {
+        return false;
+    };
+    for _ in 0..polls {
+        if ask(alloc, &stream, frame).is_none() {
+            return false;
+        }
+    }
+    true
+}
+
+/// Polls so many connections at once: how many polls were made, and how long they took.
+fn poll_together<R: Machine>(
+    rt: &R,
+    alloc: Global,
+    port: u16,
+    frame: &[u8],
+    connections: u64,
+) -> Option<Told> {
+    let each = POLLS.checked_div(connections)?;
+    let mut turns = Vec::new(alloc);
+    turns.resize(usize::try_from(connections).ok()?, each).ok()?;
+    let start = Instant::now(rt).ok()?;
+    let ended = thread::map_vec(rt, turns, &|polls| poll_often(rt, alloc, port, frame, polls)).ok()?;
+    let time = nanoseconds(start.elapsed(rt).ok()?);
+    let paths = ended.iter().all(|well| *well);
+    Some(Told {
+        paths: if paths { POLLS } else { 0 },
+        time,
+    })
+}
+
+/// Takes a basis and all contents: how many bytes are told of it, and how long it took.
+fn take_basis<R: Machine>(rt: &R, alloc: Global, port: u16) -> Option<Told> {
+    let _ready = connect(rt, port)?;
+    let filter = Filter::all(alloc);
+    let mut text = Vec::new(alloc);
+    let start = Instant::now(rt).ok()?;
+    let ended = connect_program(rt, alloc, &mut text, port, 1, 1, 1, &filter, &mut Quiet);
+    let time = nanoseconds(start.elapsed(rt).ok()?);
+    let paths = text.iter().filter(|byte| **byte == b'\n').count() as u64;
+    ended.ok()?;
+    Some(Told {
+        paths: paths.saturating_sub(2),
+        time,
+    })
+}
+
+/// Has a client ask a daemon that stays with this script, and these lines behind it. None where it is not answered.
+fn with_daemon<R: Machine, C: FnOnce(u16) -> Option<Told> + Send>(
+    rt: &R,
+    alloc: Global,
+    script: &[u8],
+    lines: &[u8],
+    client: C,
+) -> Result<Option<Told>> {
+    let port = free_port(rt)?;
+    let ended = AtomicBool::new(false);
+    let (told, _) = thread::join(
+        rt,
+        || {
+            let told = client(port);
+            ended.store(true, Ordering::SeqCst);
+            told
+        },
+        || {
+            let feed = Feed::new(rt, script, lines, &ended);
+            let mut text = Vec::new(alloc);
+            let objects = Objects::new(alloc);
+            stay_program(rt, alloc, objects, feed, &mut text, port, 64).is_ok()
+        },
+    );
+    Ok(told)
+}
+
+/// Tells of how many files a client was told, and in what time.
+fn tell(rt: &HostRuntime, what: &str, told: Option<Told>) -> Result<()> {
+    let Some(Told { paths, time }) = told else {
+        println!(rt; "{what}: not answered")?;
+        return Ok(());
+    };
+    let each = time.checked_div(paths).unwrap_or(0);
+    println!(rt; "{what}: {paths}")?;
+    eprintln!(rt; "{what}: {}.{:03} ms, {each} ns each", time / 1_000_000, time / 1_000 % 1_000)?;
+    Ok(())
+}
+
+fn main(rt: HostRuntime) -> Result<()> {
+    let alloc = rt.alloc();
+    let poll = poll_since(alloc)?;
+    for changed in CHANGED {
+        let script = script(alloc, changed, 1)?;
+        let told = with_daemon(&rt, alloc, script.as_slice(), b"".as_slice(), |port| {
+            poll_alone(&rt, alloc, port, poll.as_slice())
+        })?;
+        let what = format!(in alloc; "a poll, files told of {changed}")?;
+        tell(&rt, what.as_str(), told)?;
+    }
+    let script_of_none = script(alloc, 0, 1)?;
+    for connections in CONNECTIONS {
+        let told = with_daemon(&rt, alloc, script_of_none.as_slice(), LINES, |port| {
+            poll_together(&rt, alloc, port, poll.as_slice(), connections)
+        })?;
+        let what = format!(in alloc; "polls over {connections} connections at once")?;
+        tell(&rt, what.as_str(), told)?;
+    }
+    let script_of_all = script(alloc, FILES, BYTES)?;
+    let told = with_daemon(&rt, alloc, script_of_all.as_slice(), b"".as_slice(), |port| {
+        take_basis(&rt, alloc, port)
+    })?;
+    tell(&rt, "a basis and its contents, files", told)
+}

@@ -1,0 +1,53 @@
+//! A client that sends one frame and reads the reply.
+
+use eden_messages::Reply;
+use eden_wire::decode_reply;
+use std::alloc::Global;
+use std::io;
+use std::io::{Read, Write};
+use std::net::{Ipv4Addr, Net, TcpListener, TcpStream};
+use std::thread;
+use std::time::{Clock, Duration};
+
+/// For how many milliseconds at most somebody waits for a port to be listened at.
+const PATIENCE: u32 = 10_000;
+
+/// A listener on a port of this machine that nobody listened at.
+pub fn listen<R: Net<Listener = TcpListener, Stream = TcpStream>>(
+    rt: &R,
+) -> io::Result<TcpListener> {
+    TcpListener::bind(rt, (Ipv4Addr::LOCALHOST, 0))
+}
+
+/// A port of this machine that nobody listens at.
+pub fn free_port<R: Net<Listener = TcpListener, Stream = TcpStream>>(rt: &R) -> io::Result<u16> {
+    Ok(listen(rt)?.local_addr()?.port())
+}
+
+/// A connection to a port of this machine, once somebody listens there, ten seconds from now at the most.
+pub fn connect<R: Net<Stream = TcpStream> + Clock>(rt: &R, port: u16) -> Option<TcpStream> {
+    for _ in 0..PATIENCE {
+        if let Ok(stream) = TcpStream::connect(rt, (Ipv4Addr::LOCALHOST, port)) {
+            let _ = stream.set_nodelay(true);
+            return Some(stream);
+        }
+        thread::sleep(rt, Duration::from_millis(1));
+    }
+    None
+}
+
+/// Reads one reply. None where no whole frame comes, or where it is none of a reply.
+pub fn read_reply(alloc: Global, mut stream: &TcpStream) -> Option<Reply> {
+    let mut length = [0; 4];
+    stream.read_exact(&mut length).ok()?;
+    let length = u32::from_be_bytes(length) as usize;
+    let mut body = vec![in alloc; 0; length].ok()?;
+    stream.read_exact(&mut body).ok()?;
+    decode_reply(alloc, &body).ok()
+}
+
+/// Sends a frame, and reads the reply to it.
+pub fn ask(alloc: Global, mut stream: &TcpStream, frame: &[u8]) -> Option<Reply> {
+    stream.write_all(frame).ok()?;
+    read_reply(alloc, stream)
+}

@@ -1,0 +1,20 @@
+//! What tests and rigs of sockets share: an input of lines that goes on for as long as somebody wants, ports on which nobody listens, and a client
+//! of single frames.
+//!
+//! ```rust
+//! use std::io::Read;
+//! use std::sync::atomic::AtomicBool;
+//! use test_sockets::Feed;
+//!
+//! let ended = AtomicBool::new(true);
+//! let mut text = Vec::new(alloc);
+//! let mut feed = Feed::new(rt, b"mount empty 7 1000\nlisten\n".as_slice(), b"flush\n".as_slice(), &ended);
+//! assert_eq!(rt; feed.read_to_end(&mut text)?, 26);
+//! ```
+#![tactic(auto)]
+
+pub use crate::client::{ask, connect, free_port, listen, read_reply};
+pub use crate::feed::Feed;
+
+mod client;
+mod feed;
