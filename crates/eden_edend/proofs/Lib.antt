@@ -6,3 +6,4 @@ mod Asking
 mod LineAnswers
 mod FirstLemmas
 mod OwnBindings
+mod ChangeLines

@@ -1,2 +1,4 @@
+pub mod Changing
+pub mod Openings
 pub mod OwnLabels
 pub mod internal

@@ -1,5 +1,6 @@
 -- What the implementation uses alone.
 pub mod BoundMaps
+pub mod ChangeScript
 pub mod Firsts
 pub mod SessionScript
 pub mod Standing

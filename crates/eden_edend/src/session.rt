@@ -27,7 +27,7 @@ use eden_stream::{Answered, LineMachine};
 use std::alloc::{AllocError, Global};
 
 /// What a line asks for, or none where it can't be read.
-fn read_line(alloc: Global, line: &[u8]) -> Result<Option<Command>, AllocError>
+pub(crate) fn read_line(alloc: Global, line: &[u8]) -> Result<Option<Command>, AllocError>
     ensures { IfOk result (λ command. command ≡ option_and_then command_of (words_of line.now)) }
 {
     match words(alloc, line)? {
@@ -151,6 +151,16 @@ impl Session {
         match &self.mount {
             Some(mount) => ask(mount, line),
             None => Ok(Told::Refused(Refusal::NotMounted)),
+        }
+    }
+
+    /// The mount, once there is one, and what the labels are bound to.
+    pub(crate) fn into_mounted(self) -> Option<(Mount<GitNaming>, Labels)> {
+        let Session { mount, objects, .. } = self;
+        let Objects { labels, .. } = objects;
+        match mount {
+            Some(mount) => Some((mount, labels)),
+            None => None,
         }
     }
 

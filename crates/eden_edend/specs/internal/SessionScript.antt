@@ -27,7 +27,7 @@ script_text-nil : (session : Session) → script_text session [] ≡ Some []
 unfolding script_text
 script_text-nil session = refl
 
-skips : (line : List ℕ) → IsSkipped line → is_skipped line ≡ true
+pub skips : (line : List ℕ) → IsSkipped line → is_skipped line ≡ true
 skips [] h = refl
 skips (b ∷ line) (inl e) = cc
 skips (b ∷ line) (inr e) = eq-eqb b 35 e
@@ -36,7 +36,7 @@ nothing_before : (text : Option (List ℕ)) → before_text [] text ≡ text
 nothing_before None = refl
 nothing_before (Some text) = refl
 
-speaks : (line : List ℕ) → 0 < length line → ¬ IsComment line → is_skipped line ≡ false
+pub speaks : (line : List ℕ) → 0 < length line → ¬ IsComment line → is_skipped line ≡ false
 speaks [] some apart = absurd (omega arith)
 speaks (b ∷ line) some apart = elim (b == 35) as (λ t. (b == 35) ≡ t → t ≡ false) [ true ↦ λ e. absurd (apart (eqb-true b 35 e)) | false ↦ λ e. refl ] refl
 
