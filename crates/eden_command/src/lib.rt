@@ -12,7 +12,6 @@
 ghost use Rattle.std.specs.Prelude.{◌≡◌, ◌≤◌, IfErr};
 
 pub use crate::fault::ProgramFault;
-
 use clap::Error;
 use clap::error::ErrorKind;
 use std::alloc::{Alloc, Global};

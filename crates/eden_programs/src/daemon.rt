@@ -101,11 +101,13 @@ fn work<
 ) -> Result<(), ProgramFault> {
     match service {
         None => run_script(alloc, objects, input, output),
-        Some(Service {
-            port,
-            connections,
-            stays,
-        }) => {
+        Some(
+            Service {
+                port,
+                connections,
+                stays,
+            },
+        ) => {
             if stays {
                 stay_over(rt, alloc, objects, input, output, port, connections)
             } else {

@@ -19,7 +19,8 @@ A line each, of words parted by single spaces (docs/script.md has the tables):
   position | list [PATTERN].. | dirty | read PATH | since GENERATION SEQUENCE";
 
 /// What `edend serve` is for.
-const ABOUT_SERVE: &str = "Serves a mount over TCP, on 127.0.0.1 alone: edend serve --port P --connections N < FILE
+const ABOUT_SERVE: &str =
+    "Serves a mount over TCP, on 127.0.0.1 alone: edend serve --port P --connections N < FILE
 
 Runs a script up to a line `listen`, and prints `listening P`. From then on the lines
   write PATH KIND TEXT | remove PATH | rename OLD NEW | reset L

@@ -50,7 +50,9 @@ fn keep<R: Net<Stream = TcpStream>, O: Write, P: Progress>(
         rounds,
         ..
     } = *wanted;
-    connect_program(rt, alloc, output, port, mirror, life, rounds, filter, progress)
+    connect_program(
+        rt, alloc, output, port, mirror, life, rounds, filter, progress,
+    )
 }
 
 /// Keeps a mirror, as the command line says, and gives the status that the program ends with.
@@ -113,11 +115,7 @@ fn run_demo<R: Threads + Wait + Clock + Sync, O: Write, E: Write>(
 /// - 4: the audit refused the logs, or the followers differ, which the output tells.
 ///
 /// What is told goes to `errors`; that it can't be told changes no status.
-pub fn follow<
-    R: Threads + Wait + Clock + Net<Stream = TcpStream> + Sync,
-    O: Write,
-    E: Write,
->(
+pub fn follow<R: Threads + Wait + Clock + Net<Stream = TcpStream> + Sync, O: Write, E: Write>(
     rt: &R,
     alloc: Global,
     words: &[String],

@@ -13,7 +13,8 @@ const ABOUT_DEMO: &str =
     "Has two writers change a mount while two followers keep mirrors of it, and audits what they did";
 
 /// What `follow connect` is for.
-const ABOUT_CONNECT: &str = "Keeps a mirror of a mount that `edend serve` serves on 127.0.0.1, and tells what it holds
+const ABOUT_CONNECT: &str =
+    "Keeps a mirror of a mount that `edend serve` serves on 127.0.0.1, and tells what it holds
 
 Prints where it is placed, as `placed GENERATION SEQUENCE ROOT`, or `unplaced`; then `files N`
 and a line `KIND LENGTH PATH` for each file. A PATTERN is a path in which `*` stands for any part

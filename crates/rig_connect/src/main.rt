@@ -75,7 +75,14 @@ fn poll_since(alloc: Global) -> Result<Vec<u8>> {
         root: Id::ZERO,
     };
     let filter = Filter::parse(alloc, &[b"directory*/**".as_slice()])?;
-    Ok(encode_request(alloc, &Request::Poll { query, since, filter })?)
+    Ok(encode_request(
+        alloc,
+        &Request::Poll {
+            query,
+            since,
+            filter,
+        },
+    )?)
 }
 
 /// How many paths a reply lists.
@@ -142,7 +149,12 @@ fn poll_together<R: Machine>(
     let mut turns = Vec::new(alloc);
     turns.resize(usize::try_from(connections).ok()?, each).ok()?;
     let start = Instant::now(rt).ok()?;
-    let ended = thread::map_vec(rt, turns, &|polls| poll_often(rt, alloc, port, frame, polls)).ok()?;
+    let ended = thread::map_vec(
+        rt,
+        turns,
+        &|polls| poll_often(rt, alloc, port, frame, polls),
+    )
+    .ok()?;
     let time = nanoseconds(start.elapsed(rt).ok()?);
     let paths = ended.iter().all(|well| *well);
     Some(Told {
@@ -202,7 +214,11 @@ fn tell(rt: &HostRuntime, what: &str, told: Option<Told>) -> Result<()> {
     };
     let each = time.checked_div(paths).unwrap_or(0);
     println!(rt; "{what}: {paths}")?;
-    eprintln!(rt; "{what}: {}.{:03} ms, {each} ns each", time / 1_000_000, time / 1_000 % 1_000)?;
+    eprintln!(rt;
+        "{what}: {}.{:03} ms, {each} ns each",
+        time / 1_000_000,
+        time / 1_000 % 1_000
+    )?;
     Ok(())
 }
 
@@ -226,8 +242,12 @@ fn main(rt: HostRuntime) -> Result<()> {
         tell(&rt, what.as_str(), told)?;
     }
     let script_of_all = script(alloc, FILES, BYTES)?;
-    let told = with_daemon(&rt, alloc, script_of_all.as_slice(), b"".as_slice(), |port| {
-        take_basis(&rt, alloc, port)
-    })?;
+    let told = with_daemon(
+        &rt,
+        alloc,
+        script_of_all.as_slice(),
+        b"".as_slice(),
+        |port| { take_basis(&rt, alloc, port) },
+    )?;
     tell(&rt, "a basis and its contents, files", told)
 }

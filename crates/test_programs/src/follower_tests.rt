@@ -43,7 +43,13 @@ const ROWS: [Row; 14] = [
         "",
         "follow: BadPattern 1\n",
     ),
-    ("follow connect --help", ALL, 2, "", "Keeps a mirror of a mount"),
+    (
+        "follow connect --help",
+        ALL,
+        2,
+        "",
+        "Keeps a mirror of a mount",
+    ),
     // (nobody listens there, or nobody that speaks frames)
     (
         "follow connect --port 1 --mirror 1 --life 1 --rounds 1",

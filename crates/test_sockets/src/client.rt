@@ -3,11 +3,10 @@
 use eden_messages::Reply;
 use eden_wire::decode_reply;
 use std::alloc::Global;
-use std::io;
 use std::io::{Read, Write};
 use std::net::{Ipv4Addr, Net, TcpListener, TcpStream};
-use std::thread;
 use std::time::{Clock, Duration};
+use std::{io, thread};
 
 /// For how many milliseconds at most somebody waits for a port to be listened at.
 const PATIENCE: u32 = 10_000;

@@ -1,10 +1,9 @@
 //! An input that goes on.
 
-use std::io;
 use std::io::Read;
 use std::sync::atomic::{AtomicBool, Ordering};
-use std::thread;
 use std::time::{Clock, Duration};
+use std::{io, thread};
 
 /// How many milliseconds pass before the lines come again.
 const PAUSE: u64 = 2;
