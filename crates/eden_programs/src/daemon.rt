@@ -7,7 +7,7 @@ use eden_batch::{ObjectsFault, read_objects};
 use eden_command::{ProgramFault, end_unrun, fail};
 use eden_edend::{Objects, run_over};
 use eden_serve::{program_fault, serve_over};
-use eden_stay::stay_over;
+use eden_stay::stay_program;
 use eden_stream::Counted;
 use std::alloc::Global;
 use std::io;
@@ -15,6 +15,7 @@ use std::io::{Read, Write};
 use std::net::{Net, TcpListener, TcpStream};
 use std::sync::Wait;
 use std::thread::Threads;
+use std::time::Clock;
 
 /// Where the files are that a command line names.
 pub trait Shelf {
@@ -88,7 +89,7 @@ fn run_script<I: Read + Drop, O: Write>(
 
 /// Does what a command line asks for, over these objects.
 fn work<
-    R: Threads + Wait + Net<Listener = TcpListener, Stream = TcpStream> + Sync,
+    R: Threads + Wait + Clock + Net<Listener = TcpListener, Stream = TcpStream> + Sync,
     I: Read + Send + Drop,
     O: Write,
 >(
@@ -109,7 +110,7 @@ fn work<
             },
         ) => {
             if stays {
-                stay_over(rt, alloc, objects, input, output, port, connections)
+                stay_program(rt, alloc, objects, input, output, port, connections)
             } else {
                 serve_over(rt, alloc, objects, input, output, port, connections)
             }
@@ -135,7 +136,7 @@ fn work<
 ///
 /// What is told goes to `errors`; that it can't be told changes no status.
 pub fn edend<
-    R: Threads + Wait + Net<Listener = TcpListener, Stream = TcpStream> + Sync,
+    R: Threads + Wait + Clock + Net<Listener = TcpListener, Stream = TcpStream> + Sync,
     S: Shelf,
     I: Read + Send + Drop,
     O: Write,

@@ -43,7 +43,8 @@ const LINES: &[u8] = b"write w plain x\nwrite w plain y\n";
 /// What all this needs of the system.
 trait Machine: Threads + Wait + Clock + Net<Listener = TcpListener, Stream = TcpStream> + Sync {}
 
-impl Machine for HostRuntime {}
+impl<R: Threads + Wait + Clock + Net<Listener = TcpListener, Stream = TcpStream> + Sync> Machine
+    for R {}
 
 /// A script that mounts, and writes so many files with so many bytes each, up to `listen`.
 fn script(alloc: Global, files: u64, bytes: u64) -> Result<Vec<u8>> {

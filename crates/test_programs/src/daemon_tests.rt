@@ -8,6 +8,7 @@ use std::net::{Net, TcpListener, TcpStream};
 use std::sync::Wait;
 use std::test::Fail;
 use std::thread::Threads;
+use std::time::Clock;
 use test_devices::{Sink, Source};
 
 /// What a program came to: its status, what it wrote, and what it told of a fault.
@@ -36,7 +37,7 @@ impl Shelf for OneFile {
 
 /// What `edend` comes to with words that are parted by spaces, beside one file, a script that can't be read from a place on, and an output and
 /// a place to tell faults that are full at another.
-fn ran<R: Threads + Wait + Net<Listener = TcpListener, Stream = TcpStream> + Sync>(
+fn ran<R: Threads + Wait + Clock + Net<Listener = TcpListener, Stream = TcpStream> + Sync>(
     rt: &R,
     alloc: Global,
     words: &str,
@@ -210,7 +211,7 @@ const ROWS: [Row; 25] = [
 ];
 
 /// Whether a program comes to what its row says.
-fn is_as_told<R: Threads + Wait + Net<Listener = TcpListener, Stream = TcpStream> + Sync>(
+fn is_as_told<R: Threads + Wait + Clock + Net<Listener = TcpListener, Stream = TcpStream> + Sync>(
     rt: &R,
     alloc: Global,
     row: &Row,
@@ -373,7 +374,7 @@ const OBJECTS_ROWS: [ObjectsRow; 12] = [
 ];
 
 /// Whether a program that is given objects comes to what its row says.
-fn puts_as_told<R: Threads + Wait + Net<Listener = TcpListener, Stream = TcpStream> + Sync>(
+fn puts_as_told<R: Threads + Wait + Clock + Net<Listener = TcpListener, Stream = TcpStream> + Sync>(
     rt: &R,
     alloc: Global,
     row: &ObjectsRow,
