@@ -7,3 +7,5 @@ mod LineAnswers
 mod FirstLemmas
 mod OwnBindings
 mod ChangeLines
+mod OpeningEnds
+mod Giving

@@ -1,13 +1,15 @@
 //! An input of lines that others read on behind the line `listen`.
 
-ghost use Rattle.std.specs.Prelude.{◌≤◌, length};
+ghost use Rattle.std.specs.Prelude.{◌≡◌, ◌≤◌, ◌<◌, length, IfOk};
 ghost use Rattle.std.specs.Io.{ReadsAtMost};
+ghost use Rattle.std.specs.Io.KnownBytes.{ReadConsumes};
 
 use bstr::ByteSlice;
 use eden_ids::NoMemory;
 use std::alloc::Global;
 use std::io;
-use std::io::{BufRead, BufReader, Read};
+use std::io::Read;
+use std::marker::Model;
 
 /// The line behind which others read on.
 pub(crate) const LISTEN: &[u8] = b"listen";
@@ -38,30 +40,94 @@ impl Front {
         }
     }
 
-    /// Whether the line is `listen` if it ends here.
-    fn is_listen(self) -> bool {
-        match self {
-            Front::Listen(count) => count >= LISTEN.len(),
-            Front::Other => false,
-        }
-    }
-
     /// Goes on over these bytes, up to the end of the first line that is `listen`, and gives how many they are.
     fn pass(&mut self, bytes: &[u8]) -> usize
-        ensures { result ≤ length bytes.now }
+        ensures most { result ≤ length bytes.now }
+        ensures some { 0 < length bytes.now → 0 < result }
     {
         for (place, byte) in bytes.iter().enumerate() {
             if *byte != b'\n' {
                 *self = self.grow(*byte);
                 continue;
             }
-            let ended = *self;
+            let is_listen = matches!(*self, Front::Listen(count) if count >= LISTEN.len());
             *self = Front::Listen(0);
-            if ended.is_listen() {
+            if is_listen {
                 return place + 1;
             }
         }
         bytes.len()
+    }
+}
+
+/// Bytes that were read of a device and not given yet: those of a buffer between two places.
+#[derive(Drop)]
+struct Held {
+    bytes: Vec<u8>,
+    start: usize,
+    end: usize,
+}
+
+impl Model for Held {
+    ghost use Rattle.std.specs.Prelude.{ℕ, ◌≤◌, ◌<◌, List, length, slice_range};
+
+    ghost Value = { List ℕ };
+
+    ghost view = { λ held. slice_range held.bytes.items held.start held.end };
+
+    ghost invariant = { λ held. (held.start ≤ held.end) × (held.end ≤ length held.bytes.items) × (0 < length held.bytes.items) };
+}
+
+impl Held {
+    ghost use Rattle.std.specs.Prelude.{◌≡◌, ◌≤◌, ◌<◌, [], ◌++◌, length, take, OnOk, IfOk};
+    ghost use Rattle.std.specs.Io.KnownBytes.{Keeps, IsAtEnd, prepend_known};
+
+    /// No bytes.
+    fn new(alloc: Global) -> Result<Held, NoMemory>
+        ensures { IfOk result (λ held. held ≡ []) }
+    {
+        match vec![in alloc; 0; BUFFER_SIZE] {
+            Ok(bytes) => Ok(Held {
+                bytes,
+                start: 0,
+                end: 0,
+            }),
+            Err(_) => Err(NoMemory),
+        }
+    }
+
+    /// The first bytes, so many at the most.
+    fn front(&self, most: usize) -> &[u8]
+        ensures { result.now ≡ take most self.now }
+    {
+        let held = &self.bytes[self.start..self.end];
+        &held[..held.len().min(most)]
+    }
+
+    /// Moves the first bytes to the front of `buf`.
+    #[tactic(auto, using(crate::proofs::Giving::range_length))]
+    fn give(&mut self, count: usize, buf: &mut [u8])
+        requires held { count ≤ length self.old }
+        requires room { count ≤ length buf.old }
+        ensures room { length buf.new ≡ length buf.old }
+        ensures given { self.old ≡ take count buf.new ++ self.new }
+    {
+        buf[..count].copy_from_slice(self.front(count));
+        self.start += count;
+    }
+
+    /// Where nothing is held, reads of the device once.
+    fn fill<I: Read>(&mut self, device: &mut I) -> io::Result<()>
+        ensures kept { Keeps (prepend_known self.old (I.remaining device.old)) (prepend_known self.new (I.remaining device.new)) }
+        ensures ended { OnOk result (length self.new ≡ 0 → IsAtEnd (I.remaining device.new)) }
+    {
+        if self.start < self.end {
+            return Ok(());
+        }
+        self.start = 0;
+        self.end = 0;
+        self.end = device.read(&mut self.bytes)?;
+        Ok(())
     }
 }
 
@@ -71,45 +137,57 @@ impl Front {
 /// stops at that line has read no byte behind it.
 #[derive(Drop)]
 pub struct LineInput<I: Read + Drop> {
-    buffered: BufReader<I, Global>,
+    device: I,
+    held: Held,
     front: Front,
+}
+
+impl<I: Read + Drop> Model for LineInput<I> {
+    ghost use Rattle.std.specs.Prelude.{ℕ, List, Option};
+    ghost use Rattle.std.specs.Io.KnownBytes.{prepend_known};
+
+    // The bytes that are not given yet, where they are known.
+    ghost Value = { Option (List ℕ) };
+
+    ghost view = { λ input. prepend_known input.held (I.remaining input.device) };
 }
 
 impl<I: Read + Drop> LineInput<I> {
     /// The input of a device. It holds up to 64 KiB of it.
-    pub fn new(alloc: Global, device: I) -> Result<LineInput<I>, NoMemory> {
-        match BufReader::with_capacity(alloc, BUFFER_SIZE, device) {
-            Ok(buffered) => Ok(LineInput {
-                buffered,
-                front: Front::Listen(0),
-            }),
-            Err(_) => Err(NoMemory),
-        }
+    pub fn new(alloc: Global, device: I) -> Result<LineInput<I>, NoMemory>
+        ensures { IfOk result (λ input. input ≡ I.remaining device) }
+    {
+        let held = Held::new(alloc)?;
+        Ok(LineInput {
+            device,
+            held,
+            front: Front::Listen(0),
+        })
     }
 
     /// Reads no more than the rest of a line, its end included.
     pub(crate) fn read_line_part(&mut self, buf: &mut [u8]) -> io::Result<usize>
-        ensures { ReadsAtMost result buf.new }
+        ensures bound { ReadsAtMost result buf.new }
+        ensures bytes { ReadConsumes self.old self.new result buf.new }
     {
-        let held = self.buffered.fill_buf()?;
-        let room = held.len().min(buf.len());
-        let taken = match (&held[..room]).find_byte(b'\n') {
+        self.held.fill(&mut self.device)?;
+        let front = self.held.front(buf.len());
+        let taken = match front.find_byte(b'\n') {
             Some(place) => place + 1,
-            None => room,
+            None => front.len(),
         };
-        buf[..taken].copy_from_slice(&held[..taken]);
-        self.buffered.consume(taken);
+        self.held.give(taken, buf);
         Ok(taken)
     }
 }
 
 impl<I: Read + Drop> Read for LineInput<I> {
+    ghost remaining = { λ input. input };
+
     fn read(&mut self, buf: &mut [u8]) -> io::Result<usize> {
-        let held = self.buffered.fill_buf()?;
-        let room = held.len().min(buf.len());
-        let taken = self.front.pass(&held[..room]);
-        buf[..taken].copy_from_slice(&held[..taken]);
-        self.buffered.consume(taken);
+        self.held.fill(&mut self.device)?;
+        let taken = self.front.pass(self.held.front(buf.len()));
+        self.held.give(taken, buf);
         Ok(taken)
     }
 }

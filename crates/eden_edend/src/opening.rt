@@ -53,16 +53,16 @@ impl Opening {
         ensures opened { IfOk result (λ opened. opened.line ≡ line) }
         ensures refused { IfErr result (λ fault. fault ≡ RunFault.BadLine line) }
     {
-        if !self.listens {
-            return Err(RunFault::BadLine(line));
-        }
-        match self.session.into_mounted() {
-            Some((mount, labels)) => Ok(Opened {
+        let Opening { session, listens } = self;
+        let Session { mount, objects, .. } = session;
+        let Objects { labels, .. } = objects;
+        match mount {
+            Some(mount) if listens => Ok(Opened {
                 line,
                 mount,
                 labels,
             }),
-            None => Err(RunFault::BadLine(line)),
+            _ => Err(RunFault::BadLine(line)),
         }
     }
 }

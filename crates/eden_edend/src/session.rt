@@ -68,8 +68,8 @@ fn mount_commit(
 #[derive(Drop)]
 pub(crate) struct Session {
     alloc: Global,
-    mount: Option<Mount<GitNaming>>,
-    objects: Objects,
+    pub(crate) mount: Option<Mount<GitNaming>>,
+    pub(crate) objects: Objects,
 }
 
 impl Session {
@@ -151,16 +151,6 @@ impl Session {
         match &self.mount {
             Some(mount) => ask(mount, line),
             None => Ok(Told::Refused(Refusal::NotMounted)),
-        }
-    }
-
-    /// The mount, once there is one, and what the labels are bound to.
-    pub(crate) fn into_mounted(self) -> Option<(Mount<GitNaming>, Labels)> {
-        let Session { mount, objects, .. } = self;
-        let Objects { labels, .. } = objects;
-        match mount {
-            Some(mount) => Some((mount, labels)),
-            None => None,
         }
     }
 

@@ -1,5 +1,5 @@
-use Rattle.std.proofs.Common.{refl, sym, ◌∙◌}
-use Rattle.eden_edend.proofs.ChangeLines.{refuses_other, takes_change}
+use Rattle.std.proofs.Common.{sym, ◌∙◌}
+use Rattle.eden_edend.proofs.ChangeLines.{takes_change}
 use Rattle.eden_edend.proofs.changing.ChangingLineMachine.answer.Goals as goal
 
 pub returns-in-Ok : goal.returns-in-Ok
