@@ -1,0 +1,2 @@
+-- Words that the code alone uses.
+pub mod Steps
