@@ -198,7 +198,7 @@ fn with_daemon<R: Machine, C: FnOnce(u16) -> Option<Told> + Send>(
             told
         },
         || {
-            let feed = Feed::new(rt, script, lines, &ended);
+            let feed = Feed::new(rt, script, lines, b"".as_slice(), &ended);
             let mut text = Vec::new(alloc);
             let objects = Objects::new(alloc);
             stay_program(rt, alloc, objects, feed, &mut text, port, 64).is_ok()

@@ -1,0 +1,200 @@
+//! Many mirrors at once, while lines change what they follow.
+
+use eden_connect::{Quiet, connect_program};
+use eden_edend::{LineInput, Objects};
+use eden_globs::Filter;
+use eden_ids::Path;
+use eden_messages::{Query, Reply, Request};
+use eden_serve::{read_opening, serve_listener};
+use eden_wire::encode_request;
+use std::alloc::Global;
+use std::net::{Net, TcpListener, TcpStream};
+use std::sync::Wait;
+use std::sync::atomic::{AtomicBool, Ordering};
+use std::test::Fail;
+use std::thread;
+use std::thread::Threads;
+use std::time::{Clock, Duration};
+use test_sockets::{Feed, ask, connect, listen};
+
+/// What is mounted, what the lines behind `listen` change again and again, and what they do last.
+const SCRIPT: &[u8] = b"mount empty 7 1000000\nwrite notes plain to\\sdo\nlisten\n";
+
+const LINES: &[u8] =
+    b"write w plain x\nwrite d/e exec 22\nrename d/e d/f\nremove d/f\nwrite w plain yy\n";
+
+const LAST: &[u8] = b"write last link z\n";
+
+/// What a mirror tells of all files once that is done, behind the line of its place.
+const FILES: &[u8] = b"files 3\nlink 1 last\nplain 5 notes\nplain 2 w\n";
+
+/// How many rounds a mirror makes while the lines go on.
+const ROUNDS: u32 = 5;
+
+/// How often somebody asks whether the lines have ended, a millisecond later each time.
+const TRIES: u32 = 10_000;
+
+/// Serves so many connections, until the flag is set and all have gone. Says whether that ends well, and the audit with it.
+fn serve_all<R: Threads + Wait + Clock + Sync>(
+    rt: &R,
+    alloc: Global,
+    ended: &AtomicBool,
+    listener: &TcpListener,
+    connections: u64,
+) -> bool {
+    let feed = Feed::new(rt, SCRIPT, LINES, LAST, ended);
+    let Ok(mut input) = LineInput::new(alloc, feed) else {
+        return false;
+    };
+    let mut output = Vec::new(alloc);
+    let objects = Objects::new(alloc);
+    let Ok(opened) = read_opening(alloc, objects, &mut input, &mut output) else {
+        return false;
+    };
+    let served = serve_listener(rt, alloc, opened, input, &mut output, listener, connections);
+    served.is_ok() && output.ends_with(b"audit ok\n".as_slice())
+}
+
+/// What a mirror of this number tells after so many rounds, where it is placed.
+fn follow<R: Net<Stream = TcpStream>>(
+    rt: &R,
+    alloc: Global,
+    port: u16,
+    mirror: u64,
+    rounds: u32,
+) -> Option<Vec<u8>> {
+    let filter = Filter::all(alloc);
+    let mut output = Vec::new(alloc);
+    let ended = connect_program(
+        rt,
+        alloc,
+        &mut output,
+        port,
+        mirror,
+        1,
+        rounds,
+        &filter,
+        &mut Quiet,
+    );
+    ended.ok()?;
+    Some(output)
+}
+
+/// What the mirrors of these numbers tell, each in a thread of its own, where all are placed.
+fn follow_all<R: Threads + Net<Stream = TcpStream> + Sync>(
+    rt: &R,
+    alloc: Global,
+    port: u16,
+    mirrors: Vec<u64>,
+    rounds: u32,
+) -> Option<Vec<Vec<u8>>> {
+    let told = thread::map_vec(
+        rt,
+        mirrors,
+        &|mirror| { follow(rt, alloc, port, mirror, rounds) },
+    )
+    .ok()?;
+    let mut texts = Vec::new(alloc);
+    for text in told {
+        texts.push(text?).ok()?;
+    }
+    Some(texts)
+}
+
+/// So many numbers from one on.
+fn numbers(alloc: Global, from: u64, count: u64) -> Option<Vec<u64>> {
+    let mut numbers = Vec::new(alloc);
+    for number in from..from.saturating_add(count) {
+        numbers.push(number).ok()?;
+    }
+    Some(numbers)
+}
+
+/// The frame that asks for the last file.
+fn last_file(alloc: Global) -> Option<Vec<u8>> {
+    let query = Query {
+        mirror: 0,
+        life: 1,
+        number: 1,
+    };
+    let path = Path::parse(alloc, b"last".as_slice()).ok()?;
+    encode_request(alloc, &Request::Fetch { query, path }).ok()
+}
+
+/// Waits until the last file is there. It takes one connection.
+fn await_last<R: Net<Stream = TcpStream> + Clock>(
+    rt: &R,
+    alloc: Global,
+    port: u16,
+    frame: &[u8],
+) -> Option<()> {
+    let stream = connect(rt, port)?;
+    for _ in 0..TRIES {
+        if let Reply::ContentIs {
+            content: Some(_),
+            ..
+        } = ask(alloc, &stream, frame)?
+        {
+            return Some(());
+        }
+        thread::sleep(rt, Duration::from_millis(1));
+    }
+    None
+}
+
+/// Whether all tell the same place, and the files that there are in the end.
+fn are_right(texts: &[Vec<u8>]) -> bool {
+    let Some(first) = texts.first() else {
+        return false;
+    };
+    first.starts_with(b"placed 7 ".as_slice())
+        && first.ends_with(FILES)
+        && texts.iter().all(|text| text.as_slice() == first.as_slice())
+}
+
+/// Has so many mirrors follow while the lines go on, then ends the lines, and has so many others follow to where the mount is. Tells whether
+/// all were placed, and the others hold what the mount holds.
+fn run_mirrors<R: Threads + Net<Stream = TcpStream> + Clock + Sync>(
+    rt: &R,
+    alloc: Global,
+    port: u16,
+    count: u64,
+    ended: &AtomicBool,
+) -> Option<bool> {
+    let frame = last_file(alloc)?;
+    let followed = follow_all(rt, alloc, port, numbers(alloc, 1, count)?, ROUNDS);
+    ended.store(true, Ordering::SeqCst);
+    await_last(rt, alloc, port, frame.as_slice())?;
+    let texts = follow_all(rt, alloc, port, numbers(alloc, 101, count)?, 1)?;
+    Some(followed.is_some() && are_right(texts.as_slice()))
+}
+
+/// Whether that goes well with so many at once.
+fn are_kept<R: Threads + Wait + Clock + Net<Listener = TcpListener, Stream = TcpStream> + Sync>(
+    rt: &R,
+    alloc: Global,
+    count: u64,
+) -> Result<bool, Fail> {
+    let listener = listen(rt)?;
+    let port = listener.local_addr()?.port();
+    let ended = AtomicBool::new(false);
+    let connections = count.saturating_mul(2).saturating_add(1);
+    let (served, kept) = thread::join(
+        rt,
+        || serve_all(rt, alloc, &ended, &listener, connections),
+        || {
+            let kept = run_mirrors(rt, alloc, port, count, &ended);
+            ended.store(true, Ordering::SeqCst);
+            kept
+        },
+    );
+    Ok(served && kept == Some(true))
+}
+
+#[test]
+fn mirrors_at_once(rt: HostRuntime) -> Result<(), Fail> {
+    for count in [1, 8, 64] {
+        assert!(rt; are_kept(&rt, rt.alloc(), count)?, "{count}");
+    }
+    Ok(())
+}
