@@ -40,7 +40,7 @@ const BYTES: u64 = 500;
 /// What the daemon's input goes on with while it is polled.
 const LINES: &[u8] = b"write w plain x\nwrite w plain y\n";
 
-/// What all this needs of the system.
+/// What a client and a daemon need of the system.
 trait Machine: Threads + Wait + Clock + Net<Listener = TcpListener, Stream = TcpStream> + Sync {}
 
 impl<R: Threads + Wait + Clock + Net<Listener = TcpListener, Stream = TcpStream> + Sync> Machine
@@ -138,30 +138,27 @@ fn poll_often<R: Machine>(rt: &R, alloc: Global, port: u16, frame: &[u8], polls:
     true
 }
 
-/// Polls so many connections at once: how many polls were made, and how long they took.
-fn poll_together<R: Machine>(
+/// Has so many connections poll at once, by what polls one of them so many times: how many polls were made, and how long they took.
+fn poll_together<R: Threads + Clock + Sync, P: Fn(u64) -> bool + Sync>(
     rt: &R,
     alloc: Global,
-    port: u16,
-    frame: &[u8],
     connections: u64,
-) -> Option<Told> {
+    poll: &P,
+) -> Option<Told>
+    requires { P.IsAlwaysCallable poll }
+{
     let each = POLLS.checked_div(connections)?;
     let mut turns = Vec::new(alloc);
     turns.resize(usize::try_from(connections).ok()?, each).ok()?;
     let start = Instant::now(rt).ok()?;
-    let ended = thread::map_vec(
-        rt,
-        turns,
-        &|polls| poll_often(rt, alloc, port, frame, polls),
-    )
-    .ok()?;
+    let ended = thread::map_vec(rt, turns, poll).ok()?;
     let time = nanoseconds(start.elapsed(rt).ok()?);
-    let paths = ended.iter().all(|well| *well);
-    Some(Told {
-        paths: if paths { POLLS } else { 0 },
-        time,
-    })
+    let paths = if ended.iter().all(|well| *well) {
+        POLLS
+    } else {
+        0
+    };
+    Some(Told { paths, time })
 }
 
 /// Takes a basis and all contents: how many bytes are told of it, and how long it took.
@@ -180,31 +177,19 @@ fn take_basis<R: Machine>(rt: &R, alloc: Global, port: u16) -> Option<Told> {
     })
 }
 
-/// Has a client ask a daemon that stays with this script, and these lines behind it. None where it is not answered.
-fn with_daemon<R: Machine, C: FnOnce(u16) -> Option<Told> + Send>(
+/// Runs a daemon that stays, with this script and these lines behind it, until the flag is set. Tells whether that ends well.
+fn stay<R: Machine>(
     rt: &R,
     alloc: Global,
+    port: u16,
     script: &[u8],
     lines: &[u8],
-    client: C,
-) -> Result<Option<Told>> {
-    let port = free_port(rt)?;
-    let ended = AtomicBool::new(false);
-    let (told, _) = thread::join(
-        rt,
-        || {
-            let told = client(port);
-            ended.store(true, Ordering::SeqCst);
-            told
-        },
-        || {
-            let feed = Feed::new(rt, script, lines, b"".as_slice(), &ended);
-            let mut text = Vec::new(alloc);
-            let objects = Objects::new(alloc);
-            stay_program(rt, alloc, objects, feed, &mut text, port, 64).is_ok()
-        },
-    );
-    Ok(told)
+    ended: &AtomicBool,
+) -> bool {
+    let feed = Feed::new(rt, script, lines, b"".as_slice(), ended);
+    let mut text = Vec::new(alloc);
+    let objects = Objects::new(alloc);
+    stay_program(rt, alloc, objects, feed, &mut text, port, 64).is_ok()
 }
 
 /// Tells of how many files a client was told, and in what time.
@@ -227,28 +212,46 @@ fn main(rt: HostRuntime) -> Result<()> {
     let alloc = rt.alloc();
     let poll = poll_since(alloc)?;
     for changed in CHANGED {
-        let script = script(alloc, changed, 1)?;
-        let told = with_daemon(&rt, alloc, script.as_slice(), b"".as_slice(), |port| {
-            poll_alone(&rt, alloc, port, poll.as_slice())
-        })?;
+        let (script, port) = (script(alloc, changed, 1)?, free_port(&rt)?);
+        let ended = AtomicBool::new(false);
+        let (told, _) = thread::join(
+            &rt,
+            || {
+                let told = poll_alone(&rt, alloc, port, poll.as_slice());
+                ended.store(true, Ordering::SeqCst);
+                told
+            },
+            || stay(&rt, alloc, port, script.as_slice(), b"".as_slice(), &ended),
+        );
         let what = format!(in alloc; "a poll, files told of {changed}")?;
         tell(&rt, what.as_str(), told)?;
     }
-    let script_of_none = script(alloc, 0, 1)?;
     for connections in CONNECTIONS {
-        let told = with_daemon(&rt, alloc, script_of_none.as_slice(), LINES, |port| {
-            poll_together(&rt, alloc, port, poll.as_slice(), connections)
-        })?;
+        let (script, port) = (script(alloc, 0, 1)?, free_port(&rt)?);
+        let ended = AtomicBool::new(false);
+        let (told, _) = thread::join(
+            &rt,
+            || {
+                let poll = |polls| poll_often(&rt, alloc, port, poll.as_slice(), polls);
+                let told = poll_together(&rt, alloc, connections, &poll);
+                ended.store(true, Ordering::SeqCst);
+                told
+            },
+            || stay(&rt, alloc, port, script.as_slice(), LINES, &ended),
+        );
         let what = format!(in alloc; "polls over {connections} connections at once")?;
         tell(&rt, what.as_str(), told)?;
     }
-    let script_of_all = script(alloc, FILES, BYTES)?;
-    let told = with_daemon(
+    let (script, port) = (script(alloc, FILES, BYTES)?, free_port(&rt)?);
+    let ended = AtomicBool::new(false);
+    let (told, _) = thread::join(
         &rt,
-        alloc,
-        script_of_all.as_slice(),
-        b"".as_slice(),
-        |port| { take_basis(&rt, alloc, port) },
-    )?;
+        || {
+            let told = take_basis(&rt, alloc, port);
+            ended.store(true, Ordering::SeqCst);
+            told
+        },
+        || stay(&rt, alloc, port, script.as_slice(), b"".as_slice(), &ended),
+    );
     tell(&rt, "a basis and its contents, files", told)
 }

@@ -80,20 +80,16 @@ fn follow<R: Net<Stream = TcpStream>>(
     Some(output)
 }
 
-/// What the mirrors of these numbers tell, each in a thread of its own, where all are placed.
-fn follow_all<R: Threads + Net<Stream = TcpStream> + Sync>(
+/// What the mirrors of these numbers tell after so many rounds each, each in a thread of its own, where all are placed.
+fn follow_all<R: Threads + Sync, F: Fn((u64, u32)) -> Option<Vec<u8>> + Sync>(
     rt: &R,
     alloc: Global,
-    port: u16,
-    mirrors: Vec<u64>,
-    rounds: u32,
-) -> Option<Vec<Vec<u8>>> {
-    let told = thread::map_vec(
-        rt,
-        mirrors,
-        &|mirror| { follow(rt, alloc, port, mirror, rounds) },
-    )
-    .ok()?;
+    mirrors: Vec<(u64, u32)>,
+    follow: &F,
+) -> Option<Vec<Vec<u8>>>
+    requires { F.IsAlwaysCallable follow }
+{
+    let told = thread::map_vec(rt, mirrors, follow).ok()?;
     let mut texts = Vec::new(alloc);
     for text in told {
         texts.push(text?).ok()?;
@@ -101,13 +97,13 @@ fn follow_all<R: Threads + Net<Stream = TcpStream> + Sync>(
     Some(texts)
 }
 
-/// So many numbers from one on.
-fn numbers(alloc: Global, from: u64, count: u64) -> Option<Vec<u64>> {
-    let mut numbers = Vec::new(alloc);
+/// So many mirrors, numbered from one on, with the rounds that each is to make.
+fn mirrors(alloc: Global, from: u64, count: u64, rounds: u32) -> Option<Vec<(u64, u32)>> {
+    let mut mirrors = Vec::new(alloc);
     for number in from..from.saturating_add(count) {
-        numbers.push(number).ok()?;
+        mirrors.push((number, rounds)).ok()?;
     }
-    Some(numbers)
+    Some(mirrors)
 }
 
 /// The frame that asks for the last file.
@@ -154,47 +150,38 @@ fn are_right(texts: &[Vec<u8>]) -> bool {
 
 /// Has so many mirrors follow while the lines go on, then ends the lines, and has so many others follow to where the mount is. Tells whether
 /// all were placed, and the others hold what the mount holds.
-fn run_mirrors<R: Threads + Net<Stream = TcpStream> + Clock + Sync>(
-    rt: &R,
-    alloc: Global,
-    port: u16,
-    count: u64,
-    ended: &AtomicBool,
-) -> Option<bool> {
+fn run_mirrors<
+    R: Threads + Net<Stream = TcpStream> + Clock + Sync,
+    F: Fn((u64, u32)) -> Option<Vec<u8>> + Sync,
+>(rt: &R, alloc: Global, port: u16, count: u64, ended: &AtomicBool, follow: &F) -> Option<bool>
+    requires { F.IsAlwaysCallable follow }
+{
     let frame = last_file(alloc)?;
-    let followed = follow_all(rt, alloc, port, numbers(alloc, 1, count)?, ROUNDS);
+    let followed = follow_all(rt, alloc, mirrors(alloc, 1, count, ROUNDS)?, follow);
     ended.store(true, Ordering::SeqCst);
     await_last(rt, alloc, port, frame.as_slice())?;
-    let texts = follow_all(rt, alloc, port, numbers(alloc, 101, count)?, 1)?;
+    let texts = follow_all(rt, alloc, mirrors(alloc, 101, count, 1)?, follow)?;
     Some(followed.is_some() && are_right(texts.as_slice()))
-}
-
-/// Whether that goes well with so many at once.
-fn are_kept<R: Threads + Wait + Clock + Net<Listener = TcpListener, Stream = TcpStream> + Sync>(
-    rt: &R,
-    alloc: Global,
-    count: u64,
-) -> Result<bool, Fail> {
-    let listener = listen(rt)?;
-    let port = listener.local_addr()?.port();
-    let ended = AtomicBool::new(false);
-    let connections = count.saturating_mul(2).saturating_add(1);
-    let (served, kept) = thread::join(
-        rt,
-        || serve_all(rt, alloc, &ended, &listener, connections),
-        || {
-            let kept = run_mirrors(rt, alloc, port, count, &ended);
-            ended.store(true, Ordering::SeqCst);
-            kept
-        },
-    );
-    Ok(served && kept == Some(true))
 }
 
 #[test]
 fn mirrors_at_once(rt: HostRuntime) -> Result<(), Fail> {
+    let alloc = rt.alloc();
     for count in [1, 8, 64] {
-        assert!(rt; are_kept(&rt, rt.alloc(), count)?, "{count}");
+        let listener = listen(&rt)?;
+        let port = listener.local_addr()?.port();
+        let ended = AtomicBool::new(false);
+        let (served, kept) = thread::join(
+            &rt,
+            || serve_all(&rt, alloc, &ended, &listener, 2 * count + 1),
+            || {
+                let follow = |(mirror, rounds)| follow(&rt, alloc, port, mirror, rounds);
+                let kept = run_mirrors(&rt, alloc, port, count, &ended, &follow);
+                ended.store(true, Ordering::SeqCst);
+                kept
+            },
+        );
+        assert!(rt; served && kept == Some(true), "{count}");
     }
     Ok(())
 }

@@ -16,8 +16,10 @@ use test_sockets::free_port;
 /// How often a client tries again, a millisecond later, where nobody listens yet.
 const TRIES: u32 = 10_000;
 
-/// The ports that are tried: another program may have one of them.
-const PORTS: u16 = 16;
+/// The port that is tried first, and how many are: another program may have one of them.
+const FIRST_PORT: u16 = 40_711;
+
+const TURNS: u32 = 16;
 
 /// A script with one file.
 const SCRIPT: &[u8] = b"mount empty 7 1000\nwrite a plain 1\nlisten\n";
@@ -50,39 +52,46 @@ fn follow_one<R: Net<Stream = TcpStream> + Clock>(rt: &R, alloc: Global, port: u
     (Err(ProgramFault::NoConnection), output)
 }
 
-/// Whether both ends tell what they should at this port. None where another program has it.
-fn tell_at<R: Threads + Wait + Clock + Net<Listener = TcpListener, Stream = TcpStream> + Sync>(
+/// The port to try in this turn, where nobody listens at it.
+fn port_of<R: Net<Listener = TcpListener, Stream = TcpStream>>(
     rt: &R,
-    alloc: Global,
-    port: u16,
-) -> Result<Option<bool>, Fail> {
-    // (where the port is another's, so is what would be followed)
-    if TcpListener::bind(rt, (Ipv4Addr::LOCALHOST, port)).is_err() {
-        return Ok(None);
+    turn: u32,
+) -> Result<Option<u16>, Fail> {
+    if turn > 0 {
+        return Ok(Some(free_port(rt)?));
     }
-    let (served, followed) = thread::join(
-        rt,
-        || serve_one(rt, alloc, port),
-        || follow_one(rt, alloc, port),
-    );
+    match TcpListener::bind(rt, (Ipv4Addr::LOCALHOST, FIRST_PORT)) {
+        Ok(_) => Ok(Some(FIRST_PORT)),
+        Err(_) => Ok(None),
+    }
+}
+
+/// Whether both ends have told what they should.
+fn are_right(alloc: Global, port: u16, served: &Told, followed: &Told) -> Result<bool, Fail> {
     let printed = format!(in alloc; "at 7 1 empty\nat 7 2 empty\nlistening {port}\naudit ok\n")?;
     let told = b"placed 7 2 0000000000000000000000000000000000000000\nfiles 1\nplain 1 a\n";
-    Ok(Some(
+    Ok(
         served.0 == Ok(())
             && served.1.as_slice() == printed.as_bytes()
             && followed.0 == Ok(())
             && followed.1.as_slice() == told.as_slice(),
-    ))
+    )
 }
 
 #[test]
 fn serve_and_connect(rt: HostRuntime) -> Result<(), Fail> {
-    for place in 0..PORTS {
-        let port = if place == 0 { 40_711 } else { free_port(&rt)? };
-        if let Some(well) = tell_at(&rt, rt.alloc(), port)? {
-            assert!(rt; well, "{port}");
-            return Ok(());
-        }
+    let alloc = rt.alloc();
+    for turn in 0..TURNS {
+        let Some(port) = port_of(&rt, turn)? else {
+            continue;
+        };
+        let (served, followed) = thread::join(
+            &rt,
+            || serve_one(&rt, alloc, port),
+            || follow_one(&rt, alloc, port),
+        );
+        assert!(rt; are_right(alloc, port, &served, &followed)?, "{port}");
+        return Ok(());
     }
     Err("no port is free".into())
 }
