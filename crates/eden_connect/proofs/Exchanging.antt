@@ -1,0 +1,210 @@
+-- Requests that went out and replies that came in, one more after some.
+use Rattle.std.proofs.Common.{◌≡◌, ℕ, ◌+◌, ◌<◌, inl, inr, Bool, false, ◌||◌, List, [], ◌∷◌, ◌++◌, length, map, drop, Option, refl, sym, ap, ◌∙◌, subst, append_assoc, append-nil, arith, length-append}
+use Rattle.std.proofs.KnownBytes.{Appends-nil, Appends-trans, Consumes-nil, Consumes-trans}
+use Rattle.std.proofs.lemmas.Grind.{flat_map-append}
+use Rattle.std.proofs.lemmas.List.{length-map, map-append}
+use Rattle.std.specs.Int.{w32, to_be_bytes}
+use Rattle.std.specs.List.{flat_map}
+use Rattle.std.specs.Io.KnownBytes.{Appends, Consumes}
+use Rattle.eden_frames.specs.Frames.{frame}
+use Rattle.eden_messages.specs.declared.message.Request.{Request}
+use Rattle.eden_messages.specs.declared.message.Reply.{Reply}
+use Rattle.eden_messages.specs.Mirrors.{MirrorState, delivered, outstanding_of}
+use Rattle.eden_messages.specs.Spells.{SpellsReply, request_bytes}
+use Rattle.eden_connect.specs.Exchanges.{Exchanges, Gathers, IsGivenUp, Receives, Sends, SpellAll, Takes, frame_size, request_frame}
+use Rattle.eden_connect.specs.Rounds.{any_counts, counts}
+use Rattle.eden_connect.proofs.Following.{after-append, any_counts-snoc}
+
+spell_more : (bodies : List (List ℕ)) (replies : List Reply) (body : List ℕ) (reply : Reply)
+    → SpellAll bodies replies → SpellsReply body reply → SpellAll (bodies ++ body ∷ []) (replies ++ reply ∷ [])
+spell_more [] [] body reply all one = (one, tt)
+spell_more [] (r ∷ rs) body reply all one = absurd all
+spell_more (b ∷ bs) [] body reply all one = absurd all
+spell_more (b ∷ bs) (r ∷ rs) body reply all one = (all.0, spell_more bs rs body reply all.1 one)
+
+one_framed : (body : List ℕ) → flat_map frame (body ∷ []) ≡ frame body
+one_framed body = append-nil (frame body)
+
+framed_more : (bodies : List (List ℕ)) (body : List ℕ) → flat_map frame bodies ++ frame body ≡ flat_map frame (bodies ++ body ∷ [])
+framed_more bodies body = sym (flat_map-append frame bodies (body ∷ []) ∙ ap (λ l. flat_map frame bodies ++ l) (one_framed body))
+
+pub takes_none : (got : Option (List ℕ)) (m : MirrorState) → Takes got got m m [] false
+takes_none got m = record { bodies = []; spelled = tt; came = Consumes-nil got; taken = refl; told = refl }
+
+-- one more reply comes, and the mirror takes it
+pub takes_more : (got1 got2 got3 : Option (List ℕ)) (m1 m2 m3 : MirrorState) (replies : List Reply) (reply : Reply) (before counted : Bool)
+    → Takes got1 got2 m1 m2 replies before → Receives got2 got3 reply → m3 ≡ (delivered m2 reply).0 → counted ≡ counts (delivered m2 reply).1
+    → Takes got1 got3 m1 m3 (replies ++ reply ∷ []) (before || counted)
+takes_more got1 got2 got3 m1 m2 m3 replies reply before counted past next e told = record {
+  bodies = past.bodies ++ next.0 ∷ [];
+  spelled = spell_more past.bodies replies next.0 reply past.spelled next.1;
+  came = subst (Consumes got1 got3) (framed_more past.bodies next.0) (Consumes-trans got1 got2 got3 _ _ past.came next.2);
+  taken = e ∙ ap (λ s. (delivered s reply).0) past.taken ∙ sym (after-append m1 replies (reply ∷ []));
+  told = ap (λ b. b || counted) past.told ∙ ap (λ b. any_counts m1 replies || b) (told ∙ ap (λ s. counts (delivered s reply).1) past.taken)
+      ∙ sym (any_counts-snoc m1 replies reply);
+}
+
+-- the four bytes of a length, and so many bytes
+pub receives_frame : (a b c : Option (List ℕ)) (told body : List ℕ) (len : ℕ)
+    → Consumes a b told → to_be_bytes w32 len ≡ told → length body ≡ len → Consumes b c body → Consumes a c (frame body)
+unfolding frame
+receives_frame a b c told body len first spelled same second =
+    subst (λ l. Consumes a c (l ++ body)) (sym spelled ∙ ap (to_be_bytes w32) (sym same)) (Consumes-trans a b c told body first second)
+
+-- ---- requests that are gathered
+
+length_bytes : (n : ℕ) → length (to_be_bytes w32 n) ≡ 4
+length_bytes n = refl
+
+pub sized : (request : Request) (len : ℕ) → len ≡ length (request_bytes request) → 4 + len ≡ frame_size request
+unfolding frame
+sized request len e =
+    ap (λ n. 4 + n) e ∙ sym (length-append (to_be_bytes w32 (length (request_bytes request))) (request_bytes request)
+    ∙ ap (λ n. n + length (request_bytes request)) (length_bytes (length (request_bytes request))))
+
+-- the first of the requests are
+pub record IsGathered (window window' : List ℕ) (requests rest : List Request) (text text' : List ℕ) : Type 0 where
+  pub first : List Request
+  pub parted : requests ≡ first ++ rest
+  pub noted : window' ≡ window ++ map frame_size first
+  pub framed : text' ≡ text ++ flat_map request_frame first
+
+pub gathered_none : (window : List ℕ) (requests : List Request) (text : List ℕ) → IsGathered window window requests requests text text
+gathered_none window requests text = record { first = []; parted = refl; noted = sym (append-nil window); framed = sym (append-nil text) }
+
+one_sent : (request : Request) → flat_map request_frame (request ∷ []) ≡ request_frame request
+one_sent request = append-nil (request_frame request)
+
+sent_more : (first : List Request) (request : Request) → flat_map request_frame first ++ request_frame request ≡ flat_map request_frame (first ++ request ∷ [])
+sent_more first request =
+    sym (flat_map-append request_frame first (request ∷ []) ∙ ap (λ l. flat_map request_frame first ++ l) (one_sent request))
+
+pub gathered_more : (w w1 w2 : List ℕ) (requests rest : List Request) (request : Request) (t t1 t2 : List ℕ) (size : ℕ)
+    → IsGathered w w1 requests (request ∷ rest) t t1 → t2 ≡ t1 ++ request_frame request → size ≡ frame_size request → w2 ≡ w1 ++ size ∷ []
+    → IsGathered w w2 requests rest t t2
+gathered_more w w1 w2 requests rest request t t1 t2 size past framed sized noted = record {
+  first = past.first ++ request ∷ [];
+  parted = past.parted ∙ sym (append_assoc past.first (request ∷ []) rest);
+  noted = noted ∙ ap (λ l. l ++ size ∷ []) past.noted ∙ append_assoc w (map frame_size past.first) (size ∷ [])
+      ∙ ap (λ n. w ++ (map frame_size past.first ++ n ∷ [])) sized ∙ ap (λ l. w ++ l) (sym (map-append frame_size past.first (request ∷ [])));
+  framed = framed ∙ ap (λ l. l ++ request_frame request) past.framed ∙ append_assoc t (flat_map request_frame past.first) (request_frame request)
+      ∙ ap (λ l. t ++ l) (sent_more past.first request);
+}
+
+pub gathered_all : (w w' : List ℕ) (requests rest : List Request) (t t' : List ℕ) → IsGathered w w' requests rest t t' → rest ≡ [] → Gathers w w' requests rest t t'
+gathered_all w w' requests rest t t' past none = record {
+  first = past.first;
+  parted = record { parted = past.parted; noted = past.noted; some = λ _. inl none };
+  framed = past.framed;
+}
+
+-- a window that has no room is not empty
+pub gathered_full : (w w' : List ℕ) (requests rest : List Request) (t t' : List ℕ) → IsGathered w w' requests rest t t' → ¬ (w' ≡ []) → Gathers w w' requests rest t t'
+gathered_full w w' requests rest t t' past full = record {
+  first = past.first;
+  parted = record { parted = past.parted; noted = past.noted; some = λ empty. inr (by past.first (past.noted ∙ ap (λ l. l ++ map frame_size past.first) empty)) };
+  framed = past.framed;
+}
+  where
+    by : (first : List Request) → w' ≡ map frame_size first → 0 < length first
+    by [] e = absurd (full e)
+    by (request ∷ first) e = omega arith
+
+-- ---- an exchange
+
+-- so many replies have come, and the requests in the window are not answered
+pub record IsExchanging (window : List ℕ) (index : ℕ) (requests unsent : List Request) (sent sent' got got' : Option (List ℕ)) (m m' : MirrorState) (counted : Bool) : Type 0 where
+  pub first : List Request
+  pub replies : List Reply
+  pub each : length replies ≡ index
+  pub parted : requests ≡ first ++ unsent
+  pub unanswered : length window + index ≡ length first
+  pub went : Appends sent sent' (flat_map request_frame first)
+  pub came : Takes got got' m m' replies counted
+
+pub exchanging_none : (requests : List Request) (sent got : Option (List ℕ)) (m : MirrorState) → IsExchanging [] 0 requests requests sent sent got got m m false
+exchanging_none requests sent got m = record {
+  first = [];
+  replies = [];
+  each = refl;
+  parted = refl;
+  unanswered = refl;
+  went = Appends-nil sent;
+  came = takes_none got m;
+}
+
+length_drop : (l : List ℕ) → 0 < length l → length (drop 1 l) + 1 ≡ length l
+length_drop [] e = absurd (omega (arith, e))
+length_drop (x ∷ l) e = omega arith
+
+pub exchanging_more : (w w1 : List ℕ) (i : ℕ) (requests unsent rest : List Request) (sent sent1 sent2 got got1 got2 : Option (List ℕ))
+    (m m1 m2 : MirrorState) (reply : Reply) (before counted : Bool)
+    → IsExchanging w i requests unsent sent sent1 got got1 m m1 before → i < length requests → Sends w w1 unsent rest sent1 sent2
+    → Receives got1 got2 reply → m2 ≡ (delivered m1 reply).0 → counted ≡ counts (delivered m1 reply).1
+    → IsExchanging (drop 1 w1) (i + 1) requests rest sent sent2 got got2 m m2 (before || counted)
+exchanging_more w w1 i requests unsent rest sent sent1 sent2 got got1 got2 m m1 m2 reply before counted past more next come e told = record {
+  first = past.first ++ next.first;
+  replies = past.replies ++ reply ∷ [];
+  each = length-append past.replies (reply ∷ []) ∙ ap (λ n. n + 1) past.each;
+  parted = parted;
+  unanswered = omega (arith, length_drop w1 taken, noted, both, past.unanswered);
+  went = subst (Appends sent sent2) (sym (flat_map-append request_frame past.first next.first)) (Appends-trans sent sent1 sent2 _ _ past.went next.went);
+  came = takes_more got got1 got2 m m1 m2 past.replies reply before counted past.came come e told;
+}
+  where
+    parted : requests ≡ (past.first ++ next.first) ++ rest
+    parted = past.parted ∙ ap (λ l. past.first ++ l) next.parted.parted ∙ sym (append_assoc past.first next.first rest)
+
+    both : length (past.first ++ next.first) ≡ length past.first + length next.first
+    both = length-append past.first next.first
+
+    noted : length w1 ≡ length w + length next.first
+    noted = ap (λ l. length l) next.parted.noted ∙ length-append w (map frame_size next.first) ∙ ap (λ n. length w + n) (length-map next.first frame_size)
+
+    all : length requests ≡ length (past.first ++ next.first) + length rest
+    all = ap (λ l. length l) parted ∙ length-append (past.first ++ next.first) rest
+
+    by : (l : List ℕ) → w ≡ l → 0 < length w1
+    by [] none = elim (next.parted.some none) [
+      | inl last ↦ omega (arith, noted, all, both, past.unanswered, more, ap (λ l. length l) last)
+      | inr some ↦ omega (arith, noted, some)
+    ]
+    by (x ∷ l) e = omega (arith, noted, ap (λ l. length l) e)
+
+    taken : 0 < length w1
+    taken = by w refl
+
+pub exchanging_all : (w : List ℕ) (i : ℕ) (requests unsent : List Request) (sent sent' got got' : Option (List ℕ)) (m m' : MirrorState) (counted : Bool)
+    → IsExchanging w i requests unsent sent sent' got got' m m' counted → length requests ≡ i → Exchanges requests sent sent' got got' m m' counted
+exchanging_all w i requests unsent sent sent' got got' m m' counted past end = record {
+  replies = past.replies;
+  each = past.each ∙ sym end;
+  went = subst (λ l. Appends sent sent' (flat_map request_frame l)) (by unsent refl) past.went;
+  came = past.came;
+}
+  where
+    all : length requests ≡ length past.first + length unsent
+    all = ap (λ l. length l) past.parted ∙ length-append past.first unsent
+
+    by : (l : List Request) → unsent ≡ l → past.first ≡ requests
+    by [] none = sym (past.parted ∙ ap (λ l. past.first ++ l) none ∙ append-nil past.first)
+    by (request ∷ l) e = absurd (omega (arith, all, end, past.unanswered, ap (λ l. length l) e))
+
+-- where nothing of a window is free nothing is sent
+pub sends_none : (w : List ℕ) (requests : List Request) (sent : Option (List ℕ)) → ¬ (w ≡ []) → Sends w w requests requests sent sent
+sends_none w requests sent full = record {
+  first = [];
+  parted = record { parted = refl; noted = sym (append-nil w); some = λ none. absurd (full none) };
+  went = Appends-nil sent;
+}
+
+-- ---- the end of a round
+
+pub given_up : (requests : List Request) (sent sent' got got' : Option (List ℕ)) (before m' : MirrorState) (counted : Bool)
+    → Exchanges requests sent sent' got got' before m' counted → requests ≡ outstanding_of before → counted ≡ false → IsGivenUp sent' got' m'
+given_up requests sent sent' got got' before m' counted last all none = record {
+  sent = sent;
+  got = got;
+  before = before;
+  last = subst (λ l. Exchanges l sent sent' got got' before m' false) all (subst (λ b. Exchanges requests sent sent' got got' before m' b) none last);
+}

@@ -1,0 +1,128 @@
+-- Rounds, one more after some.
+use Rattle.std.proofs.Common.{◌≡◌, ℕ, ◌+◌, ◌≤◌, ◌^◌, ◌<◌, Bool, true, false, ◌||◌, List, [], ◌∷◌, ◌++◌, length, length-append, Option, refl, sym, ap, ◌∙◌, if◌then◌else◌, ◌-◌, arith}
+use Rattle.std.specs.Prelude.{OnOk, Result, Ok, Err}
+use Rattle.std.specs.Io.KnownBytes.{Appends}
+use Rattle.eden_ids.specs.FileMaps.{put_option}
+use Rattle.eden_history.specs.declared.position.Position.{Position}
+use Rattle.eden_messages.specs.declared.message.Query.{Query}
+use Rattle.eden_messages.specs.declared.message.Request.TheVariants.{Basis, Poll, Fetch}
+use Rattle.eden_messages.specs.declared.message.Cause.TheVariants.{Stale, Ahead, Truncated, TooLarge}
+use Rattle.eden_messages.specs.declared.message.Reply.{Reply}
+use Rattle.eden_messages.specs.declared.message.Reply.TheVariants.{BasisIs, ChangesAre, ContentIs, Refused}
+use Rattle.eden_messages.specs.declared.outcome.Outcome.{Outcome}
+use Rattle.eden_messages.specs.Mirrors.{MirrorState, Round, begun, delivered, delivered_in, distinct, emptied, gathers, has_number, next_round, taken_if, without}
+use Rattle.eden_messages.specs.Mirrors.Round.{Idle, Asked, Gathering}
+use Rattle.eden_messages.specs.Spells.{paths_of}
+use Rattle.eden_mirror.specs.Counting.{after}
+use Rattle.eden_connect.specs.Reports.{report_text}
+use Rattle.eden_connect.specs.Rounds.{Follows, Hears, Tells, any_counts, counts, followed}
+
+pub after-append : (m : MirrorState) (replies more : List Reply) → after m (replies ++ more) ≡ after (after m replies) more
+after-append m [] more = refl
+after-append m (reply ∷ replies) more = after-append (delivered m reply).0 replies more
+
+or_assoc : (a b c : Bool) → (a || (b || c)) ≡ ((a || b) || c)
+or_assoc true b c = refl
+or_assoc false b c = refl
+
+or_false : (a : Bool) → (a || false) ≡ a
+or_false true = refl
+or_false false = refl
+
+pub any_counts-snoc : (m : MirrorState) (replies : List Reply) (reply : Reply)
+    → any_counts m (replies ++ reply ∷ []) ≡ (any_counts m replies || counts (delivered (after m replies) reply).1)
+any_counts-snoc m [] reply = or_false (counts (delivered m reply).1)
+any_counts-snoc m (first ∷ replies) reply =
+    ap (λ b. counts (delivered m first).1 || b) (any_counts-snoc (delivered m first).0 replies reply)
+    ∙ or_assoc (counts (delivered m first).1) (any_counts (delivered m first).0 replies) (counts (delivered (after (delivered m first).0 replies) reply).1)
+
+pub hears_none : (m : MirrorState) → Hears m m
+hears_none m = record { replies = []; taken = refl }
+
+pub hears_more : (m n o : MirrorState) → Hears m n → Hears n o → Hears m o
+hears_more m n o past next = record {
+  replies = past.replies ++ next.replies;
+  taken = next.taken ∙ ap (λ s. after s next.replies) past.taken ∙ sym (after-append m past.replies next.replies);
+}
+
+-- ---- the number of the last round is none of a reply's business
+
+gathers_last : (m : MirrorState) (query : Query) (target : Position) (paths : List (List ℕ)) → (gathers m query target paths).0.last ≡ m.last
+gathers_last m query target [] = refl
+gathers_last m query target (path ∷ paths) = refl
+
+taken_last : (b : Bool) (m : MirrorState) (made : MirrorState × Outcome) → made.0.last ≡ m.last → (taken_if b m made).0.last ≡ m.last
+taken_last true m made e = e
+taken_last false m made e = refl
+
+in_last : (m : MirrorState) (round : Round) (reply : Reply) → (delivered_in m round reply).0.last ≡ m.last
+in_last m Idle (BasisIs query position paths) = refl
+in_last m Idle (ChangesAre query target marked) = refl
+in_last m Idle (ContentIs query position path content) = refl
+in_last m Idle (Refused query cause) = refl
+in_last m (Asked (Basis asked patterns)) (BasisIs query position paths) = taken_last _ m _ (gathers_last (emptied m) asked position (distinct paths))
+in_last m (Asked (Poll asked since patterns)) (BasisIs query position paths) = refl
+in_last m (Asked (Fetch asked path)) (BasisIs query position paths) = refl
+in_last m (Asked (Basis asked patterns)) (ChangesAre query target marked) = refl
+in_last m (Asked (Poll asked since patterns)) (ChangesAre query target marked) = taken_last _ m _ (gathers_last m asked target (distinct (paths_of marked)))
+in_last m (Asked (Fetch asked path)) (ChangesAre query target marked) = refl
+in_last m (Asked request) (ContentIs query position path content) = refl
+in_last m (Asked request) (Refused query (Stale generation)) = taken_last _ m _ refl
+in_last m (Asked request) (Refused query (Ahead head)) = taken_last _ m _ refl
+in_last m (Asked request) (Refused query (Truncated floor)) = taken_last _ m _ refl
+in_last m (Asked request) (Refused query TooLarge) = taken_last _ m _ refl
+in_last m (Gathering asked target awaited) (BasisIs query position paths) = refl
+in_last m (Gathering asked target awaited) (ChangesAre query position marked) = refl
+in_last m (Gathering asked target awaited) (ContentIs query position path content) = taken_last _ m _ (gathers_last (record m { files = put_option m.files path content }) asked target (without path awaited))
+in_last m (Gathering asked target awaited) (Refused query cause) = refl
+
+delivered_last : (m : MirrorState) (reply : Reply) → (delivered m reply).0.last ≡ m.last
+unfolding delivered
+delivered_last m reply = in_last m m.round reply
+
+after_last : (m : MirrorState) (replies : List Reply) → (after m replies).last ≡ m.last
+after_last m [] = refl
+after_last m (reply ∷ replies) = after_last (delivered m reply).0 replies ∙ delivered_last m reply
+
+begun_last : (m : MirrorState) → (begun m).last ≤ m.last + 1
+unfolding begun
+begun_last m = by (has_number m)
+  where
+    by : (b : Bool) → (if b then next_round m else m).last ≤ m.last + 1
+    by true = omega arith
+    by false = omega arith
+
+-- ---- one more round
+
+pub followed-snoc : (m : MirrorState) (heard : List (List Reply)) (replies : List Reply)
+    → followed m (heard ++ replies ∷ []) ≡ after (begun (followed m heard)) replies
+followed-snoc m [] replies = refl
+followed-snoc m (first ∷ heard) replies = followed-snoc (after (begun m) first) heard replies
+
+-- it takes one number
+followed_last : (m : MirrorState) (heard : List (List Reply)) → (followed m heard).last ≤ m.last + length heard
+followed_last m [] = omega arith
+followed_last m (replies ∷ heard) =
+    omega (arith, followed_last (after (begun m) replies) heard, after_last (begun m) replies, begun_last m)
+
+pub follows_none : (m : MirrorState) → Follows m 0 m
+follows_none m = record { heard = []; count = refl; taken = refl }
+
+pub follows_more : (m n o : MirrorState) (rounds : ℕ) → Follows m rounds n → Hears (begun n) o → Follows m (rounds + 1) o
+follows_more m n o rounds past next = record {
+  heard = past.heard ++ next.replies ∷ [];
+  count = length-append past.heard (next.replies ∷ []) ∙ ap (λ k. k + 1) past.count;
+  taken = next.taken ∙ ap (λ s. after (begun s) next.replies) past.taken ∙ sym (followed-snoc m past.heard next.replies);
+}
+
+pub follows_has_number : (m n : MirrorState) (rounds : ℕ) → Follows m rounds n → m.last + rounds < 2 ^ 64 - 1 → has_number n ≡ true
+follows_has_number m n rounds past below =
+    let most : n.last ≤ m.last + rounds = omega (arith, ap (λ s. s.last) past.taken, followed_last m past.heard, past.count) in
+    grind (arith, most, below)
+
+-- ---- what is told in the end
+
+pub tells_if : {E : Type 0} (fresh m : MirrorState) (rounds : ℕ) (IsSuch : Option Position → Type 0) (old new : Option (List ℕ)) (r : Result (Unit {0}) E)
+    → Follows fresh rounds m → OnOk r (IsSuch m.place × Appends old new (report_text m)) → OnOk r (Tells fresh rounds IsSuch old new)
+tells_if fresh m rounds IsSuch old new (Ok x) past told = record { mirror = m; followed = past; place = told.0; text = told.1 }
+tells_if fresh m rounds IsSuch old new (Err e) past told = tt

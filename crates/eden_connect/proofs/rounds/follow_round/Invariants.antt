@@ -1,0 +1,6 @@
+use Rattle.eden_connect.specs.Rounds.{Hears}
+use Rattle.eden_connect.proofs.rounds.follow_round.Given as goal
+
+-- replies came to the mirror
+abbrev pub invariant-loop : goal.invariant-loop
+invariant-loop g l = Hears l.initial.collector l.collector
