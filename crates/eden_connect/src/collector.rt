@@ -29,6 +29,7 @@ impl Model for Collector {
 }
 
 impl Collector {
+    /// A mirror for which nothing has come yet.
     pub(crate) fn new(mirror: Mirror) -> Collector
         ensures { result ≡ mirror }
     {

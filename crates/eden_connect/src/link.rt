@@ -55,7 +55,7 @@ fn told_by(bytes: [u8; 4]) -> usize
     u32::from_be_bytes(bytes) as usize
 }
 
-/// Fills a part of a body.
+/// Fills a piece with the next bytes.
 fn read_piece<I: Read>(reader: &mut I, piece: &mut [u8]) -> Result<(), LinkFault>
     ensures { OnOk result (Consumes (I.remaining reader.old) (I.remaining reader.new) piece.new) }
 {
@@ -65,7 +65,7 @@ fn read_piece<I: Read>(reader: &mut I, piece: &mut [u8]) -> Result<(), LinkFault
     }
 }
 
-/// So many bytes, read by pieces.
+/// So many bytes, which are read by pieces.
 fn read_body<I: Read>(alloc: Global, reader: &mut I, len: usize) -> Result<Vec<u8>, LinkFault>
     ensures len { IfOk result (λ body. length body.items ≡ len) }
     ensures read { IfOk result (λ body. Consumes (I.remaining reader.old) (I.remaining reader.new) body.items) }
@@ -136,6 +136,7 @@ fn gather<'a>(
 }
 
 impl<I: Read, O: Write> Link<I, O> {
+    /// A connection from which `reader` reads, and to which `writer` writes.
     pub(crate) fn new(alloc: Global, reader: I, writer: O) -> Link<I, O>
         ensures reader { result.reader ≡ reader }
         ensures writer { result.writer ≡ writer }

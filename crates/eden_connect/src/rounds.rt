@@ -11,7 +11,7 @@ use crate::progress::Progress;
 use eden_ids::NoMemory;
 use std::alloc::Global;
 use std::io::{BufReader, Read, Write};
-use std::net::{Ipv4Addr, Net, SocketAddr, SocketAddrV4, TcpStream};
+use std::net::{Ipv4Addr, Net, TcpStream};
 
 /// The most connections that are made for a round.
 const CONNECTIONS: u32 = 16;
@@ -43,11 +43,10 @@ fn connect<R: Net<Stream = TcpStream>>(
     alloc: Global,
     port: u16,
 ) -> Result<Option<TcpLink>, NoMemory> {
-    let address = SocketAddr::V4(SocketAddrV4::new(Ipv4Addr::LOCALHOST, port));
-    let Ok(stream) = rt.connect(address) else {
+    let Ok(stream) = TcpStream::connect(rt, (Ipv4Addr::LOCALHOST, port)) else {
         return Ok(None);
     };
-    // A request is small, and is not to wait for more of them. Without this it may.
+    // So that a small request doesn't wait for more of them. Where this can't be had the connection is only slower.
     let _ = stream.set_nodelay(true);
     let Ok(writer) = stream.try_clone() else {
         return Ok(None);
@@ -75,7 +74,7 @@ fn follow_round<I: Read, O: Write, P: Progress>(
             return Ok(());
         }
     }
-    // No list names as many paths as there are numbers.
+    // Each step between the first and the last brings a content that counts, and no list names so many paths.
     Err(LinkFault::Lost)
 }
 
@@ -88,6 +87,7 @@ pub(crate) struct Client {
 }
 
 impl Client {
+    /// A client that has no connection yet.
     pub(crate) fn new(alloc: Global, port: u16) -> Client {
         Client {
             alloc,
@@ -168,7 +168,7 @@ impl Client {
         Err(RoundFault::NoConnection)
     }
 
-    /// Runs so many rounds.
+    /// Runs so many rounds, for which the mirror has numbers.
     pub(crate) fn run<R: Net<Stream = TcpStream>, P: Progress>(
         &mut self,
         rt: &R,

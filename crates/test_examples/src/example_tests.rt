@@ -6,6 +6,7 @@ ghost use Rattle.std.specs.Prelude.{◌≡◌};
 use crate::following::following;
 use std::alloc::Global;
 use std::marker::Brand;
+use std::net::{Net, TcpStream};
 use std::process::Abort;
 use std::sync::Wait;
 use std::sync::ledger::{Blank, Ledger};
@@ -47,6 +48,7 @@ fn examples(rt: HostRuntime) -> Result<(), Fail> {
     eden_script_example(&rt, alloc)?;
     eden_edend_example(&rt, alloc)?;
     eden_demo_example(&rt, alloc)?;
+    eden_connect_example(&rt, alloc)?;
     eden_world_example(&rt, alloc)?;
     test_kit_example(&rt, alloc)?;
     test_devices_example(&rt, alloc)?;
@@ -530,6 +532,21 @@ fn eden_demo_example<R: Abort + Threads + Wait + Clock + Sync>(
     let mut text = Vec::new(alloc);
     assert_eq!(rt; demo(rt, alloc, &mut text), Ok(()));
     assert!(rt; text.as_slice() == b"audit ok\nfollowers agree\n".as_slice());
+    Ok(())
+}
+
+fn eden_connect_example<R: Abort + Net<Stream = TcpStream>>(
+    rt: &R,
+    alloc: Global,
+) -> Result<(), Fail> {
+    use eden_connect::{ProgramFault, Quiet, connect_program};
+    use eden_globs::Filter;
+
+    let mut output = Vec::new(alloc);
+    let filter = Filter::all(alloc);
+    // Mirror 1 in its first life, for one round. Nobody listens on port 1.
+    let ended = connect_program(rt, alloc, &mut output, 1, 1, 1, 1, &filter, &mut Quiet);
+    assert_eq!(rt; ended, Err(ProgramFault::NoConnection));
     Ok(())
 }
 
