@@ -11,8 +11,8 @@ use Rattle.eden_messages.specs.declared.message.Request.{Request}
 use Rattle.eden_messages.specs.declared.message.Reply.{Reply}
 use Rattle.eden_messages.specs.Mirrors.{MirrorState, delivered, outstanding_of}
 use Rattle.eden_messages.specs.Spells.{SpellsReply, request_bytes}
-use Rattle.eden_connect.specs.Exchanges.{Exchanges, Gathers, IsGivenUp, Receives, Sends, SpellAll, Takes, frame_size, request_frame}
-use Rattle.eden_connect.specs.Rounds.{any_counts, counts}
+use Rattle.eden_connect.specs.internal.Exchanges.{Exchanges, Gathers, IsGivenUp, Receives, Sends, SpellAll, Takes, frame_size, request_frame}
+use Rattle.eden_connect.specs.internal.Replies.{any_counts, counts}
 use Rattle.eden_connect.proofs.Following.{after-append, any_counts-snoc}
 
 spell_more : (bodies : List (List ℕ)) (replies : List Reply) (body : List ℕ) (reply : Reply)

@@ -15,7 +15,8 @@ use Rattle.eden_messages.specs.Mirrors.Round.{Idle, Asked, Gathering}
 use Rattle.eden_messages.specs.Spells.{paths_of}
 use Rattle.eden_mirror.specs.Counting.{after}
 use Rattle.eden_connect.specs.Reports.{report_text}
-use Rattle.eden_connect.specs.Rounds.{Follows, Hears, Tells, any_counts, counts, followed}
+use Rattle.eden_connect.specs.Rounds.{Follows, Tells, followed}
+use Rattle.eden_connect.specs.internal.Replies.{Hears, any_counts, counts}
 
 pub after-append : (m : MirrorState) (replies more : List Reply) → after m (replies ++ more) ≡ after (after m replies) more
 after-append m [] more = refl

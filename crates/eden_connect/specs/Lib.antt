@@ -1,3 +1,3 @@
-pub mod Exchanges
 pub mod Reports
 pub mod Rounds
+pub mod internal

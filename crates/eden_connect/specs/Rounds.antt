@@ -1,38 +1,18 @@
--- What replies do to a mirror that is followed by rounds.
-use Rattle.std.specs.Prelude.{◌≡◌, ℕ, Bool, true, false, ◌||◌, List, [], ◌∷◌, length, Option}
+-- A mirror that is followed by rounds, and what is told of it.
+use Rattle.std.specs.Prelude.{◌≡◌, ℕ, List, [], ◌∷◌, length, Option}
 use Rattle.std.specs.Io.KnownBytes.{Appends}
 use Rattle.eden_history.specs.declared.position.Position.{Position}
 use Rattle.eden_messages.specs.declared.message.Reply.{Reply}
-use Rattle.eden_messages.specs.declared.outcome.Outcome.{Outcome}
-use Rattle.eden_messages.specs.declared.outcome.Outcome.TheVariants.{Taken, Placed, Unplaced, Ended, Ignored}
-use Rattle.eden_messages.specs.Mirrors.{MirrorState, begun, delivered}
+use Rattle.eden_messages.specs.Mirrors.{MirrorState, begun}
 use Rattle.eden_mirror.specs.Counting.{after}
 use Rattle.eden_connect.specs.Reports.{report_text}
-
--- the reply was awaited
-abbrev pub counts : Outcome → Bool
-counts Taken = true
-counts Placed = true
-counts Unplaced = true
-counts Ended = true
-counts Ignored = false
-
--- one of the replies, which come in this order, was awaited
-abbrev pub any_counts : MirrorState → List Reply → Bool
-any_counts m [] = false
-any_counts m (reply ∷ replies) = counts (delivered m reply).1 || any_counts (delivered m reply).0 replies
-
--- Some replies came to the mirror.
-pub record Hears (m m' : MirrorState) : Type 0 where
-  pub replies : List Reply
-  pub taken : m' ≡ after m replies
 
 -- the mirror after rounds, each of which is begun and brings it these replies
 abbrev pub followed : MirrorState → List (List Reply) → MirrorState
 followed m [] = m
 followed m (replies ∷ rounds) = followed (after (begun m) replies) rounds
 
--- It had so many of them.
+-- It had so many rounds.
 pub record Follows (m : MirrorState) (rounds : ℕ) (m' : MirrorState) : Type 0 where
   pub heard : List (List Reply)
   pub count : length heard ≡ rounds

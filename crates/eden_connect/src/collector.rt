@@ -2,7 +2,7 @@
 
 ghost use Rattle.std.specs.Prelude.{◌≡◌, true, IfOk, OnErr};
 ghost use Rattle.eden_messages.specs.Mirrors.{begun, delivered, has_number};
-ghost use Rattle.eden_connect.specs.Rounds.{counts};
+ghost use Rattle.eden_connect.specs.internal.Replies.{counts};
 
 use crate::progress::Progress;
 use eden_ids::NoMemory;

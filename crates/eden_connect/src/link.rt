@@ -3,8 +3,8 @@
 ghost use Rattle.std.specs.Prelude.{◌≡◌, ℕ, List, length, IfOk, OnOk};
 ghost use Rattle.std.specs.Int.{w32, to_be_bytes};
 ghost use Rattle.std.specs.Io.KnownBytes.{Consumes};
-ghost use Rattle.eden_connect.specs.Exchanges.{Exchanges, Gathers, Receives, Sends, request_frame};
-ghost use Rattle.eden_connect.specs.Rounds.{Hears};
+ghost use Rattle.eden_connect.specs.internal.Exchanges.{Exchanges, Gathers, Receives, Sends, request_frame};
+ghost use Rattle.eden_connect.specs.internal.Replies.{Hears};
 
 use crate::collector::Collector;
 use crate::progress::Progress;

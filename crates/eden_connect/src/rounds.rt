@@ -2,8 +2,9 @@
 
 ghost use Rattle.std.specs.Prelude.{◌≡◌, ◌+◌, ◌^◌, ◌<◌, true, OnOk};
 ghost use Rattle.eden_messages.specs.Mirrors.{begun, has_number};
-ghost use Rattle.eden_connect.specs.Exchanges.{IsOver};
-ghost use Rattle.eden_connect.specs.Rounds.{Follows, Hears};
+ghost use Rattle.eden_connect.specs.internal.Exchanges.{IsOver};
+ghost use Rattle.eden_connect.specs.Rounds.{Follows};
+ghost use Rattle.eden_connect.specs.internal.Replies.{Hears};
 
 use crate::collector::Collector;
 use crate::link::{Link, LinkFault};

@@ -1,4 +1,4 @@
-use Rattle.eden_connect.specs.Rounds.{Hears}
+use Rattle.eden_connect.specs.internal.Replies.{Hears}
 use Rattle.eden_connect.proofs.rounds.follow_round.Given as goal
 
 -- replies came to the mirror

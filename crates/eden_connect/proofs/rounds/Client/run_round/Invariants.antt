@@ -1,5 +1,5 @@
 use Rattle.eden_messages.specs.Mirrors.{begun}
-use Rattle.eden_connect.specs.Rounds.{Hears}
+use Rattle.eden_connect.specs.internal.Replies.{Hears}
 use Rattle.eden_connect.proofs.rounds.Client.run_round.Given as goal
 
 -- replies came to the mirror in the round

@@ -8,7 +8,7 @@ use Rattle.eden_messages.specs.declared.message.Reply.{Reply}
 use Rattle.eden_messages.specs.Mirrors.{MirrorState, is_idle, outstanding_of}
 use Rattle.eden_messages.specs.Spells.{SpellsReply, request_bytes}
 use Rattle.eden_mirror.specs.Counting.{after}
-use Rattle.eden_connect.specs.Rounds.{any_counts}
+use Rattle.eden_connect.specs.internal.Replies.{any_counts}
 
 -- ---- requests
 
