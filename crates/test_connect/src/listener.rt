@@ -8,10 +8,10 @@ use std::alloc::Global;
 use std::io::{Read, Write};
 use std::net::{TcpListener, TcpStream};
 
-/// What becomes of a connection. Each ends with it, but those that say otherwise.
+/// What becomes of a connection before it is closed.
 #[derive(Clone, Copy, Debug)]
 pub(crate) enum Act {
-    /// It is closed.
+    /// Nothing.
     Close,
     /// So many requests are answered.
     Answer(u32),
