@@ -1,0 +1,56 @@
+-- What a program that serves writes and notes.
+use Rattle.std.specs.Prelude.{◌≡◌, ℕ, List, [], ◌∷◌, ◌++◌, length, codes, decimal, Option, Some}
+use Rattle.std.specs.Io.KnownBytes.{Appends}
+use Rattle.eden_accumulate.specs.Mounts.{StandsFor}
+use Rattle.eden_audit.specs.Audits.{Stored}
+use Rattle.eden_command.specs.declared.fault.ProgramFault.{ProgramFault}
+use Rattle.eden_command.specs.declared.fault.ProgramFault.TheVariants as faults
+use Rattle.eden_history.specs.declared.answer.Answer.{Answer}
+use Rattle.eden_history.specs.declared.change.Change.{Change}
+use Rattle.eden_history.specs.Worlds.{WorldState}
+use Rattle.eden_ids.specs.Naming.{git_name}
+use Rattle.eden_logs.specs.Accounts.{AllNoted}
+use Rattle.eden_logs.specs.Logs.{LogsAgree}
+use Rattle.eden_logs.specs.declared.log.CallLog.{CallLog}
+use Rattle.eden_messages.specs.Calls.{answer_made}
+use Rattle.eden_messages.specs.declared.call.Call.TheVariants as calls
+use Rattle.eden_shared.specs.Desks.{DeskView, noted}
+use Rattle.eden_shared.specs.Passes.{PassView, made_by}
+use Rattle.eden_stream.specs.Ends.{EndsAtBadLine}
+use Rattle.eden_stream.specs.declared.lines.RunFault.{RunFault}
+use Rattle.eden_stream.specs.declared.lines.RunFault.TheVariants as ran
+
+-- why a program ends whose lines have ended so
+abbrev pub program_fault : RunFault → ProgramFault
+program_fault (ran.BadLine number) = faults.BadLine number
+program_fault ran.Read = faults.Read
+program_fault ran.Write = faults.Write
+program_fault ran.TurnsSpent = faults.TurnsSpent
+program_fault ran.NoMemory = faults.NoMemory
+
+-- the line that tells where connections are taken
+abbrev pub listening_text : ℕ → List ℕ
+listening_text port = codes "listening " ++ decimal port ++ codes "\n"
+
+-- The input's lines before `listen`, which no script has, were run as a script, and what they print was written; and behind it where
+-- connections were taken, and that the audit agrees.
+pub record TellsAll (script : List (List ℕ) → Option (List ℕ)) (port : ℕ) (input w0 w1 : Option (List ℕ)) : Type 0 where
+  pub line : ℕ
+  pub left : Option (List ℕ)
+  pub printed : Option (List ℕ)
+  pub opened : EndsAtBadLine script input left w0 printed line
+  pub told : Appends printed w1 (listening_text port ++ codes "audit ok\n")
+
+-- A desk made a change, and noted it with the answer.
+pub record NotesChange (before : DeskView) (change : Change) (after : DeskView) : Type 0 where
+  pub ticket : ℕ
+  pub answer : Answer
+  pub caller : after.caller ≡ before.caller
+  pub log : after.log ≡ before.log ++ noted ticket (calls.Change change) (answer_made answer) ∷ []
+
+-- Some mount with its history took as many calls as the passes made, and the logs agree with it and note all that stands there.
+pub record Agrees (passes : List PassView) (logs : List CallLog) : Type 0 where
+  pub audited : Stored
+  pub taken : length audited.entries ≡ made_by passes
+  pub noted_all : AllNoted logs audited.entries
+  pub agree : (world : WorldState) → StandsFor audited.opening world → LogsAgree git_name world audited.entries logs

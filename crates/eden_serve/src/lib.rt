@@ -1,0 +1,23 @@
+//! `edend serve` as a library: a script makes a mount up to its line `listen`; then the mount is served to connections over TCP, each in a thread
+//! of its own, while the lines behind `listen` change it; and in the end an audit says whether what all of them noted agrees with the mount's
+//! history.
+//!
+//! ```rust
+//! use eden_serve::serve_program;
+//!
+//! let script = b"mount empty 7 1000\nlisten\nwrite notes plain to\\sdo\n";
+//! let mut text = Vec::new(alloc);
+//! assert_eq!(rt; serve_program(rt, alloc, script.as_slice(), &mut text, 40713, 0), Ok(()));
+//! assert!(rt; text.as_slice() == b"at 7 1 empty\nlistening 40713\naudit ok\n".as_slice());
+//! ```
+#![tactic(auto)]
+
+pub use crate::listening::{open_port, program_fault, read_opening, tell_port};
+pub use crate::program::{serve_listener, serve_over, serve_program};
+pub use eden_command::ProgramFault;
+
+mod auditing;
+mod listening;
+mod program;
+mod threads;
+mod writing;
