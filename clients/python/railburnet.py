@@ -30,7 +30,7 @@ import sys
 import time
 from contextlib import contextmanager
 from dataclasses import dataclass
-from typing import Callable, Dict, Iterable, Iterator, List, NamedTuple, Optional, Sequence, Set, Tuple, Union
+from typing import Callable, Dict, Iterable, Iterator, List, NamedTuple, Optional, Protocol, Sequence, Set, Tuple, Union
 
 MOST_BODY = 16_777_216
 MOST_CONTENT = 8_388_608
@@ -760,6 +760,12 @@ class Folder:
         self._again = time.monotonic() + 1.0
         self._end_log()
         return len(self._staged)
+
+    def close(self) -> None:
+        """Ends the mirror. What it made stays, and what it noted of it."""
+        self._log.close()
+        for file in (self._lock, self._own, self._root):
+            os.close(file)
 
     # The folder's own files.
 

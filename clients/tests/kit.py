@@ -1,0 +1,88 @@
+"""What the tests of the clients share."""
+import os
+import shutil
+import socket
+import subprocess
+import sys
+import tempfile
+import time
+import unittest
+
+HERE = os.path.dirname(os.path.realpath(__file__))
+CLIENTS = os.path.dirname(HERE)
+sys.path.insert(0, os.path.join(CLIENTS, "python"))
+
+
+def free_port():
+    """A port that nobody listens on."""
+    with socket.create_server(("127.0.0.1", 0)) as server:
+        return server.getsockname()[1]
+
+
+def client(name):
+    """The command line of one of the programs."""
+    return [sys.executable, os.path.join(CLIENTS, name)]
+
+
+def wait_until(true, seconds=20.0):
+    """Waits until something holds, and says whether it does."""
+    end = time.monotonic() + seconds
+    while not true():
+        if time.monotonic() > end:
+            return False
+        time.sleep(0.02)
+    return True
+
+
+class InFolder(unittest.TestCase):
+    """A test in an empty folder, in which processes are started that end with it."""
+
+    def setUp(self):
+        self.folder = tempfile.mkdtemp(prefix="railburnet-")
+        os.chmod(self.folder, 0o755)
+        self._started = []
+
+    def tearDown(self):
+        for process in self._started:
+            for stream in (process.stdin, process.stdout):
+                if stream is not None:
+                    stream.close()
+            process.kill()
+            process.wait()
+        shutil.rmtree(self.folder, ignore_errors=True)
+
+    def path(self, *names):
+        """A path in the folder."""
+        return os.path.join(self.folder, *names)
+
+    def started(self, words, **how):
+        """A process, with its standard error in a file."""
+        with open(self.path("stderr"), "ab") as errors:
+            process = subprocess.Popen(words, stderr=errors, **how)
+        self._started.append(process)
+        return process
+
+    def text(self, name):
+        """What a file of the folder holds."""
+        with open(self.path(name), "rb") as file:
+            return file.read()
+
+    def server(self, script, port=None, objects=None, source=None):
+        """`edend serve` as EDEND names it, or the stand-in, behind a script up to `listen`; its port, and where more lines go."""
+        port = port or free_port()
+        program = [os.environ["EDEND"]] if os.environ.get("EDEND") else [sys.executable, os.path.join(HERE, "stand_in.py")]
+        words = [*program, "serve", "--port", str(port), "--connections", "8", "--stay", *(["--objects", objects] if objects else [])]
+        server = self.started(words, stdin=source or subprocess.PIPE, stdout=subprocess.PIPE)
+        if source is None:
+            server.stdin.write(script + b"listen\n")
+            server.stdin.flush()
+        while True:
+            line = server.stdout.readline()
+            self.assertTrue(line, self.text("stderr"))
+            if line == b"listening %d\n" % port:
+                return port, server
+
+    def lines(self, server, *lines):
+        """Gives lines to a server."""
+        server.stdin.write(b"".join(line + b"\n" for line in lines))
+        server.stdin.flush()

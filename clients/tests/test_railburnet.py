@@ -1,0 +1,299 @@
+"""Frames, paths, patterns and mirrors of railburnet.py, by docs/formats.md."""
+import os
+import re
+import socket
+import struct
+import threading
+import unittest
+
+from kit import CLIENTS, InFolder
+
+import railburnet
+from railburnet import (Basis, BasisIs, Cause, ChangesAre, ContentIs, Fetch, File, FrameFault, Kind, Mark, Mirror, Outcome, Poll, Position, Query,
+                        Refused)
+
+ONE = Query(1, 1, 1)
+
+
+def known_frames():
+    """The frames of docs/formats.md, in their order, each with its name."""
+    with open(os.path.join(CLIENTS, "..", "docs", "formats.md"), encoding="utf-8") as file:
+        text = file.read().split("## Known frames")[1].split("## Faults")[0]
+    frames = []
+    for line in text.splitlines():
+        if not re.match(r" {4}.*[0-9a-f]{8}", line):
+            continue
+        name, digits = re.fullmatch(r" {4}([A-Z]\w*(?: of a)?)? *((?:[0-9a-f]{2}| )+)", line).groups()
+        if name:
+            frames.append([name, ""])
+        frames[-1][1] += digits.replace(" ", "")
+    return [(name, bytes.fromhex(digits)) for name, digits in frames]
+
+
+class Frames(unittest.TestCase):
+    def test_known_frames(self):
+        first, second = Position(7, 1), Position(7, 2)
+        wanted = [
+            Basis(ONE), BasisIs(ONE, first, []), Poll(ONE, first), ChangesAre(ONE, first, []), Fetch(ONE, b"a"), ContentIs(ONE, first, b"a", None),
+            Refused(ONE, Cause.AHEAD, 1), Basis(ONE, (b"a*",)), BasisIs(ONE, second, [b"a"]), ChangesAre(ONE, second, [(Mark.CREATED, b"a")]),
+            ContentIs(ONE, second, b"a", File(Kind.PLAIN, b"hi")),
+        ]
+        frames = known_frames()
+        self.assertEqual([name.split()[0] for name, _ in frames], [type(message).__name__ for message in wanted])
+        for (_, frame), message in zip(frames, wanted):
+            if isinstance(message, (Basis, Poll, Fetch)):
+                self.assertEqual(railburnet.encode_request(message), frame)
+            else:
+                self.assertEqual(struct.unpack(">I", frame[:4])[0], len(frame) - 4)
+                self.assertEqual(railburnet.decode_reply(frame[4:]), message)
+
+    def test_every_cut(self):
+        for name, frame in known_frames():
+            if name.split()[0] in ("Basis", "Poll", "Fetch"):
+                continue
+            for end in range(4, len(frame)):
+                with self.assertRaises(FrameFault) as raised:
+                    railburnet.decode_reply(frame[4:end])
+                self.assertEqual(str(raised.exception), "CutShort")
+            with self.assertRaisesRegex(FrameFault, "Trailing"):
+                railburnet.decode_reply(frame[4:] + b"\0")
+
+    def test_faults(self):
+        head = bytes.fromhex("01") + b"%c" + bytes(24)
+        here = bytes(36)
+
+        def tagged(tag, fields):
+            return head.replace(b"%c", bytes([tag])) + fields
+
+        for body, fault in (
+            (b"\x02" + tagged(0x84, b"\1" + bytes(8))[1:], "Version"),
+            (tagged(0x85, b""), "BadTag"),
+            (tagged(0x03, b"\0\1a"), "BadTag"),
+            (tagged(0x84, b"\0" + bytes(8)), "BadField"),
+            (tagged(0x84, b"\5" + bytes(8)), "BadField"),
+            (tagged(0x84, b"\4" + bytes(7) + b"\1"), "BadField"),
+            (tagged(0x81, here + b"\0\0\0\1\0\0"), "BadField"),
+            (tagged(0x81, here + b"\0\0\0\1\4\1"), "BadField"),
+            (tagged(0x81, here + b"\0\0\0\2\0\1b\0\1a"), "BadField"),
+            (tagged(0x81, here + b"\0\0\0\2\0\1a\0\1a"), "BadField"),
+            (tagged(0x81, here + b"\0\0\0\1\0\2.."), "BadField"),
+            (tagged(0x81, here + b"\xff\xff\xff\xff\0\1a"), "CutShort"),
+            (tagged(0x82, here + b"\0\0\0\1\0\0\1a"), "BadField"),
+            (tagged(0x82, here + b"\0\0\0\1\5\0\1a"), "BadField"),
+            (tagged(0x83, here + b"\0\1a\4"), "BadField"),
+            (tagged(0x83, here + b"\0\1a\1\0\x80\0\1"), "BadField"),
+            (b"", "CutShort"),
+        ):
+            with self.assertRaises(FrameFault) as raised:
+                railburnet.decode_reply(body)
+            self.assertEqual(str(raised.exception), fault, body)
+
+    def test_streams(self):
+        frames = b"".join(frame for _, frame in known_frames())
+        bodies = [frame[4:] for _, frame in known_frames()]
+        for step in (1, 3, 50, len(frames)):
+            reader = railburnet.FrameReader()
+            self.assertEqual([body for at in range(0, len(frames), step) for body in reader.feed(frames[at : at + step])], bodies)
+        with self.assertRaisesRegex(FrameFault, "TooLarge"):
+            list(railburnet.FrameReader().feed(b"\x01\0\0\1"))
+
+    def test_paths(self):
+        for path, fault in (
+            (b"a", None), (b"a/b c/\xff\n", None), (b"x" * 255, None), (b"/".join([b"a"] * 64), None), (b"...", None),
+            (b"", "Empty"), (b"a" * 1025, "TooLong"), (b"x" * 256, "BadComponent"), (b"/a", "BadComponent"), (b"a/", "BadComponent"),
+            (b"a//b", "BadComponent"), (b"a/../b", "BadComponent"), (b".", "BadComponent"), (b"a\0", "BadComponent"),
+            (b"/".join([b"a"] * 65), "TooDeep"),
+        ):
+            self.assertEqual(railburnet.path_fault(path), fault, path)
+
+    def test_patterns(self):
+        for pattern in (b"a", b"**", b"**/x", b"a/**/*.c", b"?", rb"a\[b", rb"\\", b"]}", b"\xff\n", b".h*"):
+            self.assertIsNone(railburnet.patterns_fault([pattern]), pattern)
+        for pattern in (b"", b"/a", b"a//b", b"a/", b"a\\", b"a\\/b", b"a[", b"{a", b"a" * 257):
+            self.assertIsNotNone(railburnet.patterns_fault([pattern]), pattern)
+            with self.assertRaises(ValueError):
+                railburnet.encode_request(Basis(ONE, (pattern,)))
+        self.assertIsNone(railburnet.patterns_fault([b"a"] * 32))
+        self.assertIsNotNone(railburnet.patterns_fault([b"a"] * 33))
+
+    def test_words(self):
+        self.assertEqual(railburnet.as_word(b"a b\\\n\r"), b"a\\sb\\\\\\n\r")
+        self.assertEqual(railburnet.as_word(b""), b"\\e")
+
+
+class Mirrors(unittest.TestCase):
+    HI, YO = File(Kind.PLAIN, b"hi"), File(Kind.EXEC, b"yo")
+
+    def placed(self):
+        """A mirror at 7 5 that holds `a`."""
+        mirror = Mirror(mirror=9, life=3)
+        mirror.begin()
+        query = Query(9, 3, 1)
+        self.assertEqual(mirror.outstanding(), [Basis(query)])
+        self.assertIs(mirror.deliver(BasisIs(query, Position(7, 5), [b"a"])), Outcome.TAKEN)
+        self.assertEqual(mirror.outstanding(), [Fetch(query, b"a")])
+        self.assertIsNone(mirror.position)
+        self.assertIs(mirror.deliver(ContentIs(query, Position(7, 6), b"a", self.HI)), Outcome.PLACED)
+        return mirror
+
+    def test_a_round(self):
+        mirror = self.placed()
+        self.assertEqual((mirror.position, dict(mirror.files)), (Position(7, 5), {b"a": self.HI}))
+        mirror.begin()
+        query = Query(9, 3, 2)
+        self.assertEqual(mirror.outstanding(), [Poll(query, Position(7, 5))])
+        mirror.deliver(ChangesAre(query, Position(7, 9), [(Mark.REMOVED, b"a"), (Mark.CREATED, b"b")]))
+        self.assertEqual(mirror.outstanding(), [Fetch(query, b"a"), Fetch(query, b"b")])
+        self.assertIs(mirror.deliver(ContentIs(query, Position(7, 9), b"b", self.YO)), Outcome.TAKEN)
+        self.assertEqual(mirror.position, Position(7, 5))
+        self.assertIs(mirror.deliver(ContentIs(query, Position(7, 9), b"a", None)), Outcome.PLACED)
+        self.assertEqual((mirror.position, dict(mirror.files)), (Position(7, 9), {b"b": self.YO}))
+        self.assertEqual(mirror.outstanding(), [Fetch(query, path) for path in ()])
+
+    def test_no_path(self):
+        mirror = self.placed()
+        mirror.begin()
+        self.assertIs(mirror.deliver(ChangesAre(Query(9, 3, 2), Position(7, 8), [])), Outcome.PLACED)
+        self.assertEqual(mirror.position, Position(7, 8))
+
+    def test_what_is_ignored(self):
+        mirror = self.placed()
+        mirror.begin()
+        query = Query(9, 3, 2)
+        changes = ChangesAre(query, Position(7, 8), [(Mark.CHANGED, b"a")])
+        early = [BasisIs(query, Position(7, 8), [b"z"]), ContentIs(query, Position(7, 8), b"a", self.YO), Refused(Query(9, 3, 1), Cause.STALE, 8),
+                 ChangesAre(Query(9, 2, 2), Position(7, 8), []), ChangesAre(Query(8, 3, 2), Position(7, 8), [])]
+        late = [changes, Refused(query, Cause.STALE, 8), Refused(query, Cause.TOO_LARGE, 0), ContentIs(query, Position(7, 7), b"a", self.YO),
+                ContentIs(query, Position(8, 9), b"a", self.YO), ContentIs(query, Position(7, 8), b"b", self.YO),
+                ContentIs(Query(9, 3, 1), Position(7, 8), b"a", self.YO)]
+        for reply in early:
+            self.assertIs(mirror.deliver(reply), Outcome.IGNORED, reply)
+        self.assertIs(mirror.deliver(changes), Outcome.TAKEN)
+        for reply in late:
+            self.assertIs(mirror.deliver(reply), Outcome.IGNORED, reply)
+        self.assertEqual((mirror.position, dict(mirror.files)), (Position(7, 5), {b"a": self.HI}))
+        self.assertIs(mirror.deliver(ContentIs(query, Position(7, 8), b"a", self.YO)), Outcome.PLACED)
+        self.assertIs(mirror.deliver(ContentIs(query, Position(7, 8), b"a", None)), Outcome.IGNORED)
+        self.assertEqual(dict(mirror.files), {b"a": self.YO})
+
+    def test_refusals(self):
+        for cause in (Cause.STALE, Cause.AHEAD, Cause.TRUNCATED):
+            mirror = self.placed()
+            mirror.begin()
+            self.assertIs(mirror.deliver(Refused(Query(9, 3, 2), cause, 4)), Outcome.UNPLACED)
+            self.assertEqual((mirror.position, dict(mirror.files), mirror.outstanding()), (None, {b"a": self.HI}, []))
+            mirror.begin()
+            self.assertEqual(mirror.outstanding(), [Basis(Query(9, 3, 3))])
+            self.assertIs(mirror.deliver(BasisIs(Query(9, 3, 3), Position(8, 1), [])), Outcome.PLACED)
+            self.assertEqual(dict(mirror.files), {})
+        mirror = self.placed()
+        mirror.begin()
+        self.assertIs(mirror.deliver(Refused(Query(9, 3, 2), Cause.TOO_LARGE, 0)), Outcome.ENDED)
+        self.assertEqual((mirror.position, mirror.outstanding()), (Position(7, 5), []))
+
+    def test_a_round_given_up(self):
+        mirror = self.placed()
+        mirror.begin()
+        mirror.deliver(ChangesAre(Query(9, 3, 2), Position(7, 8), [(Mark.CHANGED, b"a"), (Mark.CREATED, b"b")]))
+        mirror.deliver(ContentIs(Query(9, 3, 2), Position(7, 8), b"b", self.YO))
+        mirror.begin()
+        self.assertEqual(mirror.outstanding(), [Poll(Query(9, 3, 3), Position(7, 5))])
+        self.assertEqual(dict(mirror.files), {b"a": self.HI, b"b": self.YO})
+
+
+class Connections(InFolder):
+    def test_no_deadlock(self):
+        """30,000 requests ahead of a service that reads only where it can write."""
+        with socket.create_server(("127.0.0.1", 0)) as listener:
+            def serve():
+                peer, _ = listener.accept()
+                with peer, peer.makefile("rb") as requests:
+                    while True:
+                        head = requests.read(4)
+                        if not head:
+                            return
+                        body = requests.read(int.from_bytes(head, "big"))
+                        reply = b"\x01\x83" + body[2:26] + bytes(36) + body[26:] + b"\x01\0\0\4\0" + bytes(1024)
+                        peer.sendall(struct.pack(">I", len(reply)) + reply)
+
+            thread = threading.Thread(target=serve)
+            thread.start()
+            connection = railburnet.Connection(listener.getsockname()[1])
+            replies = list(connection.ask_all(Fetch(ONE, b"%d" % n) for n in range(30_000)))
+            connection.close()
+            thread.join()
+        self.assertEqual([reply.path for reply in replies], [b"%d" % n for n in range(30_000)])
+
+    def test_lost_connections(self):
+        """A service that ends each connection after some replies, within a frame: the mirror is placed all the same."""
+        port, server = self.server(b"mount empty 7 1000000\n")
+        self.lines(server, *(b"write f%d plain %d" % (n, n) for n in range(40)))
+        with socket.create_server(("127.0.0.1", 0)) as listener:
+            cut = threading.Thread(target=self.cutting, args=(listener, port), daemon=True)
+            cut.start()
+            client, mirror = railburnet.Client(listener.getsockname()[1]), Mirror()
+            while mirror.position is None or mirror.position.sequence < 41:
+                client.round(mirror)
+            client.close()
+        self.assertEqual(dict(mirror.files), {b"f%d" % n: File(Kind.PLAIN, b"%d" % n) for n in range(40)})
+
+    @staticmethod
+    def cutting(listener, port):
+        """Hands on each connection, but ends it after 500 bytes of replies, then after 1,000, and so on."""
+        allowed = 500
+        while True:
+            try:
+                peer, _ = listener.accept()
+            except OSError:
+                return
+            with peer, socket.create_connection(("127.0.0.1", port)) as service:
+                left = allowed
+                allowed += 500
+                threading.Thread(target=Connections.hand_on, args=(peer, service), daemon=True).start()
+                while left > 0:
+                    data = service.recv(min(left, 4096))
+                    if not data:
+                        break
+                    peer.sendall(data)
+                    left -= len(data)
+                peer.shutdown(socket.SHUT_RDWR)
+
+    @staticmethod
+    def hand_on(peer, service):
+        try:
+            while data := peer.recv(4096):
+                service.sendall(data)
+        except OSError:
+            pass
+
+    def test_nobody_there(self):
+        with socket.create_server(("127.0.0.1", 0)) as listener:
+            port = listener.getsockname()[1]
+        with self.assertRaises(railburnet.ConnectionLost):
+            railburnet.Client(port, connections=2).position()
+
+    def test_questions(self):
+        port, server = self.server(b"mount empty 7 1000000\n")
+        client = railburnet.Client(port)
+        self.lines(server, b"write d/a plain 1", b"write d/b exec 2", b"write c link d/a", b"rename d/a d/x\\sy")
+        while client.position().sequence < 5:
+            pass
+        self.assertEqual(client.basis([b"d/*"]).paths, [b"d/b", b"d/x y"])
+        self.assertEqual(client.since(Position(7, 2)).marked, [(Mark.CREATED, b"c"), (Mark.REMOVED, b"d/a"), (Mark.CREATED, b"d/b"), (Mark.CREATED, b"d/x y")])
+        self.assertEqual(client.fetch(b"d/b").file, File(Kind.EXEC, b"2"))
+        self.assertIsNone(client.fetch(b"d/a").file)
+        for position, refused in ((Position(6, 1), (Cause.STALE, 7)), (Position(7, 6), (Cause.AHEAD, 5))):
+            with self.assertRaises(railburnet.PositionRefused) as raised:
+                client.since(position)
+            self.assertEqual((raised.exception.reply.cause, raised.exception.reply.value), refused)
+        self.lines(server, b"flush")
+        while client.position().sequence < 6:
+            pass
+        with self.assertRaises(railburnet.PositionRefused) as raised:
+            client.since(Position(7, 5))
+        self.assertEqual((raised.exception.reply.cause, raised.exception.reply.value), (Cause.TRUNCATED, 6))
+        client.close()
+
+
+if __name__ == "__main__":
+    unittest.main()
