@@ -1,0 +1,164 @@
+"""watch: the command runs once for what changed, with its paths, never beside itself; and what feed, edend serve and a mirror do together."""
+import os
+import signal
+import subprocess
+import unittest
+
+from kit import InFolder, client, wait_until
+
+COMMAND = """#!/bin/bash
+echo "begun $(date +%s%N)" >> "$LOG"
+for path; do printf 'path %s\\0' "$path" >> "$LOG"; done
+if [ -n "$STDIN" ]; then tr '\\0' '\\n' | sed 's/^/path /' | tr '\\n' '\\0' >> "$LOG"; fi
+sleep "${PAUSE:-0}"
+echo "ended $(date +%s%N)" >> "$LOG"
+"""
+
+
+class Watching(InFolder):
+    def setUp(self):
+        super().setUp()
+        with open(self.path("command"), "w", encoding="ascii") as file:
+            file.write(COMMAND)
+        os.chmod(self.path("command"), 0o755)
+        open(self.path("log"), "w", encoding="ascii").close()
+
+    def watch(self, port, *words, **more):
+        environment = {**os.environ, "LOG": self.path("log"), **more}
+        at = words.index("--") if "--" in words else len(words)
+        words = [*client("watch"), "--port", str(port), *words[:at], "--", self.path("command"), *words[at + 1 :]]
+        process = self.started(words, env=environment, start_new_session=True)
+        self.assertTrue(wait_until(lambda: b"watching" in self.text("stderr")), self.text("stderr"))
+        return process
+
+    def runs(self, count):
+        """Waits for so many whole runs: of each its times and paths."""
+        self.assertTrue(wait_until(lambda: self.text("log").count(b"ended ") >= count), self.text("log") + self.text("stderr"))
+        runs = []
+        for text in self.text("log").split(b"begun ")[1:]:
+            begun, _, rest = text.partition(b"\n")
+            paths, ended, at = rest.rpartition(b"ended ")
+            if ended:
+                runs.append((int(begun), int(at), [path[5:] for path in paths.split(b"\0")[:-1]]))
+        return runs
+
+    def test_changes(self):
+        port, server = self.server(b"mount empty 7 1000000\nwrite d/old plain 1\n")
+        self.watch(port, "d/**", "--", "word")
+        self.lines(server, b"write d/a plain 1", b"write other plain 1", b"write d/b\\sc plain 2", b"remove d/old")
+        self.assertEqual(self.runs(1)[0][2], [b"word", b"d/a", b"d/b c", b"d/old"])
+        self.lines(server, b"rename d/a d/z")
+        self.assertEqual(self.runs(2)[1][2], [b"word", b"d/a", b"d/z"])
+        self.assertIn(b"watch: 2 paths changed: d/a, d/z; running ", self.text("stderr"))
+
+    def test_never_two_at_once(self):
+        port, server = self.server(b"mount empty 7 1000000\n")
+        self.watch(port, "**", "--settle", "0.05", PAUSE="0.4")
+        for n in range(12):
+            self.lines(server, b"write f%d plain 1" % n)
+            wait_until(lambda: False, 0.1)
+        self.assertTrue(wait_until(lambda: {b"f%d" % n for n in range(12)} == {path for run in self.runs(1) for path in run[2]}))
+        runs = self.runs(2)
+        self.assertLess(len(runs), 6)
+        for before, after in zip(runs, runs[1:]):
+            self.assertLess(before[1], after[0])
+
+    def test_a_refused_position(self):
+        port, server = self.server(b"mount empty 7 1000000\nwrite kept plain 1\nwrite gone plain 1\n")
+        self.watch(port, "*")
+        self.lines(server, b"remove gone", b"write new plain 1", b"remount 8")
+        self.assertEqual(self.runs(1)[0][2], [b"gone", b"kept", b"new"])
+        self.assertIn(b"can't tell what changed", self.text("stderr"))
+        self.lines(server, b"write kept plain 2")
+        self.assertEqual(self.runs(2)[1][2], [b"kept"])
+
+    def test_a_new_server(self):
+        port, server = self.server(b"mount empty 7 1000000\nwrite a plain 1\n")
+        self.watch(port, "*")
+        server.kill()
+        server.wait()
+        self.assertTrue(wait_until(lambda: b"trying again" in self.text("stderr")))
+        _, server = self.server(b"mount empty 8 1000000\nwrite b plain 1\n", port=port)
+        self.assertEqual(self.runs(1)[0][2], [b"a", b"b"])
+
+    def test_paths_of_all_kinds(self):
+        port, server = self.server(b"mount empty 7 1000000\n")
+        self.watch(port, "**")
+        self.lines(server, b"write -rf plain 1", b"write \xff plain 1", b"write a\\nb plain 1")
+        self.assertEqual(self.runs(1)[0][2], [b"./-rf", b"a\nb", b"\xff"])
+
+    def test_many_paths(self):
+        port, server = self.server(b"mount empty 7 1000000\n")
+        self.watch(port, "**", "--settle", "1")
+        long = b"/".join([b"x" * 250] * 3)
+        self.lines(server, *(b"write %s/%d plain 1" % (long, n) for n in range(3000)))
+        self.assertTrue(wait_until(lambda: b"runs after" in self.text("stderr")))
+        runs = self.runs(2)
+        self.assertEqual(sorted(path for run in runs for path in run[2]), sorted(b"%s/%d" % (long, n) for n in range(3000)))
+
+    def test_paths_on_standard_input(self):
+        port, server = self.server(b"mount empty 7 1000000\n")
+        self.watch(port, "--null", "**", STDIN="1")
+        self.lines(server, *(b"write f%04d plain 1" % n for n in range(1000)))
+        self.assertTrue(wait_until(lambda: {b"f%04d" % n for n in range(1000)} == {path for run in self.runs(1) for path in run[2]}))
+
+    def test_interrupted(self):
+        port, server = self.server(b"mount empty 7 1000000\n")
+        watch = self.watch(port, "**", PAUSE="0.5")
+        self.lines(server, b"write a plain 1")
+        self.assertTrue(wait_until(lambda: b"begun" in self.text("log")))
+        watch.send_signal(signal.SIGINT)
+        self.assertEqual(watch.wait(10), 130)
+        # It has waited for the command.
+        self.assertIn(b"ended", self.text("log"))
+        self.assertNotIn(b"Traceback", self.text("stderr"))
+
+    def test_a_command_that_is_not_there(self):
+        port, server = self.server(b"mount empty 7 1000000\n")
+        watch = self.started([*client("watch"), "--port", str(port), "--once", "**", "--", self.path("nothing")])
+        self.assertTrue(wait_until(lambda: b"watching" in self.text("stderr")))
+        self.lines(server, b"write a plain 1")
+        self.assertEqual(watch.wait(10), 0)
+        self.assertIn(b"nothing: No such file or directory", self.text("stderr"))
+        self.assertIn(b"status 127", self.text("stderr"))
+
+    def test_command_lines(self):
+        for words, told in (
+            (["--port", "1", "a[", "--", "true"], b"no pattern"),
+            (["--port", "1", "a"], b"a command is needed"),
+            (["a", "--", "true"], b"--port is needed"),
+            (["--port", "0", "a", "--", "true"], b"--port"),
+        ):
+            environment = {name: text for name, text in os.environ.items() if name != "RAILBURNET_PORT"}
+            done = subprocess.run([*client("watch"), *words], stderr=subprocess.PIPE, env=environment, check=False)
+            self.assertEqual(done.returncode, 2)
+            self.assertIn(told, done.stderr)
+
+
+class Together(InFolder):
+    def test_a_directory_to_a_directory(self):
+        """feed, a server, and a mirror: a directory becomes equal to another."""
+        os.makedirs(self.path("w", "d"))
+        for name in ("a", "d/b"):
+            with open(self.path("w", name), "w", encoding="ascii") as file:
+                file.write(name)
+        feeder = self.started([*client("feed"), "--empty", self.path("w")], stdout=subprocess.PIPE)
+        port, _ = self.server(b"", source=feeder.stdout)
+        self.started([*client("python/railburnet.py"), "--port", str(port), "follow", "--every", "0.02", "--into", self.path("m")], stdout=subprocess.DEVNULL)
+
+        def equal():
+            return subprocess.run(["diff", "-r", "--no-dereference", "-x", ".railburnet", self.path("w"), self.path("m")], capture_output=True, check=False).returncode == 0
+
+        self.assertTrue(wait_until(equal))
+        os.rename(self.path("w", "d"), self.path("w", "e"))
+        os.symlink("e", self.path("w", "d"))
+        os.unlink(self.path("w", "a"))
+        os.mkdir(self.path("w", "a"))
+        for n in range(500):
+            with open(self.path("w", "a", str(n)), "w", encoding="ascii") as file:
+                file.write(str(n))
+        self.assertTrue(wait_until(equal))
+
+
+if __name__ == "__main__":
+    unittest.main()
