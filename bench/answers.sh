@@ -48,13 +48,13 @@ times() {
 }
 
 git_all() {
-    git diff-tree -r "$(git hash-object -t tree /dev/null)" one
+    git diff-tree -r "$(git hash-object -t tree /dev/null)" "$1"
 }
 git_some() {
     git diff-tree -r one two
 }
 git_list() {
-    git ls-tree -r --name-only one
+    git ls-tree -r --name-only "$1"
 }
 
 # The milliseconds that so many writes take, in the order of the paths or in none.
@@ -82,8 +82,10 @@ measure_polls() {
         objects_file=/dev/null row "poll over $count changed files" - \
             of_line empty "$work/before" 'since 1 1' $((2000000 / count > 1000 ? 1000 : 2000000 / count))
     done
+    echo 'checkout small normal' > "$work/before"
+    row "poll over a change of the root, no file to 1,000" "$(least git_all small)" of_line empty "$work/before" 'since 1 1' 1000
     echo 'checkout one normal' > "$work/before"
-    row "poll over a change of the root, no file to 100,000" "$(least git_all)" of_line empty "$work/before" 'since 1 1' 10
+    row "poll over a change of the root, no file to 100,000" "$(least git_all one)" of_line empty "$work/before" 'since 1 1' 10
     echo 'checkout two normal' > "$work/before"
     row "poll over a change of the root, 100 of 100,000 files" "$(least git_some)" of_line one "$work/before" 'since 1 1' 1000
 }
@@ -91,7 +93,8 @@ measure_polls() {
 measure_trees() {
     : > "$work/before"
     row "two checkouts, no file to 100,000 and back" - of_line empty "$work/before" 'checkout one normal\ncheckout empty normal' 10
-    row "list of 100,000 files" "$(least git_list)" of_line one "$work/before" 'list' 60
+    row "list of 1,000 files" "$(least git_list small)" of_line small "$work/before" 'list' 6000
+    row "list of 100,000 files" "$(least git_list one)" of_line one "$work/before" 'list' 60
 }
 
 # A million writes take a program of before minutes, so it is not asked for them.

@@ -23,11 +23,11 @@ class Watching(InFolder):
         os.chmod(self.path("command"), 0o755)
         open(self.path("log"), "w", encoding="ascii").close()
 
-    def watch(self, port, *words, **more):
+    def watch(self, port, *words, before=(), **more):
         environment = {**os.environ, "LOG": self.path("log"), **more}
         at = words.index("--") if "--" in words else len(words)
         words = [*client("watch"), "--port", str(port), *words[:at], "--", self.path("command"), *words[at + 1 :]]
-        process = self.started(words, env=environment, start_new_session=True)
+        process = self.started([*before, *words], env=environment, start_new_session=True)
         self.assertTrue(wait_until(lambda: b"watching" in self.text("stderr")), self.text("stderr"))
         return process
 
@@ -89,12 +89,12 @@ class Watching(InFolder):
 
     def test_many_paths(self):
         port, server = self.server(b"mount empty 7 1000000\n")
-        self.watch(port, "**", "--settle", "1")
-        long = b"/".join([b"x" * 250] * 3)
-        self.lines(server, *(b"write %s/%d plain 1" % (long, n) for n in range(3000)))
+        # The smaller the stack, the fewer bytes a command line may have.
+        self.watch(port, "**", "--settle", "1", before=["bash", "-c", 'ulimit -s 512; exec "$@"', "-"])
+        paths = [b"d/%0100d" % n for n in range(1500)]
+        self.lines(server, *(b"write %s plain 1" % path for path in paths))
         self.assertTrue(wait_until(lambda: b"runs after" in self.text("stderr")))
-        runs = self.runs(2)
-        self.assertEqual(sorted(path for run in runs for path in run[2]), sorted(b"%s/%d" % (long, n) for n in range(3000)))
+        self.assertEqual(sorted(path for run in self.runs(2) for path in run[2]), paths)
 
     def test_paths_on_standard_input(self):
         port, server = self.server(b"mount empty 7 1000000\n")
