@@ -390,6 +390,16 @@ class Outcome(enum.Enum):
     ENDED = "the list doesn't fit into a frame: the round is over"
 
 
+class Files(Protocol):
+    """Where a mirror keeps its files."""
+
+    def clear(self) -> None:
+        """Holds none any more."""
+
+    def put(self, path: bytes, file: Optional[File]) -> None:
+        """Sets what stands at a path; None where no file does."""
+
+
 class FileMap(Dict[bytes, File]):
     """Files that are kept in memory."""
 
@@ -406,14 +416,14 @@ class Mirror:
 
     `begin` a round, send what is `outstanding`, in any order and as often as needed, and `deliver` each reply that comes, late, twice or not
     at all. Where a round ends as PLACED the files are those of the mount at `position`, but for paths that the next poll names.
-    `files` may be anything with `clear()` and `put(path, file)`.
+    `files` is a FileMap where no other is given.
     """
 
-    def __init__(self, patterns: Iterable[bytes] = (), mirror: Optional[int] = None, life: Optional[int] = None, files=None) -> None:
+    def __init__(self, patterns: Iterable[bytes] = (), mirror: Optional[int] = None, life: Optional[int] = None, files: Optional[Files] = None) -> None:
         self.patterns = tuple(patterns)
         self.mirror = int.from_bytes(os.urandom(8), "big") if mirror is None else mirror
         self.life = time.time_ns() if life is None else life
-        self.files = FileMap() if files is None else files
+        self.files: Files = FileMap() if files is None else files
         self.number = 0
         self.position: Optional[Position] = None
         self.listed: List[Tuple[Optional[Mark], bytes]] = []
@@ -667,6 +677,37 @@ class Client:
     def _lost(self, fault: Exception) -> None:
         self._fault = fault
         self.close()
+
+
+class Changes:
+    """Which paths changed, poll by poll; no contents."""
+
+    def __init__(self, client: Client, patterns: Iterable[bytes] = ()) -> None:
+        self._client, self._patterns = client, tuple(patterns)
+        self._known: Dict[bytes, None] = {}
+        self.position: Optional[Position] = None
+        self.refused: Optional[str] = None
+
+    def next(self) -> List[Tuple[Optional[Mark], bytes]]:
+        """What changed since the last call; the first call gives all files that there are, without marks.
+
+        Where the mount can't tell what changed, every path that there was or is may have, and is given without a mark; `refused` says why
+        until the next call.
+        """
+        self.refused = None
+        if self.position is not None:
+            try:
+                reply = self._client.since(self.position, self._patterns)
+            except (PositionRefused, TooLarge) as refusal:
+                self.refused, self.position = str(refusal) or "TOO_LARGE", None
+            else:
+                self.position = reply.position
+                self._known.update(dict.fromkeys(path for _, path in reply.marked))
+                return list(reply.marked)
+        basis = self._client.basis(self._patterns)
+        self.position = basis.position
+        before, self._known = self._known, dict.fromkeys(basis.paths)
+        return [(None, path) for path in sorted({*before, *basis.paths})]
 
 
 # A mirror in a real directory.
@@ -957,37 +998,6 @@ def _read(name: bytes, at: int) -> bytes:
 
 
 # The program.
-
-
-class Changes:
-    """Which paths changed, poll by poll; no contents."""
-
-    def __init__(self, client: Client, patterns: Iterable[bytes] = ()) -> None:
-        self._client, self._patterns = client, tuple(patterns)
-        self._known: Dict[bytes, None] = {}
-        self.position: Optional[Position] = None
-        self.refused: Optional[str] = None
-
-    def next(self) -> List[Tuple[Optional[Mark], bytes]]:
-        """What changed since the last call; the first call gives all files that there are, without marks.
-
-        Where the mount can't tell what changed, every path that there was or is may have, and is given without a mark; `refused` says why
-        until the next call.
-        """
-        self.refused = None
-        if self.position is not None:
-            try:
-                reply = self._client.since(self.position, self._patterns)
-            except (PositionRefused, TooLarge) as refusal:
-                self.refused, self.position = str(refusal) or "TOO_LARGE", None
-            else:
-                self.position = reply.position
-                self._known.update(dict.fromkeys(path for _, path in reply.marked))
-                return list(reply.marked)
-        basis = self._client.basis(self._patterns)
-        self.position = basis.position
-        before, self._known = self._known, dict.fromkeys(basis.paths)
-        return [(None, path) for path in sorted({*before, *basis.paths})]
 
 
 def _print_words(*words: Union[bytes, str]) -> None:
