@@ -3,7 +3,10 @@
 //! ```rust
 //! use eden_programs::{Screen, follow};
 //!
-//! let words = vec![in alloc; "follow", "--version"]?;
+//! let mut words = Vec::new(alloc);
+//! for word in ["follow", "--version"] {
+//!     words.push(String::from_str(alloc, word)?)?;
+//! }
 //! let (mut output, mut errors) = (Vec::new(alloc), Vec::new(alloc));
 //! let status = follow(rt, alloc, words.as_slice(), &mut output, &mut errors, Screen::None);
 //! assert_eq!(rt; status, 0);

@@ -7,8 +7,10 @@
 //!
 //! let script = b"mount empty 7 1000\nlisten\nwrite notes plain to\\sdo\n";
 //! let mut text = Vec::new(alloc);
-//! assert_eq!(rt; serve_program(rt, alloc, script.as_slice(), &mut text, 40713, 0), Ok(()));
-//! assert!(rt; text.as_slice() == b"at 7 1 empty\nlistening 40713\naudit ok\n".as_slice());
+//! // A port that nobody listens at, and no connection.
+//! assert_eq!(rt; serve_program(rt, alloc, script.as_slice(), &mut text, port, 0), Ok(()));
+//! assert!(rt; text.starts_with(b"at 7 1 empty\nlistening ".as_slice()));
+//! assert!(rt; text.ends_with(b"\naudit ok\n".as_slice()));
 //! ```
 #![tactic(auto)]
 

@@ -25,10 +25,7 @@ use std::sync::ledger::{Blank, Ledger};
 use std::thread::Threads;
 
 /// A mount that stores its history from now on.
-fn store_history(
-    alloc: Global,
-    mount: Mount<GitNaming>,
-) -> Result<Audited<GitNaming>, ProgramFault>
+fn store_history(alloc: Global, mount: Mount<GitNaming>) -> Result<Audited<GitNaming>, ProgramFault>
     ensures { IfOk result (λ audited. audited.entries ≡ []) }
 {
     match Audited::new(alloc, mount) {
@@ -86,12 +83,7 @@ fn close<L: Ledger, O: Write>(
 }
 
 /// Serves behind a lock with this ledger.
-fn serve_behind<
-    L: Ledger + Send + Sync,
-    R: Threads + Wait + Sync,
-    I: Read + Send + Drop,
-    O: Write,
->(
+fn serve_behind<L: Ledger + Send + Sync, R: Threads + Wait + Sync, I: Read + Send + Drop, O: Write>(
     rt: &R,
     alloc: Global,
     blank: Blank,

@@ -6,13 +6,14 @@ ghost use Rattle.std.specs.Prelude.{◌≡◌};
 use crate::following::following;
 use std::alloc::Global;
 use std::marker::Brand;
-use std::net::{Net, TcpStream};
+use std::net::{Net, TcpListener, TcpStream};
 use std::process::Abort;
 use std::sync::Wait;
 use std::sync::ledger::{Blank, Ledger};
 use std::test::Fail;
 use std::thread::Threads;
 use std::time::Clock;
+use test_sockets::free_port;
 
 #[test]
 fn examples(rt: HostRuntime) -> Result<(), Fail> {
@@ -49,9 +50,13 @@ fn examples(rt: HostRuntime) -> Result<(), Fail> {
     eden_edend_example(&rt, alloc)?;
     eden_demo_example(&rt, alloc)?;
     eden_connect_example(&rt, alloc)?;
+    eden_resident_example(&rt, alloc)?;
+    eden_serve_example(&rt, alloc, free_port(&rt)?)?;
+    eden_programs_example(&rt, alloc)?;
     eden_world_example(&rt, alloc)?;
     test_kit_example(&rt, alloc)?;
     test_devices_example(&rt, alloc)?;
+    test_sockets_example(&rt, alloc)?;
     following(&rt, alloc)
 }
 
@@ -550,6 +555,70 @@ fn eden_connect_example<R: Abort + Net<Stream = TcpStream>>(
     Ok(())
 }
 
+fn eden_resident_example(rt: &(impl Abort + Wait), alloc: Global) -> Result<(), Fail> {
+    use eden_accumulate::Mount;
+    use eden_history::Change;
+    use eden_ids::{GitNaming, Id, Path};
+    use eden_messages::{Query, Reply, Request};
+    use eden_objects::Store;
+    use eden_resident::Resident;
+
+    let store = Store::new(alloc, GitNaming);
+    let mount = Mount::mount(alloc, store, Id::ZERO, 7, 1000)?;
+    let resident = Resident::<GitNaming, _>::new(mount);
+    let _position = resident.change(rt, &Change::Flush)?;
+    let query = Query {
+        mirror: 1,
+        life: 1,
+        number: 1,
+    };
+    let path = Path::parse(alloc, b"a".as_slice())?;
+    let reply = resident.ask(rt, &Request::Fetch { query, path })?;
+    assert!(rt; matches!(&reply, Reply::ContentIs { content: None, .. }));
+    Ok(())
+}
+
+fn eden_serve_example<
+    R: Abort + Threads + Wait + Net<Listener = TcpListener, Stream = TcpStream> + Sync,
+>(rt: &R, alloc: Global, port: u16) -> Result<(), Fail> {
+    use eden_serve::serve_program;
+
+    let script = b"mount empty 7 1000\nlisten\nwrite notes plain to\\sdo\n";
+    let mut text = Vec::new(alloc);
+    // A port that nobody listens at, and no connection.
+    assert_eq!(rt;
+        serve_program(rt, alloc, script.as_slice(), &mut text, port, 0),
+        Ok(())
+    );
+    assert!(rt; text.starts_with(b"at 7 1 empty\nlistening ".as_slice()));
+    assert!(rt; text.ends_with(b"\naudit ok\n".as_slice()));
+    Ok(())
+}
+
+fn eden_programs_example<R: Abort + Threads + Wait + Clock + Net<Stream = TcpStream> + Sync>(
+    rt: &R,
+    alloc: Global,
+) -> Result<(), Fail> {
+    use eden_programs::{Screen, follow};
+
+    let mut words = Vec::new(alloc);
+    for word in ["follow", "--version"] {
+        words.push(String::from_str(alloc, word)?)?;
+    }
+    let (mut output, mut errors) = (Vec::new(alloc), Vec::new(alloc));
+    let status = follow(
+        rt,
+        alloc,
+        words.as_slice(),
+        &mut output,
+        &mut errors,
+        Screen::None,
+    );
+    assert_eq!(rt; status, 0);
+    assert!(rt; output.as_slice() == b"follow 0.1.0\n".as_slice());
+    Ok(())
+}
+
 fn eden_world_example(rt: &impl Abort, alloc: Global) -> Result<(), Fail> {
     use eden_history::{Answer, Change};
     use eden_ids::{GitNaming, Id};
@@ -587,5 +656,18 @@ fn test_devices_example(rt: &impl Abort, alloc: Global) -> Result<(), Fail> {
     let mut sink = Sink::new(alloc);
     sink.write_all(&place[..2])?;
     assert_eq!(rt; sink.bytes.as_slice(), b"so".as_slice());
+    Ok(())
+}
+
+fn test_sockets_example<R: Abort + Clock>(rt: &R, alloc: Global) -> Result<(), Fail> {
+    use std::io::Read;
+    use std::sync::atomic::AtomicBool;
+    use test_sockets::Feed;
+
+    let ended = AtomicBool::new(true);
+    let mut text = Vec::new(alloc);
+    let mut feed = Feed::new(rt, b"listen\n", b"flush\n", b"remount 8\n", &ended);
+    assert_eq!(rt; feed.read_to_end(&mut text)?, 17);
+    assert!(rt; text.as_slice() == b"listen\nremount 8\n".as_slice());
     Ok(())
 }

@@ -8,7 +8,7 @@
 //!
 //! let ended = AtomicBool::new(true);
 //! let mut text = Vec::new(alloc);
-//! let mut feed = Feed::new(rt, b"listen\n".as_slice(), b"flush\n".as_slice(), b"remount 8\n".as_slice(), &ended);
+//! let mut feed = Feed::new(rt, b"listen\n", b"flush\n", b"remount 8\n", &ended);
 //! assert_eq!(rt; feed.read_to_end(&mut text)?, 17);
 //! assert!(rt; text.as_slice() == b"listen\nremount 8\n".as_slice());
 //! ```
