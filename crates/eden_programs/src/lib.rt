@@ -8,7 +8,8 @@
 //!     words.push(String::from_str(alloc, word)?)?;
 //! }
 //! let (mut output, mut errors) = (Vec::new(alloc), Vec::new(alloc));
-//! let status = follow(rt, alloc, words.as_slice(), &mut output, &mut errors, Screen::None);
+//! let words = words.as_slice();
+//! let status = follow(rt, alloc, words, &mut output, &mut errors, Screen::None);
 //! assert_eq!(rt; status, 0);
 //! assert!(rt; output.as_slice() == b"follow 0.1.0\n".as_slice());
 //! ```

@@ -8,7 +8,8 @@
 //! let script = b"mount empty 7 1000\nlisten\nwrite notes plain to\\sdo\n";
 //! let mut text = Vec::new(alloc);
 //! // A port that nobody listens at, and no connection.
-//! assert_eq!(rt; serve_program(rt, alloc, script.as_slice(), &mut text, port, 0), Ok(()));
+//! let ended = serve_program(rt, alloc, script.as_slice(), &mut text, port, 0);
+//! assert_eq!(rt; ended, Ok(()));
 //! assert!(rt; text.starts_with(b"at 7 1 empty\nlistening ".as_slice()));
 //! assert!(rt; text.ends_with(b"\naudit ok\n".as_slice()));
 //! ```

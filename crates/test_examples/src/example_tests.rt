@@ -586,10 +586,8 @@ fn eden_serve_example<
     let script = b"mount empty 7 1000\nlisten\nwrite notes plain to\\sdo\n";
     let mut text = Vec::new(alloc);
     // A port that nobody listens at, and no connection.
-    assert_eq!(rt;
-        serve_program(rt, alloc, script.as_slice(), &mut text, port, 0),
-        Ok(())
-    );
+    let ended = serve_program(rt, alloc, script.as_slice(), &mut text, port, 0);
+    assert_eq!(rt; ended, Ok(()));
     assert!(rt; text.starts_with(b"at 7 1 empty\nlistening ".as_slice()));
     assert!(rt; text.ends_with(b"\naudit ok\n".as_slice()));
     Ok(())
@@ -606,14 +604,8 @@ fn eden_programs_example<R: Abort + Threads + Wait + Clock + Net<Stream = TcpStr
         words.push(String::from_str(alloc, word)?)?;
     }
     let (mut output, mut errors) = (Vec::new(alloc), Vec::new(alloc));
-    let status = follow(
-        rt,
-        alloc,
-        words.as_slice(),
-        &mut output,
-        &mut errors,
-        Screen::None,
-    );
+    let words = words.as_slice();
+    let status = follow(rt, alloc, words, &mut output, &mut errors, Screen::None);
     assert_eq!(rt; status, 0);
     assert!(rt; output.as_slice() == b"follow 0.1.0\n".as_slice());
     Ok(())
