@@ -1,6 +1,6 @@
 //! The lines behind `listen`, which change what was opened.
 
-ghost use Rattle.std.specs.Prelude.{◌≡◌, ◌≤◌, IfOk, IfErr, OnOk, option_and_then};
+ghost use Rattle.std.specs.Prelude.{ℕ, ◌≡◌, ◌≤◌, IfOk, IsErrOf, OnOk, option_and_then};
 ghost use Rattle.eden_history.specs.declared.change.Change.{Change};
 ghost use Rattle.eden_script.specs.ScriptLines.{command_of};
 ghost use Rattle.eden_script.specs.Sessions.{change_of};
@@ -156,6 +156,7 @@ pub fn run_changes<I: Read + Drop, C: Changer>(
     changer: &mut C,
 ) -> Result<u64, RunFault>
     ensures last { IfOk result (λ number. from ≤ number) }
+    ensures bad { (number : ℕ) → IsErrOf result (RunFault.BadLine number) → from ≤ number }
 {
     let mut number = from;
     for _ in 0..u64::MAX {

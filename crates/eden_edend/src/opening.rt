@@ -1,6 +1,6 @@
 //! The lines of a script up to `listen`.
 
-ghost use Rattle.std.specs.Prelude.{◌≡◌, ◌+◌, ◌≤◌, IfOk, IfErr, IsErrOf};
+ghost use Rattle.std.specs.Prelude.{◌≡◌, ◌+◌, ◌≤◌, ◌↔◌, true, codes, IfOk, IfErr, IsErrOf, IsTrue, OnOk};
 ghost use Rattle.eden_stream.specs.Counts.{Rose, RoseBy};
 ghost use Rattle.eden_script.specs.ScriptText.{script_text};
 ghost use Rattle.eden_script.specs.Sessions.{session_over};
@@ -26,6 +26,13 @@ pub struct Opened {
     pub labels: Labels,
 }
 
+/// Whether a line is `listen`.
+fn is_listen(line: &[u8]) -> bool
+    ensures { IsTrue result ↔ (line.now ≡ codes "listen") }
+{
+    line == LISTEN
+}
+
 /// A session, and whether the line that it was given last was `listen`.
 #[derive(Drop)]
 struct Opening {
@@ -40,7 +47,7 @@ impl LineMachine for Opening {
     ghost stands_for = { λ opening script. SessionStands opening.session.mount opening.session.objects script };
 
     fn answer(&mut self, line: &[u8], text: &mut Vec<u8>) -> Answered {
-        self.listens = line == LISTEN;
+        self.listens = is_listen(line);
         self.session.answer(line, text)
     }
 
@@ -50,6 +57,7 @@ impl LineMachine for Opening {
 impl Opening {
     /// What is opened at the line of this number, which can't be read as one of a script.
     fn open(self, line: u64) -> Result<Opened, RunFault>
+        ensures listens { OnOk result (self.listens ≡ true) }
         ensures opened { IfOk result (λ opened. opened.line ≡ line) }
         ensures refused { IfErr result (λ fault. fault ≡ RunFault.BadLine line) }
     {

@@ -1,6 +1,5 @@
 -- What a program that serves writes and notes.
-use Rattle.std.specs.Prelude.{◌≡◌, ℕ, List, [], ◌∷◌, ◌++◌, length, codes, decimal, Option, Some}
-use Rattle.std.specs.Io.KnownBytes.{Appends}
+use Rattle.std.specs.Prelude.{◌≡◌, ℕ, ◌+◌, List, [], ◌∷◌, ◌++◌, length, codes, decimal, Option, None, Some}
 use Rattle.eden_accumulate.specs.Mounts.{StandsFor}
 use Rattle.eden_audit.specs.Audits.{Stored}
 use Rattle.eden_command.specs.declared.fault.ProgramFault.{ProgramFault}
@@ -16,7 +15,6 @@ use Rattle.eden_messages.specs.Calls.{answer_made}
 use Rattle.eden_messages.specs.declared.call.Call.TheVariants as calls
 use Rattle.eden_shared.specs.Desks.{DeskView, noted}
 use Rattle.eden_shared.specs.Passes.{PassView, made_by}
-use Rattle.eden_stream.specs.Ends.{EndsAtBadLine}
 use Rattle.eden_stream.specs.declared.lines.RunFault.{RunFault}
 use Rattle.eden_stream.specs.declared.lines.RunFault.TheVariants as ran
 
@@ -32,14 +30,14 @@ program_fault ran.NoMemory = faults.NoMemory
 abbrev pub listening_text : ℕ → List ℕ
 listening_text port = codes "listening " ++ decimal port ++ codes "\n"
 
--- The input's lines before `listen`, which no script has, were run as a script, and what they print was written; and behind it where
--- connections were taken, and that the audit agrees.
-pub record TellsAll (script : List (List ℕ) → Option (List ℕ)) (port : ℕ) (input w0 w1 : Option (List ℕ)) : Type 0 where
-  pub line : ℕ
-  pub left : Option (List ℕ)
-  pub printed : Option (List ℕ)
-  pub opened : EndsAtBadLine script input left w0 printed line
-  pub told : Appends printed w1 (listening_text port ++ codes "audit ok\n")
+-- The line of this number comes behind lines of the script, and is none of them itself.
+pub record Opens (script : List (List ℕ) → Option (List ℕ)) (line : ℕ) : Type 0 where
+  pub good : List (List ℕ)
+  pub bad : List ℕ
+  pub text : List ℕ
+  pub prints : script good ≡ Some text
+  pub refused : script (good ++ bad ∷ []) ≡ None
+  pub number_is : line ≡ length good + 1
 
 -- A desk made a change, and noted it with the answer.
 pub record NotesChange (before : DeskView) (change : Change) (after : DeskView) : Type 0 where

@@ -1,6 +1,6 @@
 //! What is found in the end, and how it is told.
 
-ghost use Rattle.std.specs.Prelude.{◌≡◌, Ok, OnOk, codes};
+ghost use Rattle.std.specs.Prelude.{◌≡◌, IfOk, Ok, OnOk, codes};
 ghost use Rattle.std.specs.String.{string_bytes};
 ghost use Rattle.std.specs.Io.KnownBytes.{Appends};
 ghost use Rattle.eden_serve.specs.Servings.{Agrees};

@@ -4,8 +4,7 @@ ghost use Rattle.std.specs.Prelude.{◌≡◌, IfErr, IfOk, OnOk};
 ghost use Rattle.std.specs.Io.KnownBytes.{Appends};
 ghost use Rattle.eden_script.specs.ScriptText.{script_text};
 ghost use Rattle.eden_script.specs.Sessions.{session_over};
-ghost use Rattle.eden_stream.specs.Ends.{EndsAtBadLine};
-ghost use Rattle.eden_serve.specs.Servings.{listening_text, program_fault};
+ghost use Rattle.eden_serve.specs.Servings.{Opens, listening_text, program_fault};
 
 use eden_command::ProgramFault;
 use eden_edend::{LineInput, Objects, Opened, run_to_listen};
@@ -40,7 +39,7 @@ pub fn read_opening<I: Read + Drop, O: Write>(
     input: &mut LineInput<I>,
     output: &mut O,
 ) -> Result<Opened, ProgramFault>
-    ensures { IfOk result (λ opened. EndsAtBadLine (script_text (session_over objects.store objects.labels)) input.old input.new (O.contents output.old) (O.contents output.new) opened.line) }
+    ensures { IfOk result (λ opened. Opens (script_text (session_over objects.store objects.labels)) opened.line) }
 {
     let mut reader = Counted::new(input);
     let mut writer = Counted::new(output);

@@ -1,10 +1,7 @@
 //! The program: a script, a port, and the connections.
 
-ghost use Rattle.std.specs.Prelude.{◌≡◌, [], OnOk, IfOk, codes};
+ghost use Rattle.std.specs.Prelude.{◌≡◌, [], IfOk, IsOk, OnOk, codes};
 ghost use Rattle.std.specs.Io.KnownBytes.{Appends};
-ghost use Rattle.eden_script.specs.ScriptText.{script_text};
-ghost use Rattle.eden_script.specs.Sessions.{first_session, session_over};
-ghost use Rattle.eden_serve.specs.Servings.{TellsAll};
 
 use crate::auditing::{judge, tell_audit};
 use crate::listening::{open_port, program_fault, read_opening, tell_port};
@@ -71,7 +68,8 @@ fn close<L: Ledger, O: Write>(
     output: &mut O,
 ) -> Result<(), ProgramFault>
     requires { L.parts ≡ 256 }
-    ensures { OnOk result (Appends (O.contents output.old) (O.contents output.new) (codes "audit ok\n")) }
+    ensures ran { OnOk result (IsOk ended.ran) }
+    ensures told { OnOk result (Appends (O.contents output.old) (O.contents output.new) (codes "audit ok\n")) }
 {
     let Ended { passes, logs, ran } = ended;
     let audit = judge(alloc, shared, passes, logs.as_slice());
@@ -175,9 +173,7 @@ pub fn serve_over<
     output: &mut O,
     port: u16,
     connections: u64,
-) -> Result<(), ProgramFault>
-    ensures { OnOk result (TellsAll (script_text (session_over objects.store objects.labels)) port (I.remaining input) (O.contents output.old) (O.contents output.new)) }
-{
+) -> Result<(), ProgramFault> {
     let Ok(mut input) = LineInput::new(alloc, input) else {
         return Err(ProgramFault::NoMemory);
     };
@@ -210,9 +206,7 @@ pub fn serve_program<
     output: &mut O,
     port: u16,
     connections: u64,
-) -> Result<(), ProgramFault>
-    ensures { OnOk result (TellsAll (script_text first_session) port (I.remaining input) (O.contents output.old) (O.contents output.new)) }
-{
+) -> Result<(), ProgramFault> {
     serve_over(
         rt,
         alloc,

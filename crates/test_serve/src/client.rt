@@ -115,10 +115,12 @@ fn told_up_to(reply: &Reply) -> Option<u64> {
     };
     let is_right = match marked.as_slice() {
         [] => target.sequence <= 3,
-        [Marked {
-            mark: Mark::Created,
-            path,
-        }] => target.sequence > 2 && path.as_bytes() == b"w".as_slice(),
+        [
+            Marked {
+                mark: Mark::Created,
+                path,
+            },
+        ] => target.sequence > 2 && path.as_bytes() == b"w".as_slice(),
         _ => false,
     };
     if is_right && *query == QUERY && target.generation == 7 && target.root == Id::ZERO {

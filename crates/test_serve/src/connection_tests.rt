@@ -61,9 +61,7 @@ fn run_clients<R: Net<Stream = TcpStream>>(
 }
 
 /// Whether so many clients are served at once.
-fn are_served<
-    R: Threads + Wait + Clock + Net<Listener = TcpListener, Stream = TcpStream> + Sync,
->(
+fn are_served<R: Threads + Wait + Clock + Net<Listener = TcpListener, Stream = TcpStream> + Sync>(
     rt: &R,
     alloc: Global,
     count: u64,
@@ -101,15 +99,7 @@ fn refused<R: Threads + Wait + Net<Listener = TcpListener, Stream = TcpStream> +
     let mut input = LineInput::new(alloc, SCRIPT)?;
     let opened = read_opening(alloc, Objects::new(alloc), &mut input, output)?;
     output.clear();
-    Ok(serve_listener(
-        rt,
-        alloc,
-        opened,
-        input,
-        output,
-        &listener,
-        connections,
-    ))
+    Ok(serve_listener(rt, alloc, opened, input, output, &listener, connections))
 }
 
 /// How many connections, and what comes of them where none is accepted. A lock has 255 callers, of whom one is the writer.

@@ -3,14 +3,13 @@
 use eden_edend::{LineInput, Objects};
 use eden_serve::{read_opening, serve_listener};
 use std::alloc::Global;
-use std::io;
 use std::io::Read;
 use std::net::TcpListener;
 use std::sync::Wait;
 use std::sync::atomic::{AtomicBool, Ordering};
-use std::thread;
 use std::thread::Threads;
 use std::time::{Clock, Duration};
+use std::{io, thread};
 
 /// A script that mounts, and writes one small file.
 pub(crate) const SCRIPT: &[u8] = b"mount empty 7 1000000\nwrite notes plain to\\sdo\nlisten\n";
@@ -70,6 +69,5 @@ pub(crate) fn serve<R: Threads + Wait + Clock + Sync>(
         return false;
     };
     let served = serve_listener(rt, alloc, opened, input, &mut output, listener, connections);
-    served.is_ok()
-        && output.strip_prefix(printed) == Some(b"audit ok\n".as_slice())
+    served.is_ok() && output.strip_prefix(printed) == Some(b"audit ok\n".as_slice())
 }

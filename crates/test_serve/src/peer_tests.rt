@@ -103,12 +103,7 @@ fn run_peers<R: Net<Stream = TcpStream>>(
 /// Whether a client is served beside peers that send these texts.
 fn is_served_beside<
     R: Threads + Wait + Clock + Net<Listener = TcpListener, Stream = TcpStream> + Sync,
->(
-    rt: &R,
-    alloc: Global,
-    frames: &Frames,
-    texts: &[Vec<u8>],
-) -> Result<bool, Fail> {
+>(rt: &R, alloc: Global, frames: &Frames, texts: &[Vec<u8>]) -> Result<bool, Fail> {
     let listener = listen(rt)?;
     let port = listener.local_addr()?.port();
     let script = script(alloc)?;

@@ -90,12 +90,28 @@ const UNOPENED: [(&[u8], &[u8], u64); 10] = [
     (b"# a\n\n", b"", 3),
     (b"mount empty 7 1000\n", b"at 7 1 empty\n", 2),
     (b"mount empty 7 1000\n# listen", b"at 7 1 empty\n", 3),
-    (b"mount empty 7 1000\nlisten x\nlisten\n", b"at 7 1 empty\n", 2),
+    (
+        b"mount empty 7 1000\nlisten x\nlisten\n",
+        b"at 7 1 empty\n",
+        2,
+    ),
     (b"mount empty 7 1000\nlisten\r\r\n", b"at 7 1 empty\n", 2),
-    (b"mount empty 7 1000\n listen\nlisten\n", b"at 7 1 empty\n", 2),
-    (b"mount empty 7 1000\nliste\nn\nlisten\n", b"at 7 1 empty\n", 2),
+    (
+        b"mount empty 7 1000\n listen\nlisten\n",
+        b"at 7 1 empty\n",
+        2,
+    ),
+    (
+        b"mount empty 7 1000\nliste\nn\nlisten\n",
+        b"at 7 1 empty\n",
+        2,
+    ),
     (b"listen\nmount empty 7 1000\nlisten\n", b"", 1),
-    (b"mount c 7 1000\r\n#\r\nlisten\r\n", b"refused NoLabel\n", 3),
+    (
+        b"mount c 7 1000\r\n#\r\nlisten\r\n",
+        b"refused NoLabel\n",
+        3,
+    ),
 ];
 
 #[test]
@@ -114,10 +130,22 @@ const BEHIND: [(&[u8], u64); 20] = [
     (b"mount empty 7 1000\nlisten", 0),
     (b"mount empty 7 1000\nlisten\n", 0),
     (b"mount empty 7 1000\r\nlisten\r\n\r\n# b\r\nflush\r\n", 0),
-    (b"mount empty 7 1000\nlisten\nwrite a plain x\nremove a\nrename b c\n", 0),
-    (b"mount empty 7 1000\nlisten\ncheckout empty force\nreset empty\nflush\nremount 8", 0),
-    (b"mount empty 7 1000\nlisten\ncheckout c normal\nreset c\n", 0),
-    (b"mount empty 7 1000\nlisten\nwrite a//b plain x\nremount 7\nremove b\n", 0),
+    (
+        b"mount empty 7 1000\nlisten\nwrite a plain x\nremove a\nrename b c\n",
+        0,
+    ),
+    (
+        b"mount empty 7 1000\nlisten\ncheckout empty force\nreset empty\nflush\nremount 8",
+        0,
+    ),
+    (
+        b"mount empty 7 1000\nlisten\ncheckout c normal\nreset c\n",
+        0,
+    ),
+    (
+        b"mount empty 7 1000\nlisten\nwrite a//b plain x\nremount 7\nremove b\n",
+        0,
+    ),
     (b"mount empty 7 1000\nlisten\nposition\n", 3),
     (b"mount empty 7 1000\nlisten\n\n#\nflush\nlist\nflush\n", 6),
     (b"mount empty 7 1000\nlisten\ndirty\n", 3),
@@ -189,7 +217,10 @@ fn ends_behind<R: Threads + Wait + Net<Listener = TcpListener, Stream = TcpStrea
 ) -> Result<(End, bool), Fail> {
     for _ in 0..PORTS {
         let again = Endless::new(endless).take(count);
-        let input = b"mount empty 7 1000\nlisten\n".as_slice().chain(again).chain(then);
+        let input = b"mount empty 7 1000\nlisten\n"
+            .as_slice()
+            .chain(again)
+            .chain(then);
         let port = free_port(rt)?;
         let text = b"at 7 1 empty\n@audit ok\n";
         let ended = ends_so(rt, alloc, input, port, ALL, text)?;
