@@ -583,7 +583,7 @@ class Client:
     """
 
     def __init__(self, port: int, host: str = "127.0.0.1", timeout: float = 30.0, connections: int = 16) -> None:
-        self._connect = lambda: Connection(port, host, timeout)
+        self._connect: Callable[[], Connection] = lambda: Connection(port, host, timeout)
         self._most = connections
         self._connection: Optional[Connection] = None
         self._mirror = int.from_bytes(os.urandom(8), "big")
@@ -1171,7 +1171,7 @@ def main(words: Optional[Sequence[str]] = None) -> int:
         parser.error(fault)
     client = Client(options.port, options.host)
     try:
-        status = options.act(client, options)
+        status: int = options.act(client, options)
         sys.stdout.buffer.flush()
         return status
     except PositionRefused as refusal:

@@ -1,5 +1,7 @@
 """What the tests of the clients share."""
+import contextlib
 import os
+import random
 import shutil
 import socket
 import subprocess
@@ -32,6 +34,40 @@ def wait_until(true, seconds=20.0):
             return False
         time.sleep(0.02)
     return True
+
+
+def change(top, seed, count):
+    """Random changes of a directory."""
+    chance = random.Random(seed)
+    names = ["a", "b", "c d", "\n", "é"]
+
+    def path():
+        return os.path.join(top, *(chance.choice(names) for _ in range(chance.choice((1, 2, 2, 3)))))
+
+    for _ in range(count):
+        with contextlib.suppress(OSError):
+            change_one(chance.randrange(10), path(), path(), b"%d " % chance.randrange(100))
+
+
+def change_one(how, one, other, text):
+    """One change, if it can be made."""
+    if how < 5:
+        os.makedirs(os.path.dirname(one), exist_ok=True)
+        with open(one, "ab" if how < 2 else "wb") as file:
+            file.write(text)
+    elif how == 5:
+        os.makedirs(os.path.dirname(other), exist_ok=True)
+        os.rename(one, other)
+    elif how == 6 and os.path.isdir(one) and not os.path.islink(one):
+        shutil.rmtree(one)
+    elif how == 6:
+        os.unlink(one)
+    elif how == 7:
+        os.symlink(other, one)
+    elif how == 8:
+        os.chmod(one, 0o755 if text < b"5" else 0o644)
+    else:
+        os.makedirs(one, exist_ok=True)
 
 
 class InFolder(unittest.TestCase):

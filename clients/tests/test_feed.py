@@ -1,6 +1,5 @@
 """feed: the lines that it prints make of a mount what the directory holds, whatever happens there."""
 import os
-import random
 import shutil
 import signal
 import stat
@@ -8,7 +7,7 @@ import subprocess
 import threading
 import unittest
 
-from kit import InFolder, client, wait_until
+from kit import InFolder, change, client, wait_until
 from stand_in import Refusal, World, words_of
 
 
@@ -248,48 +247,18 @@ class Following(Fed):
         self.assertEqual(self.feeder.wait(10), 1)
         self.assertNotIn(b"remove", b"".join(self.lines_of))
 
-    def steps(self, seed, count):
-        """Random changes of the directory."""
-        chance = random.Random(seed)
-        names = ["a", "b", "c d", "\n", "é"]
-
-        def path():
-            return self.path("w", *(chance.choice(names) for _ in range(chance.choice((1, 2, 2, 3)))))
-
-        for _ in range(count):
-            one, other = path(), path()
-            try:
-                how = chance.randrange(10)
-                if how < 5:
-                    os.makedirs(os.path.dirname(one), exist_ok=True)
-                    with open(one, "ab" if how < 2 else "wb") as file:
-                        file.write(b"%d " % chance.randrange(100))
-                elif how == 5:
-                    os.makedirs(os.path.dirname(other), exist_ok=True)
-                    os.rename(one, other)
-                elif how == 6:
-                    shutil.rmtree(one) if os.path.isdir(one) and not os.path.islink(one) else os.unlink(one)
-                elif how == 7:
-                    os.symlink(other, one)
-                elif how == 8:
-                    os.chmod(one, chance.choice((0o644, 0o755)))
-                else:
-                    os.makedirs(one, exist_ok=True)
-            except OSError:
-                pass
-
     def test_many_changes(self):
         self.feed("--empty", "--settle", "0.005")
         self.settled()
         for seed in range(30):
-            self.steps(seed, 60)
+            change(self.path("w"), seed, 60)
             self.equal()
 
     def test_many_changes_by_looking(self):
         self.feed("--empty", "--scan", "--every", "0.03", "--settle", "0.005")
         self.settled()
         for seed in range(15):
-            self.steps(seed, 60)
+            change(self.path("w"), seed, 60)
             self.equal()
 
 

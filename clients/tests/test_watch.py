@@ -1,10 +1,11 @@
 """watch: the command runs once for what changed, with its paths, never beside itself; and what feed, edend serve and a mirror do together."""
+import contextlib
 import os
 import signal
 import subprocess
 import unittest
 
-from kit import InFolder, client, wait_until
+from kit import InFolder, change, client, wait_until
 
 COMMAND = """#!/bin/bash
 echo "begun $(date +%s%N)" >> "$LOG"
@@ -136,8 +137,10 @@ class Watching(InFolder):
 
 
 class Together(InFolder):
-    def test_a_directory_to_a_directory(self):
-        """feed, a server, and a mirror: a directory becomes equal to another."""
+    """feed, a server, and a mirror: a directory becomes equal to another."""
+
+    def setUp(self):
+        super().setUp()
         os.makedirs(self.path("w", "d"))
         for name in ("a", "d/b"):
             with open(self.path("w", name), "w", encoding="ascii") as file:
@@ -146,10 +149,32 @@ class Together(InFolder):
         port, _ = self.server(b"", source=feeder.stdout)
         self.started([*client("python/railburnet.py"), "--port", str(port), "follow", "--every", "0.02", "--into", self.path("m")], stdout=subprocess.DEVNULL)
 
-        def equal():
-            return subprocess.run(["diff", "-r", "--no-dereference", "-x", ".railburnet", self.path("w"), self.path("m")], capture_output=True, check=False).returncode == 0
+    def held(self, name):
+        """The files below a directory, with their modes and what they hold."""
+        top = os.fsencode(self.path(name))
+        found = {}
+        for at, folders, names in os.walk(top):
+            folders[:] = [folder for folder in folders if folder != b".railburnet"]
+            for full in (os.path.join(at, name) for name in names + folders):
+                if os.path.islink(full):
+                    found[full[len(top) :]] = os.readlink(full)
+                elif not os.path.isdir(full):
+                    with open(full, "rb") as file:
+                        found[full[len(top) :]] = (os.stat(full).st_mode & 0o100, file.read())
+        return found
 
-        self.assertTrue(wait_until(equal))
+    def equal(self):
+        """Waits until the mirror holds what the directory does."""
+        def holds():
+            # The mirror may be at work in between.
+            with contextlib.suppress(FileNotFoundError, NotADirectoryError):
+                return self.held("w") == self.held("m")
+            return False
+
+        self.assertTrue(wait_until(holds), self.text("stderr"))
+
+    def test_a_directory_to_a_directory(self):
+        self.equal()
         os.rename(self.path("w", "d"), self.path("w", "e"))
         os.symlink("e", self.path("w", "d"))
         os.unlink(self.path("w", "a"))
@@ -157,7 +182,12 @@ class Together(InFolder):
         for n in range(500):
             with open(self.path("w", "a", str(n)), "w", encoding="ascii") as file:
                 file.write(str(n))
-        self.assertTrue(wait_until(equal))
+        self.equal()
+
+    def test_many_changes(self):
+        for seed in range(20):
+            change(self.path("w"), seed, 60)
+            self.equal()
 
 
 if __name__ == "__main__":
