@@ -5,12 +5,13 @@ It speaks frames of version 1, as docs/formats.md says them, over TCP, and needs
 bytes. As a library:
 
     client = Client(port=7777)
-    basis = client.basis([b"src/**"])                 # which files there are, and the position of that answer
+    basis = client.basis([b"src/**"])                     # which files there are, and the position of that answer
     changes = client.since(basis.position, [b"src/**"])   # what changed since; PositionRefused where that can't be told
-    mirror = Mirror(patterns=[b"src/**"])
+    files = FileMap()
+    mirror = Mirror([b"src/**"], files=files)
     while client.round(mirror) is not Outcome.PLACED:     # rounds until the mirror has a position
         pass
-    mirror.files[b"src/main.c"].content
+    files[b"src/main.c"].content
 
 As a program: `python3 -m railburnet --help`.
 """
@@ -419,7 +420,8 @@ class Mirror:
     `files` is a FileMap where no other is given.
     """
 
-    def __init__(self, patterns: Iterable[bytes] = (), mirror: Optional[int] = None, life: Optional[int] = None, files: Optional[Files] = None) -> None:
+    def __init__(self, patterns: Iterable[bytes] = (), mirror: Optional[int] = None, life: Optional[int] = None,
+                 files: Optional[Files] = None) -> None:
         self.patterns = tuple(patterns)
         self.mirror = int.from_bytes(os.urandom(8), "big") if mirror is None else mirror
         self.life = time.time_ns() if life is None else life

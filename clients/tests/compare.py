@@ -181,7 +181,8 @@ def main():
     except Differs as difference:
         print(f"compare.py: {difference}", file=sys.stderr)
         return 1
-    print(f"{options.seeds} seeds of {options.rounds} rounds: {made:,} rounds of mirrors are equal to what edend lists and reads, {files:,} files; audit ok")
+    print(f"{options.seeds} seeds of {options.rounds} rounds: {made:,} rounds of mirrors are equal to what edend lists and reads, "
+          f"{files:,} files; audit ok")
     return 0
 
 

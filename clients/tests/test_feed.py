@@ -154,9 +154,10 @@ class Following(Fed):
         for name in (b"large", b"escaped", b"huge"):
             self.assertEqual(self.text("stderr").count(b"feed: " + name + b": "), 1)
         # Each change of it is one of its path.
-        for change in (lambda: os.utime(self.path("w", "large")), lambda: os.rename(self.path("w", "large"), self.path("w", "l")), lambda: self.write(b"l", b"y" * 80_000)):
+        large, moved = self.path("w", "large"), self.path("w", "l")
+        for happens in (lambda: os.utime(large), lambda: os.rename(large, moved), lambda: self.write(b"l", b"y" * 80_000)):
             number = self.world.number
-            change()
+            happens()
             self.assertTrue(wait_until(lambda: self.world.number > number and {b"large", b"l"} & self.world.since(number).keys()))
         self.write(b"l", b"small")
         self.assertTrue(wait_until(lambda: self.world.files.get(b"l") == (1, b"small")))

@@ -1,6 +1,7 @@
 """A mirror in a real directory: what it makes equal, what it leaves alone, and that nothing outside is touched."""
 import os
 import stat
+import subprocess
 import unittest
 
 from kit import InFolder, client, wait_until
@@ -61,7 +62,8 @@ class Placing(InFolder):
         return found
 
     def test_kinds_and_names(self):
-        files = {b"a b/\xff\n/x": plain(b"1"), b"run": File(Kind.EXEC, b"2"), b"l": File(Kind.LINK, b"/etc/passwd"), b"-rf": plain(b""), b".h/.git": plain(b"3")}
+        files = {b"a b/\xff\n/x": plain(b"1"), b"run": File(Kind.EXEC, b"2"), b"l": File(Kind.LINK, b"/etc/passwd"), b"-rf": plain(b""),
+                 b".h/.git": plain(b"3")}
         self.assertEqual(self.placed(files), 0)
         self.assertEqual(self.tree(), files)
         # The same bytes become a file of another kind.
@@ -182,7 +184,8 @@ class Placing(InFolder):
             self.closed()
 
     def test_names_that_cannot_be(self):
-        self.assertEqual(self.placed({b".railburnet/made": plain(b"1"), b"l": File(Kind.LINK, b""), b"n": File(Kind.LINK, b"a\0b"), b"ok": plain(b"2")}), 1)
+        files = {b".railburnet/made": plain(b"1"), b"l": File(Kind.LINK, b""), b"n": File(Kind.LINK, b"a\0b"), b"ok": plain(b"2")}
+        self.assertEqual(self.placed(files), 1)
         self.assertEqual(self.tree(), {b"ok": plain(b"2")})
         self.assertEqual(len(self.told), 3)
 
@@ -196,7 +199,8 @@ class Following(InFolder):
     def test_follow_into(self):
         port, server = self.server(b"mount empty 7 1000000\n")
         self.lines(server, b"write a plain 1", b"write d/b exec 2", b"write l link a")
-        follow = self.started([*client("python/railburnet.py"), "--port", str(port), "follow", "--into", self.path("m"), "--every", "0.02"], stdout=open(os.devnull, "w"))
+        words = ["--port", str(port), "follow", "--into", self.path("m"), "--every", "0.02"]
+        follow = self.started([*client("python/railburnet.py"), *words], stdout=subprocess.DEVNULL)
 
         def holds(*names):
             found = sorted(os.path.relpath(os.path.join(at, name), self.path("m")) for at, _, files in os.walk(self.path("m")) for name in files)

@@ -279,7 +279,8 @@ class Connections(InFolder):
         while client.position().sequence < 5:
             pass
         self.assertEqual(client.basis([b"d/*"]).paths, [b"d/b", b"d/x y"])
-        self.assertEqual(client.since(Position(7, 2)).marked, [(Mark.CREATED, b"c"), (Mark.REMOVED, b"d/a"), (Mark.CREATED, b"d/b"), (Mark.CREATED, b"d/x y")])
+        marked = [(Mark.CREATED, b"c"), (Mark.REMOVED, b"d/a"), (Mark.CREATED, b"d/b"), (Mark.CREATED, b"d/x y")]
+        self.assertEqual(client.since(Position(7, 2)).marked, marked)
         self.assertEqual(client.fetch(b"d/b").file, File(Kind.EXEC, b"2"))
         self.assertIsNone(client.fetch(b"d/a").file)
         for position, refused in ((Position(6, 1), (Cause.STALE, 7)), (Position(7, 6), (Cause.AHEAD, 5))):

@@ -147,7 +147,8 @@ class Together(InFolder):
                 file.write(name)
         feeder = self.started([*client("feed"), "--empty", self.path("w")], stdout=subprocess.PIPE)
         port, _ = self.server(b"", source=feeder.stdout)
-        self.started([*client("python/railburnet.py"), "--port", str(port), "follow", "--every", "0.02", "--into", self.path("m")], stdout=subprocess.DEVNULL)
+        words = ["--port", str(port), "follow", "--every", "0.02", "--into", self.path("m")]
+        self.started([*client("python/railburnet.py"), *words], stdout=subprocess.DEVNULL)
 
     def held(self, name):
         """The files below a directory, with their modes and what they hold."""
