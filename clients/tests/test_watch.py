@@ -60,7 +60,7 @@ class Watching(InFolder):
             wait_until(lambda: False, 0.1)
         self.assertTrue(wait_until(lambda: {b"f%d" % n for n in range(12)} == {path for run in self.runs(1) for path in run[2]}))
         runs = self.runs(2)
-        self.assertLess(len(runs), 6)
+        self.assertLess(len(runs), 12)
         for before, after in zip(runs, runs[1:]):
             self.assertLess(before[1], after[0])
 
