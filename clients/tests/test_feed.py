@@ -1,14 +1,16 @@
 """feed: the lines that it prints make of a mount what the directory holds, whatever happens there."""
+import io
 import os
 import shutil
 import signal
 import stat
 import subprocess
+import sys
 import threading
 import unittest
 
 from kit import InFolder, change, client, wait_until
-from stand_in import Refusal, World, words_of
+from stand_in import Refusal, World, read_commits, words_of
 
 
 class Fed(InFolder):
@@ -228,6 +230,48 @@ class Following(Fed):
         self.write(b"d/e/y", b"3")
         self.equal()
 
+    def test_links_are_not_followed(self):
+        """A directory gives way to a link to another one that has the same names."""
+        self.write(b"d/x", b"1")
+        os.mkdir(self.path("outside"))
+        self.feed("--empty")
+        self.settled()
+        os.rename(self.path("w", "d"), self.path("outside", "d"))
+        os.symlink(self.path("outside", "d"), self.path("w", "d"))
+        self.equal()
+        with open(self.path("outside", "d", "x"), "w", encoding="ascii") as file:
+            file.write("changed outside")
+        self.write(b"y", b"2")
+        self.equal()
+        self.assertEqual(set(self.world.files), {b"d", b"y"})
+        self.assertNotIn(b"changed", b"".join(self.lines_of))
+
+    def test_too_few_watches(self):
+        """The system can't watch a fourth directory: everything is looked at again and again."""
+        program = """
+import errno, importlib.machinery, importlib.util, sys
+loader = importlib.machinery.SourceFileLoader("feed", sys.argv.pop(1))
+feed = importlib.util.module_from_spec(importlib.util.spec_from_loader("feed", loader))
+sys.modules["feed"] = feed
+loader.exec_module(feed)
+add = feed.Inotify.add
+def few(self, folder, path):
+    if len(self.paths) >= 3:
+        raise feed.NoNotices("no watch left")
+    return add(self, folder, path)
+feed.Inotify.add = few
+sys.exit(feed.main())
+"""
+        for name in (b"a/x", b"b/x"):
+            self.write(name, b"1")
+        self.feed("--empty", "--every", "0.1", words=[sys.executable, "-B", "-c", program, client("feed")[1]])
+        self.settled()
+        self.write(b"c/d/e", b"2")
+        self.equal()
+        self.assertTrue(wait_until(lambda: b"no watch left; looking at everything every 0.1 seconds" in self.text("stderr")))
+        self.write(b"c/d/f", b"3")
+        self.equal()
+
     def test_the_reader_ends(self):
         feeder = self.started([*client("feed"), "--empty", self.path("w")], stdout=subprocess.PIPE)
         self.assertTrue(wait_until(lambda: b"following" in self.text("stderr")))
@@ -330,6 +374,23 @@ class OfARepository(Fed):
         self.assertLessEqual(len(self.since(count)), 2)
         self.git("checkout", "-q", self.first)
         self.equal()
+
+    def test_a_commit_written_anew(self):
+        """A commit with a submodule and a file above the limit of a mount, as git-objects writes it anew."""
+        with open(self.path("w", "huge"), "wb") as file:
+            file.truncate(9_000_000)
+        self.git("add", "-A")
+        self.git("update-index", "--add", "--cacheinfo", f"160000,{self.first},module")
+        self.git("commit", "-q", "-m", "odd")
+        odd = self.git("rev-parse", "HEAD")
+        done = subprocess.run([*client("git-objects"), "--leave-out", self.path("w"), odd], stdout=subprocess.PIPE, stderr=subprocess.PIPE, check=True)
+        new = done.stderr.decode().split(f"{odd} is written anew as ")[1][:40]
+        commits = read_commits(io.BytesIO(done.stdout))
+        self.feed("--once", "--commit", f"HEAD={new}", commits=commits)
+        self.assertEqual(self.feeder.wait(20), 0)
+        self.reader.join()
+        self.assertEqual([line.split()[:2] for line in self.lines_of], [[b"mount", new[:32].encode()], [b"write", b"huge"], [b"remove", b"huge"]])
+        self.assertEqual({**self.world.files, b"huge": (1, bytes(9_000_000))}, self.directory(10**7))
 
     def test_a_deeper_directory(self):
         done = subprocess.run([*client("feed"), self.path("w", "d1")], stderr=subprocess.PIPE, stdout=subprocess.PIPE, check=False)
