@@ -1,0 +1,60 @@
+//! The lines behind `listen`, which change what stays.
+
+use crate::listening::program_fault;
+use eden_command::ProgramFault;
+use eden_edend::{Changer, Labels, LineInput, run_changes};
+use eden_history::Change;
+use eden_ids::{Naming, NoMemory};
+use eden_query::Served;
+use eden_resident::Resident;
+use std::alloc::Global;
+use std::io::Read;
+use std::sync::Wait;
+
+/// Changes a server behind its lock.
+#[derive(Drop)]
+struct Writer<'a, N: Naming + Drop, T: Served<N>, R: Wait> {
+    rt: &'a R,
+    resident: &'a Resident<N, T>,
+}
+
+impl<'a, N: Naming + Drop, T: Served<N>, R: Wait> Changer for Writer<'a, N, T, R> {
+    ghost use Rattle.eden_stay.specs.Changes.{IsMade};
+
+    ghost made = { λ _ change _. IsMade N.id T.stands_for T.apply_gives change };
+
+    fn change(&mut self, change: &Change) -> Result<(), NoMemory> {
+        let _answer = self.resident.change(self.rt, change)?;
+        Ok(())
+    }
+}
+
+/// What a script has behind `listen`.
+#[derive(Drop)]
+pub(crate) struct Lines<I: Read + Drop> {
+    pub(crate) input: LineInput<I>,
+    pub(crate) labels: Labels,
+    /// The number of the line `listen`.
+    pub(crate) from: u64,
+}
+
+impl<I: Read + Drop> Lines<I> {
+    /// Makes the changes of the lines, to the end of the input or the first fault.
+    pub(crate) fn run<N: Naming + Drop, T: Served<N>, R: Wait>(
+        self,
+        rt: &R,
+        alloc: Global,
+        resident: &Resident<N, T>,
+    ) -> Result<(), ProgramFault> {
+        let Lines {
+            mut input,
+            labels,
+            from,
+        } = self;
+        let mut writer = Writer { rt, resident };
+        match run_changes(alloc, &mut input, &labels, from, &mut writer) {
+            Ok(_) => Ok(()),
+            Err(fault) => Err(program_fault(fault)),
+        }
+    }
+}

@@ -1,0 +1,121 @@
+//! The program: a script up to `listen`, the threads that serve what it mounted, and the lines behind.
+
+ghost use Rattle.std.specs.Prelude.{OnOk};
+ghost use Rattle.eden_script.specs.ScriptText.{script_text};
+ghost use Rattle.eden_script.specs.Sessions.{session_over};
+ghost use Rattle.eden_stay.specs.Printings.{TellsPort};
+
+use crate::lines::Lines;
+use crate::listening::{open_port, program_fault, tell_port};
+use crate::station::Station;
+use eden_command::ProgramFault;
+use eden_edend::{LineInput, Objects, Opened, run_to_listen};
+use eden_stream::{Counted, CountedWrite};
+use std::alloc::Global;
+use std::io::Read;
+use std::net::{Net, TcpListener, TcpStream};
+use std::sync::Wait;
+use std::thread;
+use std::thread::Threads;
+use std::time::Clock;
+
+/// Serves connections in so many threads, or in as many as can be made, while the lines run. Ends once all of them have ended.
+fn run_threads<R: Threads + Wait + Clock + Net + Sync, I: Read + Drop>(
+    rt: &R,
+    alloc: Global,
+    station: &Station,
+    lines: Lines<I>,
+    threads: u64,
+) -> Result<(), ProgramFault> {
+    thread::scope(
+        thread::scope_env(),
+        rt,
+        move |scope| -> Result<(), ProgramFault> {
+            let mut serves = false;
+            for _ in 0..threads {
+                serves |= scope.spawn(move || station.accept_all(rt, alloc)).is_ok();
+            }
+            if !serves {
+                return Err(ProgramFault::NoConnection);
+            }
+            let ended = lines.run(rt, alloc, &station.resident);
+            station.close(rt, threads);
+            ended
+        },
+    )
+}
+
+/// Serves what a script has opened to the connections that a listener accepts, in so many threads, each of which accepts the next connection when
+/// its last one has ended. Meanwhile it makes the changes of the input's lines behind `listen`, as `eden_edend::run_changes` does.
+///
+/// A connection ends when its peer ends it, with a fault, or behind 1,000,000 reads. That ends no other. Where not all of the threads can be
+/// made, there are fewer.
+///
+/// Once the input has ended, or a line has a fault, no connection is accepted any more, and those that are open end within 200 ms or so, whatever
+/// their peers do: what is not read or not written by then is lost. Then this ends too.
+///
+/// # Errors
+///
+/// - `BadLine`, `Read` and `TurnsSpent`, where the lines have ended so. The number is counted from the first line of the script.
+/// - `NoMemory`, where a growth was refused to the lines. That one was refused to a connection ends this connection alone.
+/// - `NoConnection`, where no thread could be made, or the system can't tell the listener's address: no line behind `listen` is read.
+pub fn stay_listener<R: Threads + Wait + Clock + Net + Sync, I: Read + Drop>(
+    rt: &R,
+    alloc: Global,
+    opened: Opened,
+    input: LineInput<I>,
+    listener: TcpListener,
+    threads: u64,
+) -> Result<(), ProgramFault> {
+    let Opened {
+        line,
+        mount,
+        labels,
+    } = opened;
+    let station = Station::new(mount, listener)?;
+    let lines = Lines {
+        input,
+        labels,
+        from: line,
+    };
+    run_threads(rt, alloc, &station, lines, threads)
+}
+
+/// Runs a script, which begins with some objects and with labels that are bound to some of them, up to its first line that is `listen`, and then
+/// serves its mount as `stay_listener` does, on a port of 127.0.0.1.
+///
+/// What the lines before `listen` print is written, and then `listening` and the port, once connections are taken there. Nothing else is written.
+///
+/// # Errors
+///
+/// - `BadLine`, with the number of the first line that can't be read, of `listen` where there is no mount, or of the line behind the last, where
+///   the script ends before `listen`: no port is bound. Or with that of a line behind `listen` that changes no mount.
+/// - `NoConnection`, where the port can't be bound, or as `stay_listener` says.
+/// - `Read`, `Write`, `TurnsSpent` and `NoMemory` as those of `eden_edend::run`, of the lines before `listen`; and as `stay_listener` says.
+pub fn stay_program<
+    R: Threads + Wait + Clock + Net<Listener = TcpListener, Stream = TcpStream> + Sync,
+    I: Read + Drop,
+    W: CountedWrite,
+>(
+    rt: &R,
+    alloc: Global,
+    objects: Objects,
+    input: I,
+    writer: &mut W,
+    port: u16,
+    threads: u64,
+) -> Result<(), ProgramFault>
+    ensures { OnOk result (TellsPort (script_text (session_over objects.store objects.labels)) port (I.remaining input) (W.contents writer.old) (W.contents writer.new)) }
+{
+    let Ok(mut input) = LineInput::new(alloc, input) else {
+        return Err(ProgramFault::NoMemory);
+    };
+    let mut reader = Counted::new(&mut input);
+    let opened = match run_to_listen(alloc, objects, &mut reader, writer) {
+        Ok(opened) => opened,
+        Err(fault) => return Err(program_fault(fault)),
+    };
+    let listener = open_port(rt, port)?;
+    tell_port(alloc, writer, port)?;
+    stay_listener(rt, alloc, opened, input, listener, threads)
+}
