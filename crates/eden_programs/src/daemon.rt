@@ -110,7 +110,8 @@ fn work<
             },
         ) => {
             if stays {
-                stay_program(rt, alloc, objects, input, output, port, connections)
+                let mut writer = Counted::new(output);
+                stay_program(rt, alloc, objects, input, &mut writer, port, connections)
             } else {
                 serve_over(rt, alloc, objects, input, output, port, connections)
             }

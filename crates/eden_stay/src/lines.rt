@@ -1,12 +1,12 @@
 //! The lines behind `listen`, which change what stays.
 
-use crate::listening::program_fault;
 use eden_command::ProgramFault;
 use eden_edend::{Changer, Labels, LineInput, run_changes};
 use eden_history::Change;
 use eden_ids::{Naming, NoMemory};
 use eden_query::Served;
 use eden_resident::Resident;
+use eden_serve::program_fault;
 use std::alloc::Global;
 use std::io::Read;
 use std::sync::Wait;

@@ -6,10 +6,10 @@ ghost use Rattle.eden_script.specs.Sessions.{session_over};
 ghost use Rattle.eden_stay.specs.Printings.{TellsPort};
 
 use crate::lines::Lines;
-use crate::listening::{open_port, program_fault, tell_port};
 use crate::station::Station;
 use eden_command::ProgramFault;
 use eden_edend::{LineInput, Objects, Opened, run_to_listen};
+use eden_serve::{open_port, program_fault, tell_port};
 use eden_stream::{Counted, CountedWrite};
 use std::alloc::Global;
 use std::io::Read;

@@ -11,6 +11,7 @@ use eden_history::Position;
 use eden_ids::Id;
 use eden_messages::{Query, Reply, Request};
 use eden_stay::stay_program;
+use eden_stream::Counted;
 use eden_wire::encode_request;
 use std::alloc::Global;
 use std::net::{Net, TcpListener, TcpStream};
@@ -187,9 +188,9 @@ fn stay<R: Machine>(
     ended: &AtomicBool,
 ) -> bool {
     let feed = Feed::new(rt, script, lines, b"".as_slice(), ended);
-    let mut text = Vec::new(alloc);
+    let mut writer = Counted::new(Vec::new(alloc));
     let objects = Objects::new(alloc);
-    stay_program(rt, alloc, objects, feed, &mut text, port, 64).is_ok()
+    stay_program(rt, alloc, objects, feed, &mut writer, port, 64).is_ok()
 }
 
 /// Tells of how many files a client was told, and in what time.

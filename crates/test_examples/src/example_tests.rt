@@ -52,6 +52,7 @@ fn examples(rt: HostRuntime) -> Result<(), Fail> {
     eden_connect_example(&rt, alloc)?;
     eden_resident_example(&rt, alloc)?;
     eden_serve_example(&rt, alloc, free_port(&rt)?)?;
+    eden_stay_example(&rt, alloc, free_port(&rt)?)?;
     eden_programs_example(&rt, alloc)?;
     eden_world_example(&rt, alloc)?;
     test_kit_example(&rt, alloc)?;
@@ -590,6 +591,25 @@ fn eden_serve_example<
     assert_eq!(rt; ended, Ok(()));
     assert!(rt; text.starts_with(b"at 7 1 empty\nlistening ".as_slice()));
     assert!(rt; text.ends_with(b"\naudit ok\n".as_slice()));
+    Ok(())
+}
+
+fn eden_stay_example<
+    R: Abort + Threads + Wait + Clock + Net<Listener = TcpListener, Stream = TcpStream> + Sync,
+>(rt: &R, alloc: Global, port: u16) -> Result<(), Fail> {
+    use eden_edend::Objects;
+    use eden_stay::stay_program;
+    use eden_stream::Counted;
+
+    let script = b"mount empty 7 1000\nlisten\nwrite notes plain to\\sdo\n";
+    let mut text = Vec::new(alloc);
+    let mut writer = Counted::new(&mut text);
+    let objects = Objects::new(alloc);
+    let script = script.as_slice();
+    // A port that nobody listens at.
+    let ended = stay_program(rt, alloc, objects, script, &mut writer, port, 2);
+    assert_eq!(rt; ended, Ok(()));
+    assert!(rt; text.starts_with(b"at 7 1 empty\nlistening ".as_slice()));
     Ok(())
 }
 
