@@ -2,9 +2,8 @@
 
 use crate::client::{Frames, ask_both, connect, listen, make_frames};
 use crate::feed::{PRINTED, SCRIPT, serve};
-use eden_command::ProgramFault;
 use eden_edend::{LineInput, Objects};
-use eden_serve::{read_opening, serve_listener};
+use eden_serve::{ProgramFault, read_opening, serve_listener};
 use std::alloc::Global;
 use std::net::{Net, TcpListener, TcpStream};
 use std::sync::Wait;
