@@ -29,12 +29,22 @@ pub(crate) enum LinkFault {
 }
 
 impl From<NoMemory> for LinkFault {
+    ghost use Rattle.std.specs.Prelude.{◌≡◌};
+    ghost use Rattle.eden_connect.specs.declared.link.LinkFault.TheVariants.{NoMemory};
+
+    ghost from_gives = { λ _ fault. fault ≡ NoMemory };
+
     fn from(_refused: NoMemory) -> LinkFault {
         LinkFault::NoMemory
     }
 }
 
 impl From<AllocError> for LinkFault {
+    ghost use Rattle.std.specs.Prelude.{◌≡◌};
+    ghost use Rattle.eden_connect.specs.declared.link.LinkFault.TheVariants.{NoMemory};
+
+    ghost from_gives = { λ _ fault. fault ≡ NoMemory };
+
     fn from(_refused: AllocError) -> LinkFault {
         LinkFault::NoMemory
     }

@@ -30,6 +30,11 @@ pub(crate) enum RoundFault {
 }
 
 impl From<NoMemory> for RoundFault {
+    ghost use Rattle.std.specs.Prelude.{◌≡◌};
+    ghost use Rattle.eden_connect.specs.declared.rounds.RoundFault.TheVariants.{NoMemory};
+
+    ghost from_gives = { λ _ fault. fault ≡ NoMemory };
+
     fn from(_refused: NoMemory) -> RoundFault {
         RoundFault::NoMemory
     }
