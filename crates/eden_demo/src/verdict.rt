@@ -37,6 +37,7 @@ impl Verdict {
         ensures differ { IsErrOf result ProgramFault.Differ
             → Appends (W.contents writer.old) (W.contents writer.new) (codes "audit ok\nfollowers differ\n") }
         ensures unwritten { IsErrOf result ProgramFault.NoMemory → Keeps (W.contents writer.old) (W.contents writer.new) }
+        ensures unserved { IsErrOf result ProgramFault.NoConnection → Keeps (W.contents writer.old) (W.contents writer.new) }
     {
         let Ok(text) = self.text(alloc) else {
             return Err(ProgramFault::NoMemory);

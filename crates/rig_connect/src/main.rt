@@ -41,12 +41,6 @@ const BYTES: u64 = 500;
 /// What the daemon's input goes on with while it is polled.
 const LINES: &[u8] = b"write w plain x\nwrite w plain y\n";
 
-/// What a client and a daemon need of the system.
-trait Machine: Threads + Wait + Clock + Net<Listener = TcpListener, Stream = TcpStream> + Sync {}
-
-impl<R: Threads + Wait + Clock + Net<Listener = TcpListener, Stream = TcpStream> + Sync> Machine
-    for R {}
-
 /// A script that mounts, and writes so many files with so many bytes each, up to `listen`.
 fn script(alloc: Global, files: u64, bytes: u64) -> Result<Vec<u8>> {
     let mut content = Vec::new(alloc);
@@ -108,7 +102,12 @@ struct Told {
 }
 
 /// Polls one connection again and again: what the last poll told, and the least time.
-fn poll_alone<R: Machine>(rt: &R, alloc: Global, port: u16, frame: &[u8]) -> Option<Told> {
+fn poll_alone<R: Net<Stream = TcpStream> + Clock>(
+    rt: &R,
+    alloc: Global,
+    port: u16,
+    frame: &[u8],
+) -> Option<Told> {
     let stream = connect(rt, port)?;
     let mut told = Told {
         paths: 0,
@@ -127,7 +126,13 @@ fn poll_alone<R: Machine>(rt: &R, alloc: Global, port: u16, frame: &[u8]) -> Opt
 }
 
 /// Polls one connection so many times, and tells whether all were answered.
-fn poll_often<R: Machine>(rt: &R, alloc: Global, port: u16, frame: &[u8], polls: u64) -> bool {
+fn poll_often<R: Net<Stream = TcpStream> + Clock>(
+    rt: &R,
+    alloc: Global,
+    port: u16,
+    frame: &[u8],
+    polls: u64,
+) -> bool {
     let Some(stream) = connect(rt, port) else {
         return false;
     };
@@ -163,7 +168,11 @@ fn poll_together<R: Threads + Clock + Sync, P: Fn(u64) -> bool + Sync>(
 }
 
 /// Takes a basis and all contents: how many bytes are told of it, and how long it took.
-fn take_basis<R: Machine>(rt: &R, alloc: Global, port: u16) -> Option<Told> {
+fn take_basis<R: Net<Stream = TcpStream> + Clock>(
+    rt: &R,
+    alloc: Global,
+    port: u16,
+) -> Option<Told> {
     let _ready = connect(rt, port)?;
     let filter = Filter::all(alloc);
     let mut text = Vec::new(alloc);
@@ -179,7 +188,7 @@ fn take_basis<R: Machine>(rt: &R, alloc: Global, port: u16) -> Option<Told> {
 }
 
 /// Runs a daemon that stays, with this script and these lines behind it, until the flag is set. Tells whether that ends well.
-fn stay<R: Machine>(
+fn stay<R: Threads + Wait + Clock + Net<Listener = TcpListener, Stream = TcpStream> + Sync>(
     rt: &R,
     alloc: Global,
     port: u16,
