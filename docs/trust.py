@@ -30,7 +30,10 @@ PROMISES = [
     ("an audit (`audit`)", "eden_audit", ["audit"]),
     ("callers behind a lock (`Shared`, `Desk`, `serve_shared`)", "eden_shared", ["change", "hold", "finish", "ask", "serve_shared"]),
     ("a follower, and what vouches for it (`Follower`, `vouch`, `merge_law`)", "eden_follow eden_headline", ["step", "deliver", "vouch", "merge_law"]),
-    ("a script (`run`)", "eden_edend", ["run"]),
+    ("a mount of which nothing is kept (`Resident`, `serve_resident`)", "eden_resident", ["change", "hold", "ask", "serve_resident"]),
+    ("a script (`run`), up to `listen` (`run_to_listen`) and behind it (`run_changes`)", "eden_edend", ["run", "run_to_listen", "run_changes"]),
+    ("what a daemon that stays prints (`stay_program`)", "eden_stay", ["stay_program"]),
+    ("what a client prints of its mirror (`connect_program`)", "eden_connect", ["connect_program"]),
 ]
 
 HEADER = re.compile(r"^(?:abbrev |unfoldable |opaque )?(?:pub )?(?:record |data )?([^\s:({]+)")
