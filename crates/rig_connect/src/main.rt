@@ -151,7 +151,7 @@ fn poll_together<R: Threads + Clock + Sync, P: Fn(u64) -> bool + Sync>(
     connections: u64,
     poll: &P,
 ) -> Option<Told>
-    requires { P.IsAlwaysCallable poll }
+    requires { P.IsAlwaysCallable poll.now }
 {
     let each = POLLS.checked_div(connections)?;
     let mut turns = Vec::new(alloc);

@@ -87,7 +87,7 @@ fn follow_all<R: Threads + Sync, F: Fn((u64, u32)) -> Option<Vec<u8>> + Sync>(
     mirrors: Vec<(u64, u32)>,
     follow: &F,
 ) -> Option<Vec<Vec<u8>>>
-    requires { F.IsAlwaysCallable follow }
+    requires { F.IsAlwaysCallable follow.now }
 {
     let told = thread::map_vec(rt, mirrors, follow).ok()?;
     let mut texts = Vec::new(alloc);
@@ -154,7 +154,7 @@ fn run_mirrors<
     R: Threads + Net<Stream = TcpStream> + Clock + Sync,
     F: Fn((u64, u32)) -> Option<Vec<u8>> + Sync,
 >(rt: &R, alloc: Global, port: u16, count: u64, ended: &AtomicBool, follow: &F) -> Option<bool>
-    requires { F.IsAlwaysCallable follow }
+    requires { F.IsAlwaysCallable follow.now }
 {
     let frame = last_file(alloc)?;
     let followed = follow_all(rt, alloc, mirrors(alloc, 1, count, ROUNDS)?, follow);
