@@ -17,7 +17,7 @@ use Rattle.eden_ids.specs.declared.content.Kind.TheVariants.{Plain, Exec, Link}
 use Rattle.eden_ids.specs.declared.content.Content.{Content}
 use Rattle.eden_ids.specs.Paths.{clashes, lies_below}
 use Rattle.eden_ids.specs.Sameness.{same_bytes}
-use Rattle.eden_ids.proofs.Below.{below_in_steps}
+use Rattle.eden_ids.proofs.BelowLemmas.{below_in_steps}
 use Rattle.eden_ids.specs.FileMaps.{FileMap, no_files, file_at, paths, PathSet, has, listing, no_paths, path_set, union, same_path, same_kind, same_file, differ, put_option, tabulate, has_file_above, has_file_below, IsFileMap}
 use Rattle.std.proofs.Math.Bool.{and-false}
 

@@ -1,8 +1,9 @@
-mod Below
+pub mod BelowLemmas
 pub mod FileMapLemmas
 pub mod ByteOrder
 pub mod TreeQuestions
 pub mod TreeMaps
+mod Calls
 mod HexTexts
 pub mod ColumnLemmas
 pub mod Sifted

@@ -1,3 +1,5 @@
+//! A file: its kind and its bytes.
+
 ghost use Rattle.std.specs.Prelude.{◌≡◌, IfOk};
 
 use crate::memory::NoMemory;
@@ -25,6 +27,8 @@ pub struct Content {
 }
 
 impl Content {
+    ghost use Rattle.eden_ids.specs.FileMaps.{lent};
+
     /// The most bytes that a file may hold: 8 MiB.
     pub const LIMIT: usize = 8_388_608;
 
@@ -49,6 +53,16 @@ impl Content {
     {
         match content {
             Some(content) => Ok(Some(content.copy()?)),
+            None => Ok(None),
+        }
+    }
+
+    /// A file in memory of its own that is equal to one that is lent, or none where none is. `NoMemory` comes where a growth was refused.
+    pub fn of_lent(alloc: Global, file: Option<(Kind, &[u8])>) -> Result<Option<Content>, NoMemory>
+        ensures { IfOk result (λ copy. copy ≡ lent file.entry) }
+    {
+        match file {
+            Some((kind, bytes)) => Ok(Some(Content::from_bytes(alloc, kind, bytes)?)),
             None => Ok(None),
         }
     }

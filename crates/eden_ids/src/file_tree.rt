@@ -1,3 +1,5 @@
+//! What can tell which file stands at each path, and the questions that all such trees answer.
+
 ghost use Rattle.std.specs.Prelude.{◌≡◌, ◌<◌, ◌&&◌, is_some, length, nat_eq, take};
 ghost use Rattle.std.specs.List.{slice_index_or};
 ghost use Rattle.eden_ids.specs.FileMaps.{clashes_any, file_at, has_file_above, lent, same_file, same_kind};

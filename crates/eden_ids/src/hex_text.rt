@@ -1,3 +1,5 @@
+//! Ids as forty hexadecimal digits, and back.
+
 ghost use Rattle.std.specs.Prelude.{◌≡◌};
 ghost use Rattle.std.specs.List.{list_all};
 ghost use Rattle.eden_ids.specs.Hex.{is_lower_digit, id_of_hex, TextIsReadBack, TextIsTheOnlyOne};

@@ -1,3 +1,5 @@
+//! An object's id.
+
 ghost use Rattle.std.specs.Prelude.{◌≡◌, ◌<◌};
 ghost use Rattle.eden_ids.specs.Columns.{word};
 

@@ -22,7 +22,7 @@
 //! ```
 #![tactic(auto)]
 
-pub use crate::at_path::{AtPath, has_path_below, paths_below};
+pub use crate::below::{AtPath, has_path_below, paths_below};
 pub use crate::column::IdColumn;
 pub use crate::content::{Content, Kind};
 pub use crate::file_tree::{
@@ -38,8 +38,9 @@ pub use crate::path::{NoPath, Path, PathFault, is_component};
 pub use crate::path_table::PathTable;
 pub use crate::sequence::Sequence;
 pub use crate::text_laws::{bytes_law, id_law, path_law};
+pub use crate::wanted::push_where;
 
-mod at_path;
+mod below;
 mod column;
 mod content;
 mod file_tree;
@@ -53,3 +54,4 @@ mod path;
 mod path_table;
 mod sequence;
 mod text_laws;
+mod wanted;

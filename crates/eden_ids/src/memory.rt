@@ -1,3 +1,5 @@
+//! Why a call that wants memory may be refused.
+
 use std::alloc::{AllocError, AllocFailed};
 use thiserror::Error;
 

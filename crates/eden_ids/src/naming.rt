@@ -1,3 +1,5 @@
+//! The rule that gives each object its id.
+
 ghost use Rattle.std.specs.Prelude.{◌≡◌};
 
 use crate::id::Id;

@@ -1,3 +1,5 @@
+//! Paths in a working copy.
+
 ghost use Rattle.std.specs.Prelude.{◌≡◌, ◌≢◌, ◌++◌, ℕ, None, Some, IfOk, IfErr, not, nat_eq, length};
 ghost use Rattle.std.specs.List.{list_all};
 ghost use Rattle.std.specs.Ordering.{nat_cmp, as_partial_cmp};
@@ -94,7 +96,7 @@ fn has_names_alone(bytes: &[u8]) -> bool
     bytes.split(|b| *b == b'/').all(is_component)
 }
 
-fn count_of_names(bytes: &[u8]) -> usize
+fn names_in(bytes: &[u8]) -> usize
     ensures { result ≡ length (components bytes.now) }
 {
     bytes.split(|b| *b == b'/').count()
@@ -109,7 +111,7 @@ fn fault_of(bytes: &[u8]) -> Option<PathFault>
         Some(PathFault::TooLong)
     } else if !has_names_alone(bytes) {
         Some(PathFault::BadComponent)
-    } else if count_of_names(bytes) > 64 {
+    } else if names_in(bytes) > 64 {
         Some(PathFault::TooDeep)
     } else {
         None
@@ -169,7 +171,7 @@ impl Path {
     }
 
     /// Whether this path stands below the other, as a file stands below a directory: it begins with the other and a slash.
-    #[tactic(auto, using(crate::proofs::Below::below_in_steps))]
+    #[tactic(auto, using(crate::proofs::BelowLemmas::below_in_steps))]
     pub fn is_below(&self, top: &Path) -> bool
         ensures { result ≡ lies_below self.now top.now }
     {

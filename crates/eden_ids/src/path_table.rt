@@ -1,3 +1,5 @@
+//! Sets of paths.
+
 ghost use Rattle.std.specs.Prelude.{◌≡◌, ◌++◌, IfOk, OnOk, OnErr};
 ghost use Rattle.std.specs.Map.Iter.{deref, ShowsInOrder};
 ghost use Rattle.std.specs.FinMap as fin;

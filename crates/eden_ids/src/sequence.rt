@@ -1,3 +1,5 @@
+//! Lists that are not changed any more.
+
 ghost use Rattle.std.specs.Prelude.{◌≡◌, ℕ, [], length, nat_eq};
 ghost use Rattle.std.specs.List.{AllZip};
 ghost use Rattle.std.specs.Cmp.Lexicographic.{pointwise, lists_per};

@@ -1,5 +1,5 @@
 use Rattle.std.proofs.lemmas.List.{take_rest}
-use Rattle.eden_ids.proofs.Below.{below_in_steps}
+use Rattle.eden_ids.proofs.BelowLemmas.{below_in_steps}
 use Rattle.eden_ids.proofs.path.Path.is_below.Goals as goal
 
 pub returns-then-starts_with : goal.returns-then-starts_with

@@ -1,7 +1,7 @@
 use Rattle.std.proofs.Common.{◌==◌, rules}
 use Rattle.std.proofs.lemmas.Iterator.Consumers.{count_from_yields_List}
 use Rattle.std.proofs.lemmas.Iterator.Splits.{YieldsList-from_slice_split}
-use Rattle.eden_ids.proofs.path.count_of_names.Goals as goal
+use Rattle.eden_ids.proofs.path.names_in.Goals as goal
 
 pub returns : goal.returns
 returns c = count_from_yields_List _ _ c.count.ensures.ran (YieldsList-from_slice_split _ (λ b. b == 47) c.args.bytes.now

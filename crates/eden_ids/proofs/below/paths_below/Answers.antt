@@ -2,7 +2,7 @@ use Rattle.std.proofs.Common.{rules, of_calls}
 use Rattle.std.proofs.lemmas.Fn.{always_returns_same}
 use Rattle.std.specs.Ordering.{is_lt}
 use Rattle.eden_ids.proofs.ByteOrder.{from, upto, order, parted, in_order, part_below}
-use Rattle.eden_ids.proofs.at_path.paths_below.Goals as goal
+use Rattle.eden_ids.proofs.below.paths_below.Goals as goal
 
 pub slice_bounds-result-count : goal.slice_bounds-result-count
 slice_bounds-result-count g c =

@@ -1,3 +1,5 @@
+//! The part of a list, in byte order of its paths, that lies below a path.
+
 ghost use Rattle.std.specs.Prelude.{◌≡◌, ◌++◌, ◌∷◌, ◌≤◌, [], filter, length, map};
 ghost use Rattle.std.specs.Ordering.{nat_cmp, is_lt};
 ghost use Rattle.std.specs.Cmp.Lexicographic.{slice_cmp};
@@ -37,7 +39,7 @@ impl<X> AtPath for (Path, X) {
 
 /// Whether a path comes, in byte order, before another one with a byte behind it.
 #[tactic(auto, using(crate::proofs::ByteOrder::before_short, crate::proofs::ByteOrder::before_long))]
-fn is_before(path: &[u8], top: &[u8], byte: u8) -> bool
+fn precedes_edge(path: &[u8], top: &[u8], byte: u8) -> bool
     ensures { result ≡ is_lt (slice_cmp nat_cmp path.now (top.now ++ byte ∷ [])) }
 {
     if path.len() <= top.len() {
@@ -57,8 +59,8 @@ pub fn paths_below<'a, X: AtPath>(items: &'a [X], top: &[u8]) -> &'a [X]
     requires { IsStrictlySortedBy (slice_cmp nat_cmp) (map X.path items.now) }
     ensures { result.now ≡ filter (λ x. lies_below (X.path x) top.now) items.now }
 {
-    let start = items.partition_point(|x| is_before(x.path().as_bytes(), top, b'/'));
-    let end = items.partition_point(|x| is_before(x.path().as_bytes(), top, b'/' + 1));
+    let start = items.partition_point(|x| precedes_edge(x.path().as_bytes(), top, b'/'));
+    let end = items.partition_point(|x| precedes_edge(x.path().as_bytes(), top, b'/' + 1));
     &items[start..end]
 }
 
