@@ -21,7 +21,7 @@ pub(crate) enum Front {
 
 /// The length that the first four bytes tell.
 #[tactic(auto, unfolding(crate::specs::Frames::told))]
-fn told_by(bytes: &[u8]) -> usize
+fn length_told(bytes: &[u8]) -> usize
     requires { 4 ≤ length bytes.now }
     ensures { result ≡ told bytes.now }
 {
@@ -36,7 +36,7 @@ pub(crate) fn measure_front(bytes: &[u8]) -> Front
     if bytes.len() < 4 {
         return Front::Partial;
     }
-    let size = told_by(bytes);
+    let size = length_told(bytes);
     if size > BODY_LIMIT {
         return Front::TooLong;
     }

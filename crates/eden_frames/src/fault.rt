@@ -1,3 +1,5 @@
+//! Why a frame can't be answered.
+
 use thiserror::Error;
 
 /// Why a frame can't be answered.

@@ -67,7 +67,7 @@ fn without_return(line: &[u8]) -> &[u8]
 }
 
 /// What a line asks for that is the front of `whole` bytes.
-fn judge(line: &[u8], whole: usize) -> Next<()>
+fn item_at_front(line: &[u8], whole: usize) -> Next<()>
     ensures { Judges line.now whole result }
 {
     if line.is_empty() || is_comment(line) {
@@ -85,7 +85,7 @@ fn judge(line: &[u8], whole: usize) -> Next<()>
 
 /// What is held where no line ends in it and more bytes may come. Of a comment
 /// only the first byte stays.
-fn wait(held: &mut Held) -> Next<()>
+fn unended_front(held: &mut Held) -> Next<()>
     requires { HasNoBreak held.old }
     ensures { FindsLine false held.old held.new result }
 {
@@ -104,10 +104,10 @@ fn next_line(held: &mut Held, ended: bool) -> Next<()>
     ensures { FindsLine ended held.old held.new result }
 {
     match held.find_break() {
-        Some(end) => judge(without_return(&held.as_slice()[..end]), end + 1),
-        None if !ended => wait(held),
+        Some(end) => item_at_front(without_return(&held.as_slice()[..end]), end + 1),
+        None if !ended => unended_front(held),
         None if held.as_slice().is_empty() => Next::Partial,
-        None => judge(held.as_slice(), held.as_slice().len()),
+        None => item_at_front(held.as_slice(), held.as_slice().len()),
     }
 }
 

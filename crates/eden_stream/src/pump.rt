@@ -64,7 +64,7 @@ fn item_of(bytes: &[u8], place: usize, size: usize) -> &[u8]
 
 /// Takes the first item that is held, where all of it is there. With no memory
 /// the text is as it was.
-fn take_turn<F: Framing<E>, T, S: Teller<F, T, E>, E: Copy>(
+fn answer_first<F: Framing<E>, T, S: Teller<F, T, E>, E: Copy>(
     held: &mut Held,
     ended: bool,
     teller: &S,
@@ -103,7 +103,11 @@ fn take_turn<F: Framing<E>, T, S: Teller<F, T, E>, E: Copy>(
 
 /// Writes the waiting text: after an item where there are 64 KiB of it, and
 /// else all of it. Says whether nothing failed.
-fn send_after<W: CountedWrite, E: Copy>(turn: Turn<E>, writer: &mut W, text: &mut Vec<u8>) -> bool
+fn write_waiting<W: CountedWrite, E: Copy>(
+    turn: Turn<E>,
+    writer: &mut W,
+    text: &mut Vec<u8>,
+) -> bool
     ensures sent { OnTrue result (Sends (W.contents writer.old) (W.contents writer.new) text.old.items text.new.items) }
     ensures none_left { OnTrue result (turn ≢ Turn.Taken → text.new.items ≡ []) }
     ensures torn { OnFalse result (Tears (W.contents writer.old) (W.contents writer.new) text.old.items) }
@@ -139,8 +143,8 @@ fn pump_with<F: Framing<E>, R: CountedRead, W: CountedWrite, T, S: Teller<F, T, 
     let mut reads: u64 = 0;
     let mut ended = false;
     loop {
-        let turn = take_turn::<F, T, S, E>(&mut held, ended, teller, server, &mut text);
-        if !send_after(turn, writer, &mut text) {
+        let turn = answer_first::<F, T, S, E>(&mut held, ended, teller, server, &mut text);
+        if !write_waiting(turn, writer, &mut text) {
             return Err(Stop::Write);
         }
         match turn {

@@ -5,4 +5,4 @@ use Rattle.eden_frames.proofs.cutting.measure_front.Goals as goal
 
 pub returns : goal.returns
 returns c =
-    has_frame c.args.bytes.now c.told_by-size.result (λ i. omega (arith, c.type_inv.bytes i)) c.told_by-size.ensures c.if-size-gt-BODY_LIMIT.false c.if-bytes-size.false
+    has_frame c.args.bytes.now c.length_told-size.result (λ i. omega (arith, c.type_inv.bytes i)) c.length_told-size.ensures c.if-size-gt-BODY_LIMIT.false c.if-bytes-size.false
