@@ -2,10 +2,8 @@
 use Rattle.std.proofs.Common.{◌≡◌, ℕ, List, [], ◌∷◌, ◌&&◌, refl, ap}
 use Rattle.std.specs.Prelude.{nat_eq}
 use Rattle.std.specs.Global.{Vec}
-use Rattle.std.specs.Bool.{Decides}
-use Rattle.std.specs.Cmp.Lexicographic.{pointwise, pointwise_decides, bytes_decides}
+use Rattle.std.specs.Cmp.Lexicographic.{pointwise}
 use Rattle.eden_globs.specs.Filters.{lists}
-use Rattle.eden_ids.proofs.Alike.{paths_decide}
 
 -- vectors are compared by what they hold
 pub lists_compared : (a b : List (Vec ℕ)) → pointwise (λ v w. pointwise nat_eq v.items w.items) a b ≡ pointwise (pointwise nat_eq) (lists a) (lists b)

@@ -89,27 +89,13 @@ none_outside [] directory path e below = absurd (let bad : true ≡ false = e in
 none_outside (p ∷ ps) directory path e below =
     none_of (λ q. pattern_enters q directory) (λ q. pattern_admits q path) (p ∷ ps) (λ q. pattern_none directory path q below) e
 
--- ---- what the walk over the parts looks at
+-- ---- the root, and what lies below it
 
-pub root_entered : (pattern directory : List ℕ) → length directory ≡ 0 → pattern_enters pattern directory ≡ true
-root_entered pattern [] e = let some = first_part pattern in ap (λ ps. parts_enter ps []) some.1.1
-root_entered pattern (b ∷ directory) e = absurd (omega (arith, e))
+pub root_enters : (patterns : List (List ℕ)) (directory : List ℕ) → length directory ≡ 0 → enters patterns directory ≡ true
+root_enters [] directory e = refl
+root_enters (p ∷ ps) (b ∷ directory) e = absurd (omega (arith, e))
+root_enters (p ∷ ps) [] e = let some = first_part p in ap (λ ts. parts_enter ts [] || list_any (λ pattern. pattern_enters pattern []) ps) some.1.1
 
 pub below_root : (pattern directory : List ℕ) → 0 < length directory → pattern_enters pattern directory ≡ parts_enter (components pattern) (components directory)
 below_root pattern [] e = absurd (omega (arith, e))
 below_root pattern (b ∷ directory) e = refl
-
-pub any_parts : (part : List ℕ) (parts names : List (List ℕ)) → is_any_names part ≡ true → parts_enter (part ∷ parts) names ≡ true
-any_parts part parts [] e = refl
-any_parts part parts (n ∷ names) e = ap (λ t. t || (name_matches false part n && parts_enter parts names)) e
-
-pub next_parts : (part name : List ℕ) (parts names : List (List ℕ)) → is_any_names part ≡ false
-    → parts_enter (part ∷ parts) (name ∷ names) ≡ (name_matches false part name && parts_enter parts names)
-next_parts part name parts names e = ap (λ t. t || (name_matches false part name && parts_enter parts names)) e
-
-pub last_part : (part name : List ℕ) (names : List (List ℕ)) → is_any_names part ≡ false → parts_enter (part ∷ []) (name ∷ names) ≡ false
-last_part part name names e = next_parts part name [] names e ∙ by (name_matches false part name)
-  where
-    by : (t : Bool) → (t && false) ≡ false
-    by true = refl
-    by false = refl

@@ -1,12 +1,11 @@
 -- What a filter's patterns are, and what a filter admits.
-use Rattle.std.proofs.Common.{◌≡◌, ℕ, ◌+◌, ◌<◌, ◌≤◌, ◌==◌, Bool, true, false, cond, not, ◌&&◌, ◌||◌, nat_lt, List, [], ◌∷◌, drop, length, Option, Some, None, refl, sym, ap, ◌∙◌, arith}
-use Rattle.std.proofs.lemmas.Bool.{eqb-true, ltb-false}
-use Rattle.std.specs.List.{AllByRecursion, list_any, slice_index_or}
+use Rattle.std.proofs.Common.{◌≡◌, ℕ, ◌+◌, ◌<◌, ◌≤◌, Bool, true, false, cond, nat_lt, List, [], ◌∷◌, length, Option, Some, None, refl, ap, arith}
+use Rattle.std.proofs.lemmas.Bool.{ltb-false}
+use Rattle.std.specs.List.{AllByRecursion, list_any}
 use Rattle.std.specs.Option.{option_or}
-use Rattle.eden_globs.proofs.Rows.{dropped}
 use Rattle.eden_globs.specs.declared.filter.FilterFault.{FilterFault}
 use Rattle.eden_globs.specs.declared.filter.FilterFault.TheVariants.{TooMany, PatternTooLong, BadPattern}
-use Rattle.eden_globs.specs.Filters.{IsFilter, admits, enters, is_spelled, pattern_admits, pattern_enters, pattern_fault, patterns_fault}
+use Rattle.eden_globs.specs.Filters.{IsFilter, admits, enters, pattern_admits, pattern_enters, pattern_fault, patterns_fault}
 
 none_guarded : (b : Bool) (fault : FilterFault) (rest : Option FilterFault) → cond b (Some fault) rest ≡ None → (b ≡ false) × (rest ≡ None)
 none_guarded true fault rest e = absurd (cc)
@@ -34,37 +33,6 @@ all_short place (p ∷ ps) e =
 -- each pattern of a filter has 1 to 256 bytes
 pub filter_short : (patterns : List (List ℕ)) → IsFilter patterns → AllByRecursion (λ p. (1 ≤ length p) × (length p ≤ 256)) patterns
 filter_short patterns e = all_short 0 patterns (none_guarded (nat_lt 32 (length patterns)) TooMany (patterns_fault 0 patterns) e).1
-
--- ---- the bytes of a part, from first to last
-
-next_one : (e : Bool) (b : ℕ) (rest : List ℕ) → (not e && (b == 91 || b == 123)) ≡ false → is_spelled (not e && b == 92) rest ≡ is_spelled e (b ∷ rest)
-next_one true b rest free = refl
-next_one false b rest free = by (b == 92) (b == 91 || b == 123) free
-  where
-    by : (t s : Bool) → s ≡ false → is_spelled t rest ≡ cond t (is_spelled true rest) (not s && is_spelled false rest)
-    by true s h = refl
-    by false true h = absurd (cc)
-    by false false h = refl
-
-stop_one : (e : Bool) (b : ℕ) (rest : List ℕ) → (not e && (b == 91 || b == 123)) ≡ true → is_spelled e (b ∷ rest) ≡ false
-stop_one true b rest stop = absurd (cc)
-stop_one false b rest stop = by (b == 92) (b == 91 || b == 123) stop apart
-  where
-    apart : (b == 92) ≡ true → (b == 91 || b == 123) ≡ true → ⊥
-    apart is other = let same : b ≡ 92 = eqb-true b 92 is in let bad : (92 == 91 || 92 == 123) ≡ true = sym (ap (λ n. n == 91 || n == 123) same) ∙ other in absurd (let worse : false ≡ true = bad in cc)
-
-    by : (t s : Bool) → s ≡ true → (t ≡ true → s ≡ true → ⊥) → cond t (is_spelled true rest) (not s && is_spelled false rest) ≡ false
-    by true s h far = absurd (far refl h)
-    by false true h far = refl
-    by false false h far = absurd (cc)
-
-pub spelled_next : (part : List ℕ) (i : ℕ) (e f : Bool) → i < length part → (not e && (slice_index_or part i 0 == 91 || slice_index_or part i 0 == 123)) ≡ false
-    → f ≡ (not e && slice_index_or part i 0 == 92) → is_spelled f (drop (i + 1) part) ≡ is_spelled e (drop i part)
-spelled_next part i e f within free is =
-    ap (λ t. is_spelled t (drop (i + 1) part)) is ∙ next_one e (slice_index_or part i 0) (drop (i + 1) part) free ∙ sym (ap (is_spelled e) (dropped part i 0 within))
-
-pub spelled_stop : (part : List ℕ) (i : ℕ) (e : Bool) → i < length part → (not e && (slice_index_or part i 0 == 91 || slice_index_or part i 0 == 123)) ≡ true → is_spelled e (drop i part) ≡ false
-spelled_stop part i e within stop = ap (is_spelled e) (dropped part i 0 within) ∙ stop_one e (slice_index_or part i 0) (drop (i + 1) part) stop
 
 -- ---- admitting
 

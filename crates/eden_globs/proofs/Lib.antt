@@ -1,6 +1,8 @@
 mod Copies
 mod Splitting
 mod Rows
+mod Tokens
+mod Parts
 mod Entering
 mod Plain
 pub mod FilterLemmas

@@ -1,10 +1,14 @@
 -- How the row of a rest of a pattern follows from that of a shorter rest.
-use Rattle.std.proofs.Common.{◌≡◌, ◌≢◌, ℕ, suc, zero, ◌+◌, ◌<◌, ◌≤◌, Bool, true, false, cond, ◌&&◌, ◌||◌, nat_eq, nat_lt, List, [], ◌∷◌, drop, length, Some, None, refl, sym, ap, ◌∙◌, arith, add-one}
+use Rattle.std.proofs.Common.{◌≡◌, ℕ, suc, zero, ◌+◌, ◌<◌, ◌≤◌, Bool, true, false, cond, ◌&&◌, ◌||◌, nat_eq, nat_lt, List, [], ◌∷◌, drop, length, Some, None, refl, sym, ap, ◌∙◌, arith, add-one}
 use Rattle.std.proofs.lemmas.Bool.{ltb-true, ltb-false}
 use Rattle.std.proofs.lemmas.List.{drop_all, get_or-set_other, get_or-set_same}
 use Rattle.std.specs.Prelude.{slice_set}
 use Rattle.std.specs.List.{slice_index_or}
-use Rattle.eden_globs.specs.Filters.{first_then, is_any_names, is_none_left, name_matches, path_matches, some_rest}
+use Rattle.eden_globs.specs.Filters.{first_then, is_none_left, name_matches, path_matches, some_rest}
+use Rattle.eden_globs.specs.declared.pattern.Part.{Part}
+use Rattle.eden_globs.specs.declared.pattern.Token.{Token}
+use Rattle.eden_globs.specs.declared.pattern.Token.TheVariants.{Run, Any, Byte}
+use Rattle.eden_globs.specs.internal.Compiled.{IsPartOf, is_any_names_part, part_matches, tokens_match}
 use Rattle.eden_globs.specs.internal.Rows.{IsRow, is_wanted}
 
 module _ {X : Type 0} where
@@ -87,86 +91,41 @@ pub set_kept : (row old : List Bool) (i : ℕ) (v : Bool) → ((k : ℕ) → i �
     → (k : ℕ) → i + 1 ≤ k → slice_index_or (slice_set row i v) k false ≡ slice_index_or old k false
 set_kept row old i v kept k high = get_or-set_other row i k v false (λ same. absurd (omega (arith, high, same))) ∙ kept k (omega (arith, high))
 
--- ---- the row of a part and a byte before it
+-- ---- the row of tokens and one before them
 
-pub no_part : (escaped : Bool) (name : List ℕ) → name_matches escaped [] name ≡ is_none_left name
-no_part true name = refl
-no_part false name = refl
-
-pub part_none : (escaped : Bool) (name : List ℕ) (row : List Bool) → IsRow is_none_left name row → IsRow (name_matches escaped []) name row
-part_none escaped name row is i low = is i low ∙ sym (no_part escaped (drop i name))
-
--- a byte that is wanted
-pub part_byte : (c : ℕ) (test : List ℕ → Bool) (name : List ℕ) (old new : List Bool) → IsRow test name old
-    → ((i : ℕ) → i < length name → slice_index_or new i false ≡ (is_wanted (Some c) (slice_index_or name i 0) && slice_index_or old (i + 1) false)) → slice_index_or new (length name) false ≡ false
-    → IsRow (first_then (λ b. nat_eq c b) test) name new
-part_byte c test name old new is others last = first_row (λ b. nat_eq c b) test 0 name old new is others last
-
-pub part_any : (test : List ℕ → Bool) (name : List ℕ) (old new : List Bool) → IsRow test name old
-    → ((i : ℕ) → i < length name → slice_index_or new i false ≡ (is_wanted None (slice_index_or name i 0) && slice_index_or old (i + 1) false)) → slice_index_or new (length name) false ≡ false
-    → IsRow (first_then (λ b. true) test) name new
-part_any test name old new is others last = first_row (λ b. true) test 0 name old new is others last
-
--- which of these a byte before the part is
-pub wanted_first : (byte : ℕ) (part name : List ℕ) (old new : List Bool) → IsRow (name_matches false part) name old
-    → ((i : ℕ) → i < length name → slice_index_or new i false ≡ (is_wanted (Some byte) (slice_index_or name i 0) && slice_index_or old (i + 1) false)) → slice_index_or new (length name) false ≡ false
-    → IsRow (name_matches true (byte ∷ part)) name new
-wanted_first byte part name old new is others last = part_byte byte (name_matches false part) name old new is others last
-
-chosen : (byte : ℕ) (part : List ℕ) (name : List ℕ) (a b c : Bool) → nat_eq byte 92 ≡ a → nat_eq byte 42 ≡ b → nat_eq byte 63 ≡ c
-    → name_matches false (byte ∷ part) name
-    ≡ cond a (name_matches true part name) (cond b (some_rest (name_matches false part) name) (cond c (first_then (λ b. true) (name_matches false part) name) (first_then (λ b. nat_eq byte b) (name_matches false part) name)))
-chosen byte part name a b c x y z =
-    ap (λ t. cond t (name_matches true part name) (cond (nat_eq byte 42) (some_rest (name_matches false part) name) (cond (nat_eq byte 63) (first_then (λ b. true) (name_matches false part) name) (first_then (λ b. nat_eq byte b) (name_matches false part) name)))) x
-    ∙ ap (λ t. cond a (name_matches true part name) (cond t (some_rest (name_matches false part) name) (cond (nat_eq byte 63) (first_then (λ b. true) (name_matches false part) name) (first_then (λ b. nat_eq byte b) (name_matches false part) name)))) y
-    ∙ ap (λ t. cond a (name_matches true part name) (cond b (some_rest (name_matches false part) name) (cond t (first_then (λ b. true) (name_matches false part) name) (first_then (λ b. nat_eq byte b) (name_matches false part) name)))) z
-
-not_backslash : (byte : ℕ) → byte ≢ 92 → nat_eq byte 92 ≡ false
-not_backslash byte apart = grind (arith, apart)
-
-pub other_byte : (a b : ℕ) → a ≢ b → nat_eq a b ≡ false
-other_byte a b apart = grind (arith, apart)
-
-pub run_first : (byte : ℕ) (part name : List ℕ) (old new : List Bool) → byte ≢ 92 → nat_eq byte 42 ≡ true → IsRow (name_matches false part) name old
+pub run_first : (tokens : List Token) (name : List ℕ) (old new : List Bool) → IsRow (tokens_match tokens) name old
     → ((i : ℕ) → i < length name → slice_index_or new i false ≡ (slice_index_or old i false || slice_index_or new (i + 1) false)) → slice_index_or new (length name) false ≡ slice_index_or old (length name) false
-    → IsRow (name_matches false (byte ∷ part)) name new
-run_first byte part name old new apart star is others last i low =
-    any_row (name_matches false part) 0 name old new is others last i low
-    ∙ sym (chosen byte part (drop i name) false true (nat_eq byte 63) (not_backslash byte apart) star refl)
+    → IsRow (tokens_match (Run ∷ tokens)) name new
+run_first tokens name old new is others last = any_row (tokens_match tokens) 0 name old new is others last
 
-pub any_first : (byte : ℕ) (part name : List ℕ) (old new : List Bool) → byte ≢ 92 → nat_eq byte 42 ≡ false → nat_eq byte 63 ≡ true → IsRow (name_matches false part) name old
+pub any_first : (tokens : List Token) (name : List ℕ) (old new : List Bool) → IsRow (tokens_match tokens) name old
     → ((i : ℕ) → i < length name → slice_index_or new i false ≡ (is_wanted None (slice_index_or name i 0) && slice_index_or old (i + 1) false)) → slice_index_or new (length name) false ≡ false
-    → IsRow (name_matches false (byte ∷ part)) name new
-any_first byte part name old new apart star any is others last i low =
-    part_any (name_matches false part) name old new is others last i low
-    ∙ sym (chosen byte part (drop i name) false false true (not_backslash byte apart) star any)
+    → IsRow (tokens_match (Any ∷ tokens)) name new
+any_first tokens name old new is others last = first_row (λ b. true) (tokens_match tokens) 0 name old new is others last
 
-pub byte_first : (byte : ℕ) (part name : List ℕ) (old new : List Bool) → byte ≢ 92 → nat_eq byte 42 ≡ false → nat_eq byte 63 ≡ false → IsRow (name_matches false part) name old
+pub byte_first : (byte : ℕ) (tokens : List Token) (name : List ℕ) (old new : List Bool) → IsRow (tokens_match tokens) name old
     → ((i : ℕ) → i < length name → slice_index_or new i false ≡ (is_wanted (Some byte) (slice_index_or name i 0) && slice_index_or old (i + 1) false)) → slice_index_or new (length name) false ≡ false
-    → IsRow (name_matches false (byte ∷ part)) name new
-byte_first byte part name old new apart star any is others last i low =
-    part_byte byte (name_matches false part) name old new is others last i low
-    ∙ sym (chosen byte part (drop i name) false false false (not_backslash byte apart) star any)
-
--- a part of which the first byte is a backslash
-pub escape_first : (byte : ℕ) (part name : List ℕ) (row : List Bool) → nat_eq byte 92 ≡ true → IsRow (name_matches true part) name row → IsRow (name_matches false (byte ∷ part)) name row
-escape_first byte part name row backslash is i low = is i low ∙ sym (chosen byte part (drop i name) true (nat_eq byte 42) (nat_eq byte 63) backslash refl refl)
+    → IsRow (tokens_match (Byte byte ∷ tokens)) name new
+byte_first byte tokens name old new is others last = first_row (λ b. nat_eq byte b) (tokens_match tokens) 0 name old new is others last
 
 -- ---- the row of a pattern and a part before it
 
-pub any_names_first : (part : List ℕ) (parts names : List (List ℕ)) (count : ℕ) (old new : List Bool) → count ≡ length names → is_any_names part ≡ true → IsRow (path_matches parts) names old
+pub any_names_first : (part : Part) (text : List ℕ) (texts names : List (List ℕ)) (count : ℕ) (old new : List Bool) → count ≡ length names → is_any_names_part part ≡ true → IsPartOf part text
+    → IsRow (path_matches texts) names old
     → ((i : ℕ) → i < count → slice_index_or new i false ≡ (slice_index_or old i false || slice_index_or new (i + 1) false)) → slice_index_or new count false ≡ slice_index_or old count false
-    → IsRow (path_matches (part ∷ parts)) names new
-any_names_first part parts names count old new is_count any is others last i low =
-    any_row (path_matches parts) [] names old new is (λ k h. others k (omega (arith, is_count))) (sym (ap (λ n. slice_index_or new n false) is_count) ∙ last ∙ ap (λ n. slice_index_or old n false) is_count) i low
-    ∙ sym (ap (λ b. cond b (some_rest (path_matches parts) (drop i names)) (first_then (name_matches false part) (path_matches parts) (drop i names))) any)
+    → IsRow (path_matches (text ∷ texts)) names new
+any_names_first part text texts names count old new is_count any of is others last i low =
+    any_row (path_matches texts) [] names old new is (λ k h. others k (omega (arith, is_count))) (sym (ap (λ n. slice_index_or new n false) is_count) ∙ last ∙ ap (λ n. slice_index_or old n false) is_count) i low
+    ∙ sym (ap (λ b. cond b (some_rest (path_matches texts) (drop i names)) (first_then (name_matches false text) (path_matches texts) (drop i names))) (sym of.0 ∙ any))
 
-pub name_first : (part : List ℕ) (parts names : List (List ℕ)) (count : ℕ) (old new : List Bool) → count ≡ length names → is_any_names part ≡ false → IsRow (path_matches parts) names old
-    → ((i : ℕ) → i < count → slice_index_or new i false ≡ (name_matches false part (slice_index_or names i []) && slice_index_or old (i + 1) false)) → slice_index_or new count false ≡ false
-    → IsRow (path_matches (part ∷ parts)) names new
-name_first part parts names count old new is_count named is others last i low =
-    first_row (name_matches false part) (path_matches parts) [] names old new is (λ k h. others k (omega (arith, is_count))) (sym (ap (λ n. slice_index_or new n false) is_count) ∙ last) i low
-    ∙ sym (ap (λ b. cond b (some_rest (path_matches parts) (drop i names)) (first_then (name_matches false part) (path_matches parts) (drop i names))) named)
+pub name_first : (part : Part) (text : List ℕ) (texts names : List (List ℕ)) (count : ℕ) (old new : List Bool) → count ≡ length names → is_any_names_part part ≡ false → IsPartOf part text
+    → IsRow (path_matches texts) names old
+    → ((i : ℕ) → i < count → slice_index_or new i false ≡ (part_matches part (slice_index_or names i []) && slice_index_or old (i + 1) false)) → slice_index_or new count false ≡ false
+    → IsRow (path_matches (text ∷ texts)) names new
+name_first part text texts names count old new is_count named of is others last i low =
+    first_row (name_matches false text) (path_matches texts) [] names old new is
+    (λ k h. others k (omega (arith, is_count)) ∙ ap (λ b. b && slice_index_or old (k + 1) false) (of.1 (slice_index_or names k []))) (sym (ap (λ n. slice_index_or new n false) is_count) ∙ last) i low
+    ∙ sym (ap (λ b. cond b (some_rest (path_matches texts) (drop i names)) (first_then (name_matches false text) (path_matches texts) (drop i names))) (sym of.0 ∙ named))
 
 pub no_parts : (names : List (List ℕ)) (count : ℕ) (row : List Bool) → count ≡ length names → ((i : ℕ) → i < count → slice_index_or row i false ≡ false) → slice_index_or row count false ≡ true
     → IsRow (path_matches []) names row

@@ -1,2 +1,3 @@
 -- What only the matching speaks of.
 pub mod Rows
+pub mod Compiled

@@ -1,17 +1,22 @@
-ghost use Rattle.std.specs.Prelude.{◌≡◌, ◌≢◌, ◌≤◌, ◌==◌, ◌&&◌, ◌||◌, ℕ, List, [], false, true, nat_lt, length, not, None, Some, map, IfOk, IfErr, nat_eq};
+ghost use Rattle.std.specs.Prelude.{◌≡◌, ◌≢◌, ◌<◌, ◌≤◌, ◌==◌, ◌&&◌, ◌||◌, ℕ, List, [], false, true, nat_lt, length, not, None, Some, map, IfOk, IfErr, nat_eq};
 ghost use Rattle.std.specs.List.{list_all, list_any};
 ghost use Rattle.std.specs.Cmp.Lexicographic.{pointwise, lists_per, lists_equiv};
 ghost use Rattle.std.specs.Cmp.Rules.{comparing};
 ghost use Rattle.std.proofs.Common.{rules};
 ghost use Rattle.eden_ids.specs.Paths.{IsPath, components, lies_below};
-ghost use Rattle.eden_globs.specs.Filters.{admits, enters, filter_fault, is_part, is_spelled, lists, pattern_admits, pattern_enters, pattern_fault};
+ghost use Rattle.eden_globs.specs.Filters.{admits, enters, filter_fault, is_part, is_spelled, lists, path_matches, pattern_enters, pattern_fault};
+ghost use Rattle.eden_globs.specs.internal.Compiled.{AreCompiled, AreShort, lent};
 
-use crate::matching::{is_admitted, is_entered};
+use crate::matching::{cut_names, is_admitted, is_entered};
+use crate::pattern::{Part, parts_of};
 use eden_ids::{NoMemory, Path};
 use std::alloc::{AllocError, Global};
 use std::fmt;
 use std::marker::Model;
 use thiserror::Error;
+
+/// The most names that a path has.
+const DEEPEST: usize = 64;
 
 /// Why a list of patterns is no filter. The first cause is told: `TooMany`, and then the patterns in their order.
 #[derive(Clone, Copy, Debug, PartialEq, Eq, Error)]
@@ -49,31 +54,20 @@ impl From<AllocError> for FilterFault {
 #[derive(Drop)]
 pub struct Filter {
     patterns: Vec<Vec<u8>>,
+    /// The parts of each pattern, told apart once.
+    compiled: Vec<Vec<Part>>,
 }
 
 impl Model for Filter {
     ghost use Rattle.std.specs.Prelude.{ℕ, List};
     ghost use Rattle.eden_globs.specs.Filters.{IsFilter, lists};
+    ghost use Rattle.eden_globs.specs.internal.Compiled.{AreCompiled};
 
     ghost Value = { List (List ℕ) };
 
     ghost view = { λ f. lists f.patterns.items };
 
-    ghost invariant = { λ f. IsFilter (lists f.patterns.items) };
-}
-
-/// Whether a byte may not stand in a pattern; `escaped` says that a backslash stands before it.
-fn is_refused(escaped: bool, byte: u8) -> bool
-    ensures { result ≡ (not escaped && (byte == 91 || byte == 123)) }
-{
-    !escaped && (byte == b'[' || byte == b'{')
-}
-
-/// Whether a byte is a backslash that stands for none.
-fn is_escape(escaped: bool, byte: u8) -> bool
-    ensures { result ≡ (not escaped && byte == 92) }
-{
-    !escaped && byte == b'\\'
+    ghost invariant = { λ f. IsFilter (lists f.patterns.items) × AreCompiled f.compiled.items (lists f.patterns.items) };
 }
 
 /// Whether no `[` or `{` stands in a part without a backslash before it, and no backslash at its end.
@@ -82,10 +76,11 @@ fn is_spelled(part: &[u8]) -> bool
 {
     let mut escaped = false;
     for byte in part {
-        if is_refused(escaped, *byte) {
-            return false;
+        match (escaped, *byte) {
+            (false, b'[' | b'{') => return false,
+            (false, b'\\') => escaped = true,
+            _ => escaped = false,
         }
-        escaped = is_escape(escaped, *byte);
     }
     !escaped
 }
@@ -97,6 +92,7 @@ fn is_part(part: &[u8]) -> bool
     !part.is_empty() && is_spelled(part)
 }
 
+/// Whether each piece between slashes may stand there.
 fn has_parts_alone(pattern: &[u8]) -> bool
     ensures { result ≡ list_all is_part (components pattern.now) }
 {
@@ -116,6 +112,7 @@ fn fault_of_pattern(place: usize, bytes: &[u8]) -> Option<FilterFault>
     }
 }
 
+/// Why the patterns are no filter, if they are none.
 fn fault_of(patterns: &[&[u8]]) -> Option<FilterFault>
     ensures { result ≡ filter_fault (map (λ p. p.now) patterns.now) }
 {
@@ -141,26 +138,39 @@ fn copies(alloc: Global, patterns: &[&[u8]]) -> Result<Vec<Vec<u8>>, AllocError>
     Ok(copies)
 }
 
-/// Whether one of the patterns admits the path.
-fn is_any_admitted(patterns: &[Vec<u8>], path: &[u8]) -> bool
-    requires { IsPath path.now }
-    ensures { result ≡ list_any (λ pattern. pattern_admits pattern path.now) (lists patterns.now) }
+/// The parts of each pattern.
+fn compile(alloc: Global, patterns: &[Vec<u8>]) -> Result<Vec<Vec<Part>>, AllocError>
+    ensures { IfOk result (λ compiled. AreCompiled compiled.items (lists patterns.now)) }
 {
+    let mut compiled = Vec::new(alloc);
     for pattern in patterns {
-        if is_admitted(pattern.as_slice(), path) {
+        compiled.push(parts_of(alloc, pattern.as_slice())?)?;
+    }
+    Ok(compiled)
+}
+
+/// Whether one of the patterns admits the path of these names.
+fn is_any_admitted(compiled: &[Vec<Part>], names: &[&[u8]]) -> bool
+    requires few { length names.now ≤ 64 }
+    requires short { AreShort (lent names.now) }
+    ensures { (patterns : List (List ℕ)) → AreCompiled compiled.now patterns → result ≡ list_any (λ pattern. path_matches (components pattern) (lent names.now)) patterns }
+{
+    for parts in compiled {
+        if is_admitted(parts.as_slice(), names) {
             return true;
         }
     }
     false
 }
 
-/// Whether one of the patterns enters a directory that is no longer than a path.
-fn is_any_entered(patterns: &[Vec<u8>], directory: &[u8]) -> bool
-    requires { length directory.now ≤ 1024 }
-    ensures { result ≡ list_any (λ pattern. pattern_enters pattern directory.now) (lists patterns.now) }
+/// Whether one of the patterns enters a directory that has a name and is no longer than a path.
+fn is_any_entered(compiled: &[Vec<Part>], directory: &[u8]) -> bool
+    requires some { 0 < length directory.now }
+    requires short { length directory.now ≤ 1024 }
+    ensures { (patterns : List (List ℕ)) → AreCompiled compiled.now patterns → result ≡ list_any (λ pattern. pattern_enters pattern directory.now) patterns }
 {
-    for pattern in patterns {
-        if is_entered(pattern.as_slice(), directory) {
+    for parts in compiled {
+        if is_entered(parts.as_slice(), directory) {
             return true;
         }
     }
@@ -174,6 +184,7 @@ impl Filter {
     {
         Filter {
             patterns: Vec::new(alloc),
+            compiled: Vec::new(alloc),
         }
     }
 
@@ -191,7 +202,8 @@ impl Filter {
             return Err(fault);
         }
         let patterns = copies(alloc, patterns)?;
-        Ok(Filter { patterns })
+        let compiled = compile(alloc, patterns.as_slice())?;
+        Ok(Filter { patterns, compiled })
     }
 
     /// The patterns, in their order. This takes no memory.
@@ -220,7 +232,9 @@ impl Filter {
         if self.patterns.is_empty() {
             return true;
         }
-        is_any_admitted(self.patterns.as_slice(), path)
+        let mut names = [path; DEEPEST];
+        let count = cut_names(&mut names, path);
+        is_any_admitted(self.compiled.as_slice(), &names[..count])
     }
 
     /// Whether something that is wanted may lie below a directory, of which the root is no bytes: where it says no, nothing does, and
@@ -228,7 +242,7 @@ impl Filter {
     ///
     /// Where it says yes, the directory's names match the first parts of a pattern, and more parts are left, or they do up to a part
     /// `**`. Of bytes that are longer than a path it says yes. The time is that of `admits`.
-    #[tactic(auto, using(crate::proofs::FilterLemmas::enters_some, crate::proofs::FilterLemmas::enters_none, crate::proofs::Entering::none_outside))]
+    #[tactic(auto, using(crate::proofs::FilterLemmas::enters_some, crate::proofs::FilterLemmas::enters_none, crate::proofs::Entering::root_enters, crate::proofs::Entering::none_outside))]
     pub fn admits_below(&self, directory: &[u8]) -> bool
         ensures value { result ≡ (nat_lt 1024 (length directory.now) || enters self.now directory.now) }
         ensures outside { result ≡ false → (path : List ℕ) → lies_below path directory.now ≡ true → admits self.now path ≡ false }
@@ -236,7 +250,11 @@ impl Filter {
         if self.patterns.is_empty() || directory.len() > 1024 {
             return true;
         }
-        is_any_entered(self.patterns.as_slice(), directory)
+        // The root has no names, and every pattern has a part for what lies below it.
+        if directory.is_empty() {
+            return true;
+        }
+        is_any_entered(self.compiled.as_slice(), directory)
     }
 
     /// A filter that is equal to this one. `NoMemory` comes where a growth was refused.
@@ -252,7 +270,8 @@ impl Clone for Filter {
 
     fn clone(&self) -> Result<Self, AllocError> {
         let patterns = self.patterns.clone()?;
-        Ok(Filter { patterns })
+        let compiled = compile(*patterns.allocator(), patterns.as_slice())?;
+        Ok(Filter { patterns, compiled })
     }
 }
 

@@ -12,8 +12,11 @@
 #![tactic(auto)]
 
 pub use crate::filter::{Filter, FilterFault};
+pub use crate::front::Front;
 pub use crate::laws::filter_law;
 
 mod filter;
+mod front;
 mod laws;
 mod matching;
+mod pattern;

@@ -1,7 +1,7 @@
 //! How long a filter takes to judge a path, by the lengths of its pattern and of the path, for patterns that could match in very many
-//! ways but for their last byte. See bench/README.md.
+//! ways but for a byte that no path has; and for ordinary patterns on a deep path. See bench/README.md.
 //!
-//! Standard output tells for each pair whether the path is admitted, which none is, and standard error how long that took.
+//! Standard output tells for each pair how often the path is admitted, and standard error how long that took.
 #![tactic(auto)]
 
 use anyhow::Result;
@@ -28,12 +28,12 @@ struct Family<'a> {
     name: usize,
 }
 
-/// A star before each letter, over long names.
+/// A star before each letter, over long names, each of which is tried, since anything may stand behind it.
 const STARS: Family<'static> = Family {
     title: "stars",
     head: b"**/",
     part: b"*a",
-    tail: b"*b",
+    tail: b"*b/**",
     name: 249,
 };
 
@@ -45,6 +45,17 @@ const NAMES: Family<'static> = Family {
     tail: b"**/b",
     name: 15,
 };
+
+/// Patterns as people write them. The first three admit a path of many names of the letter `a`.
+const ORDINARY: [&str; 7] = [
+    "a*/**",
+    "**/*a",
+    "a*/a*/**/a*",
+    "**/*.rs",
+    "src/**",
+    "**/b/**",
+    "*.md",
+];
 
 impl Family<'_> {
     /// The longest pattern of the family that has at most so many bytes.
@@ -128,6 +139,10 @@ fn main(rt: HostRuntime) -> Result<()> {
                 measure(&rt, family.title, pattern.as_slice(), &path)?;
             }
         }
+    }
+    let deep = NAMES.path(rt.alloc(), 1024)?;
+    for pattern in ORDINARY {
+        measure(&rt, pattern, pattern.as_bytes(), &deep)?;
     }
     Ok(())
 }

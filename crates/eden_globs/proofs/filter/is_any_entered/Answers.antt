@@ -1,0 +1,25 @@
+use Rattle.std.proofs.Common.{sym, subst, ◌∙◌}
+use Rattle.eden_ids.specs.Paths.{components}
+use Rattle.eden_globs.specs.Filters.{pattern_enters}
+use Rattle.eden_globs.specs.internal.Compiled.{AreParts}
+use Rattle.eden_globs.proofs.Entering.{below_root}
+use Rattle.eden_globs.proofs.Parts.{any_here, any_later, any_over}
+use Rattle.eden_globs.proofs.filter.is_any_entered.Goals as goal
+
+pub returns-then-is_entered : goal.returns-then-is_entered
+returns-then-is_entered c = λ patterns are.
+    sym (any_here c.args.compiled.now patterns are (λ pattern. pattern_enters pattern c.args.directory.now) c.loop-parts.parts-index c.parts-item.result c.loop-parts-test.true c.parts-item.is
+    (λ pattern of. below_root pattern c.args.directory.now c.requires.some
+    ∙ sym (c.is_entered.ensures (components pattern) (subst (λ ps. AreParts ps (components pattern)) (sym c.as_slice.ensures.value) of)) ∙ c.if-is_entered.true))
+    ∙ c.loop-parts.invariant patterns are
+
+pub loop-parts-preserved : goal.loop-parts-preserved
+loop-parts-preserved c = λ patterns are.
+    any_later c.args.compiled.now patterns are (λ pattern. pattern_enters pattern c.args.directory.now) c.loop-parts.parts-index c.parts-item.result c.loop-parts-test.true c.parts-item.is
+    (λ pattern of. below_root pattern c.args.directory.now c.requires.some
+    ∙ sym (c.is_entered.ensures (components pattern) (subst (λ ps. AreParts ps (components pattern)) (sym c.as_slice.ensures.value) of)) ∙ c.if-is_entered.false)
+    ∙ c.loop-parts.invariant patterns are
+
+pub returns : goal.returns
+returns c = λ patterns are.
+    any_over c.args.compiled.now patterns are (λ pattern. pattern_enters pattern c.args.directory.now) c.loop-parts.parts-index c.loop-parts-test.false ∙ c.loop-parts.invariant patterns are
