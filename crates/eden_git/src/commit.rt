@@ -1,3 +1,4 @@
+//! The tree that a commit names.
 ghost use Rattle.std.specs.Prelude.{◌≡◌};
 ghost use Rattle.eden_git.specs.Commits.{tree_named};
 

@@ -1,3 +1,4 @@
+//! The entries of a payload one after another, and those of a directory by their names.
 ghost use Rattle.std.specs.Prelude.{◌≡◌, ◌<◌, length, IfSome};
 ghost use Rattle.eden_ids.specs.Sameness.{same_bytes};
 ghost use Rattle.eden_git.specs.Starts.{AreInOrder};
@@ -19,7 +20,7 @@ pub fn next_entry(bytes: &[u8]) -> Option<(RawEntry<'_>, &[u8])>
 }
 
 /// The file that the entry is, if it has this name.
-fn file_with(entry: &RawEntry<'_>, name: &[u8]) -> Option<(Kind, Id)>
+fn file_if_named(entry: &RawEntry<'_>, name: &[u8]) -> Option<(Kind, Id)>
     ensures { result ≡ file_if entry.now.kind entry.now.id (same_bytes entry.now.name.now name.now) }
 {
     match entry.kind {
@@ -35,7 +36,7 @@ fn file_with(entry: &RawEntry<'_>, name: &[u8]) -> Option<(Kind, Id)>
 }
 
 /// The tree of the directory that the entry is, if it has this name.
-fn dir_with(entry: &RawEntry<'_>, name: &[u8]) -> Option<Id>
+fn directory_if_named(entry: &RawEntry<'_>, name: &[u8]) -> Option<Id>
     ensures { result ≡ dir_if entry.now.kind entry.now.id (same_bytes entry.now.name.now name.now) }
 {
     match entry.kind {
@@ -63,7 +64,7 @@ impl<'a> Rows<'a> {
             id: Id::ZERO,
         };
         match self.first_from(&wanted) {
-            Some(entry) => file_with(&entry, name),
+            Some(entry) => file_if_named(&entry, name),
             None => None,
         }
     }
@@ -80,7 +81,7 @@ impl<'a> Rows<'a> {
             id: Id::ZERO,
         };
         match self.first_from(&wanted) {
-            Some(entry) => dir_with(&entry, name),
+            Some(entry) => directory_if_named(&entry, name),
             None => None,
         }
     }

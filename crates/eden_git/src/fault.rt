@@ -1,3 +1,4 @@
+//! Why bytes are no entry of a tree.
 use thiserror::Error;
 
 /// Why the entry that some bytes begin with can't be read.

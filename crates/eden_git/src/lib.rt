@@ -25,5 +25,5 @@ mod entry;
 mod fault;
 mod order;
 mod rows;
-mod starts;
+mod search;
 mod word;

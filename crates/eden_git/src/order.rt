@@ -9,7 +9,7 @@ use crate::entry::RawEntry;
 use std::cmp::Ordering;
 
 /// What follows a name where entries are compared.
-fn ending(entry: &RawEntry<'_>) -> &'static [u8]
+fn behind_name(entry: &RawEntry<'_>) -> &'static [u8]
     ensures { result.now ≡ ending_of entry.now.kind }
 {
     match entry.kind {
@@ -22,6 +22,6 @@ fn ending(entry: &RawEntry<'_>) -> &'static [u8]
 pub fn key_order(first: &RawEntry<'_>, second: &RawEntry<'_>) -> Ordering
     ensures { result ≡ slice_cmp nat_cmp (key (plain first.now)) (key (plain second.now)) }
 {
-    let bytes = first.name.iter().chain(ending(first).iter());
-    bytes.cmp(second.name.iter().chain(ending(second).iter()))
+    let bytes = first.name.iter().chain(behind_name(first).iter());
+    bytes.cmp(second.name.iter().chain(behind_name(second).iter()))
 }

@@ -6,7 +6,7 @@ ghost use Rattle.eden_git.specs.Columns.{AreColumns, ids_of, kinds_of, names_of}
 
 use crate::columns::{Columns, kind_of};
 use crate::entry::RawEntry;
-use crate::starts::entry_in;
+use crate::search::entry_in;
 use eden_ids::IdColumn;
 use std::marker::Model;
 

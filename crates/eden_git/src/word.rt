@@ -1,3 +1,4 @@
+//! The words of objects.
 ghost use Rattle.std.specs.Prelude.{◌≡◌};
 ghost use Rattle.eden_git.specs.Words.{word_text, same_word};
 

@@ -1,27 +1,15 @@
 -- How the rows at which two columns of kinds differ grow with the columns, and what a comparison of thirty-two kinds tells.
-use Rattle.std.proofs.Common.{◌≢◌, ◌≡◌, ℕ, List, [], ◌∷◌, ◌++◌, length, get_or, map, take, refl, ap, ◌∙◌, ◌+◌, ◌*◌, ◌≤◌, ◌<◌, ◌%◌, ◌^◌, arith, Bool, true, false, cond, nat_eq, not, ◌&&◌, w8}
+use Rattle.std.proofs.Common.{◌≡◌, ℕ, List, [], ◌∷◌, length, map, take, refl, ap, ◌∙◌, ◌+◌, ◌*◌, ◌≤◌, ◌%◌, ◌^◌, arith, Bool, true, false, cond, nat_eq, not, ◌&&◌, w8}
 use Rattle.std.specs.Simd.Lanes.{chunk, mask_l, top, zip2}
 use Rattle.std.specs.Cmp.Lexicographic.{pointwise}
 use Rattle.std.proofs.lemmas.List.{append-nil}
 use Rattle.std.proofs.lemmas.Simd.{length-zip2, mask_l-mod, tops_compared}
 use Rattle.eden_lanes.specs.Rows.{differing_kinds}
-use Rattle.eden_lanes.proofs.Differing.{among-more, among-one, differ_from-same}
+use Rattle.eden_lanes.proofs.Differing.{among-more, differ_from-same}
 
 -- the rows at which the first kinds of two columns differ
 abbrev pub kinds_among : ℕ → List ℕ → List ℕ → List ℕ
 kinds_among n a b = differing_kinds (take n a) (take n b)
-
--- the next kinds are the same
-pub kinds-same : (n : ℕ) (a b : List ℕ) → n < length a → n < length b → get_or a n 0 ≡ get_or b n 0 → kinds_among (n + 1) a b ≡ kinds_among n a b
-kinds-same n a b first second same =
-    let equal : nat_eq (get_or a n 0) (get_or b n 0) ≡ true = grind (arith) in
-    among-one nat_eq n a b 0 0 first second ∙ rw equal (append-nil (kinds_among n a b))
-
--- they differ
-pub kinds-apart : (n : ℕ) (a b : List ℕ) → n < length a → n < length b → get_or a n 0 ≢ get_or b n 0 → kinds_among (n + 1) a b ≡ kinds_among n a b ++ n ∷ []
-kinds-apart n a b first second apart =
-    let other : nat_eq (get_or a n 0) (get_or b n 0) ≡ false = grind (arith) in
-    among-one nat_eq n a b 0 0 first second ∙ rw other refl
 
 -- the next thirty-two kinds are the same
 pub kinds-many_same : (n : ℕ) (a b : List ℕ) → n + 32 ≤ length a → n + 32 ≤ length b → pointwise nat_eq (chunk n 32 a) (chunk n 32 b) ≡ true
@@ -29,7 +17,7 @@ pub kinds-many_same : (n : ℕ) (a b : List ℕ) → n + 32 ≤ length a → n +
 kinds-many_same n a b first second same =
     among-more nat_eq n 32 a b (omega arith) (omega arith) ∙ rw (differ_from-same nat_eq n (chunk n 32 a) (chunk n 32 b) same) (append-nil (kinds_among n a b))
 
-pub ruleset next_kinds = (kinds-same, kinds-apart, kinds-many_same)
+pub ruleset next_kinds = (kinds-many_same)
 
 abbrev apart : ℕ → ℕ → Bool
 apart x y = not (nat_eq x y)

@@ -1,3 +1,4 @@
+//! Which row of a column holds an id.
 ghost use Rattle.std.specs.Prelude.{◌≡◌, ◌+◌, ◌*◌, ◌/◌, ◌^◌, ◌<◌, ◌≤◌, length, take, None};
 ghost use Rattle.std.specs.List.{position, position_from};
 ghost use Rattle.eden_ids.specs.Sameness.{same_id};

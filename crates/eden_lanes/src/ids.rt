@@ -1,3 +1,4 @@
+//! The rows at which two columns of ids differ, and how many they are.
 ghost use Rattle.std.specs.Prelude.{◌≡◌, ◌+◌, ◌*◌, ◌/◌, ◌^◌, ◌<◌, ◌≤◌, ◌++◌, ◌∷◌, [], if◌then◌else◌, length, take, OnOk, IfOk};
 ghost use Rattle.std.specs.Simd.Lanes.{chunk};
 ghost use Rattle.eden_lanes.specs.Rows.{differing_ids};
@@ -7,7 +8,7 @@ use eden_ids::{IdColumn, NoMemory};
 use std::alloc::Global;
 
 /// Puts a row below the others, unless it is the same.
-fn push_unless(found: &mut Vec<usize>, same: bool, row: usize) -> Result<(), NoMemory>
+pub(crate) fn push_unless(found: &mut Vec<usize>, same: bool, row: usize) -> Result<(), NoMemory>
     ensures { OnOk result (found.new.items ≡ found.old.items ++ (if same then [] else row ∷ [])) }
 {
     if same {

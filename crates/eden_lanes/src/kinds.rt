@@ -1,24 +1,11 @@
+//! The rows at which two columns of kinds differ.
 ghost use Rattle.std.specs.Prelude.{◌≡◌, ◌+◌, ◌*◌, ◌≤◌, [], length, take, OnOk, IfOk};
 ghost use Rattle.eden_lanes.specs.Rows.{differing_kinds};
 
+use crate::ids::push_unless;
 use crate::vectors::same_thirty_two;
 use eden_ids::NoMemory;
 use std::alloc::Global;
-
-/// Puts a row below the others, if the kinds there differ.
-#[tactic(auto, using(crate::proofs::KindLemmas::next_kinds))]
-fn push_if_apart(found: &mut Vec<usize>, a: &[u8], b: &[u8], row: usize) -> Result<(), NoMemory>
-    requires first { row + 1 ≤ length a.now }
-    requires second { row + 1 ≤ length b.now }
-    requires so_far { found.old.items ≡ differing_kinds (take row a.now) (take row b.now) }
-    ensures { OnOk result (found.new.items ≡ differing_kinds (take (row + 1) a.now) (take (row + 1) b.now)) }
-{
-    if a[row] == b[row] {
-        return Ok(());
-    }
-    found.push(row)?;
-    Ok(())
-}
 
 /// Puts the rows from `from` on and before `to` at which the kinds differ below the others.
 fn push_between(
@@ -35,7 +22,7 @@ fn push_between(
     ensures { OnOk result (found.new.items ≡ differing_kinds (take to a.now) (take to b.now)) }
 {
     for row in from..to {
-        push_if_apart(found, a, b, row)?;
+        push_unless(found, a[row] == b[row], row)?;
     }
     Ok(())
 }

@@ -1,3 +1,4 @@
+//! What the definitions of differing rows promise, each as the contract of a function with no work to do.
 ghost use Rattle.eden_lanes.specs.Laws.{IdRowsAreThoseApart, IdRowsAscend, KindRowsAreThoseApart, KindRowsAscend};
 
 /// The rows that `differ_rows` gives, and `count_differing` counts: a row is among them just where the two columns

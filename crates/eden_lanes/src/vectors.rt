@@ -1,3 +1,4 @@
+//! Rows that are compared several at a time.
 ghost use Rattle.std.specs.Prelude.{◌≡◌, ◌+◌, ◌<◌, ◌≤◌, length, nat_eq, slice_index_or};
 ghost use Rattle.std.specs.List.{All, list_any};
 ghost use Rattle.std.specs.Simd.Lanes.{chunk, mask_l, zip2};

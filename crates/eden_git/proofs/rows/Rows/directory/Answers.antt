@@ -8,4 +8,4 @@ pub returns-in-Some : goal.returns-in-Some
 returns-in-Some c =
     let found : Some (plain c.in-Some.entry) ≡ first_from (c.args.name.now ++ 47 ∷ []) c.args.self.now = search rules in
     let dir = dir_first c.args.name.now c.args.self.now (plain c.in-Some.entry) c.requires found in
-    c.dir_with.ensures ∙ dir
+    c.directory_if_named.ensures ∙ dir

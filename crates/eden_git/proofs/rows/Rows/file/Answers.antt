@@ -8,4 +8,4 @@ pub returns-in-Some : goal.returns-in-Some
 returns-in-Some c =
     let found : Some (plain c.in-Some.entry) ≡ first_from c.args.name.now c.args.self.now = search rules in
     let file = file_first c.args.name.now c.args.self.now (plain c.in-Some.entry) c.requires found in
-    c.file_with.ensures ∙ file
+    c.file_if_named.ensures ∙ file

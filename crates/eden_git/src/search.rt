@@ -11,7 +11,7 @@ use eden_ids::{Id, Kind};
 use std::cmp::Ordering;
 
 /// The number of digits in the mode of a kind.
-fn digits(kind: Option<Kind>) -> usize
+fn mode_length(kind: Option<Kind>) -> usize
     ensures { result ≡ length (mode_of kind) }
 {
     match kind {
@@ -27,7 +27,7 @@ pub(crate) fn entry_in(bytes: &[u8], kind: Option<Kind>) -> RawEntry<'_>
 {
     match bytes.split_last_chunk::<20>() {
         Some((front, id)) => RawEntry {
-            name: &front[digits(kind) + 1..front.len() - 1],
+            name: &front[mode_length(kind) + 1..front.len() - 1],
             kind,
             id: Id(*id),
         },
