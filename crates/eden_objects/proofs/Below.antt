@@ -13,8 +13,7 @@ use Rattle.eden_git.specs.Trees.{Entry, cut}
 use Rattle.eden_objects.specs.Commits.{Row, under, rows_of_kind, entry_rows, entries_rows, tree_rows}
 use Rattle.eden_objects.specs.Closed.{HasTree, IsClosed, NamesDiffer}
 use Rattle.eden_git.specs.Directories.{or_later, dir_if, dir_named}
-use Rattle.eden_objects.specs.Walks.{then_rows}
-use Rattle.eden_objects.specs.Listings.{behind, rows_below, IsBelow}
+use Rattle.eden_objects.specs.internal.Below.{behind, then_rows, rows_below, IsBelow}
 use Rattle.eden_git.proofs.Slashes.{has_slash, name_has_none, cut_none, cut_some, name_not_below, below_name, below_under}
 use Rattle.eden_objects.proofs.Lookup.{AllNames, turn, apart_from}
 use Rattle.eden_objects.proofs.WalkSteps.{entries_in, tree_here, rows_here, child_here}

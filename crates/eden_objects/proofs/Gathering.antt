@@ -16,7 +16,7 @@ use Rattle.eden_objects.specs.Trees.{entries_depth, tree_depth}
 use Rattle.eden_objects.specs.Commits.{Row, under, rows_of_kind, entry_rows, entries_rows, tree_rows}
 use Rattle.eden_objects.specs.Puts.{word_wanted}
 use Rattle.eden_objects.specs.Closed.{IsHeld, HasTree, IsClosed}
-use Rattle.eden_objects.specs.Listings.{behind, rows_behind}
+use Rattle.eden_objects.specs.internal.Below.{behind, rows_behind}
 use Rattle.eden_objects.proofs.Closed.{depth_of_tree, child_below, later_below}
 use Rattle.eden_objects.proofs.WalkSteps.{entries_in, tree_here, rows_here}
 

@@ -1,7 +1,7 @@
 -- Looking at a tree's entries one by one, against the first fault of them all.
 use Rattle.std.proofs.Common.{◌≡◌, ◌∙◌, sym, refl, ap, ℕ, zero, suc, ◌-◌, ◌<◌, ◌≤◌, List, [], ◌∷◌, length, Some, None, Ok, arith}
 use Rattle.eden_objects.specs.declared.fault.PutFault.{PutFault}
-use Rattle.eden_objects.specs.declared.seen.Seen.{Seen}
+use Rattle.eden_objects.specs.declared.earlier_entries.Seen.{Seen}
 use Rattle.eden_objects.specs.declared.size.Size.{Size}
 use Rattle.eden_objects.specs.Objects.{Held}
 use Rattle.eden_git.specs.Trees.{Entry, read_entry, entries, entries_after, entries_of}

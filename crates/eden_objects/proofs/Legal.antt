@@ -8,7 +8,8 @@ use Rattle.eden_objects.specs.Objects.{Held}
 use Rattle.eden_git.specs.Trees.{Entry}
 use Rattle.eden_objects.specs.Commits.{Row, under, rows_of_kind, entry_rows, entries_rows, tree_rows}
 use Rattle.eden_objects.specs.Closed.{HasTree, IsClosed}
-use Rattle.eden_objects.specs.Listings.{ArePaths, IsBelow, behind}
+use Rattle.eden_objects.specs.Listings.{ArePaths}
+use Rattle.eden_objects.specs.internal.Below.{IsBelow, behind}
 use Rattle.eden_objects.proofs.Fitting.{fitting_law}
 use Rattle.eden_objects.proofs.WalkSteps.{entries_in, rows_here}
 

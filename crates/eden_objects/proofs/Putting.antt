@@ -6,7 +6,8 @@ use Rattle.eden_objects.specs.declared.fault.PutFault.TheVariants.{IdTaken}
 use Rattle.eden_objects.specs.Objects.{Held, find, zero_id}
 use Rattle.eden_ids.specs.Sameness.{same_id}
 use Rattle.eden_objects.specs.Puts.{PutGives, put_outcome}
-use Rattle.eden_objects.specs.Contents.{held_of, standing_answer, is_object}
+use Rattle.eden_objects.specs.Contents.{held_of}
+use Rattle.eden_objects.specs.internal.Kept.{standing_answer, is_object}
 
 pub added : (new : Held) (held : List Held) → same_id new.id zero_id ≡ false → find new.id held ≡ None
     → put_outcome new held ≡ Ok (new.id, new ∷ held)

@@ -1,3 +1,6 @@
 -- Words that the code alone uses.
+pub mod Below
 pub mod Earlier
+pub mod Kept
 pub mod Placed
+pub mod Roots

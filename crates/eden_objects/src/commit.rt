@@ -1,3 +1,4 @@
+//! A commit of a store that is found once, and asked for its files.
 ghost use Rattle.std.specs.Prelude.{◌≡◌, filter, length, nat_le};
 ghost use Rattle.eden_ids.specs.FileMaps.{file_at, lent, paths};
 ghost use Rattle.eden_ids.specs.Paths.{lies_below};

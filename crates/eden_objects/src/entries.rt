@@ -1,9 +1,8 @@
-ghost use Rattle.std.specs.Prelude.{◌≡◌, ◌∷◌, ◌++◌, [], map, option_copied, Some, None, if◌then◌else◌, IfOk, OnOk};
+//! The entries of one tree, lent or copied.
+ghost use Rattle.std.specs.Prelude.{◌≡◌, ◌∷◌, ◌++◌, [], map, option_copied, IfOk, OnOk};
 ghost use Rattle.eden_objects.specs.Objects.{find};
 ghost use Rattle.eden_objects.specs.Closed.{HasTree};
-ghost use Rattle.eden_objects.specs.Contents.{HasColumns, TellsTree};
-ghost use Rattle.eden_git.specs.Words.{same_word};
-ghost use Rattle.eden_git.specs.Trees.{entries_of};
+ghost use Rattle.eden_objects.specs.internal.Kept.{TellsTree};
 ghost use Rattle.eden_git.specs.Entries.{plain};
 ghost use Rattle.eden_objects.specs.Walks.{tree_seen};
 ghost use Rattle.eden_objects.specs.Readings.{tree_entries, tree_payload};
@@ -11,8 +10,8 @@ ghost use Rattle.eden_objects.specs.Copies.{copied, copied_all};
 
 use crate::outline::Outline;
 use crate::store::Store;
-use crate::stored::Stored;
-use eden_git::{RawEntry, Rows, Word, same_word};
+use crate::stored::{Body, Stored};
+use eden_git::{RawEntry, Rows};
 use eden_ids::{Id, Kind, Naming, NoMemory};
 use std::alloc::Global;
 
@@ -67,30 +66,6 @@ fn copies_of(alloc: Global, rows: &Rows<'_>) -> Result<Vec<Entry>, NoMemory>
     Ok(found)
 }
 
-impl Stored {
-    /// The payload, if the object is a tree.
-    fn entries(&self) -> Option<&[u8]>
-        ensures { option_copied result ≡ (if same_word self.now.word Word.Tree then Some self.now.payload else None) }
-    {
-        if same_word(self.word, Word::Tree) {
-            Some(self.payload.as_slice())
-        } else {
-            None
-        }
-    }
-
-    /// The entries with their columns, if the object is a tree.
-    fn rows(&self) -> Option<Rows<'_>>
-        requires { HasColumns self.now }
-        ensures { result ≡ (if same_word self.now.word Word.Tree then Some (entries_of self.now.payload) else None) }
-    {
-        match &self.outline {
-            Some(outline) => Some(Rows::new(self.payload.as_slice(), &outline.columns)),
-            None => None,
-        }
-    }
-}
-
 impl<N: Naming + Drop> Store<N> {
     /// The tree that the commit with an id names. None where the id is not that of a commit in the store; the empty commit has no
     /// tree. This takes no memory.
@@ -130,13 +105,14 @@ impl<N: Naming + Drop> Store<N> {
         ensures { TellsTree self.now tree result.now }
     {
         match self.object(tree) {
-            Some(object) => match &object.outline {
-                Some(outline) => outline,
-                // The object is a tree.
-                None => unreachable!(),
-            },
+            Some(
+                Stored {
+                    body: Body::Tree(outline),
+                    ..
+                },
+            ) => outline,
             // The tree is there.
-            None => unreachable!(),
+            _ => unreachable!(),
         }
     }
 

@@ -1,3 +1,4 @@
+//! Why an object is not put, and why a question about a commit has no answer.
 ghost use Rattle.std.specs.Prelude.{◌≡◌};
 ghost use Rattle.eden_objects.specs.declared.fault.CommitFault.TheVariants as fault;
 ghost use Rattle.eden_objects.specs.Puts.{unread};

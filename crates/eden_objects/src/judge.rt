@@ -8,14 +8,13 @@ ghost use Rattle.eden_objects.specs.Trees.{depth_of, entries_depth, entries_reac
 ghost use Rattle.eden_objects.specs.Closed.{IsHeld, IsSound};
 ghost use Rattle.eden_objects.specs.internal.Earlier.{HasSeen};
 ghost use Rattle.eden_git.specs.Entries.{plain};
-ghost use Rattle.eden_objects.specs.Contents.{OutlineFits, SizeFits};
-ghost use Rattle.eden_objects.specs.Counts.{files_of_entries};
+ghost use Rattle.eden_objects.specs.internal.Kept.{OutlineFits, SizeFits, files_of_entries};
 ghost use Rattle.eden_git.specs.Commits.{tree_named};
-ghost use Rattle.eden_objects.specs.Puts.{child_fault, commit_fault, entries_fault, entry_fault, named_fault, tree_fault, word_wanted};
+ghost use Rattle.eden_objects.specs.Puts.{child_fault, commit_fault, entries_fault, entry_fault, tree_fault, word_wanted};
 
+use crate::earlier_entries::Seen;
 use crate::fault::PutFault;
 use crate::outline::Outline;
-use crate::seen::Seen;
 use crate::size::Size;
 use crate::store::{PAYLOAD_LIMIT, Store};
 use eden_git::{Columns, RawEntry, Rows, Word, read_entry, same_word, tree_named};
@@ -40,32 +39,31 @@ impl<N: Naming + Drop> Store<N> {
         let Some(object) = self.object(id) else {
             return Some(PutFault::MissingChild);
         };
-        if same_word(object.word, word) {
+        if same_word(object.body.word(), word) {
             None
         } else {
             Some(PutFault::WrongChildKind)
         }
     }
 
-    fn named_fault(&self, tree: Option<Id>) -> Option<PutFault>
-        ensures { result ≡ named_fault self.now tree }
-    {
-        match tree {
-            None => Some(PutFault::BadCommit),
-            Some(tree) => self.child_fault(Word::Tree, tree),
-        }
-    }
-
-    /// Why a payload is no commit's.
-    pub(crate) fn commit_fault(&self, payload: &[u8]) -> Option<PutFault>
-        ensures { result ≡ commit_fault payload.now self.now }
+    /// The tree that a commit names, or why the payload is no commit's.
+    pub(crate) fn tree_of_commit(&self, payload: &[u8]) -> Result<Id, PutFault>
+        ensures passes { IfOk result (λ tree. commit_fault payload.now self.now ≡ None) }
+        ensures named { IfOk result (λ tree. tree_named payload.now ≡ Some tree) }
+        ensures refuses { IfErr result (λ fault. commit_fault payload.now self.now ≡ Some fault) }
     {
         if payload.len() > PAYLOAD_LIMIT {
-            Some(PutFault::TooLarge)
-        } else if payload.len() < 46 {
-            Some(PutFault::CutShort)
-        } else {
-            self.named_fault(tree_named(payload))
+            return Err(PutFault::TooLarge);
+        }
+        if payload.len() < 46 {
+            return Err(PutFault::CutShort);
+        }
+        let Some(tree) = tree_named(payload) else {
+            return Err(PutFault::BadCommit);
+        };
+        match self.child_fault(Word::Tree, tree) {
+            None => Ok(tree),
+            Some(fault) => Err(fault),
         }
     }
 
@@ -135,10 +133,7 @@ impl<N: Naming + Drop> Store<N> {
         ensures fits { IfOk result (λ size. SizeFits self.now payload.now size) }
         ensures refuses { IfErr result (λ fault. fault ≢ PutFault.NoMemory → tree_fault payload.now self.now ≡ Some fault) }
     {
-        let size = match self.judged(payload) {
-            Ok(size) => size,
-            Err(fault) => return Err(fault),
-        };
+        let size = self.judged(payload)?;
         if size.depth > 64 {
             return Err(PutFault::TooDeep);
         }
@@ -149,18 +144,18 @@ impl<N: Naming + Drop> Store<N> {
     }
 
     /// How many files an entry comes to.
-    fn files_of(&self, entry: &RawEntry<'_>) -> usize
+    fn count_of_entry(&self, entry: &RawEntry<'_>) -> usize
         requires { IsHeld self.now (word_wanted entry.now.kind) entry.now.id }
         ensures { result ≡ files_of_entries self.now (plain entry.now ∷ []) }
     {
         if entry.kind.is_some() {
             return 1;
         }
-        self.files(entry.id)
+        self.count_of_tree(entry.id)
     }
 
     /// How many files a tree of these entries comes to.
-    fn files_in(&self, rows: &Rows<'_>) -> usize
+    fn count_of_entries(&self, rows: &Rows<'_>) -> usize
         requires { AllByRecursion (λ e. IsHeld self.now (word_wanted e.kind) e.id) rows.now }
         ensures { result ≡ files_of_entries self.now rows.now }
     {
@@ -170,7 +165,7 @@ impl<N: Naming + Drop> Store<N> {
                 // The row is one of them.
                 unreachable!()
             };
-            files = files.saturating_add(self.files_of(&entry));
+            files = files.saturating_add(self.count_of_entry(&entry));
         }
         files
     }
@@ -184,16 +179,13 @@ impl<N: Naming + Drop> Store<N> {
         ensures fits { IfOk result (λ outline. OutlineFits self.now payload.now outline) }
         ensures refuses { IfErr result (λ fault. fault ≢ PutFault.NoMemory → tree_fault payload.now self.now ≡ Some fault) }
     {
-        let size = match self.tree_size(payload) {
-            Ok(size) => size,
-            Err(fault) => return Err(fault),
-        };
+        let size = self.tree_size(payload)?;
         let Ok(columns) = Columns::of(self.allocator(), payload) else {
             return Err(PutFault::NoMemory);
         };
         let outline = Outline {
             size,
-            files: self.files_in(&Rows::new(payload, &columns)),
+            files: self.count_of_entries(&Rows::new(payload, &columns)),
             columns,
         };
         match Shared::new(self.allocator(), outline) {

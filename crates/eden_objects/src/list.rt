@@ -1,45 +1,37 @@
+//! Listings: the files of a commit, or those below a directory, in byte order of their paths.
+
 ghost use Rattle.std.specs.Prelude.{◌≡◌, ◌++◌, ◌∷◌, [], Some, map, IfOk, OnOk};
 ghost use Rattle.eden_globs.specs.Filters.{admits};
 ghost use Rattle.eden_ids.specs.Paths.{IsPath, lies_below};
 ghost use Rattle.eden_objects.specs.Commits.{commit_rows, rows_where, tree_rows};
 ghost use Rattle.eden_objects.specs.Closed.{HasTree};
-ghost use Rattle.eden_objects.specs.Listings.{ArePaths, IsBelow, Lists, behind, rows_behind, rows_below};
+ghost use Rattle.eden_objects.specs.Listings.{ArePaths, Lists};
+ghost use Rattle.eden_objects.specs.internal.Below.{IsBelow, behind, rows_behind, rows_below};
 
 use crate::fault::{CommitFault, NoCommit};
-use crate::front::{enter, is_entered, is_wanted};
 use crate::store::Store;
 use eden_git::cut;
-use eden_globs::Filter;
+use eden_globs::{Filter, Front};
 use eden_ids::{Id, Kind, Naming, NoMemory, Path};
-use std::alloc::Global;
 
-/// The files that were found so far, and the bytes that stand before each name of the directory that is read.
+/// The files that were found so far, and the directory that is read.
 #[derive(Drop)]
 struct Listing {
-    front: Vec<u8>,
+    front: Front,
     rows: Vec<(Path, Kind, Id)>,
 }
 
 impl Listing {
     /// Adds a file of the directory that is read, if it is wanted.
-    fn add(
-        &mut self,
-        alloc: Global,
-        filter: &Filter,
-        name: &[u8],
-        kind: Kind,
-        id: Id,
-    ) -> Result<(), NoMemory>
-        requires { IsPath (self.old.front.items ++ name.now) }
+    fn add(&mut self, filter: &Filter, name: &[u8], kind: Kind, id: Id) -> Result<(), NoMemory>
+        requires { IsPath (self.old.front ++ name.now) }
         ensures rows { OnOk result (self.new.rows.items
-            ≡ self.old.rows.items ++ rows_behind (admits filter.now) self.old.front.items ((name.now, kind, id) ∷ [])) }
-        ensures front { OnOk result (self.new.front.items ≡ self.old.front.items) }
+            ≡ self.old.rows.items ++ rows_behind (admits filter.now) self.old.front ((name.now, kind, id) ∷ [])) }
+        ensures front { OnOk result (self.new.front ≡ self.old.front) }
     {
-        if !is_wanted(&mut self.front, filter, name)? {
-            return Ok(());
+        if let Some(path) = self.front.path_if_wanted(filter, name)? {
+            self.rows.push((path, kind, id))?;
         }
-        let path = Path::joined(alloc, self.front.as_slice(), name)?;
-        self.rows.push((path, kind, id))?;
         Ok(())
     }
 }
@@ -69,19 +61,19 @@ impl<N: Naming + Drop> Store<N> {
         ensures { Lists result (rows_where (λ p. lies_below p top.now) (commit_rows self.now commit)) }
     {
         match self.root_tree(commit) {
-            Ok(Some(tree)) => self.list_dir(tree, top.as_bytes()),
+            Ok(Some(tree)) => self.list_directory(tree, top.as_bytes()),
             Ok(None) => Ok(Vec::new(self.allocator())),
             Err(NoCommit) => Err(CommitFault::NoCommit),
         }
     }
 
     /// The files of a tree that stand below a path.
-    fn list_dir(&self, tree: Id, path: &[u8]) -> Result<Vec<(Path, Kind, Id)>, CommitFault>
+    fn list_directory(&self, tree: Id, path: &[u8]) -> Result<Vec<(Path, Kind, Id)>, CommitFault>
         requires { HasTree self.now tree }
         ensures { Lists result (Some (rows_below self.now tree path.now)) }
     {
         self.closed_law();
-        let Some(dir) = self.dir_below(tree, path) else {
+        let Some(dir) = self.directory_below(tree, path) else {
             return Ok(Vec::new(self.allocator()));
         };
         match self.gather_all(dir, path) {
@@ -92,7 +84,7 @@ impl<N: Naming + Drop> Store<N> {
 
     /// The directory of a tree at a path.
     #[tactic(auto, using(crate::proofs::WalkSteps::rest_shorter))]
-    pub(crate) fn dir_below(&self, tree: Id, path: &[u8]) -> Option<Id>
+    pub(crate) fn directory_below(&self, tree: Id, path: &[u8]) -> Option<Id>
         requires { HasTree self.now tree }
         ensures { IsBelow self.now tree path.now result }
     {
@@ -101,8 +93,8 @@ impl<N: Naming + Drop> Store<N> {
         let mut rest = path;
         'walk: loop {
             match cut(rest, b'/') {
-                None => return self.dir_in(dir, rest),
-                Some((name, after)) => match self.dir_in(dir, name) {
+                None => return self.directory_in(dir, rest),
+                Some((name, after)) => match self.directory_in(dir, name) {
                     None => return None,
                     Some(child) => {
                         dir = child;
@@ -120,9 +112,10 @@ impl<N: Naming + Drop> Store<N> {
         requires paths { ArePaths (path.now ++ 47 ∷ []) (tree_rows self.now dir) }
         ensures { IfOk result (λ rows. rows.items ≡ map (behind (path.now ++ 47 ∷ [])) (tree_rows self.now dir)) }
     {
-        let mut front = Vec::new(self.allocator());
-        enter(&mut front, path)?;
         let filter = Filter::all(self.allocator());
+        let mut front = Front::new(self.allocator());
+        // A filter without patterns lets it be entered.
+        let _ = front.enter(&filter, path)?;
         self.gather_behind(dir, &filter, front)
     }
 
@@ -133,7 +126,7 @@ impl<N: Naming + Drop> Store<N> {
         ensures { Lists result (rows_where (admits filter.now) (Some (tree_rows self.now tree))) }
     {
         self.closed_law();
-        match self.gather_behind(tree, filter, Vec::new(self.allocator())) {
+        match self.gather_behind(tree, filter, Front::new(self.allocator())) {
             Ok(rows) => Ok(rows),
             Err(NoMemory) => Err(CommitFault::NoMemory),
         }
@@ -144,11 +137,11 @@ impl<N: Naming + Drop> Store<N> {
         &self,
         tree: Id,
         filter: &Filter,
-        front: Vec<u8>,
+        front: Front,
     ) -> Result<Vec<(Path, Kind, Id)>, NoMemory>
         requires tree { HasTree self.now tree }
-        requires paths { ArePaths front.items (tree_rows self.now tree) }
-        ensures { IfOk result (λ rows. rows.items ≡ rows_behind (admits filter.now) front.items (tree_rows self.now tree)) }
+        requires paths { ArePaths front (tree_rows self.now tree) }
+        ensures { IfOk result (λ rows. rows.items ≡ rows_behind (admits filter.now) front (tree_rows self.now tree)) }
     {
         let mut listing = Listing {
             front,
@@ -162,13 +155,13 @@ impl<N: Naming + Drop> Store<N> {
     /// nothing is wanted.
     fn gather(&self, tree: Id, filter: &Filter, listing: &mut Listing) -> Result<(), NoMemory>
         requires tree { HasTree self.now tree }
-        requires paths { ArePaths listing.old.front.items (tree_rows self.now tree) }
+        requires paths { ArePaths listing.old.front (tree_rows self.now tree) }
         ensures rows { OnOk result (listing.new.rows.items
-            ≡ listing.old.rows.items ++ rows_behind (admits filter.now) listing.old.front.items (tree_rows self.now tree)) }
-        ensures front { OnOk result (listing.new.front.items ≡ listing.old.front.items) }
+            ≡ listing.old.rows.items ++ rows_behind (admits filter.now) listing.old.front (tree_rows self.now tree)) }
+        ensures front { OnOk result (listing.new.front ≡ listing.old.front) }
     {
         self.closed_law();
-        if self.files(tree) == 0 {
+        if self.count_of_tree(tree) == 0 {
             return Ok(());
         }
         let Some(rows) = self.rows(tree) else {
@@ -181,17 +174,14 @@ impl<N: Naming + Drop> Store<N> {
                 unreachable!()
             };
             let Some(kind) = entry.kind else {
-                let entered = is_entered(&mut listing.front, filter, entry.name)?;
-                if !entered {
+                let Some(length) = listing.front.enter(filter, entry.name)? else {
                     continue;
-                }
-                let length = listing.front.len();
-                enter(&mut listing.front, entry.name)?;
+                };
                 self.gather(entry.id, filter, listing)?;
-                listing.front.truncate(length);
+                listing.front.leave(length);
                 continue;
             };
-            listing.add(self.allocator(), filter, entry.name, kind, entry.id)?;
+            listing.add(filter, entry.name, kind, entry.id)?;
         }
         Ok(())
     }

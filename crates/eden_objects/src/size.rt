@@ -1,3 +1,4 @@
+//! How deep a tree is, and how long its paths are.
 ghost use Rattle.std.specs.Prelude.{◌≡◌};
 ghost use Rattle.eden_objects.specs.Trees.{greater};
 

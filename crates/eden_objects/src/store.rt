@@ -1,18 +1,18 @@
+//! The store: its objects, what is put into it, and copies of it.
 ghost use Rattle.std.specs.Prelude.{◌≡◌, ◌≤◌, ◌∷◌, [], None, IfOk, OnOk, OnErr, length, option_copied};
 ghost use Rattle.eden_objects.specs.Objects.{find};
 ghost use Rattle.eden_git.specs.Words.{word_text};
 ghost use Rattle.eden_objects.specs.Puts.{PutGives, TreeGives, put_outcome, blob_outcome, commit_outcome, named, tree_outcome};
 ghost use Rattle.eden_objects.specs.Closed.{IsClosed, IsSound, AllNamed};
 ghost use Rattle.eden_objects.specs.Small.{AreSmall, IsSmall};
-ghost use Rattle.eden_objects.specs.Contents.{held_of, option_held, IsOutlined, Measures, TellsOutline};
+ghost use Rattle.eden_objects.specs.Contents.{held_of, word_of};
+ghost use Rattle.eden_objects.specs.internal.Kept.{option_held, IfTree, IsReadFrom, Measures, OutlineFits, TellsKept};
 
 use crate::fault::PutFault;
-use crate::outline::Outline;
-use crate::stored::Stored;
+use crate::stored::{Body, Stored};
 use bytes::Bytes;
-use eden_git::Word;
 use eden_ids::{Id, Naming, NoMemory};
-use eden_segments::{Shared, Table};
+use eden_segments::Table;
 use std::alloc::Global;
 use std::marker::Model;
 
@@ -34,7 +34,8 @@ impl<N: Naming + Drop> Model for Store<N> {
     ghost use Rattle.eden_objects.specs.Objects.{Held};
     ghost use Rattle.eden_objects.specs.Closed.{IsClosed, AllNamed};
     ghost use Rattle.eden_objects.specs.Small.{AreSmall};
-    ghost use Rattle.eden_objects.specs.Contents.{helds, AreMeasured};
+    ghost use Rattle.eden_objects.specs.Contents.{helds};
+    ghost use Rattle.eden_objects.specs.internal.Kept.{AreMeasured};
 
     ghost Value = { List Held };
 
@@ -68,7 +69,7 @@ impl<N: Naming + Drop> Store<N> {
         if payload.len() > PAYLOAD_LIMIT {
             return Err(PutFault::TooLarge);
         }
-        self.put(Word::Blob, payload, None)
+        self.put(payload, Body::Blob)
     }
 
     /// Puts a tree, whose payload is its entries, and answers its id; the same tree may be there already. An entry is a mode in octal
@@ -89,7 +90,7 @@ impl<N: Naming + Drop> Store<N> {
             return Err(PutFault::TooLarge);
         }
         match self.outline_of(payload) {
-            Ok(outline) => self.put(Word::Tree, payload, Some(outline)),
+            Ok(outline) => self.put(payload, Body::Tree(outline)),
             Err(fault) => Err(fault),
         }
     }
@@ -103,16 +104,16 @@ impl<N: Naming + Drop> Store<N> {
     pub fn put_commit(&mut self, payload: &[u8]) -> Result<Id, PutFault>
         ensures { PutGives result self.old self.new (commit_outcome N.id payload.now self.old) }
     {
-        if let Some(fault) = self.commit_fault(payload) {
-            return Err(fault);
+        match self.tree_of_commit(payload) {
+            Ok(tree) => self.put(payload, Body::Commit { tree }),
+            Err(fault) => Err(fault),
         }
-        self.put(Word::Commit, payload, None)
     }
 
     /// The object with an id.
     pub(crate) fn object(&self, id: Id) -> Option<&Stored>
         ensures found { option_held id (option_copied result) ≡ find id self.now }
-        ensures measured { TellsOutline self.now id (option_copied result) }
+        ensures kept { TellsKept self.now id (option_copied result) }
     {
         self.objects.get(id)
     }
@@ -156,8 +157,8 @@ impl<N: Naming + Drop> Store<N> {
 
     fn add(&mut self, id: Id, object: Stored) -> Result<(), NoMemory>
         requires fresh { find id self.old ≡ None }
-        requires sound { IsSound object.word object.payload self.old }
-        requires named { N.id (word_text object.word) object.payload ≡ id }
+        requires sound { IsSound (word_of object.body) object.payload self.old }
+        requires named { N.id (word_text (word_of object.body)) object.payload ≡ id }
         requires measured { Measures self.old object }
         requires small { IsSmall (held_of id object) }
         ensures ok { OnOk result (self.new ≡ held_of id object ∷ self.old) }
@@ -167,35 +168,25 @@ impl<N: Naming + Drop> Store<N> {
     }
 
     /// Puts a new object, or finds it there.
-    fn put(
-        &mut self,
-        word: Word,
-        payload: &[u8],
-        outline: Option<Shared<Outline>>,
-    ) -> Result<Id, PutFault>
-        requires sound { IsSound word payload.now self.old }
-        requires measured { IsOutlined self.old word payload.now outline }
+    fn put(&mut self, payload: &[u8], body: Body) -> Result<Id, PutFault>
+        requires sound { IsSound (word_of body) payload.now self.old }
+        requires read { IsReadFrom payload.now body }
+        requires fits { IfTree body (OutlineFits self.old payload.now) }
         requires small { length payload.now ≤ 8388608 }
-        ensures { PutGives result self.old self.new (put_outcome (named N.id word payload.now) self.old) }
+        ensures { PutGives result self.old self.new (put_outcome (named N.id (word_of body) payload.now) self.old) }
     {
+        let word = body.word();
         let id = self.naming.id_of(word.text(), payload);
         if id == Id::ZERO {
             return Err(PutFault::ZeroId);
         }
         if let Some(held) = self.object(id) {
-            return held.answer(id, word, payload);
+            return held.id_or_taken(id, word, payload);
         }
         let Ok(payload) = Bytes::copy_from_slice(self.allocator(), payload) else {
             return Err(PutFault::NoMemory);
         };
-        match self.add(
-            id,
-            Stored {
-                word,
-                payload,
-                outline,
-            },
-        ) {
+        match self.add(id, Stored { payload, body }) {
             Ok(()) => Ok(id),
             Err(_) => Err(PutFault::NoMemory),
         }

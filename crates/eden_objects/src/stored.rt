@@ -1,39 +1,111 @@
 //! What a store keeps under an id.
-ghost use Rattle.std.specs.Prelude.{◌≡◌};
-ghost use Rattle.eden_objects.specs.Contents.{is_object, standing_answer};
+ghost use Rattle.std.specs.Prelude.{◌≡◌, Some, None, if◌then◌else◌, option_copied};
+ghost use Rattle.eden_git.specs.Commits.{tree_named};
+ghost use Rattle.eden_git.specs.Trees.{entries_of};
+ghost use Rattle.eden_git.specs.Words.{same_word};
+ghost use Rattle.eden_objects.specs.Contents.{word_of};
+ghost use Rattle.eden_objects.specs.internal.Kept.{IsReadFrom, standing_answer};
 
 use crate::fault::PutFault;
 use crate::outline::Outline;
 use bytes::Bytes;
-use eden_git::{Word, same_word};
+use eden_git::{Rows, Word, same_word};
 use eden_ids::{Id, NoMemory};
 use eden_segments::{Share, Shared};
+
+/// What an object is, and what is kept of it beside its payload.
+#[derive(Drop)]
+pub(crate) enum Body {
+    Blob,
+    /// What the tree comes to, and its entries in columns.
+    Tree(Shared<Outline>),
+    Commit {
+        /// The tree that the payload names.
+        tree: Id,
+    },
+}
+
+impl Body {
+    /// The kind of the object.
+    pub(crate) fn word(&self) -> Word
+        ensures { result ≡ word_of self.now }
+    {
+        match self {
+            Body::Blob => Word::Blob,
+            Body::Tree(_) => Word::Tree,
+            Body::Commit { .. } => Word::Commit,
+        }
+    }
+}
+
+impl Share for Body {
+    fn share(&self) -> Result<Body, NoMemory> {
+        match self {
+            Body::Blob => Ok(Body::Blob),
+            Body::Tree(outline) => Ok(Body::Tree(outline.share()?)),
+            Body::Commit { tree } => Ok(Body::Commit { tree: *tree }),
+        }
+    }
+}
 
 /// An object of a store, whose bytes stand once, however many stores have it.
 #[derive(Drop)]
 pub(crate) struct Stored {
-    pub(crate) word: Word,
     pub(crate) payload: Bytes,
-    /// What is kept of a tree, and of no other object.
-    pub(crate) outline: Option<Shared<Outline>>,
+    pub(crate) body: Body,
 }
 
 impl Stored {
-    /// Whether the object is of this kind and has this payload.
-    fn is(&self, word: Word, payload: &[u8]) -> bool
-        ensures { result ≡ is_object self.now word payload.now }
-    {
-        same_word(self.word, word) && self.payload.as_slice() == payload
-    }
-
     /// What is answered where this object stands under the id that another would have.
-    pub(crate) fn answer(&self, id: Id, word: Word, payload: &[u8]) -> Result<Id, PutFault>
+    pub(crate) fn id_or_taken(&self, id: Id, word: Word, payload: &[u8]) -> Result<Id, PutFault>
         ensures { result ≡ standing_answer self.now id word payload.now }
     {
-        if self.is(word, payload) {
+        if same_word(self.body.word(), word) && self.payload.as_slice() == payload {
             Ok(id)
         } else {
             Err(PutFault::IdTaken)
+        }
+    }
+
+    /// The payload, if the object is a blob.
+    pub(crate) fn blob(&self) -> Option<&[u8]>
+        ensures { option_copied result ≡ (if same_word (word_of self.now.body) Word.Blob then Some self.now.payload else None) }
+    {
+        match &self.body {
+            Body::Blob => Some(self.payload.as_slice()),
+            _ => None,
+        }
+    }
+
+    /// The payload, if the object is a tree.
+    pub(crate) fn entries(&self) -> Option<&[u8]>
+        ensures { option_copied result ≡ (if same_word (word_of self.now.body) Word.Tree then Some self.now.payload else None) }
+    {
+        match &self.body {
+            Body::Tree(_) => Some(self.payload.as_slice()),
+            _ => None,
+        }
+    }
+
+    /// The entries with their columns, if the object is a tree.
+    pub(crate) fn rows(&self) -> Option<Rows<'_>>
+        requires { IsReadFrom self.now.payload self.now.body }
+        ensures { result ≡ (if same_word (word_of self.now.body) Word.Tree then Some (entries_of self.now.payload) else None) }
+    {
+        match &self.body {
+            Body::Tree(outline) => Some(Rows::new(self.payload.as_slice(), &outline.columns)),
+            _ => None,
+        }
+    }
+
+    /// The tree that the object names, if it is a commit.
+    pub(crate) fn tree(&self) -> Option<Id>
+        requires { IsReadFrom self.now.payload self.now.body }
+        ensures { result ≡ (if same_word (word_of self.now.body) Word.Commit then tree_named self.now.payload else None) }
+    {
+        match &self.body {
+            Body::Commit { tree } => Some(*tree),
+            _ => None,
         }
     }
 }
@@ -43,14 +115,9 @@ impl Share for Stored {
         let Ok(payload) = self.payload.clone() else {
             return Err(NoMemory);
         };
-        let outline = match &self.outline {
-            Some(outline) => Some(outline.share()?),
-            None => None,
-        };
         Ok(Stored {
-            word: self.word,
             payload,
-            outline,
+            body: self.body.share()?,
         })
     }
 }

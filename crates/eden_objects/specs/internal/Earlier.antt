@@ -8,7 +8,7 @@ use Rattle.std.specs.BTreeSet.{contains}
 use Rattle.eden_ids.specs.Sameness.{same_bytes}
 use Rattle.eden_git.specs.Entries.{option_plain}
 use Rattle.eden_git.specs.Trees.{Entry, key}
-use Rattle.eden_objects.specs.declared.seen.Seen.{Seen}
+use Rattle.eden_objects.specs.declared.earlier_entries.Seen.{Seen}
 
 abbrev pub first_of : List Entry → Option Entry
 first_of [] = None

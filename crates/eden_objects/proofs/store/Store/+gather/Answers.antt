@@ -1,13 +1,15 @@
-use Rattle.std.proofs.Common.{rules, ◌≡◌, ℕ, ◌<◌, ◌++◌, ◌∷◌, [], true, false, List, length, take, drop, refl, ◌+◌, None, ap, sym, subst, ◌∙◌, arith}
+use Rattle.std.proofs.Common.{rules, Some, ◌≡◌, ℕ, ◌<◌, ◌++◌, ◌∷◌, [], true, false, List, length, take, drop, refl, ◌+◌, None, ap, sym, subst, ◌∙◌, arith}
 use Rattle.std.specs.List.{slice_get}
 use Rattle.eden_globs.specs.Filters.{admits}
+use Rattle.eden_globs.specs.Fronts.{Enters}
 use Rattle.eden_ids.specs.Paths.{IsPath, lies_below}
 use Rattle.eden_objects.specs.Objects.{Held}
 use Rattle.eden_git.specs.Entries.{plain}
 use Rattle.eden_git.specs.Trees.{Entry}
 use Rattle.eden_objects.specs.Trees.{tree_depth}
 use Rattle.eden_objects.specs.Commits.{tree_rows}
-use Rattle.eden_objects.specs.Listings.{ArePaths, rows_behind}
+use Rattle.eden_objects.specs.Listings.{ArePaths}
+use Rattle.eden_objects.specs.internal.Below.{rows_behind}
 use Rattle.eden_objects.proofs.Gathering.{all_listed, all_held, depth_here, dir_is_below, dir_is_held, no_dir, one_dir, one_file, left, later_held, later_is_below}
 use Rattle.eden_objects.proofs.Legal.{dir_paths, file_path, later_paths, paths_here}
 use Rattle.eden_objects.proofs.WalkSteps.{entries_in, next_row, rows_lent, some_row}
@@ -18,10 +20,10 @@ entries-init g t c =
     let held : List Held = c.args.self.now in
     let depth = depth_here held c.args.tree c.closed_law.ensures.closed c.requires.tree in
     record {
-      listed = all_listed (admits c.args.filter.now) c.args.listing.now.front.items held c.args.tree c.args.listing.now.rows.items c.closed_law.ensures.closed c.requires.tree;
-      front = refl {A = List ℕ} {a = c.args.listing.now.front.items};
+      listed = all_listed (admits c.args.filter.now) c.args.listing.now.front held c.args.tree c.args.listing.now.rows.items c.closed_law.ensures.closed c.requires.tree;
+      front = refl {A = List ℕ} {a = c.args.listing.now.front};
       held = all_held held c.args.tree c.closed_law.ensures.closed c.requires.tree;
-      paths = paths_here c.args.listing.now.front.items held c.args.tree (entries_in held c.args.tree) c.closed_law.ensures.closed c.requires.tree refl c.requires.paths;
+      paths = paths_here c.args.listing.now.front held c.args.tree (entries_in held c.args.tree) c.closed_law.ensures.closed c.requires.tree refl c.requires.paths;
       below = omega (arith, depth);
     }
 
@@ -31,22 +33,24 @@ unreachable-requires-in_default-entry g t c =
     let none : slice_get c.in-Some.rows c.entries.row ≡ None = search rules in
     some_row c.in-Some.rows c.entries.row within none
 
-pub entries-preserved-then-not-entered : goal.entries-preserved-then-not-entered
-entries-preserved-then-not-entered g t c =
+pub entries-preserved-in_default-2 : goal.entries-preserved-in_default-2
+entries-preserved-in_default-2 g t c =
     let es : List Entry = entries_in c.args.self.now c.args.tree in
     let lent : c.in-Some.rows ≡ es = rows_lent c.args.self.now c.args.tree c.in-Some.rows c.requires.tree (sym c.in-Some.is ∙ c.rows.ensures) in
     let next : drop c.entries.row es ≡ plain c.in-Some-entry.entry ∷ drop (c.entries.row + 1) es =
     next_row es c.entries.row (plain c.in-Some-entry.entry) (c.in-Some-entry.ensures ∙ ap (λ rows. slice_get rows c.entries.row) lent) in
-    let front : List ℕ = c.args.listing.now.front.items in
+    let front : List ℕ = c.args.listing.now.front in
+    let kept : Enters c.args.filter.now c.in-Some-entry.entry.name.now c.entries.listing.front c.enter.new.self None =
+    subst (Enters c.args.filter.now c.in-Some-entry.entry.name.now c.entries.listing.front c.enter.new.self) c.in_default-2.is c.in_ok-length.ensures.entered in
     let outside : (path : List ℕ) → lies_below path (front ++ c.in-Some-entry.entry.name.now) ≡ true → admits c.args.filter.now path ≡ false =
     subst (λ bytes. (path : List ℕ) → lies_below path (bytes ++ c.in-Some-entry.entry.name.now) ≡ true → admits c.args.filter.now path ≡ false)
-    c.entries.invariant.front (c.in_ok-entered.ensures.outside c.if-not-entered.true) in
+    c.entries.invariant.front kept.1 in
     record {
       listed =
           no_dir (admits c.args.filter.now) front (tree_rows c.args.self.now)
           (c.args.listing.now.rows.items ++ rows_behind (admits c.args.filter.now) front (tree_rows c.args.self.now c.args.tree)) c.entries.listing.rows.items (plain c.in-Some-entry.entry)
           (drop (c.entries.row + 1) es) (drop c.entries.row es) next c.in_default-kind.is outside c.entries.invariant.listed;
-      front = c.in_ok-entered.ensures.front ∙ c.entries.invariant.front;
+      front = kept.0 ∙ c.entries.invariant.front;
       held = later_held c.args.self.now (plain c.in-Some-entry.entry) (drop (c.entries.row + 1) es) (drop c.entries.row es) next c.entries.invariant.held;
       paths = later_paths front (tree_rows c.args.self.now) (plain c.in-Some-entry.entry) (drop (c.entries.row + 1) es) (drop c.entries.row es) next c.entries.invariant.paths;
       below =
@@ -60,22 +64,23 @@ entries-preserved-in_default-kind g t c =
     let lent : c.in-Some.rows ≡ es = rows_lent c.args.self.now c.args.tree c.in-Some.rows c.requires.tree (sym c.in-Some.is ∙ c.rows.ensures) in
     let next : drop c.entries.row es ≡ plain c.in-Some-entry.entry ∷ drop (c.entries.row + 1) es =
     next_row es c.entries.row (plain c.in-Some-entry.entry) (c.in-Some-entry.ensures ∙ ap (λ rows. slice_get rows c.entries.row) lent) in
-    let front : List ℕ = c.args.listing.now.front.items in
-    let entered : c.enter.new.front.items ≡ front ++ c.in-Some-entry.entry.name.now ++ 47 ∷ [] =
-    c.in_ok-enter.ensures ∙ ap (λ bytes. bytes ++ c.in-Some-entry.entry.name.now ++ 47 ∷ []) (c.in_ok-entered.ensures.front ∙ c.entries.invariant.front) in
+    let front : List ℕ = c.args.listing.now.front in
+    let there : Enters c.args.filter.now c.in-Some-entry.entry.name.now c.entries.listing.front c.enter.new.self (Some c.in-Some-2.length) =
+    subst (Enters c.args.filter.now c.in-Some-entry.entry.name.now c.entries.listing.front c.enter.new.self) c.in-Some-2.is c.in_ok-length.ensures.entered in
+    let entered : c.enter.new.self ≡ front ++ c.in-Some-entry.entry.name.now ++ 47 ∷ [] =
+    there.0 ∙ ap (λ bytes. bytes ++ c.in-Some-entry.entry.name.now ++ 47 ∷ []) c.entries.invariant.front in
     let rows : c.gather.new.listing.rows.items
-    ≡ c.entries.listing.rows.items ++ rows_behind (admits c.args.filter.now) c.enter.new.front.items (tree_rows c.args.self.now c.in-Some-entry.entry.id) =
+    ≡ c.entries.listing.rows.items ++ rows_behind (admits c.args.filter.now) c.enter.new.self (tree_rows c.args.self.now c.in-Some-entry.entry.id) =
     c.in_ok-gather.ensures.rows in
-    let long : c.len-length.result ≡ length c.is_entered.new.front.items = search rules in
-    let length_is : c.len-length.result ≡ length front = long ∙ ap length (c.in_ok-entered.ensures.front ∙ c.entries.invariant.front) in
+    let length_is : c.in-Some-2.length ≡ length front = there.1 ∙ ap length c.entries.invariant.front in
     record {
       listed =
-          one_dir (admits c.args.filter.now) front c.enter.new.front.items (tree_rows c.args.self.now)
+          one_dir (admits c.args.filter.now) front c.enter.new.self (tree_rows c.args.self.now)
           (c.args.listing.now.rows.items ++ rows_behind (admits c.args.filter.now) front (tree_rows c.args.self.now c.args.tree)) c.entries.listing.rows.items c.gather.new.listing.rows.items (plain c.in-Some-entry.entry)
           (drop (c.entries.row + 1) es) (drop c.entries.row es) next c.in_default-kind.is entered c.entries.invariant.listed rows;
       front =
-          c.truncate.ensures.items ∙ ap (λ n. take n c.gather.new.listing.front.items) length_is
-          ∙ left front c.gather.new.listing.front.items c.in-Some-entry.entry.name.now (c.in_ok-gather.ensures.front ∙ entered);
+          c.leave.ensures ∙ ap (λ n. take n c.gather.new.listing.front) length_is
+          ∙ left front c.gather.new.listing.front c.in-Some-entry.entry.name.now (c.in_ok-gather.ensures.front ∙ entered);
       held = later_held c.args.self.now (plain c.in-Some-entry.entry) (drop (c.entries.row + 1) es) (drop c.entries.row es) next c.entries.invariant.held;
       paths = later_paths front (tree_rows c.args.self.now) (plain c.in-Some-entry.entry) (drop (c.entries.row + 1) es) (drop c.entries.row es) next c.entries.invariant.paths;
       below =
@@ -90,16 +95,18 @@ gather-requires g t c κs within =
     let next : drop c.entries.row es ≡ plain c.in-Some-entry.entry ∷ drop (c.entries.row + 1) es =
     next_row es c.entries.row (plain c.in-Some-entry.entry) (c.in-Some-entry.ensures ∙ ap (λ rows. slice_get rows c.entries.row) lent) in
     let held : List Held = c.args.self.now in
-    let front : List ℕ = c.args.listing.now.front.items in
-    let entered : c.enter.new.front.items ≡ front ++ c.in-Some-entry.entry.name.now ++ 47 ∷ [] =
-    c.in_ok-enter.ensures ∙ ap (λ bytes. bytes ++ c.in-Some-entry.entry.name.now ++ 47 ∷ []) (c.in_ok-entered.ensures.front ∙ c.entries.invariant.front) in
+    let front : List ℕ = c.args.listing.now.front in
+    let there : Enters c.args.filter.now c.in-Some-entry.entry.name.now c.entries.listing.front c.enter.new.self (Some c.in-Some-2.length) =
+    subst (Enters c.args.filter.now c.in-Some-entry.entry.name.now c.entries.listing.front c.enter.new.self) c.in-Some-2.is c.in_ok-length.ensures.entered in
+    let entered : c.enter.new.self ≡ front ++ c.in-Some-entry.entry.name.now ++ 47 ∷ [] =
+    there.0 ∙ ap (λ bytes. bytes ++ c.in-Some-entry.entry.name.now ++ 47 ∷ []) c.entries.invariant.front in
     let tree =
     dir_is_held held (plain c.in-Some-entry.entry) (drop (c.entries.row + 1) es) (drop c.entries.row es) next c.in_default-kind.is c.entries.invariant.held in
     let less : tree_depth held c.in-Some-entry.entry.id < tree_depth held c.args.tree =
     dir_is_below (tree_depth held) (plain c.in-Some-entry.entry) (drop (c.entries.row + 1) es) (drop c.entries.row es) (tree_depth held c.args.tree) next
     c.in_default-kind.is c.entries.invariant.below in
-    let paths : ArePaths c.enter.new.front.items (tree_rows held c.in-Some-entry.entry.id) =
-    dir_paths front c.enter.new.front.items (tree_rows held) (plain c.in-Some-entry.entry) (drop (c.entries.row + 1) es) (drop c.entries.row es) next
+    let paths : ArePaths c.enter.new.self (tree_rows held c.in-Some-entry.entry.id) =
+    dir_paths front c.enter.new.self (tree_rows held) (plain c.in-Some-entry.entry) (drop (c.entries.row + 1) es) (drop c.entries.row es) next
     c.in_default-kind.is entered c.entries.invariant.paths in
     (search rules, (search rules, (tree, paths)))
 
@@ -110,7 +117,7 @@ add-requires g t c =
     let next : drop c.entries.row es ≡ plain c.in-Some-entry.entry ∷ drop (c.entries.row + 1) es =
     next_row es c.entries.row (plain c.in-Some-entry.entry) (c.in-Some-entry.ensures ∙ ap (λ rows. slice_get rows c.entries.row) lent) in
     subst (λ p. IsPath (p ++ c.in-Some-entry.entry.name.now)) (sym c.entries.invariant.front)
-    (file_path c.args.listing.now.front.items (tree_rows c.args.self.now) (plain c.in-Some-entry.entry) (drop (c.entries.row + 1) es) (drop c.entries.row es) c.in-Some-kind.kind next
+    (file_path c.args.listing.now.front (tree_rows c.args.self.now) (plain c.in-Some-entry.entry) (drop (c.entries.row + 1) es) (drop c.entries.row es) c.in-Some-kind.kind next
     c.in-Some-kind.is c.entries.invariant.paths)
 
 pub entries-preserved : goal.entries-preserved
@@ -119,7 +126,7 @@ entries-preserved g t c =
     let lent : c.in-Some.rows ≡ es = rows_lent c.args.self.now c.args.tree c.in-Some.rows c.requires.tree (sym c.in-Some.is ∙ c.rows.ensures) in
     let next : drop c.entries.row es ≡ plain c.in-Some-entry.entry ∷ drop (c.entries.row + 1) es =
     next_row es c.entries.row (plain c.in-Some-entry.entry) (c.in-Some-entry.ensures ∙ ap (λ rows. slice_get rows c.entries.row) lent) in
-    let front : List ℕ = c.args.listing.now.front.items in
+    let front : List ℕ = c.args.listing.now.front in
     record {
       listed =
           one_file (admits c.args.filter.now) front (tree_rows c.args.self.now)

@@ -11,10 +11,10 @@ returns-in-None g c =
     ∙ sym (file_here c.args.self.now c.walk.tree c.walk.rest.now c.closed_law.ensures.closed c.walk.invariant.is_tree c.in-None.ensures)
     ∙ sym c.walk.invariant.answer
 
-pub returns-in-None-dir_in : goal.returns-in-None-dir_in
-returns-in-None-dir_in g c =
+pub returns-in-None-directory_in : goal.returns-in-None-directory_in
+returns-in-None-directory_in g c =
     let named : dir_named c.in-Some.name.now (entries_in c.args.self.now c.walk.tree) ≡ None =
-    sym c.in-None-dir_in.ensures in
+    sym c.in-None-directory_in.ensures in
     sym
     (c.walk.invariant.answer
     ∙ dir_here c.args.self.now c.walk.tree c.walk.rest.now c.in-Some.name.now c.in-Some.after.now c.closed_law.ensures.closed c.walk.invariant.is_tree c.in-Some.ensures
@@ -22,10 +22,10 @@ returns-in-None-dir_in g c =
 
 pub walk-preserved : goal.walk-preserved
 walk-preserved g c =
-    let named : Some c.in-Some-dir_in.child ≡ dir_named c.in-Some.name.now (entries_in c.args.self.now c.walk.tree) =
-    c.in-Some-dir_in.ensures in
+    let named : Some c.in-Some-directory_in.child ≡ dir_named c.in-Some.name.now (entries_in c.args.self.now c.walk.tree) =
+    c.in-Some-directory_in.ensures in
     record {
-      is_tree = child_here c.args.self.now c.walk.tree c.in-Some.name.now c.in-Some-dir_in.child c.closed_law.ensures.closed c.walk.invariant.is_tree named;
+      is_tree = child_here c.args.self.now c.walk.tree c.in-Some.name.now c.in-Some-directory_in.child c.closed_law.ensures.closed c.walk.invariant.is_tree named;
       answer =
           c.walk.invariant.answer
           ∙ dir_here c.args.self.now c.walk.tree c.walk.rest.now c.in-Some.name.now c.in-Some.after.now c.closed_law.ensures.closed c.walk.invariant.is_tree c.in-Some.ensures

@@ -1,7 +1,8 @@
 use Rattle.std.proofs.Common.{◌≡◌, Some, ap, sym, subst, ◌∙◌}
 use Rattle.eden_ids.specs.Paths.{lies_below}
 use Rattle.eden_objects.specs.Commits.{commit_rows, rows_where}
-use Rattle.eden_objects.specs.Listings.{Lists, rows_below}
+use Rattle.eden_objects.specs.Listings.{Lists}
+use Rattle.eden_objects.specs.internal.Below.{rows_below}
 use Rattle.eden_objects.proofs.store.Store.list_below.Goals as goal
 
 pub returns-in-Ok-Some : goal.returns-in-Ok-Some
@@ -11,4 +12,4 @@ returns-in-Ok-Some g c =
     ≡ rows_where (λ p. lies_below p c.args.top.now) (commit_rows c.args.self.now c.args.commit) =
     ap (λ path. Some (rows_below c.args.self.now c.in-Ok-Some.tree path)) c.as_bytes.ensures.bytes
     ∙ ap (rows_where (λ p. lies_below p c.args.top.now)) (sym rows) in
-    subst (Lists c.list_dir.result) whole c.list_dir.ensures
+    subst (Lists c.list_directory.result) whole c.list_directory.ensures

@@ -4,5 +4,5 @@ use Rattle.eden_objects.proofs.store.Store.list_tree.Goals as goal
 
 pub gather_behind-requires-clause-paths : goal.gather_behind-requires-clause-paths
 gather_behind-requires-clause-paths g c =
-    let none : c.new.result.items ≡ [] = search rules in
-    top_paths c.args.self.now c.args.tree c.new.result.items c.closed_law.ensures.closed c.requires none
+    let none : c.new.result ≡ [] = search rules in
+    top_paths c.args.self.now c.args.tree c.new.result c.closed_law.ensures.closed c.requires none

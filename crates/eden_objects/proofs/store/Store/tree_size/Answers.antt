@@ -8,8 +8,8 @@ use Rattle.eden_objects.proofs.store.Store.tree_size.Goals as goal
 pub returns-clause-sound : goal.returns-clause-sound
 returns-clause-sound g c =
     let passes : entries_fault (length c.args.payload.now) c.args.self.now [] c.args.payload.now ≡ None = search rules in
-    let depth : c.in-Ok.size.depth ≡ entries_depth (tree_depth c.args.self.now) (entries_of c.args.payload.now) = search rules in
-    let reach : c.in-Ok.size.reach ≡ entries_reach (tree_reach c.args.self.now) (entries_of c.args.payload.now) = search rules in
-    let small : c.in-Ok.size.depth ≤ 64 = search rules in
-    let short : c.in-Ok.size.reach ≤ 1024 = search rules in
-    tree_sound c.args.payload.now c.args.self.now c.in-Ok.size.depth c.in-Ok.size.reach passes depth reach small short
+    let depth : c.in_ok-size.size.depth ≡ entries_depth (tree_depth c.args.self.now) (entries_of c.args.payload.now) = search rules in
+    let reach : c.in_ok-size.size.reach ≡ entries_reach (tree_reach c.args.self.now) (entries_of c.args.payload.now) = search rules in
+    let small : c.in_ok-size.size.depth ≤ 64 = search rules in
+    let short : c.in_ok-size.size.reach ≤ 1024 = search rules in
+    tree_sound c.args.payload.now c.args.self.now c.in_ok-size.size.depth c.in_ok-size.size.reach passes depth reach small short

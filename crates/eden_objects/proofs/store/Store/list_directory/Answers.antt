@@ -1,5 +1,5 @@
 use Rattle.eden_objects.proofs.Legal.{below_paths}
-use Rattle.eden_objects.proofs.store.Store.list_dir.Goals as goal
+use Rattle.eden_objects.proofs.store.Store.list_directory.Goals as goal
 
 pub gather_all-requires-clause-paths : goal.gather_all-requires-clause-paths
 gather_all-requires-clause-paths g c =

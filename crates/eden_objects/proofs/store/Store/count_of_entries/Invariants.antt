@@ -1,10 +1,11 @@
 use Rattle.std.proofs.Common.{◌≡◌, ◌+◌, ◌<◌, ◌^◌, drop, length}
 use Rattle.std.specs.List.{AllByRecursion}
 use Rattle.eden_objects.specs.Commits.{entries_rows, tree_rows}
-use Rattle.eden_objects.specs.Counts.{capped, files_of_entries}
+use Rattle.eden_objects.specs.Counts.{capped}
+use Rattle.eden_objects.specs.internal.Kept.{files_of_entries}
 use Rattle.eden_objects.specs.Puts.{word_wanted}
 use Rattle.eden_objects.specs.Closed.{IsHeld}
-use Rattle.eden_objects.proofs.store.Store.files_in.Given as goal
+use Rattle.eden_objects.proofs.store.Store.count_of_entries.Given as goal
 
 abbrev pub invariant-entries : goal.invariant-entries
 invariant-entries g l = record {

@@ -3,7 +3,7 @@ use Rattle.std.specs.Ordering.{nat_cmp}
 use Rattle.std.specs.Cmp.Lexicographic.{slice_cmp}
 use Rattle.std.specs.BTreeSet.{Updates}
 use Rattle.eden_objects.proofs.Noted.{noted}
-use Rattle.eden_objects.proofs.seen.Seen.note.Goals as goal
+use Rattle.eden_objects.proofs.earlier_entries.Seen.note.Goals as goal
 
 pub returns : goal.returns
 returns c = λ earlier seen.

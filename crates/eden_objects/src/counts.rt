@@ -1,24 +1,17 @@
+//! How many files stand below a path, or in a tree.
 ghost use Rattle.std.specs.Prelude.{◌≡◌, filter, length, nat_le};
-ghost use Rattle.eden_ids.specs.FileMaps.{file_at, lent, paths};
+ghost use Rattle.eden_ids.specs.FileMaps.{paths};
 ghost use Rattle.eden_ids.specs.Paths.{lies_below};
 ghost use Rattle.eden_objects.specs.Closed.{HasTree};
-ghost use Rattle.eden_objects.specs.Counts.{capped, files_of_tree};
-ghost use Rattle.eden_objects.specs.Listings.{rows_below};
+ghost use Rattle.eden_objects.specs.Counts.{capped};
+ghost use Rattle.eden_objects.specs.internal.Kept.{files_of_tree};
+ghost use Rattle.eden_objects.specs.internal.Below.{rows_below};
 ghost use Rattle.eden_objects.specs.Files.{commit_files};
 
 use crate::store::Store;
-use eden_ids::{Id, Kind, Naming};
+use eden_ids::{Id, Naming};
 
 impl<N: Naming + Drop> Store<N> {
-    /// The file of a commit at a path: its kind and its bytes. There is none where the id is no commit's.
-    ///
-    /// This takes no memory, and searches one directory for each component of the path.
-    pub fn file(&self, commit: Id, path: &[u8]) -> Option<(Kind, &[u8])>
-        ensures { lent result ≡ file_at (commit_files self.now commit) path.now }
-    {
-        self.commit_files(commit).file(path)
-    }
-
     /// Whether a commit has at least so many files below a path. It has none where the id is no commit's.
     ///
     /// This takes no memory. It searches the directories on the way to the path, and reads none of those below it.
@@ -33,14 +26,14 @@ impl<N: Naming + Drop> Store<N> {
         requires { HasTree self.now tree }
         ensures { result ≡ capped (length (rows_below self.now tree top.now)) }
     {
-        match self.dir_below(tree, top) {
-            Some(dir) => self.files(dir),
+        match self.directory_below(tree, top) {
+            Some(dir) => self.count_of_tree(dir),
             None => 0,
         }
     }
 
     /// How many files stand below a tree, at the most `usize::MAX`.
-    pub(crate) fn files(&self, tree: Id) -> usize
+    pub(crate) fn count_of_tree(&self, tree: Id) -> usize
         requires { HasTree self.now tree }
         ensures { result ≡ files_of_tree self.now tree }
     {

@@ -1,7 +1,7 @@
 use Rattle.std.proofs.Common.{ap, ◌∙◌}
 use Rattle.eden_git.specs.Directories.{dir_named}
 use Rattle.eden_objects.proofs.WalkSteps.{none_lent, order_here, rows_lent}
-use Rattle.eden_objects.proofs.store.Store.dir_in.Goals as goal
+use Rattle.eden_objects.proofs.store.Store.directory_in.Goals as goal
 
 pub directory-requires : goal.directory-requires
 directory-requires g c = order_here c.args.self.now c.args.tree c.in-Some.rows c.closed_law.ensures.closed c.requires c.in-Some.ensures

@@ -1,43 +1,19 @@
-ghost use Rattle.std.specs.Prelude.{◌≡◌, Some, None, if◌then◌else◌, option_copied, is_some};
+//! Looking up a blob by its id, and a file of a commit by its path.
+ghost use Rattle.std.specs.Prelude.{◌≡◌, option_copied, is_some};
 ghost use Rattle.std.specs.Result.{result_ok};
+ghost use Rattle.eden_ids.specs.FileMaps.{file_at, lent};
 ghost use Rattle.eden_objects.specs.Objects.{blob_of, find, payload_of};
-ghost use Rattle.eden_git.specs.Words.{same_word};
+ghost use Rattle.eden_objects.specs.Files.{commit_files};
 ghost use Rattle.eden_objects.specs.Commits.{commit_rows, find_row, row_in, tree_rows};
-ghost use Rattle.eden_git.specs.Commits.{tree_named};
 ghost use Rattle.eden_objects.specs.Closed.{HasTree};
 ghost use Rattle.eden_git.specs.Trees.{entries_of};
-ghost use Rattle.eden_objects.specs.Walks.{IsTreeOf, rows_of_tree, tree_seen};
+ghost use Rattle.eden_objects.specs.internal.Roots.{IsTreeOf, rows_of_tree};
 ghost use Rattle.eden_git.specs.Directories.{dir_named, file_named};
 
 use crate::fault::NoCommit;
 use crate::store::Store;
-use crate::stored::Stored;
-use eden_git::{Word, cut, same_word, tree_named};
+use eden_git::cut;
 use eden_ids::{Id, Kind, Naming, Path};
-
-impl Stored {
-    /// The payload, if the object is a blob.
-    fn blob(&self) -> Option<&[u8]>
-        ensures { option_copied result ≡ (if same_word self.now.word Word.Blob then Some self.now.payload else None) }
-    {
-        if same_word(self.word, Word::Blob) {
-            Some(self.payload.as_slice())
-        } else {
-            None
-        }
-    }
-
-    /// The tree that the object names, if it is a commit.
-    pub(crate) fn tree(&self) -> Option<Id>
-        ensures { result ≡ (if same_word self.now.word Word.Commit then tree_named self.now.payload else None) }
-    {
-        if same_word(self.word, Word::Commit) {
-            tree_named(self.payload.as_slice())
-        } else {
-            None
-        }
-    }
-}
 
 impl<N: Naming + Drop> Store<N> {
     /// Whether the id is that of a commit, of which the empty one is always there. This takes no memory.
@@ -72,6 +48,15 @@ impl<N: Naming + Drop> Store<N> {
         }
     }
 
+    /// The file of a commit at a path: its kind and its bytes. There is none where the id is no commit's.
+    ///
+    /// This takes no memory, and searches one directory for each component of the path.
+    pub fn file(&self, commit: Id, path: &[u8]) -> Option<(Kind, &[u8])>
+        ensures { lent result ≡ file_at (commit_files self.now commit) path.now }
+    {
+        self.commit_files(commit).file(path)
+    }
+
     /// The payload of the object with an id, and no bytes where there is none.
     pub(crate) fn payload(&self, id: Id) -> &[u8]
         ensures { result.now ≡ payload_of (find id self.now) }
@@ -95,7 +80,7 @@ impl<N: Naming + Drop> Store<N> {
     }
 
     /// The tree of the directory with a name in a tree. It is found by a search.
-    pub(crate) fn dir_in(&self, tree: Id, name: &[u8]) -> Option<Id>
+    pub(crate) fn directory_in(&self, tree: Id, name: &[u8]) -> Option<Id>
         requires { HasTree self.now tree }
         ensures { result ≡ dir_named name.now (entries_of (payload_of (find tree self.now))) }
     {
@@ -134,7 +119,7 @@ impl<N: Naming + Drop> Store<N> {
         'walk: loop {
             match cut(rest, b'/') {
                 None => return self.file_in(tree, rest),
-                Some((name, after)) => match self.dir_in(tree, name) {
+                Some((name, after)) => match self.directory_in(tree, name) {
                     None => return None,
                     Some(child) => {
                         tree = child;
