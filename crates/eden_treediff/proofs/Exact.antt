@@ -6,14 +6,12 @@ use Rattle.std.specs.declared.cmp.Ordering.TheVariants.{Less, Equal, Greater}
 use Rattle.std.specs.Ordering.{is_eq, ordering_reverse}
 use Rattle.std.specs.Cmp.{tied_itself}
 use Rattle.std.specs.Cmp.Lexicographic.{nat_list_cmp_total}
-use Rattle.std.specs.FinMap.{slice_cmp-IsAntisymmetric, nat_cmp-IsAntisymmetric}
 use Rattle.std.specs.FinMap.Entries.{by_order}
 use Rattle.std.specs.List.{list_any}
 use Rattle.std.specs.List.Sorted.{IsStrictlySortedBy}
 use Rattle.eden_ids.specs.declared.id.Id.{Id}
 use Rattle.eden_ids.specs.declared.content.Kind.{Kind}
-use Rattle.eden_ids.specs.declared.content.Kind.TheVariants.{Plain, Exec, Link}
-use Rattle.eden_ids.specs.FileMaps.{same_kind, same_path}
+use Rattle.eden_ids.specs.FileMaps.{same_path}
 use Rattle.eden_objects.specs.Commits.{Row, find_row}
 use Rattle.eden_objects.proofs.Rising.{IsBelow}
 use Rattle.eden_objects.proofs.Closed.{same_id-refl}

@@ -11,16 +11,16 @@ use Rattle.std.specs.Cmp.{Equal-is}
 use Rattle.eden_ids.specs.declared.id.Id.{Id}
 use Rattle.eden_objects.specs.Objects.{Held}
 use Rattle.eden_git.specs.Trees.{Entry}
-use Rattle.eden_treediff.specs.declared.settled.Settled.{Settled}
+use Rattle.eden_treediff.specs.declared.known_pairs.Settled.{Settled}
 use Rattle.eden_treediff.specs.Merges.{merge_rows}
 use Rattle.eden_treediff.specs.internal.Pairs.{next_pair}
 use Rattle.eden_treediff.specs.internal.Settled.{AreSettled, HoldSame, is_known, is_settled, side_cmp, sides_cmp}
-use Rattle.eden_treediff.specs.internal.Walks.{same_side, side_rows, wanted_behind}
+use Rattle.eden_treediff.specs.internal.Walks.{is_one_tree, side_rows, wanted_behind}
 use Rattle.eden_treediff.proofs.Exact.{same_law}
 use Rattle.eden_treediff.proofs.Steps.{merge_entries}
 use Rattle.eden_segments.proofs.Distinct.{same_id-is}
 
-side_is : (a b : Option Id) → same_side a b ≡ true → a ≡ b
+side_is : (a b : Option Id) → is_one_tree a b ≡ true → a ≡ b
 side_is None None h = refl
 side_is (Some a) (Some b) h = ap Some (same_id-is a b h)
 side_is None (Some b) h = absurd (cc)
@@ -28,9 +28,9 @@ side_is (Some a) None h = absurd (cc)
 
 -- a tree does not differ from itself, nor does a pair that is remembered
 pub known_same : (held : List Held) (settled : Settled) (first second : Option Id) → AreSettled held settled → is_known settled first second ≡ true → HoldSame held first second
-known_same held settled first second all known = by (same_side first second) refl known
+known_same held settled first second all known = by (is_one_tree first second) refl known
   where
-    by : (b : Bool) → same_side first second ≡ b → (b || is_settled settled first second) ≡ true → HoldSame held first second
+    by : (b : Bool) → is_one_tree first second ≡ b → (b || is_settled settled first second) ≡ true → HoldSame held first second
     by true same h = ap (λ side. merge_rows (side_rows held side) (side_rows held second)) (side_is first second same) ∙ same_law (side_rows held second)
     by false same h = all first second h
 

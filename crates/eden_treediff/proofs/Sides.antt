@@ -5,9 +5,9 @@ use Rattle.eden_ids.specs.declared.id.Id.{Id}
 use Rattle.eden_objects.specs.Objects.{Held, find, zero_id}
 use Rattle.eden_ids.specs.Sameness.{same_id}
 use Rattle.eden_objects.specs.Commits.{Row, commit_map, commit_rows, map_of_rows, rows_held}
-use Rattle.eden_objects.specs.Closed.{HasTree, IsClosed, AllNamed}
+use Rattle.eden_objects.specs.Closed.{IsClosed, AllNamed}
 use Rattle.eden_objects.specs.Walks.{tree_seen}
-use Rattle.eden_objects.proofs.TreeOf.{seen_rows, seen_tree}
+use Rattle.eden_objects.proofs.TreeOf.{seen_rows}
 use Rattle.eden_treediff.specs.Merges.{admitted, admitted_differences, differences, merge_rows, option_admitted}
 use Rattle.eden_treediff.specs.internal.Walks.{behind, side_rows, wanted_behind}
 use Rattle.eden_treediff.proofs.Listed.{listed_law}

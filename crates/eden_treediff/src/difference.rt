@@ -1,107 +1,122 @@
-ghost use Rattle.std.specs.Prelude.{◌≡◌, ◌≢◌, Some, None, IfOk, IfErr};
-ghost use Rattle.eden_objects.specs.Commits.{commit_map, commit_rows};
-ghost use Rattle.eden_objects.specs.Objects.{find};
-ghost use Rattle.eden_treediff.specs.Merges.{admitted, admitted_differences, differences, merge_rows};
-ghost use Rattle.eden_treediff.specs.internal.Walks.{IsSide, IsSideOf, side_rows};
+//! The walk over two trees, directory by directory, that names the paths on which they differ.
 
-use crate::settled::Settled;
-use crate::walk::{Found, walk};
-use eden_globs::Filter;
+ghost use Rattle.std.specs.Prelude.{◌≡◌, ◌++◌, ◌∷◌, [], IfOk, OnOk, true};
+ghost use Rattle.eden_globs.specs.Filters.{admits};
+ghost use Rattle.eden_ids.specs.Paths.{IsPath};
+ghost use Rattle.eden_objects.specs.Listings.{ArePaths};
+ghost use Rattle.eden_treediff.specs.Merges.{merge_rows};
+ghost use Rattle.eden_treediff.specs.internal.Settled.{AreSettled, HoldSame, KeepsSettled, is_known};
+ghost use Rattle.eden_treediff.specs.internal.Columns.{entries_lent};
+ghost use Rattle.eden_treediff.specs.internal.Walks.{IsSide, is_one_tree, side_entries, side_rows, wanted_behind};
+
+use crate::known_pairs::Settled;
+use crate::merge::Merge;
+use eden_globs::{Filter, Front};
 use eden_ids::{Id, Naming, NoMemory, Path};
-use eden_objects::{CommitFault, NoCommit, Store};
+use eden_objects::{Rows, Store};
 use std::alloc::Global;
 
-/// The tree of a commit, of which the empty commit has none.
-#[tactic(auto, using(crate::proofs::Sides::empty_side, crate::proofs::Sides::side_rows_are, eden_objects::proofs::TreeOf::seen_tree, crate::proofs::Sides::no_side))]
-fn side_of<N: Naming + Drop>(store: &Store<N>, commit: Id) -> Result<Option<Id>, NoCommit>
-    ensures { IsSideOf store.now commit result }
-{
-    store.closed_law();
-    if commit == Id::ZERO {
-        return Ok(None);
-    }
-    match store.tree_of(commit) {
-        Some(tree) => Ok(Some(tree)),
-        None => Err(NoCommit),
+/// The paths that were found so far, and the directory that is read.
+#[derive(Drop)]
+pub(crate) struct Found {
+    pub(crate) front: Front,
+    pub(crate) paths: Vec<Path>,
+}
+
+impl Found {
+    /// Adds a file of the directory that is read, if it is wanted.
+    fn add(&mut self, filter: &Filter, name: &[u8]) -> Result<(), NoMemory>
+        requires { IsPath (self.old.front ++ name.now) }
+        ensures paths { OnOk result (self.new.paths.items
+            ≡ self.old.paths.items ++ wanted_behind (admits filter.now) self.old.front (name.now ∷ [])) }
+        ensures front { OnOk result (self.new.front ≡ self.old.front) }
+    {
+        if let Some(path) = self.front.path_if_wanted(filter, name)? {
+            self.paths.push(path)?;
+        }
+        Ok(())
     }
 }
 
-/// The paths on which two trees differ and that a filter admits.
-fn paths_between<N: Naming + Drop>(
+/// Whether both trees are missing, or are one.
+fn is_one_tree(first: Option<Id>, second: Option<Id>) -> bool
+    ensures { result ≡ is_one_tree first second }
+{
+    match (first, second) {
+        (None, None) => true,
+        (Some(first), Some(second)) => first == second,
+        _ => false,
+    }
+}
+
+/// The entries of a tree, if it is not missing.
+fn rows_of<N: Naming + Drop>(store: &Store<N>, side: Option<Id>) -> Option<Rows<'_>>
+    requires { IsSide store.now side }
+    ensures { entries_lent result ≡ side_entries store.now side }
+{
+    match side {
+        Some(id) => store.rows(id),
+        None => None,
+    }
+}
+
+/// Adds the wanted paths on which two trees differ, directory by directory, and says whether the two are known to hold the same files.
+/// What both have under one id is not read, nor is a directory below which nothing is wanted.
+///
+/// The entries of two directories of the same names are compared as whole columns, first of ids and then of kinds. A pair of trees that
+/// was read whole and names no path is remembered, and is not read again; of one that was not read whole nothing is known, since elsewhere another
+/// part of it may be wanted.
+pub(crate) fn walk<N: Naming + Drop>(
     alloc: Global,
     store: &Store<N>,
     first: Option<Id>,
     second: Option<Id>,
     filter: &Filter,
-) -> Result<Vec<Path>, NoMemory>
+    found: &mut Found,
+    settled: &mut Settled,
+) -> Result<bool, NoMemory>
     requires first { IsSide store.now first }
     requires second { IsSide store.now second }
-    ensures { IfOk result (λ paths. paths.items ≡ admitted filter.now (merge_rows (side_rows store.now first) (side_rows store.now second))) }
+    requires settled { AreSettled store.now settled.old }
+    requires first_paths { ArePaths found.old.front (side_rows store.now first) }
+    requires second_paths { ArePaths found.old.front (side_rows store.now second) }
+    ensures paths { OnOk result (found.new.paths.items ≡ found.old.paths.items
+        ++ wanted_behind (admits filter.now) found.old.front (merge_rows (side_rows store.now first) (side_rows store.now second))) }
+    ensures front { OnOk result (found.new.front ≡ found.old.front) }
+    ensures settled { OnOk result (AreSettled store.now settled.new) }
+    ensures kept { OnOk result (KeepsSettled settled.old settled.new) }
+    ensures same { IfOk result (λ same. same ≡ true → is_known settled.new first second ≡ true) }
+    // Where everything is wanted, it says so of all that do.
+    ensures known { IfOk result (λ same. filter.now ≡ [] → HoldSame store.now first second → same ≡ true) }
 {
     store.closed_law();
-    let mut found = Found {
-        front: Vec::new(alloc),
-        paths: Vec::new(alloc),
-    };
-    let mut settled = Settled::new(alloc);
-    walk(
-        alloc,
-        store,
-        first,
-        second,
-        filter,
-        &mut found,
-        &mut settled,
-    )?;
-    Ok(found.paths)
-}
-
-/// The paths on which two commits differ and that a filter admits, in byte order: of a file that one of them alone has, and at which they
-/// have files of other bytes or of another kind.
-///
-/// `NoCommit` comes where one of the ids is no commit's; `NoMemory` may stand in place of any answer where a growth was refused.
-/// Directories with one id on both sides are not read, nor are those below which the filter admits nothing (`Filter::admits_below`), and
-/// no path is made that it does not admit. Two trees with different ids may hold the same files: then nothing is named. No pair of trees
-/// that was read whole is read again where it named no path, wherever and however often the two stand in the commits.
-#[tactic(auto, using(crate::proofs::Sides::no_first, crate::proofs::Sides::no_second))]
-pub fn diff_admitted<N: Naming + Drop>(
-    alloc: Global,
-    store: &Store<N>,
-    first: Id,
-    second: Id,
-    filter: &Filter,
-) -> Result<Vec<Path>, CommitFault>
-    ensures paths { IfOk result (λ paths. admitted_differences filter.now (commit_map store.now first) (commit_map store.now second) ≡ Some paths.items) }
-    ensures fault { IfErr result (λ fault. fault ≢ CommitFault.NoMemory → differences (commit_map store.now first) (commit_map store.now second) ≡ None) }
-{
-    store.closed_law();
-    let Ok(tree) = side_of(store, first) else {
-        return Err(CommitFault::NoCommit);
-    };
-    let Ok(other) = side_of(store, second) else {
-        return Err(CommitFault::NoCommit);
-    };
-    match paths_between(alloc, store, tree, other, filter) {
-        Ok(paths) => Ok(paths),
-        Err(NoMemory) => Err(CommitFault::NoMemory),
+    if is_one_tree(first, second) || settled.has(first, second) {
+        return Ok(true);
     }
-}
-
-/// The paths on which two commits differ, in byte order: those of a file that one of them alone has, and those at which they have
-/// files of other bytes or of another kind.
-///
-/// `NoCommit` comes where one of the ids is no commit's; `NoMemory` may stand in place of any answer where a growth was refused.
-/// Directories with one id on both sides are not read. Two trees with different ids may hold the same files: then nothing is named. No
-/// pair of trees is read twice without naming a path, wherever and however often the two stand in the commits.
-pub fn diff<N: Naming + Drop>(
-    alloc: Global,
-    store: &Store<N>,
-    first: Id,
-    second: Id,
-) -> Result<Vec<Path>, CommitFault>
-    ensures paths { IfOk result (λ paths. differences (commit_map store.now first) (commit_map store.now second) ≡ Some paths.items) }
-    ensures fault { IfErr result (λ fault. fault ≢ CommitFault.NoMemory → differences (commit_map store.now first) (commit_map store.now second) ≡ None) }
-{
-    let all = Filter::all(alloc);
-    diff_admitted(alloc, store, first, second, &all)
+    let mut merge = Merge::new(alloc, rows_of(store, first), rows_of(store, second))?;
+    let mut same = true;
+    'pairs: while let Some(pair) = merge.next() {
+        if !pair.is_changed() {
+            continue;
+        }
+        let Some((name, tree, other)) = pair.directory() else {
+            found.add(filter, pair.name())?;
+            same = false;
+            continue;
+        };
+        let Some(length) = found.front.enter(filter, name)? else {
+            same = false;
+            continue;
+        };
+        let inside = walk(alloc, store, tree, other, filter, found, settled)?;
+        found.front.leave(length);
+        if !inside {
+            same = false;
+        }
+    }
+    if !same {
+        return Ok(false);
+    }
+    settled.add(first, second)?;
+    Ok(true)
 }

@@ -12,13 +12,13 @@
 #![tactic(auto)]
 
 mod changed;
+mod commit_diff;
 mod difference;
+mod known_pairs;
 mod laws;
 mod merge;
 mod pair;
-mod settled;
 mod side;
-mod walk;
 
-pub use difference::{diff, diff_admitted};
+pub use commit_diff::{diff, diff_admitted};
 pub use laws::merge_law;

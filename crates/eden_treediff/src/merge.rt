@@ -1,4 +1,5 @@
 //! The entries of two directories, side by side.
+
 ghost use Rattle.std.specs.Prelude.{◌≡◌, drop, IfOk};
 ghost use Rattle.eden_git.specs.Entries.{option_plain};
 ghost use Rattle.eden_treediff.specs.internal.Columns.{entries_lent};
@@ -55,7 +56,7 @@ impl<'a> Merge<'a> {
     }
 
     /// Goes on to the first row that differs, where the rows are known that do.
-    fn skip(&mut self)
+    fn skip_alike(&mut self)
         ensures { IsLeftOut self.old self.new }
     {
         if let Some(changed) = &self.changed {
@@ -65,30 +66,30 @@ impl<'a> Merge<'a> {
         }
     }
 
-    /// The next entry of the first side.
-    fn first(&self) -> Option<RawEntry<'a>>
+    /// The next entry of the left side.
+    fn left_entry(&self) -> Option<RawEntry<'a>>
         ensures { option_plain result ≡ first_of self.now.0 }
     {
         self.left.next()
     }
 
-    /// The next entry of the second side.
-    fn second(&self) -> Option<RawEntry<'a>>
+    /// The next entry of the right side.
+    fn right_entry(&self) -> Option<RawEntry<'a>>
         ensures { option_plain result ≡ first_of self.now.1 }
     {
         self.right.next()
     }
 
-    /// Goes on behind the next entry of the first side. The sides then no longer stand at one row.
-    fn pass_first(&mut self)
+    /// Goes on behind the next entry of the left side. The sides then no longer stand at one row.
+    fn skip_left(&mut self)
         ensures { self.new ≡ (drop 1 self.old.0, self.old.1) }
     {
         self.changed = None;
         self.left.pass();
     }
 
-    /// Goes on behind the next entry of the second side. The sides then no longer stand at one row.
-    fn pass_second(&mut self)
+    /// Goes on behind the next entry of the right side. The sides then no longer stand at one row.
+    fn skip_right(&mut self)
         ensures { self.new ≡ (self.old.0, drop 1 self.old.1) }
     {
         self.changed = None;
@@ -96,7 +97,7 @@ impl<'a> Merge<'a> {
     }
 
     /// Goes on behind the next entries of both sides.
-    fn pass_both(&mut self)
+    fn skip_both(&mut self)
         ensures { self.new ≡ (drop 1 self.old.0, drop 1 self.old.1) }
     {
         let row = self.left.row;
@@ -111,23 +112,23 @@ impl<'a> Merge<'a> {
     pub(crate) fn next(&mut self) -> Option<Pair<'a>>
         ensures { IsNextOf self.old self.new result }
     {
-        self.skip();
-        let (first, second) = (self.first(), self.second());
+        self.skip_alike();
+        let (first, second) = (self.left_entry(), self.right_entry());
         match order_of(&first, &second) {
             None => None,
             Some(Ordering::Less) => {
-                self.pass_first();
+                self.skip_left();
                 Some(Pair {
                     first,
                     second: None,
                 })
             }
             Some(Ordering::Equal) => {
-                self.pass_both();
+                self.skip_both();
                 Some(Pair { first, second })
             }
             Some(Ordering::Greater) => {
-                self.pass_second();
+                self.skip_right();
                 Some(Pair {
                     first: None,
                     second,

@@ -1,3 +1,4 @@
+//! One pair of entries of two directories: what it says, and which of the two comes first.
 ghost use Rattle.std.specs.Prelude.{◌≡◌, None, Some};
 ghost use Rattle.eden_git.specs.Entries.{option_plain};
 ghost use Rattle.eden_treediff.specs.internal.Pairs.{directory, directory_of, is_changed, name_of, order_of, same_mode};

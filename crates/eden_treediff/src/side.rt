@@ -1,3 +1,4 @@
+//! What is left of the entries of one directory.
 ghost use Rattle.std.specs.Prelude.{◌≡◌, length, slice_get};
 ghost use Rattle.eden_git.specs.Entries.{option_plain};
 ghost use Rattle.eden_treediff.specs.internal.Columns.{entries_lent, passed};

@@ -7,9 +7,9 @@ use Rattle.std.specs.Cmp.Lexicographic.{slice_cmp}
 use Rattle.std.specs.BTreeSet.{contains}
 use Rattle.eden_ids.specs.declared.id.Id.{Id}
 use Rattle.eden_objects.specs.Objects.{Held}
-use Rattle.eden_treediff.specs.declared.settled.Settled.{Settled}
+use Rattle.eden_treediff.specs.declared.known_pairs.Settled.{Settled}
 use Rattle.eden_treediff.specs.Merges.{merge_rows}
-use Rattle.eden_treediff.specs.internal.Walks.{same_side, side_rows}
+use Rattle.eden_treediff.specs.internal.Walks.{is_one_tree, side_rows}
 
 -- a missing tree stands before each other, and trees by their ids
 abbrev pub side_cmp : Option Id → Option Id → Ordering
@@ -27,7 +27,7 @@ NoneSettled settled = (first second : Option Id) → is_settled settled first se
 
 -- the sides are one, or the pair is remembered
 abbrev pub is_known : Settled → Option Id → Option Id → Bool
-is_known settled first second = same_side first second || is_settled settled first second
+is_known settled first second = is_one_tree first second || is_settled settled first second
 
 -- what was remembered still is
 abbrev pub KeepsSettled : Settled → Settled → Type 0

@@ -34,10 +34,10 @@ abbrev pub side_depth : List Held → Option Id → ℕ
 side_depth held None = 0
 side_depth held (Some id) = tree_depth held id
 
-abbrev pub same_side : Option Id → Option Id → Bool
-same_side None None = true
-same_side (Some a) (Some b) = same_id a b
-same_side _ _ = false
+abbrev pub is_one_tree : Option Id → Option Id → Bool
+is_one_tree None None = true
+is_one_tree (Some a) (Some b) = same_id a b
+is_one_tree _ _ = false
 
 -- the paths behind the bytes that they begin with
 abbrev pub behind : List ℕ → List (List ℕ) → List (List ℕ)

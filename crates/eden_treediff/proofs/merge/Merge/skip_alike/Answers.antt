@@ -3,7 +3,7 @@ use Rattle.eden_treediff.specs.declared.changed.Changed.{Changed}
 use Rattle.eden_treediff.specs.internal.Columns.{AreTold}
 use Rattle.eden_treediff.specs.internal.Merging.{Rests}
 use Rattle.eden_treediff.proofs.Merging.{all_skipped, moved}
-use Rattle.eden_treediff.proofs.merge.Merge.skip.Goals as goal
+use Rattle.eden_treediff.proofs.merge.Merge.skip_alike.Goals as goal
 
 pub invariant_of-self : goal.invariant_of-self
 invariant_of-self c =

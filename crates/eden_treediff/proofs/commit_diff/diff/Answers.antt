@@ -2,7 +2,7 @@ use Rattle.std.proofs.Common.{◌≡◌, Some}
 use Rattle.eden_objects.specs.Commits.{commit_map}
 use Rattle.eden_treediff.specs.Merges.{admitted_differences, differences}
 use Rattle.eden_treediff.proofs.Sides.{if_ok, none_left_out}
-use Rattle.eden_treediff.proofs.difference.diff.Goals as goal
+use Rattle.eden_treediff.proofs.commit_diff.diff.Goals as goal
 
 pub returns-clause-paths : goal.returns-clause-paths
 returns-clause-paths g c =

@@ -2,7 +2,7 @@ use Rattle.std.proofs.Common.{◌≡◌, drop, ap, ◌∙◌}
 use Rattle.eden_treediff.specs.internal.Columns.{rest_of}
 use Rattle.eden_treediff.specs.internal.Merging.{Rests}
 use Rattle.eden_treediff.proofs.Merging.{side_passed}
-use Rattle.eden_treediff.proofs.merge.Merge.pass_first.Goals as goal
+use Rattle.eden_treediff.proofs.merge.Merge.skip_left.Goals as goal
 
 pub returns : goal.returns
 returns c =

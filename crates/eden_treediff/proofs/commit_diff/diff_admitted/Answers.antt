@@ -1,6 +1,6 @@
 use Rattle.eden_treediff.specs.internal.Walks.{side_rows}
 use Rattle.eden_treediff.proofs.Sides.{both_sides}
-use Rattle.eden_treediff.proofs.difference.diff_admitted.Goals as goal
+use Rattle.eden_treediff.proofs.commit_diff.diff_admitted.Goals as goal
 
 pub returns-in-Ok-paths_between-clause-paths : goal.returns-in-Ok-paths_between-clause-paths
 returns-in-Ok-paths_between-clause-paths g c =

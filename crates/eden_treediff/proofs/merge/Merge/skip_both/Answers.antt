@@ -3,8 +3,8 @@ use Rattle.eden_treediff.specs.declared.changed.Changed.{Changed}
 use Rattle.eden_treediff.specs.internal.Columns.{AreTold, passed, rest_of}
 use Rattle.eden_treediff.specs.internal.Merging.{Rests}
 use Rattle.eden_treediff.proofs.Merging.{both_told, side_passed}
-use Rattle.eden_treediff.proofs.merge.Merge.pass_both.Goals.{in-Some, in_default}
-use Rattle.eden_treediff.proofs.merge.Merge.pass_both.Goals as goal
+use Rattle.eden_treediff.proofs.merge.Merge.skip_both.Goals.{in-Some, in_default}
+use Rattle.eden_treediff.proofs.merge.Merge.skip_both.Goals as goal
 
 pub invariant_of-self : goal.invariant_of-self
 invariant_of-self c =
