@@ -1,3 +1,5 @@
+//! Why a follower takes no step, and why logs do not vouch for one.
+
 use eden_ids::NoMemory;
 use thiserror::Error;
 

@@ -18,13 +18,13 @@ use Rattle.eden_history.specs.Named.{held_files, named}
 use Rattle.eden_history.specs.Imports.{over_held}
 use Rattle.eden_history.specs.Outcome.{next_files, next_row, world_after}
 use Rattle.eden_history.specs.Legal.{AreMade, IsLegal}
-use Rattle.eden_history.specs.Changes.{changes, named_if}
+use Rattle.eden_history.specs.Changes.{named_since}
 use Rattle.eden_history.specs.Rows.{IsPlace, IsRow, IsRowOf, Stands}
 use Rattle.eden_history.specs.declared.position.Position.{Position}
 use Rattle.eden_history.proofs.CheckoutLaws.{has-unclean, same_where}
 use Rattle.eden_history.proofs.Following.{Follows, IsNotAfter, counted, earlier, event_follows}
 use Rattle.eden_history.proofs.Growing.{goes_on, grown}
-use Rattle.eden_history.proofs.Ranges.{changes_more}
+use Rattle.eden_history.proofs.Saying.{named-counted}
 use Rattle.eden_history.proofs.Steps.{is_made}
 
 -- ---- one event
@@ -97,7 +97,7 @@ itself row = inr (refl, omega arith)
 pub still : (commits : Commits) (generation since until : ℕ) (opening : Row) (past : List Event) (row : Row) (p : List ℕ) → AreMade commits opening past
     → IsRowOf opening past row → row.generation ≡ generation → since ≤ row.sequence
     → (last_row opening past).generation ≡ generation → (last_row opening past).sequence ≤ until
-    → has (changes generation since until past) p ≡ false → file_at row.files p ≡ file_at (last_row opening past).files p
+    → has (named_since generation since until opening past) p ≡ false → file_at row.files p ≡ file_at (last_row opening past).files p
 still commits generation since until opening [] row p made is g low last high none = ap (λ r. file_at r.files p) is
 still commits generation since until opening (event ∷ past) row p made (inl is) g low last high none = ap (λ r. file_at r.files p) is
 still commits generation since until opening (event ∷ past) row p made (inr older) g low last high none =
@@ -107,7 +107,7 @@ still commits generation since until opening (event ∷ past) row p made (inr ol
     in_turn : (file_at row.files p ≡ file_at (last_row opening past).files p) → (has (path_set event.names) p ≡ false) → file_at row.files p ≡ file_at event.row.files p
     in_turn before unnamed_here = before ∙ sym (kept commits opening past event p made unnamed_here)
 
-    by : ((last_row opening past).generation ≡ generation → (last_row opening past).sequence ≤ until → has (changes generation since until past) p ≡ false
+    by : ((last_row opening past).generation ≡ generation → (last_row opening past).sequence ≤ until → has (named_since generation since until opening past) p ≡ false
         → file_at row.files p ≡ file_at (last_row opening past).files p)
         → Follows (last_row opening past) event.row → IsNotAfter (last_row opening past).generation (last_row opening past).sequence row
         → file_at row.files p ≡ file_at event.row.files p
@@ -117,9 +117,7 @@ still commits generation since until opening (event ∷ past) row p made (inr ol
         let number = next.1 in
         let le = both.1 in
         let counts = counted generation since until event.row last (omega arith) high in
-        let parts = or_parts _ _ (sym (has-union (path_set event.names) (changes generation since until past) p)
-        ∙ ap (λ b. has (named_if b event.names (changes generation since until past)) p) (sym counts)
-        ∙ ap (λ s. has s p) (sym (changes_more generation since until event past)) ∙ none) in
+        let parts = or_parts _ _ (sym (named-counted commits generation since until opening event past p made counts) ∙ none) in
         in_turn (before (omega arith) (omega arith) parts.1) parts.0
     by before (inr lower) (inl lt) = absurd (omega arith)
     by before (inr lower) (inr both) = absurd (let same = both.0 in omega arith)

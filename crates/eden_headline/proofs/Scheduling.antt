@@ -6,7 +6,7 @@ use Rattle.std.proofs.lemmas.Bool.{eqb-true}
 use Rattle.std.proofs.lemmas.List.Elements.{Contains-append_cases, Contains-push_cases}
 use Rattle.std.proofs.lemmas.Option.{same_Some}
 use Rattle.eden_ids.specs.declared.content.Content.{Content}
-use Rattle.eden_ids.specs.FileMaps.{file_at, has}
+use Rattle.eden_ids.specs.FileMaps.{file_at, has, path_set}
 use Rattle.eden_ids.proofs.FileMapLemmas.{has-none}
 use Rattle.eden_globs.specs.Filters.{admits}
 use Rattle.eden_history.specs.declared.change.Change.{Change}
@@ -17,7 +17,8 @@ use Rattle.eden_messages.specs.declared.message.Reply.TheVariants.{ChangesAre, R
 use Rattle.eden_messages.specs.declared.message.Request.{Request}
 use Rattle.eden_history.specs.declared.position.Position.{Position}
 use Rattle.eden_history.specs.Worlds.{Namer, WorldState, commits_of, now, position_of}
-use Rattle.eden_history.specs.Changes.{changes}
+use Rattle.eden_history.specs.Said.{paths_said}
+use Rattle.eden_history.specs.Changes.{named_since}
 use Rattle.eden_headline.specs.Headline.{AgreeTogether, AgreesAtHead, Differs, HasPlace, HasValues, IsCovered, IsRefused, IsTold, OfMirrors, OfPairs, Tells, changes_after}
 use Rattle.eden_history.specs.Legal.{IsLegal, IsWorld}
 use Rattle.eden_history.specs.Marks.{marked_since}
@@ -33,7 +34,7 @@ use Rattle.eden_headline.specs.Schedules.Step.{Begins, Changes, Comes, Nothing, 
 use Rattle.eden_messages.specs.Spells.{reply_bytes}
 use Rattle.eden_frames.specs.Frames.{body_limit}
 use Rattle.eden_history.specs.Status.{status_of}
-use Rattle.eden_history.proofs.Following.{none_named}
+use Rattle.eden_history.proofs.Following.{none_said}
 use Rattle.eden_history.proofs.Growing.{world_changes}
 use Rattle.eden_headline.proofs.Keeping.{place_in_time, place_on, stands_on, still}
 use Rattle.eden_headline.proofs.Mirroring.{IsGoodRound, IsOwn, IsSound, own_query, own_request, sound_begun, sound_delivered, sound_new, sound_refiltered}
@@ -227,15 +228,15 @@ all_run name s (step ∷ steps) may is = all_run name (happens name s step) step
 
 -- where nothing names the path since a place of the present generation, what a mirror holds there is what the working copy does
 stood : (world : WorldState) (place : Position) (p : List ℕ) (file : Option Content) → IsLegal world → place.generation ≡ (now world).generation
-    → has (changes place.generation place.sequence (now world).sequence world.past) p ≡ false → Stands world place.generation place.sequence p file
+    → has (changes_after world place) p ≡ false → Stands world place.generation place.sequence p file
     → file ≡ file_at (now world).files p
 stood world place p file legal same none is =
     sym is.value
     ∙ still (commits_of world) place.generation place.sequence (now world).sequence world.opening world.past is.row p legal.1 is.is_row is.alike is.after (sym same) (omega arith) none
 
-named_since : (world : WorldState) (sent : List Request) (id : ℕ) (m : MirrorState) (place : Position) (p : List ℕ) → IsLegal world → IsSound world sent id m → m.place ≡ Some place
+differs_named : (world : WorldState) (sent : List Request) (id : ℕ) (m : MirrorState) (place : Position) (p : List ℕ) → IsLegal world → IsSound world sent id m → m.place ≡ Some place
     → Differs world m p → place.generation ≡ (now world).generation → has (changes_after world place) p ≡ true
-named_since world sent id m place p legal sound at differs same = by (has (changes_after world place) p) refl
+differs_named world sent id m place p legal sound at differs same = by (has (changes_after world place) p) refl
   where
     by : (b : Bool) → has (changes_after world place) p ≡ b → b ≡ true
     by true e = refl
@@ -257,7 +258,7 @@ covered name s is id m e place p at differs =
     (λ apart found. inr (inl found)) (λ same late found. inl (named same)) (λ same before found. inl (named same)) (λ same before found. inl (named same)) refl
   where
     named : place.generation ≡ (now s.world).generation → has (changes_after s.world place) p ≡ true
-    named = named_since s.world s.sent id m place p is.world.legal (is.sound id m e) at differs
+    named = differs_named s.world s.sent id m place p is.world.legal (is.sound id m e) at differs
 
 bounded_tells : (query : Query) (reply : Reply) (p : List ℕ) → Tells reply p → Tells (bounded query reply) p
 unfolding bounded
@@ -273,17 +274,17 @@ told name s is id m e place p query at differs =
     (λ apart. tt) (λ same late. absurd (let low = never_ahead s.world s.sent id m place is.world.legal (is.sound id m e) at same in omega arith)) (λ same before. tt)
     (λ same before. bounded_tells query (ChangesAre query (position_of (now s.world)) (admitted m.patterns (marked_since s.world place.sequence))) p
     (among_changes s.world place.sequence m.patterns p
-    ∙ ap (λ b. b && has (changes (now s.world).generation place.sequence (now s.world).sequence s.world.past) p) differs.wanted
-    ∙ ap (λ g. has (changes g place.sequence (now s.world).sequence s.world.past) p) (sym same)
-    ∙ named_since s.world s.sent id m place p is.world.legal (is.sound id m e) at differs same))
+    ∙ ap (λ b. b && has (named_since (now s.world).generation place.sequence (now s.world).sequence s.world.opening s.world.past) p) differs.wanted
+    ∙ ap (λ g. has (named_since g place.sequence (now s.world).sequence s.world.opening s.world.past) p) (sym same)
+    ∙ differs_named s.world s.sent id m place p is.world.legal (is.sound id m e) at differs same))
 
 at_head : (name : Namer) (s : Scene) → HoldsAll name s → OfMirrors AgreesAtHead s
 at_head name s is id m e place at head p = by (admits m.patterns p) refl
   where
-    none : has (changes place.generation place.sequence (now s.world).sequence s.world.past) p ≡ false
+    none : has (changes_after s.world place) p ≡ false
     none =
-        ap (λ named. has named p)
-        (none_named (commits_of s.world) place.generation place.sequence (now s.world).sequence s.world.opening s.world.past is.world.legal.1
+        ap (λ list. has (path_set (paths_said list)) p)
+        (none_said (commits_of s.world) place.generation place.sequence (now s.world).sequence s.world.opening s.world.past is.world.legal.1
         (inr (sym head.generation, let last = head.sequence in omega arith)))
         ∙ has-none p
 

@@ -6,13 +6,12 @@ use Rattle.std.proofs.lemmas.Bool.{eqb-false, eqb-true, ltb-false, ltb-true}
 use Rattle.std.proofs.lemmas.Map.Views.{any-filter_same}
 use Rattle.std.proofs.lemmas.List.Elements.{Contains-append_left}
 use Rattle.eden_ids.specs.declared.content.Content.{Content}
-use Rattle.eden_ids.specs.FileMaps.{file_at, has, listing, paths, same_path}
+use Rattle.eden_ids.specs.FileMaps.{file_at, has, path_set, paths, same_path}
 use Rattle.eden_ids.proofs.FileMapLemmas.{has-listing, same_path-is}
 use Rattle.eden_globs.specs.Filters.{admits}
 use Rattle.eden_history.specs.declared.answer.SinceFault.{SinceFault}
 use Rattle.eden_history.specs.declared.answer.SinceFault.TheVariants as since_fault
 use Rattle.eden_history.specs.declared.change.Change.{Change}
-use Rattle.eden_history.specs.declared.mark.Marked.{Marked}
 use Rattle.eden_messages.specs.declared.message.Cause.TheVariants.{TooLarge}
 use Rattle.eden_messages.specs.declared.message.Query.{Query}
 use Rattle.eden_messages.specs.declared.message.Reply.{Reply}
@@ -22,9 +21,10 @@ use Rattle.eden_messages.specs.declared.message.Request.TheVariants.{Basis, Poll
 use Rattle.eden_history.specs.declared.position.Position.{Position}
 use Rattle.eden_objects.specs.Objects.{Held}
 use Rattle.eden_history.specs.Worlds.{Event, Namer, WorldState, commits_of, now, position_of}
-use Rattle.eden_history.specs.Changes.{changes}
+use Rattle.eden_history.specs.Said.{paths_said}
+use Rattle.eden_history.specs.Changes.{named_since, said_since}
 use Rattle.eden_history.specs.Legal.{IsLegal}
-use Rattle.eden_history.specs.Marks.{mark_of, marked_since}
+use Rattle.eden_history.specs.Marks.{marked_since}
 use Rattle.eden_messages.specs.Mirrors.{is_among}
 use Rattle.eden_history.specs.Imports.{over_held}
 use Rattle.eden_history.specs.Outcome.{outcome, world_after}
@@ -36,6 +36,7 @@ use Rattle.eden_history.specs.Rows.{IsPlace, IsRow, Stands}
 use Rattle.eden_messages.specs.Spells.{paths_of, reply_bytes}
 use Rattle.eden_frames.specs.Frames.{body_limit}
 use Rattle.eden_history.specs.Status.{status, status_of}
+use Rattle.eden_messages.proofs.Replying.{admitted_listed, marked_paths}
 use Rattle.eden_history.proofs.Following.{Follows, event_follows}
 use Rattle.eden_history.proofs.Growing.{goes_on, grown}
 use Rattle.eden_headline.proofs.Keeping.{now_is_place, now_is_row, place_grown, place_in_time, place_on, place_over, stands_grown, stands_now, stands_on, stands_over, still}
@@ -168,32 +169,15 @@ true_on name world sent change (Refused query cause) legal is = tt
 among_filter : (patterns : List (List ℕ)) (p : List ℕ) (ps : List (List ℕ)) → is_among p (filter (admits patterns) ps) ≡ (admits patterns p && is_among p ps)
 among_filter patterns p ps = any-filter_same (λ q. same_path p q) (admits patterns) (admits patterns p) (λ k e. ap (admits patterns) (sym (same_path-is p k e))) ps
 
-admitted_listed : (patterns : List (List ℕ)) (marked : List Marked) → paths_of (admitted patterns marked) ≡ filter (admits patterns) (paths_of marked)
-admitted_listed patterns [] = refl
-admitted_listed patterns (m ∷ ms) = by (admits patterns m.path) (admitted_listed patterns ms)
-  where
-    by : (b : Bool) → paths_of (admitted patterns ms) ≡ filter (admits patterns) (paths_of ms)
-        → paths_of (cond b (m ∷ admitted patterns ms) (admitted patterns ms)) ≡ cond b (m.path ∷ filter (admits patterns) (paths_of ms)) (filter (admits patterns) (paths_of ms))
-    by true more = ap (λ ps. m.path ∷ ps) more
-    by false more = more
-
-marked_paths : (world : WorldState) (since : ℕ) → paths_of (marked_since world since) ≡ listing (changes (now world).generation since (now world).sequence world.past)
-marked_paths world since = each (listing (changes (now world).generation since (now world).sequence world.past))
-  where
-    each : (ps : List (List ℕ))
-        → paths_of (map (λ path. record { mark = mark_of path (now world).generation since (now world).sequence world.opening world.past; path = path }) ps) ≡ ps
-    each [] = refl
-    each (q ∷ ps) = ap (λ more. q ∷ more) (each ps)
-
 -- a path is listed in the reply to a poll where it is admitted and named since
 pub among_changes : (world : WorldState) (since : ℕ) (patterns : List (List ℕ)) (p : List ℕ)
     → is_among p (paths_of (admitted patterns (marked_since world since)))
-    ≡ (admits patterns p && has (changes (now world).generation since (now world).sequence world.past) p)
+    ≡ (admits patterns p && has (named_since (now world).generation since (now world).sequence world.opening world.past) p)
 among_changes world since patterns p =
     ap (is_among p) (admitted_listed patterns (marked_since world since))
     ∙ among_filter patterns p (paths_of (marked_since world since))
     ∙ ap (λ ps. admits patterns p && is_among p ps) (marked_paths world since)
-    ∙ ap (λ b. admits patterns p && b) (sym (has-listing (changes (now world).generation since (now world).sequence world.past) p))
+    ∙ ap (λ b. admits patterns p && b) (sym (has-listing (path_set (paths_said (said_since world since))) p))
 
 -- ---- what is replied now is true
 

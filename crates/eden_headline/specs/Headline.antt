@@ -10,7 +10,7 @@ use Rattle.eden_messages.specs.declared.message.Request.TheVariants.{Poll}
 use Rattle.eden_messages.specs.declared.message.Cause.{Cause}
 use Rattle.eden_messages.specs.declared.message.Cause.TheVariants.{Stale, Ahead, Truncated, TooLarge}
 use Rattle.eden_history.specs.declared.position.Position.{Position}
-use Rattle.eden_history.specs.Changes.{changes}
+use Rattle.eden_history.specs.Changes.{named_since}
 use Rattle.eden_messages.specs.Mirrors.{MirrorState, is_among}
 use Rattle.eden_history.specs.Recorded.{floor_of}
 use Rattle.eden_messages.specs.Replies.{reply_of}
@@ -27,7 +27,7 @@ pub record Differs (world : WorldState) (m : MirrorState) (path : List ℕ) : Ty
 
 -- the paths named since a position, up to now
 abbrev pub changes_after : WorldState → Position → PathSet
-changes_after world place = changes place.generation place.sequence (now world).sequence world.past
+changes_after world place = named_since place.generation place.sequence (now world).sequence world.opening world.past
 
 -- the position is refused: as stale, or as truncated
 abbrev pub IsRefused : WorldState → Position → Type 0

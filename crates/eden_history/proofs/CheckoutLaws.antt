@@ -1,18 +1,18 @@
 -- What a checkout makes of the files, at each path, and that no two of them clash.
-use Rattle.std.proofs.Common.{◌≡◌, ℕ, Bool, true, false, cond, not, ◌&&◌, ◌||◌, List, [], ◌∷◌, ◌++◌, Option, Some, None, is_some, refl, sym, ap, subst, ◌∙◌}
+use Rattle.std.proofs.Common.{◌≡◌, ℕ, Bool, true, false, cond, not, ◌&&◌, ◌||◌, List, ◌++◌, Option, Some, None, is_some, refl, sym, ap, subst, ◌∙◌}
 use Rattle.std.specs.Prelude.{IsSome}
 use Rattle.std.specs.List.{list_any}
 use Rattle.std.specs.FinMap as fin
 use Rattle.std.proofs.lemmas.Bool.{and_parts, not-false}
 use Rattle.eden_ids.specs.declared.content.Content.{Content}
 use Rattle.eden_ids.specs.Paths.{clashes, lies_below}
-use Rattle.eden_ids.specs.FileMaps.{FileMap, PathSet, IsFileMap, file_at, paths, same_file, same_path, differ, path_set, has, clashes_any}
-use Rattle.eden_ids.proofs.FileMapLemmas.{file_at-tabulate, has-append, has-differ, has-path_set, has-union, same_file-is, same_file-refl, same_path-is, same_path-refl, unlisted, has-where, held}
+use Rattle.eden_ids.specs.FileMaps.{FileMap, IsFileMap, file_at, paths, same_file, same_path, differ, path_set, has, clashes_any}
+use Rattle.eden_ids.proofs.FileMapLemmas.{file_at-tabulate, has-append, has-differ, has-path_set, has-union, same_file-is, same_file-refl, unlisted, has-where, held}
 use Rattle.eden_history.specs.declared.change.Mode.{Mode}
 use Rattle.eden_history.specs.declared.change.Mode.TheVariants.{Normal, Dry, Force}
 use Rattle.eden_history.specs.Checkouts.{is_clean, clashes_dirty, is_blocked, paths_of_all, normal_rule, normal_files, force_rule, force_files, rule_of, checked_out, is_conflict, conflicts, unclean}
-use Rattle.std.proofs.Math.Bool.{or-true, or_comm}
-use Rattle.eden_ids.proofs.TreeQuestions.{any_some, any_witness}
+use Rattle.std.proofs.Math.Bool.{or_comm}
+use Rattle.eden_ids.proofs.TreeQuestions.{any_witness}
 
 -- ---- tests of lists of paths
 

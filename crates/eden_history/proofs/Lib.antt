@@ -7,8 +7,8 @@ pub mod Steps
 pub mod LegalFiles
 pub mod Rooted
 pub mod Growing
-pub mod Touched
-pub mod Ranges
+pub mod Ends
+pub mod Saying
 pub mod Floors
 pub mod Following
 pub mod Spelled

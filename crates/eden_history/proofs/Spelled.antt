@@ -1,17 +1,17 @@
 -- What makes replies spellable is kept by every change, and holds of each row of a world and of each path that an event names.
-use Rattle.std.proofs.Common.{◌≡◌, ℕ, ◌^◌, ◌<◌, ◌⊎◌, inl, inr, Bool, true, false, cond, ◌||◌, is_some, nat_lt, List, [], ◌∷◌, length, Option, Some, None, Ok, refl, sym, subst, ◌∙◌, arith}
+use Rattle.std.proofs.Common.{◌≡◌, ℕ, ◌^◌, ◌<◌, ◌⊎◌, inl, inr, Bool, true, false, cond, ◌||◌, is_some, nat_lt, List, [], ◌∷◌, ◌++◌, length, Option, Some, None, Ok, refl, sym, ap, subst, ◌∙◌, arith}
 use Rattle.std.specs.Prelude.{if◌then◌else◌}
 use Rattle.std.proofs.lemmas.Bool.{ltb-false}
 use Rattle.std.specs.List.{AllByRecursion}
+use Rattle.std.proofs.lemmas.List.{map-append}
 use Rattle.std.specs.FinMap as fin
 use Rattle.eden_ids.specs.declared.id.Id.{Id}
 use Rattle.eden_ids.specs.declared.content.Content.{Content}
 use Rattle.eden_ids.specs.declared.content.Kind.{Kind}
-use Rattle.eden_ids.specs.FileMaps.{FileMap, PathSet, clashes_any, differ, file_at, listing, no_paths, path_set}
+use Rattle.eden_ids.specs.FileMaps.{FileMap, clashes_any, differ, file_at, listing, path_set}
 use Rattle.eden_ids.specs.Sameness.{same_bytes}
 use Rattle.eden_ids.specs.Texts.{AreBytes, AreTexts, IsContentText, IsIdText, IsPathText}
-use Rattle.eden_ids.proofs.FileMapLemmas.{has-none}
-use Rattle.eden_ids.proofs.Members.{all_members, all_of_set, all_of_union}
+use Rattle.eden_ids.proofs.Members.{all_of_set, all_of_union}
 use Rattle.eden_ids.proofs.TextLemmas.{differ_texts, texts_insert, texts_none, texts_remove}
 use Rattle.eden_objects.specs.declared.import.Object.{Object}
 use Rattle.eden_objects.specs.Objects.{Held}
@@ -31,7 +31,8 @@ use Rattle.eden_history.specs.declared.change.ChangeFault.TheVariants.{TooLarge}
 use Rattle.eden_history.specs.Worlds.{Row, Event, Commits, Namer, WorldState, commits_of, last_row, now, opened}
 use Rattle.eden_history.specs.Checkouts.{checked_out, is_blocked, is_clean, rule_of, unclean}
 use Rattle.eden_history.specs.Named.{commits_differ, held_files, named, unclean_set}
-use Rattle.eden_history.specs.Changes.{changes, is_in_range, named_if}
+use Rattle.eden_history.specs.Said.{paths_said, said_of}
+use Rattle.eden_history.specs.Changes.{is_in_range, said, said_since}
 use Rattle.eden_history.specs.Outcome.{Outcome, change_fault, event_at, extended, is_event, judged, next_files, next_generation, next_root, next_row, outcome, refusal, row_after, world_after}
 use Rattle.eden_history.specs.Outcome.Outcome.{Refuses, NoEvent, Next}
 use Rattle.eden_history.specs.Renames.{moved, place_fault, renamed, write_fault}
@@ -41,7 +42,7 @@ use Rattle.eden_history.specs.Spellable.{AreObjects, IsChange, IsRowText, IsSpel
 use Rattle.eden_history.proofs.CheckoutLaws.{file_at-checked_out}
 use Rattle.eden_history.proofs.Growing.{after_by, imported_by}
 use Rattle.eden_history.proofs.LegalFiles.{allowed_files}
-use Rattle.eden_history.proofs.Ranges.{changes_more, changes_none}
+use Rattle.eden_history.proofs.Saying.{names-said, said-counted, said-none, said-skipped}
 use Rattle.eden_history.proofs.RenameLaws.{first-none}
 use Rattle.eden_history.proofs.Steps.{has_room, is_made}
 
@@ -197,27 +198,36 @@ event_texts commits opening past event held texts are made =
     subst (λ (e : Event). AllByRecursion IsPathText e.names) (sym one.made)
     (names_texts commits (last_row opening past) event.change (next_row commits (last_row opening past) event.change) held are.0 before.files after.files)
 
-changes_paths : (commits : Commits) (generation since until : ℕ) (opening : Row) (past : List Event) → HoldTexts commits → IsRowText opening
-    → AllByRecursion (λ event. IsChange event.change) past → AreMade commits opening past → AllByRecursion IsPathText (listing (changes generation since until past))
-changes_paths commits generation since until opening [] held texts are made =
-    subst (λ s. AllByRecursion IsPathText (listing s)) (sym (changes_none generation since until))
-    (all_members IsPathText no_paths (λ p is. absurd (let bad : false ≡ true = sym (has-none p) ∙ is in cc)))
-changes_paths commits generation since until opening (event ∷ past) held texts are made =
-    subst (λ s. AllByRecursion IsPathText (listing s)) (sym (changes_more generation since until event past))
-    (by (changes generation since until past) (is_in_range generation since until event.row) (event_texts commits opening past event held texts are made)
-    (changes_paths commits generation since until opening past held texts are.1 made.1))
-  where
-    by : (others : PathSet) (counts : Bool) → AllByRecursion IsPathText event.names → AllByRecursion IsPathText (listing others)
-        → AllByRecursion IsPathText (listing (named_if counts event.names others))
-    by others true names more = all_of_union IsPathText (path_set event.names) others (all_of_set IsPathText event.names names) more
-    by others false names more = more
+all_both : (ps qs : List (List ℕ)) → AllByRecursion IsPathText ps → AllByRecursion IsPathText qs → AllByRecursion IsPathText (ps ++ qs)
+all_both [] qs first second = second
+all_both (p ∷ ps) qs first second = (first.0, all_both ps qs first.1 second)
 
--- the paths that are named since a number of the present generation
+said_texts : (commits : Commits) (generation since until : ℕ) (opening : Row) (past : List Event) → HoldTexts commits → IsRowText opening
+    → AllByRecursion (λ event. IsChange event.change) past → AreMade commits opening past → AllByRecursion IsPathText (paths_said (said generation since until opening past))
+said_texts commits generation since until opening [] held texts are made =
+    subst (λ list. AllByRecursion IsPathText (paths_said list)) (sym (said-none generation since until opening)) tt
+said_texts commits generation since until opening (event ∷ past) held texts are made =
+    by (is_in_range generation since until event.row) refl (said_texts commits generation since until opening past held texts are.1 made.1)
+  where
+    names : AllByRecursion IsPathText (paths_said (said_of (last_row opening past) event))
+    names = subst (AllByRecursion IsPathText) (sym (names-said commits opening past event made)) (event_texts commits opening past event held texts are made)
+
+    by : (b : Bool) → is_in_range generation since until event.row ≡ b → AllByRecursion IsPathText (paths_said (said generation since until opening past))
+        → AllByRecursion IsPathText (paths_said (said generation since until opening (event ∷ past)))
+    by true e older =
+        subst (AllByRecursion IsPathText)
+        (sym (ap paths_said (said-counted generation since until opening event past e)
+        ∙ map-append (λ one. one.0) (said generation since until opening past) (said_of (last_row opening past) event)))
+        (all_both (paths_said (said generation since until opening past)) (paths_said (said_of (last_row opening past) event)) older names)
+    by false e older = subst (λ list. AllByRecursion IsPathText (paths_said list)) (sym (said-skipped generation since until opening event past e)) older
+
+-- the paths of which something is said since a number of the present generation
 pub named_texts : (name : List ℕ → List ℕ → Id) (world : WorldState) (since : ℕ) → IsWorld name world → IsSpellable world
-    → AllByRecursion IsPathText (listing (changes (now world).generation since (now world).sequence world.past))
+    → AllByRecursion IsPathText (listing (path_set (paths_said (said_since world since))))
 named_texts name world since is spellable =
-    changes_paths (commits_of world) (now world).generation since (now world).sequence world.opening world.past
-    (commits_texts world.held is.closed spellable.small) spellable.opening spellable.changes is.legal.1
+    all_of_set IsPathText (paths_said (said_since world since))
+    (said_texts (commits_of world) (now world).generation since (now world).sequence world.opening world.past
+    (commits_texts world.held is.closed spellable.small) spellable.opening spellable.changes is.legal.1)
 
 -- ---- worlds
 

@@ -7,9 +7,9 @@ pub mod Imports
 pub mod Outcome
 pub mod Legal
 pub mod Spellable
+pub mod Recorded
+pub mod Said
 pub mod Changes
 pub mod Status
 pub mod Marks
-pub mod Recorded
-pub mod Touches
 pub mod Rows

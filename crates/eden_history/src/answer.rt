@@ -1,3 +1,5 @@
+//! What a change is answered with, and why what changed since a position can't be told.
+
 ghost use Rattle.std.specs.Prelude.{◌≡◌, IfOk};
 
 use crate::change::ChangeFault;

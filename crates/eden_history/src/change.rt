@@ -1,3 +1,5 @@
+//! What is done to a mount, and why it is refused.
+
 ghost use Rattle.std.specs.Prelude.{◌≡◌, IfOk};
 
 use eden_ids::{Id, Kind, NoMemory, Path, Sequence};

@@ -1,3 +1,5 @@
+//! The dirty files of a working copy, as a tree of files.
+
 ghost use Rattle.std.specs.Prelude.{◌≡◌};
 ghost use Rattle.eden_ids.specs.FileMaps.{paths};
 ghost use Rattle.eden_history.specs.DirtyFiles.{dirty_files};

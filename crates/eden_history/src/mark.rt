@@ -1,5 +1,9 @@
-ghost use Rattle.std.specs.Prelude.{◌≡◌, IfOk};
+//! What became of a path between two positions.
 
+ghost use Rattle.std.specs.Prelude.{◌≡◌, IfOk};
+ghost use Rattle.eden_history.specs.Marks.{mark_told};
+
+use crate::touches::Touch;
 use eden_ids::{NoMemory, Path};
 
 /// What became of a path between two positions.
@@ -13,6 +17,18 @@ pub enum Mark {
     Changed,
     /// No change of files named it: the root that is checked out changed.
     Root,
+}
+
+impl Mark {
+    /// What became of a path by what changes of files did there; where none was made, the root named it.
+    pub fn of(touch: Option<Touch>) -> Mark
+        ensures { result ≡ mark_told touch }
+    {
+        match touch {
+            Some(touch) => touch.mark(),
+            None => Mark::Root,
+        }
+    }
 }
 
 /// A path that changed, and what became of it.

@@ -1,3 +1,5 @@
+//! Why a commit can't be mounted.
+
 use eden_ids::Naming;
 use eden_objects::{CommitFault, Store};
 use std::error::Error;

@@ -1,3 +1,5 @@
+//! A point in the history of a mount.
+
 use eden_ids::Id;
 
 /// A point in the history of a mount, as EdenFS's JournalPosition: a client keeps one, and asks what changed since.

@@ -1,5 +1,7 @@
-ghost use Rattle.std.specs.Prelude.{◌≡◌, ◌&&◌, ◌||◌, if◌then◌else◌, is_some, not};
-ghost use Rattle.eden_ids.specs.FileMaps.{differ, file_at, lent, listing, paths, same_file};
+//! What a checkout makes of a path, and whether it is a conflict there.
+
+ghost use Rattle.std.specs.Prelude.{◌≡◌};
+ghost use Rattle.eden_ids.specs.FileMaps.{differ, lent, listing, paths};
 ghost use Rattle.eden_history.specs.Checkouts.{clashes_dirty, force_rule, is_blocked, is_clean, is_conflict, normal_rule, rule_of};
 ghost use Rattle.eden_history.specs.DirtyFiles.{dirty_files};
 
@@ -52,22 +54,15 @@ impl<'a, W: FileTree, R: FileTree, T: FileTree, D: FileTree> Sides<'a, W, R, T, 
         self.clashes_dirty(path) && has_file(self.target, path.as_bytes())
     }
 
-    /// Whether the target has another file at a path than the root, and another than the working copy.
-    fn is_changed_twice(&self, path: &[u8]) -> bool
-        ensures { result ≡ (not (same_file (file_at (R.files self.now.root.now) path.now) (file_at (T.files self.now.target.now) path.now))
-            && not (same_file (file_at (W.files self.now.work.now) path.now) (file_at (T.files self.now.target.now) path.now))) }
-    {
-        !is_same_at(self.root, self.target, path) && !is_same_at(self.work, self.target, path)
-    }
-
     /// Whether a path is a conflict. It is looked up in the trees only where it is not clean, or clashes with a dirty file.
     pub fn is_conflict(&self, path: &Path) -> bool
         ensures { result ≡ is_conflict (W.files self.now.work.now) (R.files self.now.root.now) (T.files self.now.target.now) path.now }
     {
-        if self.is_clean(path.as_bytes()) {
+        let at = path.as_bytes();
+        if self.is_clean(at) {
             self.is_blocked(path)
         } else {
-            self.is_changed_twice(path.as_bytes())
+            !is_same_at(self.root, self.target, at) && !is_same_at(self.work, self.target, at)
         }
     }
 
@@ -84,24 +79,18 @@ impl<'a, W: FileTree, R: FileTree, T: FileTree, D: FileTree> Sides<'a, W, R, T, 
         self.target.file(path.as_bytes())
     }
 
-    /// Whether the root or the target has a file at a path.
-    fn is_in_commits(&self, path: &[u8]) -> bool
-        ensures { result ≡ (is_some (file_at (R.files self.now.root.now) path.now) || is_some (file_at (T.files self.now.target.now) path.now)) }
-    {
-        has_file(self.root, path) || has_file(self.target, path)
-    }
-
     /// What is to stand at a path after a forced checkout.
     fn force_file(&self, path: &Path) -> Option<(Kind, &'a [u8])>
         ensures { lent result ≡ force_rule (W.files self.now.work.now) (R.files self.now.root.now) (T.files self.now.target.now) path.now }
     {
-        if self.is_in_commits(path.as_bytes()) {
-            return self.target.file(path.as_bytes());
+        let at = path.as_bytes();
+        if has_file(self.root, at) || has_file(self.target, at) {
+            return self.target.file(at);
         }
         if clashes_any(self.target, path) {
             return None;
         }
-        self.work.file(path.as_bytes())
+        self.work.file(at)
     }
 
     /// What is to stand at a path after the checkout.

@@ -1,5 +1,8 @@
+//! What changes of files at one path come to.
+
 ghost use Rattle.std.specs.Prelude.{◌≡◌};
 ghost use Rattle.eden_history.specs.Marks.{mark_by};
+ghost use Rattle.eden_history.specs.Said.{joined};
 
 use crate::mark::Mark;
 
@@ -21,6 +24,19 @@ impl Touch {
             (false, true) => Mark::Created,
             (true, false) => Mark::Removed,
             _ => Mark::Changed,
+        }
+    }
+    /// What two changes at one path come to, the earlier one first, where there were both.
+    pub fn joined(earlier: Option<Touch>, later: Option<Touch>) -> Option<Touch>
+        ensures { result ≡ joined earlier later }
+    {
+        match (earlier, later) {
+            (Some(first), Some(last)) => Some(Touch {
+                before: first.before,
+                after: last.after,
+            }),
+            (Some(_), None) => earlier,
+            (None, _) => later,
         }
     }
 }

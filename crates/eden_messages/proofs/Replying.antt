@@ -9,7 +9,7 @@ use Rattle.std.specs.List.{AllByRecursion, flat_map}
 use Rattle.std.specs.List.Sorted.{IsStrictlySortedBy}
 use Rattle.eden_ids.specs.declared.content.Content.{Content}
 use Rattle.eden_ids.specs.declared.id.Id.{Id}
-use Rattle.eden_ids.specs.FileMaps.{FileMap, file_at, listing, paths}
+use Rattle.eden_ids.specs.FileMaps.{FileMap, file_at, listing, path_set, paths}
 use Rattle.eden_ids.specs.Texts.{AreTexts, IsPathText}
 use Rattle.eden_ids.proofs.ByteOrder.{fin_keys_rise, order}
 use Rattle.eden_ids.proofs.TextLemmas.{paths_texts}
@@ -17,16 +17,17 @@ use Rattle.eden_globs.specs.Filters.{admits}
 use Rattle.eden_frames.specs.Frames.{body_limit}
 use Rattle.eden_history.specs.declared.answer.SinceFault.{SinceFault}
 use Rattle.eden_history.specs.declared.answer.SinceFault.TheVariants as since
-use Rattle.eden_history.specs.declared.mark.Mark.{Mark}
 use Rattle.eden_history.specs.declared.mark.Marked.{Marked}
 use Rattle.eden_history.specs.declared.position.Position.{Position}
 use Rattle.eden_history.specs.Worlds.{Row, WorldState, now, position_of}
-use Rattle.eden_history.specs.Changes.{changes}
+use Rattle.eden_history.specs.Said.{Said, ends, paths_said}
+use Rattle.eden_history.specs.Changes.{said_since}
 use Rattle.eden_history.specs.Legal.{IsWorld}
-use Rattle.eden_history.specs.Marks.{admitted, mark_of, marked_since}
+use Rattle.eden_history.specs.Marks.{admitted, mark_said, marked_since}
 use Rattle.eden_history.specs.Recorded.{floor_of}
 use Rattle.eden_history.specs.Spellable.{IsRowText, IsSpellable}
 use Rattle.eden_history.specs.Status.{status, status_of}
+use Rattle.eden_history.proofs.Ends.{ends-paths}
 use Rattle.eden_history.proofs.Floors.{floor_fits}
 use Rattle.eden_history.proofs.Spelled.{named_texts, now_texts}
 use Rattle.eden_messages.specs.declared.message.Cause.{Cause}
@@ -103,18 +104,22 @@ admitted_listing patterns ps texts rise few =
     }
 
 -- the paths of marked ones, of which a filter admits some
-marked_paths : (patterns ps : List (List ℕ)) (mark : List ℕ → Mark)
-    → paths_of (admitted patterns (map (λ path. record { mark = mark path; path = path }) ps)) ≡ filter (admits patterns) ps
-marked_paths patterns [] mark = refl
-marked_paths patterns (p ∷ ps) mark = by (admits patterns p) (marked_paths patterns ps mark)
+pub admitted_listed : (patterns : List (List ℕ)) (marked : List Marked) → paths_of (admitted patterns marked) ≡ filter (admits patterns) (paths_of marked)
+admitted_listed patterns [] = refl
+admitted_listed patterns (m ∷ ms) = by (admits patterns m.path) (admitted_listed patterns ms)
   where
-    rest : List Marked
-    rest = admitted patterns (map (λ path. record { mark = mark path; path = path }) ps)
+    by : (b : Bool) → paths_of (admitted patterns ms) ≡ filter (admits patterns) (paths_of ms)
+        → paths_of (cond b (m ∷ admitted patterns ms) (admitted patterns ms)) ≡ cond b (m.path ∷ filter (admits patterns) (paths_of ms)) (filter (admits patterns) (paths_of ms))
+    by true more = ap (λ ps. m.path ∷ ps) more
+    by false more = more
 
-    by : (b : Bool) → paths_of rest ≡ filter (admits patterns) ps
-        → paths_of (cond b (record { mark = mark p; path = p } ∷ rest) rest) ≡ cond b (p ∷ filter (admits patterns) ps) (filter (admits patterns) ps)
-    by true e = ap (λ qs. p ∷ qs) e
-    by false e = e
+marks_listed : (list : List Said) → paths_of (map mark_said list) ≡ paths_said list
+marks_listed [] = refl
+marks_listed (one ∷ more) = ap (λ ps. one.0 ∷ ps) (marks_listed more)
+
+-- the paths that are marked since a number are those of which something is said
+pub marked_paths : (world : WorldState) (since : ℕ) → paths_of (marked_since world since) ≡ listing (path_set (paths_said (said_since world since)))
+marked_paths world since = marks_listed (ends (said_since world since)) ∙ ends-paths (said_since world since)
 
 -- ---- what a world replies
 
@@ -169,14 +174,14 @@ module _ (name : List ℕ → List ℕ → Id) (world : WorldState) (is : IsWorl
   changes_listing : (since : ℕ) (patterns : List (List ℕ)) → length (admitted patterns (marked_since world since)) < 2 ^ 32
       → IsListing (paths_of (admitted patterns (marked_since world since)))
   changes_listing since patterns few =
-      let named = listing (changes (now world).generation since (now world).sequence world.past) in
+      let named = listing (path_set (paths_said (said_since world since))) in
       let texts = named_texts name world since is spellable in
       let same : paths_of (admitted patterns (marked_since world since)) ≡ filter (admits patterns) named =
-      marked_paths patterns named (λ path. mark_of path (now world).generation since (now world).sequence world.opening world.past) in
+      admitted_listed patterns (marked_since world since) ∙ ap (filter (admits patterns)) (marked_paths world since) in
       let count = paths_len (admitted patterns (marked_since world since)) in
       let short : length (filter (admits patterns) named) < 2 ^ 32 = omega (arith, few, count, ap length same) in
       subst IsListing (sym same)
-      (admitted_listing patterns named texts (fin_keys_rise (changes (now world).generation since (now world).sequence world.past)) short)
+      (admitted_listing patterns named texts (fin_keys_rise (path_set (paths_said (said_since world since)))) short)
 
   changes_spelled : (query : Query) (since : ℕ) (patterns : List (List ℕ)) → IsQuery query
       → SpellsReply (reply_bytes (polled world query since patterns None)) (polled world query since patterns None)

@@ -35,14 +35,6 @@ fn len_of_path(path: &Path) -> usize
     2 + path.as_bytes().len()
 }
 
-/// The bytes of a marked path.
-fn len_of_marked(marked: &Marked) -> usize
-    ensures len { result ≡ length (marked_bytes marked.now) }
-    ensures few { result ≤ 1027 }
-{
-    1 + len_of_path(&marked.path)
-}
-
 /// How many bytes the paths take, without their count, where they are no more than a body may have.
 #[tactic(auto, using(crate::proofs::BodyLengths::paths_front_small))]
 fn len_of_paths(paths: &[Path]) -> Option<usize>
@@ -65,7 +57,7 @@ fn len_of_list(list: &[Marked]) -> Option<usize>
 {
     let mut len = 0;
     for marked in list {
-        len += len_of_marked(marked);
+        len += 1 + len_of_path(&marked.path);
         if len > BODY_LIMIT {
             return None;
         }

@@ -1,3 +1,5 @@
+//! Requests and replies.
+
 ghost use Rattle.std.specs.Prelude.{◌≡◌, IfOk};
 ghost use Rattle.eden_messages.specs.Mirrors.{query_of};
 

@@ -1,3 +1,5 @@
+//! What became of a reply that came to a mirror.
+
 /// What became of a reply that came to a mirror.
 #[derive(Clone, Copy, Debug, PartialEq, Eq)]
 pub enum Outcome {

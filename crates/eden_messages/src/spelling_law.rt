@@ -1,3 +1,5 @@
+//! That messages have one spelling, and a world's replies have one at all, as contracts of functions with no work to do.
+
 ghost use Rattle.std.specs.Prelude.{◌≡◌, ℕ, List};
 ghost use Rattle.eden_messages.specs.declared.message.Request.{Request};
 ghost use Rattle.eden_messages.specs.declared.message.Reply.{Reply};

@@ -13,7 +13,7 @@ use Rattle.eden_history.specs.Worlds.{Row, Event, last_row}
 use Rattle.eden_world.specs.internal.Paid.{is_paid}
 use Rattle.eden_history.specs.Recorded.{delta_of, deltas, start, starts}
 use Rattle.eden_history.proofs.Floors.{AreNumbered}
-use Rattle.eden_history.proofs.Touched.{reverse_more}
+use Rattle.eden_history.proofs.Saying.{reverse_more}
 
 -- the runs without the newest, where that one was paid for with a newer delta
 abbrev pub unpaid : Option Delta → List Run → List Run

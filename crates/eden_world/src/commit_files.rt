@@ -1,6 +1,6 @@
 //! Whole file maps of what a tree of files holds.
 
-ghost use Rattle.std.specs.Prelude.{◌≡◌, [], IfOk, map};
+ghost use Rattle.std.specs.Prelude.{◌≡◌, IfOk, map};
 ghost use Rattle.eden_ids.specs.FileMaps.{file_at, lent, paths, tabulate};
 ghost use Rattle.eden_objects.specs.Files.{commit_files};
 
@@ -8,16 +8,6 @@ use eden_globs::Filter;
 use eden_ids::{Content, FileTree, Files, Id, Kind, Naming, NoMemory, Path};
 use eden_objects::{CommitFault, Store};
 use std::alloc::Global;
-
-/// The filter that admits every path.
-fn everything(alloc: Global) -> Result<Filter, NoMemory>
-    ensures { IfOk result (λ filter. filter ≡ []) }
-{
-    match Filter::parse(alloc, &[]) {
-        Ok(filter) => Ok(filter),
-        Err(_) => Err(NoMemory),
-    }
-}
 
 /// The files of a commit, each with its path, its kind and its blob; none where the id is no commit's.
 #[tactic(auto, using(crate::proofs::Listed::rows_paths, crate::proofs::Listed::no_rows))]
@@ -28,7 +18,7 @@ fn rows_of<N: Naming + Drop>(
 ) -> Result<Vec<(Path, Kind, Id)>, NoMemory>
     ensures { IfOk result (λ rows. map (λ row. row.0) rows.items ≡ paths (commit_files store.now commit)) }
 {
-    let filter = everything(alloc)?;
+    let filter = Filter::all(alloc);
     store.closed_law();
     match store.list(commit, &filter) {
         Ok(rows) => Ok(rows),

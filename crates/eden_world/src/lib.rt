@@ -32,6 +32,7 @@ pub use eden_stream::{Counted, Faults};
 mod commit_files;
 mod events;
 mod marks;
+mod recorded;
 mod refusal;
 mod reply;
 mod row;
