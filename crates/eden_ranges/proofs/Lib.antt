@@ -1,15 +1,14 @@
-pub mod Walking
+mod Lists
+mod Said
+mod OneAPath
+pub mod Only
 pub mod Columns
+mod Pairs
+mod TurnedRound
 pub mod Newest
-pub mod Ends
-pub mod Relisted
-pub mod Numbered
-pub mod Along
-pub mod Named
-pub mod SinceWorld
+mod Ends
+mod Numbered
+mod Along
+mod Named
+mod SinceWorld
 pub mod Bridge
-pub mod Settled
-pub mod Noting
-pub mod Telling
-pub mod Pairs
-mod Only

@@ -11,7 +11,8 @@ use Rattle.eden_ids.specs.Sameness.{same_id}
 use Rattle.eden_objects.proofs.Lookup.{turn}
 use Rattle.eden_history.specs.Worlds.{Commits}
 use Rattle.eden_history.specs.Named.{commits_differ, held_files}
-use Rattle.eden_ranges.specs.Expanded.{is_comparable, only}
+use Rattle.eden_ranges.specs.Expanded.{is_comparable}
+use Rattle.eden_ranges.specs.internal.Wanted.{only}
 use Rattle.eden_ranges.specs.internal.Pairs.{AreCovered, IsCovered, has_pair, same_pair}
 use Rattle.std.specs.Prelude.{Option, Result, Ok, Err, OnOk}
 

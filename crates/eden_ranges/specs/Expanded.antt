@@ -1,22 +1,17 @@
 -- Which paths a range names, and what became of each.
-use Rattle.std.specs.Prelude.{ℕ, Bool, true, ◌&&◌, ◌||◌, is_some, List, [], ◌∷◌, map}
-use Rattle.std.specs.FinMap as fin
+use Rattle.std.specs.Prelude.{Bool, true, ◌&&◌, ◌||◌, ◌++◌, is_some, List, [], ◌∷◌, map}
 use Rattle.std.specs.List.{list_all}
-use Rattle.eden_globs.specs.Filters.{admits}
 use Rattle.eden_ids.specs.declared.id.Id.{Id}
-use Rattle.eden_ids.specs.FileMaps.{PathSet, listing, no_paths, path_set, union}
+use Rattle.eden_ids.specs.FileMaps.{PathSet, listing, no_paths, union}
 use Rattle.eden_objects.specs.Objects.{Held}
 use Rattle.eden_ids.specs.Sameness.{same_id}
 use Rattle.eden_objects.specs.Commits.{commit_map}
 use Rattle.eden_history.specs.declared.mark.Marked.{Marked}
 use Rattle.eden_history.specs.Worlds.{Commits}
 use Rattle.eden_history.specs.Named.{commits_differ}
-use Rattle.eden_history.specs.Touches.{marked_at, touched_by, untouched}
+use Rattle.eden_history.specs.Marks.{mark_said}
+use Rattle.eden_history.specs.Said.{Said, by_root, by_touch, ends}
 use Rattle.eden_ranges.specs.declared.ranges.Range.{Range}
-
--- those of some paths that a filter admits
-abbrev pub only : List (List ℕ) → PathSet → PathSet
-only patterns set = fin.retain_keys set (admits patterns)
 
 -- ---- roots
 
@@ -48,11 +43,10 @@ are_commits commits roots = list_all (λ root. is_some (commits root)) roots
 
 -- ---- ranges
 
--- the paths at which files were changed, the unclean ones, and those on which neighbouring roots differ
-abbrev pub paths_in : List Held → Range → PathSet
-paths_in held range =
-    union (path_set (map (λ touch. touch.path) range.changes)) (union (path_set range.unclean) (differing (commit_map held) range.roots))
+-- what a range says of paths: what changes of files did, and that the root names the unclean ones and those on which neighbouring roots differ
+abbrev pub said_by_range : List Held → Range → List Said
+said_by_range held range = map by_touch range.changes ++ map by_root (range.unclean ++ listing (differing (commit_map held) range.roots))
 
--- these paths, ascending, each with what the changes of files did there; where they did nothing, the root named it
+-- each path of which it says something, ascending, with what became of it
 abbrev pub expanded : List Held → Range → List Marked
-expanded held range = marked_at (touched_by range.changes untouched) (listing (paths_in held range))
+expanded held range = map mark_said (ends (said_by_range held range))

@@ -1,13 +1,13 @@
 -- What a range says of a world.
-use Rattle.std.specs.Prelude.{◌≡◌, ℕ, true, List, [], ◌∷◌, ◌++◌, filter, reverse, Option, Some, None}
+use Rattle.std.specs.Prelude.{◌≡◌, ℕ, true, List, [], ◌∷◌, ◌++◌, filter, Option, Some, None}
 use Rattle.eden_ids.specs.declared.id.Id.{Id}
-use Rattle.std.specs.FinMap as fin
 use Rattle.eden_ids.specs.FileMaps.{same_path}
-use Rattle.eden_journal.specs.declared.touch.FileTouch.{FileTouch}
+use Rattle.eden_journal.specs.declared.file_touch.FileTouch.{FileTouch}
 use Rattle.eden_journal.specs.declared.delta.Delta.{Delta}
 use Rattle.eden_journal.specs.declared.delta.Delta.TheVariants.{File, Root}
 use Rattle.eden_history.specs.declared.touches.Touch.{Touch}
-use Rattle.eden_ranges.specs.Gathered.{changed_by}
+use Rattle.eden_history.specs.Said.{ends_at}
+use Rattle.eden_ranges.specs.Gathered.{said_by}
 use Rattle.eden_journal.specs.Histories.{Log, StandsFor}
 use Rattle.eden_history.specs.declared.position.Position.{Position}
 use Rattle.eden_history.specs.Worlds.{Commits, WorldState, now, position_of}
@@ -44,24 +44,21 @@ CommitsAreComparable = (commits : Commits) (roots : List Id) → are_commits com
 
 -- ---- what changes of files come to
 
-abbrev pub touches_here : List ℕ → List FileTouch → List FileTouch
-touches_here path touches = filter (λ touch. same_path path touch.path) touches
-
--- all changes of files at a path, newest first; within a delta the later ones are newer
+-- all changes of files at a path, the oldest first
 abbrev pub touches_at : List ℕ → List Delta → List FileTouch
 touches_at path [] = []
-touches_at path (File files ∷ older) = reverse (touches_here path files.touches) ++ touches_at path older
+touches_at path (File files ∷ older) = touches_at path older ++ filter (λ touch. same_path path touch.path) files.touches
 touches_at path (Root left unclean ∷ older) = touches_at path older
 
-abbrev pub oldest_of : FileTouch → List FileTouch → FileTouch
-oldest_of newest [] = newest
-oldest_of newest (older ∷ more) = oldest_of older more
+abbrev pub last_of : FileTouch → List FileTouch → FileTouch
+last_of first [] = first
+last_of first (next ∷ later) = last_of next later
 
--- what was there before the oldest of them, and is there after the newest
+-- what was there before the first of them, and is there after the last
 abbrev pub ends_of : List FileTouch → Option Touch
 ends_of [] = None
-ends_of (newest ∷ older) = Some (record { before = (oldest_of newest older).before; after = newest.after })
+ends_of (first ∷ later) = Some (record { before = first.before; after = (last_of first later).after })
 
--- at each path the deltas of a range come to what was there before the oldest change, and is there after the newest
+-- at each path the deltas of a range come to what was there before the first change, and is there after the last
 abbrev pub ChangesAreEnds : Type 0
-ChangesAreEnds = (deltas : List Delta) (path : List ℕ) → fin.get (changed_by deltas) path ≡ ends_of (touches_at path deltas)
+ChangesAreEnds = (deltas : List Delta) (path : List ℕ) → ends_at path (said_by deltas) ≡ ends_of (touches_at path deltas)

@@ -1,5 +1,5 @@
 -- What the implementation uses alone.
 pub mod Wanted
-pub mod Names
 pub mod Mentions
+pub mod Gathering
 pub mod Pairs

@@ -1,19 +1,21 @@
-ghost use Rattle.std.specs.Prelude.{◌≡◌, ◌≢◌, ◌&&◌, ◌||◌, ◌++◌, ◌∷◌, [], true, false, IfOk, IfErr, OnOk, if◌then◌else◌};
-ghost use Rattle.eden_globs.specs.Filters.{admits};
+//! The paths that a range names, each with what became of it.
+
+ghost use Rattle.std.specs.Prelude.{◌≡◌, ◌≢◌, ◌||◌, ◌++◌, ◌∷◌, [], true, false, map, IfOk, IfErr, OnOk};
 ghost use Rattle.eden_ids.specs.FileMaps.{path_set, union};
 ghost use Rattle.eden_ids.specs.Sameness.{same_id};
 ghost use Rattle.eden_objects.specs.Commits.{commit_map};
 ghost use Rattle.eden_history.specs.Named.{commits_differ};
-ghost use Rattle.eden_history.specs.Marks.{admitted};
-ghost use Rattle.eden_ranges.specs.Expanded.{are_comparable, differing, expanded, is_comparable, only};
+ghost use Rattle.eden_history.specs.Marks.{admitted, mark_said};
+ghost use Rattle.eden_history.specs.Said.{by_touch};
+ghost use Rattle.eden_ranges.specs.Expanded.{are_comparable, differing, expanded, is_comparable};
+ghost use Rattle.eden_ranges.specs.internal.Mentions.{Ascend};
 ghost use Rattle.eden_ranges.specs.internal.Pairs.{AreCovered, has_pair};
-ghost use Rattle.eden_ranges.specs.internal.Names.{with_path, with_paths, with_touch, with_touches};
-ghost use Rattle.eden_ranges.specs.internal.Wanted.{wanted_paths, wanted_touches};
+ghost use Rattle.eden_ranges.specs.internal.Wanted.{only};
 
-use crate::names::Names;
+use crate::mentions::Mentions;
 use crate::ranges::Range;
 use eden_globs::Filter;
-use eden_history::Marked;
+use eden_history::{Marked, Touch};
 use eden_ids::{Id, IdColumn, Naming, NoMemory, Path};
 use eden_journal::FileTouch;
 use eden_objects::{CommitFault, Store};
@@ -59,10 +61,7 @@ fn add_differing<N: Naming + Drop>(
     ensures compared { OnOk result (is_comparable (commit_map store.now) left reached ≡ true) }
     ensures fault { IfErr result (λ fault. fault ≢ CommitFault.NoMemory → is_comparable (commit_map store.now) left reached ≡ false) }
 {
-    let mut more = match diff_admitted(alloc, store, left, reached, wanted) {
-        Ok(more) => more,
-        Err(fault) => return Err(fault),
-    };
+    let mut more = diff_admitted(alloc, store, left, reached, wanted)?;
     make_room(paths, more.len())?;
     Ok(paths.append(&mut more)?)
 }
@@ -122,60 +121,9 @@ fn differing_paths<N: Naming + Drop>(
         let Some(reached) = roots.get(place + 1) else {
             break;
         };
-        match add_once(alloc, store, &mut paths, &mut pairs, left, reached, wanted) {
-            Ok(()) => {}
-            Err(fault) => return Err(fault),
-        }
+        add_once(alloc, store, &mut paths, &mut pairs, left, reached, wanted)?;
     }
     Ok(paths)
-}
-
-/// Notes a path that the root names, if the filter admits it.
-fn add_wanted<'a>(names: &mut Names<'a>, path: &'a Path, wanted: &Filter) -> Result<(), NoMemory>
-    ensures { OnOk result (names.new ≡ (if admits wanted.now path.now then with_path names.old path.now else names.old)) }
-{
-    if wanted.admits(path) {
-        names.add(path)?;
-    }
-    Ok(())
-}
-
-/// Notes those of these paths that the filter admits.
-fn add_paths<'a>(names: &mut Names<'a>, paths: &'a [Path], wanted: &Filter) -> Result<(), NoMemory>
-    ensures { OnOk result (names.new ≡ with_paths names.old (wanted_paths wanted.now paths.now)) }
-{
-    for path in paths {
-        add_wanted(names, path, wanted)?;
-    }
-    Ok(())
-}
-
-/// Notes what a change of a file did, if the filter admits its path.
-fn touch_wanted<'a>(
-    names: &mut Names<'a>,
-    touch: &'a FileTouch,
-    wanted: &Filter,
-) -> Result<(), NoMemory>
-    ensures { OnOk result (names.new ≡ (if admits wanted.now touch.now.path then with_touch names.old touch.now else names.old)) }
-{
-    if wanted.admits(&touch.path) {
-        names.touch(touch)?;
-    }
-    Ok(())
-}
-
-/// Notes what changes of files did at the admitted paths.
-fn add_touches<'a>(
-    names: &mut Names<'a>,
-    touches: &'a [FileTouch],
-    wanted: &Filter,
-) -> Result<(), NoMemory>
-    ensures { OnOk result (names.new ≡ with_touches names.old (wanted_touches wanted.now touches.now)) }
-{
-    for touch in touches {
-        touch_wanted(names, touch, wanted)?;
-    }
-    Ok(())
 }
 
 /// The paths that a range names and a filter admits, in byte order, each with what became of it.
@@ -196,11 +144,69 @@ pub fn expand_admitted<N: Naming + Drop>(
     ensures fault { IfErr result (λ fault. fault ≢ CommitFault.NoMemory → are_comparable (commit_map store.now) range.now.roots ≡ false) }
 {
     let differing = differing_paths(alloc, store, &range.roots, wanted)?;
-    let mut names = Names::new(alloc);
-    add_touches(&mut names, range.changes.as_slice(), wanted)?;
-    add_paths(&mut names, range.unclean.as_slice(), wanted)?;
-    add_paths(&mut names, differing.as_slice(), &Filter::all(alloc))?;
-    Ok(names.marked(alloc)?)
+    let mut mentions = Mentions::new(alloc);
+    mentions.add_wanted_touches(range.changes.as_slice(), wanted)?;
+    mentions.add_wanted_roots(range.unclean.as_slice(), wanted)?;
+    mentions.add_roots(differing.as_slice())?;
+    Ok(mentions.into_marked(alloc)?)
+}
+
+/// A change of a file as a marked path.
+fn marked_touch(touch: FileTouch) -> Marked
+    ensures { result ≡ mark_said (by_touch touch) }
+{
+    let FileTouch {
+        path,
+        before,
+        after,
+    } = touch;
+    Marked {
+        mark: Touch { before, after }.mark(),
+        path,
+    }
+}
+
+/// Whether each path stands before the next one, so that none stands twice.
+fn ascend(touches: &[FileTouch]) -> bool
+    ensures { result ≡ true → Ascend (map by_touch touches.now) }
+{
+    touches.is_sorted_by(|left, right| left.path < right.path)
+}
+
+/// What changes of files did, each at a path of its own, as far as the filter admits the paths. They are moved.
+fn mark_each(
+    alloc: Global,
+    touches: Vec<FileTouch>,
+    wanted: &Filter,
+) -> Result<Vec<Marked>, NoMemory>
+    ensures { IfOk result (λ marked. marked.items ≡ admitted wanted.now (map mark_said (map by_touch touches.items))) }
+{
+    let mut marked = Vec::with_capacity(alloc, touches.len())?;
+    for touch in touches {
+        if wanted.admits(&touch.path) {
+            marked.push(marked_touch(touch))?;
+        }
+    }
+    Ok(marked)
+}
+
+/// As `expand_admitted`, of a range that is not needed any more.
+///
+/// Where changes of files alone are told, in the order of their paths, the paths are moved, and none is copied.
+pub fn expand_owned<N: Naming + Drop>(
+    alloc: Global,
+    store: &Store<N>,
+    range: Range,
+    wanted: &Filter,
+) -> Result<Vec<Marked>, CommitFault>
+    ensures marked { IfOk result (λ marked. marked.items ≡ admitted wanted.now (expanded store.now range)) }
+    ensures compared { OnOk result (are_comparable (commit_map store.now) range.roots ≡ true) }
+    ensures fault { IfErr result (λ fault. fault ≢ CommitFault.NoMemory → are_comparable (commit_map store.now) range.roots ≡ false) }
+{
+    if range.unclean.is_empty() && range.roots.len() <= 1 && ascend(range.changes.as_slice()) {
+        return Ok(mark_each(alloc, range.changes.into_vec(), wanted)?);
+    }
+    expand_admitted(alloc, store, &range, wanted)
 }
 
 /// The paths that a range names, in byte order, each with what became of it.

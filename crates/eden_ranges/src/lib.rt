@@ -21,12 +21,12 @@
 //! ```
 #![tactic(auto)]
 
-pub use crate::expanding::{expand, expand_admitted};
+pub use crate::expanding::{expand, expand_admitted, expand_owned};
 pub use crate::laws::{changes_law, commits_law, range_law};
 pub use crate::ranges::{Range, accumulate};
 
 mod expanding;
 mod gathering;
 mod laws;
-mod names;
+mod mentions;
 mod ranges;

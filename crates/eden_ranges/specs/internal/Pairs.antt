@@ -6,7 +6,8 @@ use Rattle.eden_ids.specs.FileMaps.{PathSet, union}
 use Rattle.eden_ids.specs.Sameness.{same_id}
 use Rattle.eden_history.specs.Worlds.{Commits}
 use Rattle.eden_history.specs.Named.{commits_differ}
-use Rattle.eden_ranges.specs.Expanded.{is_comparable, only}
+use Rattle.eden_ranges.specs.Expanded.{is_comparable}
+use Rattle.eden_ranges.specs.internal.Wanted.{only}
 
 abbrev pub same_pair : Id × Id → Id × Id → Bool
 same_pair p q = same_id p.0 q.0 && same_id p.1 q.1

@@ -1,5 +1,6 @@
 use Rattle.std.proofs.Common.{◌≡◌, ◌-◌, ◌+◌, rules, Some, None, ap, subst, sym, arith}
 use Rattle.std.specs.List.{slice_get}
+use Rattle.std.proofs.lemmas.Result.{err_from_is_err_and}
 use Rattle.eden_ids.specs.FileMaps.{path_set}
 use Rattle.eden_objects.specs.Commits.{commit_map}
 use Rattle.eden_ranges.proofs.Columns.{Compared, never_past, comparing_begins, comparing_goes_on, comparing_ends, comparing_fails, comparing_none}
@@ -21,16 +22,17 @@ loop-place-preserved g c =
     let here : c.loop-place.place ≡ c.loop-place.place - 1 + 1 = omega arith in
     let known = c.loop-place.invariant.1 in (
       comparing_goes_on c.args.wanted.now (commit_map c.args.store.now) c.args.roots.now (c.loop-place.place - 1) c.in-Some.left c.in-Some-get.reached (path_set c.loop-place.paths.items) _ at next
-          (c.in-Ok.ensures.paths known) (c.in-Ok.ensures.compared known)
+          (c.in_ok-add_once.ensures.paths known) (c.in_ok-add_once.ensures.compared known)
           (subst (λ place. Compared c.args.wanted.now (commit_map c.args.store.now) c.args.roots.now place (path_set c.loop-place.paths.items)) here c.loop-place.invariant.0),
-      c.in-Ok.ensures.covered known,
+      c.in_ok-add_once.ensures.covered known,
     )
 
-pub returns-in-Err-clause-fault : goal.returns-in-Err-clause-fault
-returns-in-Err-clause-fault g c other =
+pub returns-in_err-add_once-clause-fault : goal.returns-in_err-add_once-clause-fault
+returns-in_err-add_once-clause-fault g c =
     let at : slice_get c.args.roots.now (c.loop-place.place - 1) ≡ Some c.in-Some.left = sym c.in-Some.ensures in
     let next : slice_get c.args.roots.now (c.loop-place.place - 1 + 1) ≡ Some c.in-Some-get.reached = sym c.in-Some-get.ensures in
-    comparing_fails (commit_map c.args.store.now) c.args.roots.now (c.loop-place.place - 1) c.in-Some.left c.in-Some-get.reached at next (c.in-Err.ensures.fault other)
+    let p = err_from_is_err_and c.from_residual.result c.from_residual.ensures.1 in
+    rw (p.1, p.2) (λ other. comparing_fails (commit_map c.args.store.now) c.args.roots.now (c.loop-place.place - 1) c.in-Some.left c.in-Some-get.reached at next (c.in_err-add_once.ensures.fault other))
 
 pub returns-clause-paths : goal.returns-clause-paths
 returns-clause-paths g c = elim c.loop-place-test.branch [

@@ -2,7 +2,7 @@ use Rattle.std.proofs.Common.{ap, ◌∙◌}
 use Rattle.std.proofs.lemmas.List.Filters.{dedup_is}
 use Rattle.eden_ids.specs.FileMaps.{path_set}
 use Rattle.eden_ids.specs.Sameness.{same_bytes}
-use Rattle.eden_ranges.proofs.Noting.{once_each}
+use Rattle.eden_ranges.proofs.Lists.{once_each}
 use Rattle.eden_ranges.proofs.expanding.make_room.Goals as goal
 
 pub returns : goal.returns
