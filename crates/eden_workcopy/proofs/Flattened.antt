@@ -16,7 +16,7 @@ use Rattle.eden_ids.specs.FileMaps.{same_path}
 use Rattle.eden_ids.specs.declared.content.Content.{Content}
 use Rattle.eden_ids.proofs.ByteOrder.{both, first, less, second}
 use Rattle.eden_workcopy.specs.Layers.{Entry, by_bytes, place}
-use Rattle.eden_workcopy.specs.internal.Blocks.{flat, AllFilled, begins_by, begun, spot}
+use Rattle.eden_workcopy.specs.internal.Blocks.{flat, AllFilled, begins_at_or_before, begun, block_for}
 use Rattle.eden_workcopy.proofs.Placing.{is_less, turned, trans, below_later, none_above, without, without_none}
 
 abbrev pub Rising : List Entry → Type 0
@@ -88,7 +88,7 @@ around k b (c ∷ cs) h filled = by c.items refl (λ r. around k c cs r filled.1
     by [] is later = absurd (let l = filled.0 in let no : length c.items ≡ 0 = ap length is in omega (arith, l, no))
     by (e ∷ es) is later =
         let here : Rising (b.items ++ (e ∷ (es ++ flat cs))) = subst (λ fs. Rising (b.items ++ (fs ++ flat cs))) is h in
-        subst (λ fs. Around k (b ∷ c ∷ cs) (cond (begins_by k fs) (suc (begun k cs)) 0)) (sym is)
+        subst (λ fs. Around k (b ∷ c ∷ cs) (cond (begins_at_or_before k fs) (suc (begun k cs)) 0)) (sym is)
         (elim (is_le (by_bytes e.0 k)) as (λ t. is_le (by_bytes e.0 k) ≡ t → Around k (b ∷ c ∷ cs) (cond t (suc (begun k cs)) 0)) [
           | true ↦ λ t.
               let rest = later (rising_back b.items (flat (c ∷ cs)) h) in
@@ -103,21 +103,21 @@ pub begun_within : (k : List ℕ) (bs : List (Vec Entry)) → begun k bs ≤ len
 begun_within k [] = omega arith
 begun_within k (b ∷ bs) =
     let rest = begun_within k bs in
-    elim (begins_by k b.items) as (λ t. cond t (suc (begun k bs)) 0 ≤ suc (length bs)) [ true ↦ omega arith | false ↦ omega arith ]
+    elim (begins_at_or_before k b.items) as (λ t. cond t (suc (begun k bs)) 0 ≤ suc (length bs)) [ true ↦ omega arith | false ↦ omega arith ]
 
-pub spot_within : (k : List ℕ) (bs : List (Vec Entry)) → spot k bs ≤ length bs
+pub spot_within : (k : List ℕ) (bs : List (Vec Entry)) → block_for k bs ≤ length bs
 spot_within k [] = omega arith
 spot_within k (b ∷ bs) = let rest = begun_within k bs in omega (arith, rest)
 
-pub spot_there : (k : List ℕ) (bs : List (Vec Entry)) → 0 < length bs → spot k bs < length bs
+pub spot_there : (k : List ℕ) (bs : List (Vec Entry)) → 0 < length bs → block_for k bs < length bs
 spot_there k [] some = absurd (omega arith)
 spot_there k (b ∷ bs) some = let rest = begun_within k bs in omega (arith, rest)
 
-pub nothing_flat : (k : List ℕ) (bs : List (Vec Entry)) → length bs ≤ spot k bs → flat bs ≡ []
+pub nothing_flat : (k : List ℕ) (bs : List (Vec Entry)) → length bs ≤ block_for k bs → flat bs ≡ []
 nothing_flat k [] over = refl
 nothing_flat k (b ∷ bs) over = let within = begun_within k bs in absurd (omega (arith, within))
 
-around_spot : (k : List ℕ) (bs : List (Vec Entry)) → Rising (flat bs) → AllFilled bs → Around k bs (spot k bs)
+around_spot : (k : List ℕ) (bs : List (Vec Entry)) → Rising (flat bs) → AllFilled bs → Around k bs (block_for k bs)
 around_spot k [] h filled = record { front = tt; back = tt }
 around_spot k (b ∷ bs) h filled = around k b bs h filled.1
 
@@ -244,7 +244,7 @@ from_ahead k (y ∷ ys) zs h =
 -- ---- what is done in the block of a path is done in the list
 
 module _ (k : List ℕ) (bs : List (Vec Entry)) (at : ℕ) (d : Vec Entry) where
-  pub put_flat : (v : Option Content) (c : Vec Entry) → Rising (flat bs) → AllFilled bs → at ≡ spot k bs → at < length bs
+  pub put_flat : (v : Option Content) (c : Vec Entry) → Rising (flat bs) → AllFilled bs → at ≡ block_for k bs → at < length bs
       → c.items ≡ put by_bytes k v (slice_index_or bs at d).items → flat (slice_set bs at c) ≡ put by_bytes k v (flat bs)
   put_flat v c h filled is within done =
       let apart : Around k bs at = subst (Around k bs) (sym is) (around_spot k bs h filled) in
@@ -254,14 +254,14 @@ module _ (k : List ℕ) (bs : List (Vec Entry)) (at : ℕ) (d : Vec Entry) where
       ∙ sym (put_behind k v (flat (take at bs)) _ apart.front)
       ∙ ap (put by_bytes k v) (sym (flat_parts bs at d within))
 
-  pub find_flat : Rising (flat bs) → AllFilled bs → at ≡ spot k bs → at < length bs → find by_bytes k (flat bs) ≡ find by_bytes k (slice_index_or bs at d).items
+  pub find_flat : Rising (flat bs) → AllFilled bs → at ≡ block_for k bs → at < length bs → find by_bytes k (flat bs) ≡ find by_bytes k (slice_index_or bs at d).items
   find_flat h filled is within =
       let apart : Around k bs at = subst (Around k bs) (sym is) (around_spot k bs h filled) in
       ap (find by_bytes k) (flat_parts bs at d within)
       ∙ find_behind k (flat (take at bs)) _ apart.front
       ∙ find_ahead k (slice_index_or bs at d).items (flat (drop (suc at) bs)) apart.back
 
-  pub without_flat : (c : Vec Entry) → Rising (flat bs) → AllFilled bs → at ≡ spot k bs → at < length bs
+  pub without_flat : (c : Vec Entry) → Rising (flat bs) → AllFilled bs → at ≡ block_for k bs → at < length bs
       → c.items ≡ without k (slice_index_or bs at d).items → flat (slice_set bs at c) ≡ without k (flat bs)
   without_flat c h filled is within done =
       let apart : Around k bs at = subst (Around k bs) (sym is) (around_spot k bs h filled) in
@@ -271,7 +271,7 @@ module _ (k : List ℕ) (bs : List (Vec Entry)) (at : ℕ) (d : Vec Entry) where
       ∙ sym (without_behind k (flat (take at bs)) _ apart.front)
       ∙ ap (without k) (sym (flat_parts bs at d within))
 
-  pub from_flat : Rising (flat bs) → AllFilled bs → at ≡ spot k bs → at < length bs
+  pub from_flat : Rising (flat bs) → AllFilled bs → at ≡ block_for k bs → at < length bs
       → from_on k (slice_index_or bs at d).items ++ flat (drop (suc at) bs) ≡ from_on k (flat bs)
   from_flat h filled is within =
       let apart : Around k bs at = subst (Around k bs) (sym is) (around_spot k bs h filled) in
@@ -281,7 +281,7 @@ module _ (k : List ℕ) (bs : List (Vec Entry)) (at : ℕ) (d : Vec Entry) where
 
 -- ---- a search among blocks
 
-pub begun_is : (k : List ℕ) (bs : List (Vec Entry)) (i : ℕ) → i ≤ length bs → IsPartitionPoint (λ b. begins_by k b.items ≡ true) (λ b. begins_by k b.items ≡ false) bs i → i ≡ begun k bs
+pub begun_is : (k : List ℕ) (bs : List (Vec Entry)) (i : ℕ) → i ≤ length bs → IsPartitionPoint (λ b. begins_at_or_before k b.items ≡ true) (λ b. begins_at_or_before k b.items ≡ false) bs i → i ≡ begun k bs
 begun_is k [] i within point = omega arith
 begun_is k (b ∷ bs) zero within point = sym (ap (λ t. cond t (suc (begun k bs)) 0) (point.1 0 b (omega arith) (omega arith)))
 begun_is k (b ∷ bs) (suc i) within point =
@@ -292,7 +292,7 @@ le_before : (p q k : List ℕ) → T (is_lt (by_bytes p q)) → is_le (by_bytes 
 le_before p q k a b = ap is_le (less _ (before_later p q k a b))
 
 begins_before : (k : List ℕ) (b : Vec Entry) (bs : List (Vec Entry)) (j : ℕ) (d : Vec Entry) → j < length bs → Rising (b.items ++ flat bs) → 0 < length b.items
-    → begins_by k (slice_index_or bs j d).items ≡ true → begins_by k b.items ≡ true
+    → begins_at_or_before k (slice_index_or bs j d).items ≡ true → begins_at_or_before k b.items ≡ true
 begins_before k b bs j d within h some up = by b.items (slice_index_or bs j d).items refl refl some up
   where
     above_there : (x : List ℕ) (cs : List (Vec Entry)) (j : ℕ) (e : Entry) (es : List Entry) → j < length cs → Above x (flat cs) → (slice_index_or cs j d).items ≡ e ∷ es → T (is_lt (by_bytes x e.0))
@@ -300,14 +300,14 @@ begins_before k b bs j d within h some up = by b.items (slice_index_or bs j d).i
     above_there x (c ∷ cs) zero e es low a is = first _ _ (subst (λ fs. Above x (fs ++ flat cs)) is a)
     above_there x (c ∷ cs) (suc j) e es low a is = above_there x cs j e es (omega arith) (above_back x c.items (flat cs) a) is
 
-    by : (xs ys : List Entry) → b.items ≡ xs → (slice_index_or bs j d).items ≡ ys → 0 < length xs → begins_by k ys ≡ true → begins_by k xs ≡ true
+    by : (xs ys : List Entry) → b.items ≡ xs → (slice_index_or bs j d).items ≡ ys → 0 < length xs → begins_at_or_before k ys ≡ true → begins_at_or_before k xs ≡ true
     by [] ys is there some up = absurd (omega arith)
     by (x ∷ xs) [] is there some up = absurd (cc)
     by (x ∷ xs) (y ∷ ys) is there some up =
         let here : Rising (x ∷ (xs ++ flat bs)) = subst (λ fs. Rising (fs ++ flat bs)) is h in
         le_before x.0 y.0 k (above_there x.0 bs j y ys within (above_back x.0 xs (flat bs) (first _ _ here)) there) up
 
-pub blocks_parted : (k : List ℕ) (bs : List (Vec Entry)) → Rising (flat bs) → AllFilled bs → IsPartitionedBy (λ b. begins_by k b.items) bs
+pub blocks_parted : (k : List ℕ) (bs : List (Vec Entry)) → Rising (flat bs) → AllFilled bs → IsPartitionedBy (λ b. begins_at_or_before k b.items) bs
 blocks_parted k [] h filled i j d low within up = absurd (omega arith)
 blocks_parted k (b ∷ bs) h filled zero zero d low within up = up
 blocks_parted k (b ∷ bs) h filled (suc i) zero d low within up = absurd (omega arith)

@@ -5,7 +5,8 @@ pub mod Overs
 pub mod Works
 pub mod Touched
 pub mod Walked
-pub mod Woven
+pub mod Marked
+pub mod WovenRows
 pub mod Rerooted
 pub mod Reverted
 pub mod Within

@@ -7,17 +7,18 @@ use Rattle.std.specs.Cmp.Lexicographic.{slice_cmp, nat_list_cmp_total}
 use Rattle.std.specs.FinMap as fin
 use Rattle.eden_ids.specs.declared.content.Content.{Content}
 use Rattle.eden_ids.specs.FileMaps.{FileMap, file_at, same_file, same_path, differ, has, listing, path_set, put_option}
-use Rattle.eden_ids.proofs.FileMapLemmas.{same_path-is, same_path-refl, same_file-is, same_file_map, file_at-insert, file_at-remove, has-differ, has-listing, put_option-at}
+use Rattle.eden_ids.proofs.FileMapLemmas.{same_path-is, same_path-refl, same_file-is, same_file_map, has-differ, has-listing, put_option-at}
 use Rattle.eden_objects.specs.Files.{files_of}
 use Rattle.eden_objects.specs.declared.fault.CommitFault.{CommitFault}
 use Rattle.eden_objects.specs.declared.fault.CommitFault.TheVariants.{NoCommit, NoMemory}
 use Rattle.eden_treediff.specs.Merges.{differences}
-use Rattle.eden_workcopy.specs.internal.Agreements.{Agrees, AllAgree, IsLean, IsNearer}
+use Rattle.eden_workcopy.specs.internal.Agreements.{Agrees, AllAgree, IsKept, IsLean, IsNearer, kept_below, kept_entry}
 use Rattle.eden_workcopy.specs.Layers.{Layer, Entry, over}
 use Rattle.eden_workcopy.proofs.Overs.{over-nothing}
-use Rattle.eden_workcopy.proofs.Touched.{has-touched}
+use Rattle.eden_workcopy.proofs.Touched.{has-touched, set_over}
 use Rattle.eden_workcopy.proofs.Works.{file_below}
 use Rattle.std.proofs.lemmas.Bool.{not-false}
+use Rattle.std.proofs.Math.Bool.{or-true}
 
 -- ---- one path
 
@@ -37,18 +38,23 @@ put_nearer wanted before after p file is file_is q agrees =
       | false ↦ λ e. agrees
     ] refl)
 
+-- where another file is wanted than the commit's, the path may be said
+pub lean_put : (wanted base : FileMap) (before after : Layer) (p : List ℕ) (file : Option Content) → after ≡ fin.insert before p file
+    → same_file (file_at wanted p) (file_at base p) ≡ false → IsLean wanted base before → IsLean wanted base after
+lean_put wanted base before after p file is other lean q touched =
+    by (same_path q p) refl (sym (ap is_some (ap (λ l. fin.get l q) is ∙ fin.get-insert nat_list_cmp_total before p file q)) ∙ touched)
+  where
+    by : (b : Bool) → same_path q p ≡ b → is_some (cond (same_path q p) (Some file) (fin.get before q)) ≡ true → same_file (file_at wanted q) (file_at base q) ≡ false
+    by true e there = ap (λ r. same_file (file_at wanted r) (file_at base r)) (same_path-is q p e) ∙ other
+    by false e there = lean q (sym (ap (λ b. is_some (cond b (Some file) (fin.get before q))) e) ∙ there)
+
 pub put_lean : (wanted base : FileMap) (before after : Layer) (p : List ℕ) (file : Option Content) → after ≡ fin.insert before p file
     → same_file (file_at wanted p) (file_at (over base before) p) ≡ false → IsLean wanted base before → IsLean wanted base after
-put_lean wanted base before after p file is other lean q touched =
-    by (same_path q p) refl (sym (ap is_some (ap (λ l. fin.get l q) is ∙ fin.get-insert nat_list_cmp_total before p file q)) ∙ touched)
+put_lean wanted base before after p file is other lean = lean_put wanted base before after p file is (here (fin.get before p) refl) lean
   where
     here : (o : Option (Option Content)) → fin.get before p ≡ o → same_file (file_at wanted p) (file_at base p) ≡ false
     here None e = sym (ap (same_file (file_at wanted p)) (file_below base before p e)) ∙ other
     here (Some f) e = lean p (ap is_some e)
-
-    by : (b : Bool) → same_path q p ≡ b → is_some (cond (same_path q p) (Some file) (fin.get before q)) ≡ true → same_file (file_at wanted q) (file_at base q) ≡ false
-    by true e there = ap (λ r. same_file (file_at wanted r) (file_at base r)) (same_path-is q p e) ∙ here (fin.get before p) refl
-    by false e there = lean q (sym (ap (λ b. is_some (cond b (Some file) (fin.get before q))) e) ∙ there)
 
 pub none_lean : (wanted base : FileMap) (layer : Layer) → layer ≡ fin.empty → IsLean wanted base layer
 none_lean wanted base layer none p there = let bad : false ≡ true = sym (ap is_some (ap (λ l. fin.get l p) none ∙ fin.get-empty (slice_cmp nat_cmp) p)) ∙ there in absurd (cc)
@@ -113,6 +119,109 @@ at_all wanted files (q ∷ qs) p e all =
       | false ↦ λ s more. at_all wanted files qs p more all.1
     ] refl e
 
+-- ---- one path of a layer over the other commit
+
+pub record Keeps (wanted base : FileMap) (before after : Layer) (p : List ℕ) : Type 0 where
+  pub here : Agrees wanted (over base after) p
+  pub there : IsNearer wanted (over base before) (over base after)
+  pub lean : IsLean wanted base before → IsLean wanted base after
+
+same_keeps : (wanted base : FileMap) (before after : Layer) (p : List ℕ) → after ≡ before → Agrees wanted (over base before) p → Keeps wanted base before after p
+same_keeps wanted base before after p is agrees = record {
+  here = subst (λ (l : Layer). Agrees wanted (over base l) p) (sym is) agrees;
+  there = subst (λ (l : Layer). IsNearer wanted (over base before) (over base l)) (sym is) (λ q here. here);
+  lean = subst (λ (l : Layer). IsLean wanted base before → IsLean wanted base l) (sym is) (λ lean. lean);
+}
+
+set_keeps : (wanted base : FileMap) (before after : Layer) (p : List ℕ) (file : Option Content) → after ≡ fin.insert before p file → file ≡ file_at wanted p
+    → (IsLean wanted base before → IsLean wanted base after) → Keeps wanted base before after p
+set_keeps wanted base before after p file is file_is lean =
+    let map = set_over base before after p file is in record {
+      here = put_here wanted (over base before) (over base after) p file map file_is;
+      there = put_nearer wanted (over base before) (over base after) p file map file_is;
+      lean = lean;
+    }
+
+pub entry_keeps : (wanted base : FileMap) (before after : Layer) (p : List ℕ) (file : Option Content) → after ≡ kept_entry base before p file → file ≡ file_at wanted p
+    → Keeps wanted base before after p
+entry_keeps wanted base before after p file is file_is = by (same_file file (file_at (over base before) p)) refl is
+  where
+    wanted_file : same_file (file_at wanted p) (file_at (over base before) p) ≡ same_file file (file_at (over base before) p)
+    wanted_file = ap (λ f. same_file f (file_at (over base before) p)) (sym file_is)
+
+    by : (b : Bool) → same_file file (file_at (over base before) p) ≡ b → after ≡ cond b before (fin.insert before p file) → Keeps wanted base before after p
+    by true same is = same_keeps wanted base before after p is (same_here wanted (over base before) p (wanted_file ∙ same))
+    by false other is = set_keeps wanted base before after p file is file_is (put_lean wanted base before after p file is (wanted_file ∙ other))
+
+pub below_keeps : (root base : FileMap) (layer before after : Layer) (p : List ℕ) → after ≡ kept_below root layer before p → has (differ root base) p ≡ true
+    → AllAgree (over root layer) (over base before) (fin.keys layer) → Keeps (over root layer) base before after p
+below_keeps root base layer before after p is differs touched = by (fin.get layer p) refl is
+  where
+    other : (b : Bool) → not b ≡ true → b ≡ false
+    other true e = absurd (cc)
+    other false e = refl
+
+    by : (o : Option (Option Content)) → fin.get layer p ≡ o → after ≡ cond (is_some o) before (fin.insert before p (file_at root p)) → Keeps (over root layer) base before after p
+    by (Some file) there is =
+        same_keeps (over root layer) base before after p is
+        (at_all (over root layer) (over base before) (fin.keys layer) p (sym (fin.contains_key-keys layer p) ∙ ap is_some there) touched)
+    by None none is =
+        let below : file_at (over root layer) p ≡ file_at root p = file_below root layer p none in
+        let apart : same_file (file_at (over root layer) p) (file_at base p) ≡ false =
+        ap (λ f. same_file f (file_at base p)) below ∙ other (same_file (file_at root p) (file_at base p)) (sym (has-differ root base p) ∙ differs) in
+        set_keeps (over root layer) base before after p (file_at root p) is (sym below) (lean_put (over root layer) base before after p (file_at root p) is apart)
+
+-- ---- the entries that are left
+
+pub record Left (wanted base : FileMap) (layer next : Layer) (es : List Entry) : Type 0 where
+  pub here : Leaves wanted (over base next) (map (λ e. e.0) es) (map (λ e. e.0) (fin.entries layer))
+  pub there : IsNearer wanted base (over base next)
+  pub lean : IsLean wanted base next
+
+pub left_first : (wanted base : FileMap) (layer next : Layer) (es : List Entry) → next ≡ fin.empty → es ≡ fin.entries layer → Left wanted base layer next es
+left_first wanted base layer next es none is = record {
+  here = λ later nearer all. subst (λ (es : List Entry). AllAgree wanted later (map (λ e. e.0) es)) is all;
+  there = λ p agrees. ap (λ l. file_at (over base l) p) none ∙ ap (λ m. file_at m p) (over-nothing base) ∙ agrees;
+  lean = none_lean wanted base next none;
+}
+
+pub left_next : (wanted base : FileMap) (layer before after : Layer) (e : Entry) (es fs : List Entry) → es ≡ e ∷ fs → Keeps wanted base before after e.0
+    → Left wanted base layer before es → Left wanted base layer after fs
+left_next wanted base layer before after e es fs is keeps left = record {
+  here = leaves_rest wanted (over base before) (over base after) e es fs (fin.entries layer) is left.here keeps.there keeps.here;
+  there = nearer_still wanted base (over base before) (over base after) left.there keeps.there;
+  lean = keeps.lean left.lean;
+}
+
+pub left_none : (wanted base : FileMap) (layer next : Layer) (es : List Entry) → es ≡ [] → Left wanted base layer next es → IsKept wanted base next (fin.keys layer)
+left_none wanted base layer next es is left = record {
+  here = none_leave wanted (over base next) (over base next) es (fin.entries layer) is left.here (λ p agrees. agrees);
+  there = left.there;
+  lean = left.lean;
+}
+
+-- ---- the paths on which the commits differ
+
+pub kept_still : (wanted base : FileMap) (before after : Layer) (p : List ℕ) (ps : List (List ℕ)) → Keeps wanted base before after p → IsKept wanted base before ps → IsKept wanted base after ps
+kept_still wanted base before after p ps keeps kept = record {
+  here = all_nearer wanted (over base before) (over base after) ps keeps.there kept.here;
+  there = nearer_still wanted base (over base before) (over base after) kept.there keeps.there;
+  lean = keeps.lean kept.lean;
+}
+
+any_at : (ps : List (List ℕ)) (i : ℕ) (p : List ℕ) → i < length ps → p ≡ slice_index_or ps i p → list_any (λ q. same_path p q) ps ≡ true
+any_at [] i p within is = absurd (omega arith)
+any_at (x ∷ xs) zero p within is = ap (λ b. b || list_any (λ q. same_path p q) xs) (ap (same_path p) (sym is) ∙ same_path-refl p)
+any_at (x ∷ xs) (suc i) p within is = ap (λ b. same_path p x || b) (any_at xs i p (omega arith) is) ∙ or-true (same_path p x)
+
+-- a path of the difference is one on which the commits differ
+pub differs_at : (root base : FileMap) (ps : List (List ℕ)) (i : ℕ) (p : List ℕ) → ps ≡ listing (differ root base) → i < length ps → p ≡ slice_index_or ps i p
+    → has (differ root base) p ≡ true
+differs_at root base ps i p is within at =
+    has-listing (differ root base) p ∙ ap (list_any (λ q. same_path p q)) (sym is) ∙ any_at ps i p within at
+
+-- ---- the commits
+
 pub listed_differ : (first second : Option FileMap) (ps : List (List ℕ)) → differences first second ≡ Some ps → IsSome second × (ps ≡ listing (differ (files_of first) (files_of second)))
 listed_differ None second ps e = absurd (cc)
 listed_differ (Some f) None ps e = absurd (cc)
@@ -123,9 +232,9 @@ no_second None second some e = absurd (cc)
 no_second (Some f) None some e = refl
 no_second (Some f) (Some g) some e = absurd (cc)
 
-pub same_files : (base target next : FileMap) (layer nothing : Layer) (ps : List (List ℕ)) → ps ≡ listing (differ base target) → nothing ≡ fin.empty
-    → AllAgree (over base layer) next (fin.keys layer) → AllAgree (over base layer) next ps → IsNearer (over base layer) (over target nothing) next → next ≡ over base layer
-same_files base target next layer nothing ps is none touched differing nearer =
+pub same_files : (base target next : FileMap) (layer : Layer) (ps : List (List ℕ)) → ps ≡ listing (differ base target)
+    → AllAgree (over base layer) next (fin.keys layer) → AllAgree (over base layer) next ps → IsNearer (over base layer) target next → next ≡ over base layer
+same_files base target next layer ps is touched differing nearer =
     same_file_map next (over base layer) (λ p. at p (fin.get layer p) refl)
   where
     here : (p : List ℕ) (b : Bool) → has (differ base target) p ≡ b → file_at (over base layer) p ≡ file_at base p → Agrees (over base layer) next p
@@ -133,7 +242,7 @@ same_files base target next layer nothing ps is none touched differing nearer =
         at_all (over base layer) next ps p (ap (list_any (λ q. same_path p q)) is ∙ sym (has-listing (differ base target) p) ∙ e) differing
     here p false e below =
         let same : same_file (file_at base p) (file_at target p) ≡ true = not-false _ (sym (has-differ base target p) ∙ e) in
-        nearer p (ap (λ l. file_at (over target l) p) none ∙ ap (λ m. file_at m p) (over-nothing target) ∙ sym (same_file-is (file_at base p) (file_at target p) same) ∙ sym below)
+        nearer p (sym (same_file-is (file_at base p) (file_at target p) same) ∙ sym below)
 
     at : (p : List ℕ) (o : Option (Option Content)) → fin.get layer p ≡ o → Agrees (over base layer) next p
     at p None e = here p (has (differ base target) p) refl (file_below base layer p e)

@@ -89,7 +89,7 @@ seen_more es i e within is = ap (λ n. marks (take n es)) (add-one i) ∙ by es 
     by (x ∷ xs) zero within is = ap (λ f. marks (f ∷ [])) (sym is)
     by (x ∷ xs) (suc i) within is = ap (λ ps. (x.0, is_some x.1) ∷ ps) (by xs i (omega arith) is)
 
-seen_keys : (es : List Entry) → marked (marks es) ≡ map {A = Entry} (λ e. e.0) es
+pub seen_keys : (es : List Entry) → marked (marks es) ≡ map {A = Entry} (λ e. e.0) es
 seen_keys [] = refl
 seen_keys (e ∷ es) = ap (λ ps. e.0 ∷ ps) (seen_keys es)
 

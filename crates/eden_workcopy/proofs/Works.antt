@@ -29,7 +29,6 @@ use Rattle.eden_workcopy.specs.Meanings.{means, FitsIn}
 use Rattle.eden_workcopy.specs.Layers.{Layer, Entry, or_below, over}
 use Rattle.eden_workcopy.proofs.Overs.{file_at-over, over-nothing, over-insert, over-remove, over-move, here_below, left_below}
 use Rattle.std.proofs.lemmas.Bool.{or_parts}
-use Rattle.eden_history.proofs.Committed.{commit_unmapped}
 
 pub some_rows : (held : List Held) (o : Option (List Row)) → is_some o ≡ true → map_of_rows held o ≡ Some (files_of (map_of_rows held o))
 some_rows held None e = absurd (cc)

@@ -41,10 +41,14 @@ abbrev pub IsThere : Bool → List ℕ → List Entry → ℕ → Type 0
 IsThere true path es at = (file : Option Content) × (slice_get es at ≡ Some (path, file))
 IsThere false path es at = (file : Option Content) → slice_get es at ≢ Some (path, file)
 
+-- a touched path, and whether a file stands there
+abbrev pub Mark : Type 0
+Mark = List ℕ × Bool
+
 -- the paths of entries, each with whether a file stands there
-abbrev pub marks : List Entry → List (List ℕ × Bool)
+abbrev pub marks : List Entry → List Mark
 marks es = map (λ e. (e.0, is_some e.1)) es
 
 -- these paths alone
-abbrev pub marked : List (List ℕ × Bool) → List (List ℕ)
+abbrev pub marked : List Mark → List (List ℕ)
 marked ms = map (λ m. m.0) ms

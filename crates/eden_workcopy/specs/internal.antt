@@ -1,3 +1,4 @@
 -- What only this crate's functions speak of.
 pub mod Agreements
 pub mod Blocks
+pub mod Woven

@@ -5,10 +5,11 @@ ghost use Rattle.std.specs.FinMap.{is_sorted, put, find};
 ghost use Rattle.std.specs.Option.{is_none, option_copied};
 ghost use Rattle.eden_ids.specs.FileMaps.{same_path};
 ghost use Rattle.eden_workcopy.specs.Layers.{by_bytes, place};
-ghost use Rattle.eden_workcopy.specs.internal.Blocks.{flat, spot, begins_by, AllFilled};
+ghost use Rattle.eden_workcopy.specs.internal.Blocks.{flat, block_for, begins_at_or_before, AllFilled};
 
-use crate::entries::{place, put, take_out, told};
-use crate::walk::Walk;
+use crate::entries;
+use crate::entries::{place, put, take_out};
+use crate::entries_walk::Walk;
 use eden_ids::{Content, NoMemory, Path};
 
 /// Entries that stand together. No block is empty.
@@ -18,8 +19,8 @@ pub(crate) type Block = Vec<(Path, Option<Content>)>;
 const FULL: usize = 128;
 
 /// Whether a block begins with a path or with one before it.
-fn begins_by(block: &Block, path: &[u8]) -> bool
-    ensures { result ≡ begins_by path.now block.now.items }
+fn begins_at_or_before(block: &Block, path: &[u8]) -> bool
+    ensures { result ≡ begins_at_or_before path.now block.now.items }
 {
     match block.as_slice().first() {
         Some(entry) => entry.0.as_bytes().cmp(path).is_le(),
@@ -28,28 +29,28 @@ fn begins_by(block: &Block, path: &[u8]) -> bool
 }
 
 /// Which block has the entry of a path, or would have it: the last one that begins by it, or the first block.
-fn spot(blocks: &[Block], path: &[u8]) -> usize
+fn block_for(blocks: &[Block], path: &[u8]) -> usize
     requires sorted { T (is_sorted by_bytes (flat blocks.now)) }
     requires filled { AllFilled blocks.now }
-    ensures is { result ≡ spot path.now blocks.now }
+    ensures is { result ≡ block_for path.now blocks.now }
     ensures within { result ≤ length blocks.now }
     ensures there { 0 < length blocks.now → result < length blocks.now }
 {
     match blocks.split_first() {
-        Some((_, later)) => later.partition_point(|block| begins_by(block, path)),
+        Some((_, later)) => later.partition_point(|block| begins_at_or_before(block, path)),
         None => 0,
     }
 }
 
 /// What the entries say of a path, if one of them is its. It takes no memory.
-pub(crate) fn told_in<'a>(blocks: &'a [Block], path: &[u8]) -> Option<&'a Option<Content>>
+pub(crate) fn find<'a>(blocks: &'a [Block], path: &[u8]) -> Option<&'a Option<Content>>
     requires sorted { T (is_sorted by_bytes (flat blocks.now)) }
     requires filled { AllFilled blocks.now }
     ensures { option_copied result ≡ find by_bytes path.now (flat blocks.now) }
 {
-    let at = spot(blocks, path);
+    let at = block_for(blocks, path);
     if at < blocks.len() {
-        told(&blocks[at], path)
+        entries::find(&blocks[at], path)
     } else {
         None
     }
@@ -62,7 +63,7 @@ pub(crate) fn walk_from<'a>(blocks: &'a [Block], path: &[u8]) -> Walk<'a>
     requires filled { AllFilled blocks.now }
     ensures { result ≡ drop (place path.now (flat blocks.now)) (flat blocks.now) }
 {
-    let at = spot(blocks, path);
+    let at = block_for(blocks, path);
     match blocks[at..].split_first() {
         Some((block, later)) => Walk::of(&block[place(block, path)..], later),
         None => Walk::of(&[], &[]),
@@ -71,7 +72,7 @@ pub(crate) fn walk_from<'a>(blocks: &'a [Block], path: &[u8]) -> Walk<'a>
 
 /// How many entries a full block keeps when it is cut in two: half, but the last block all but one. So paths that come in byte order fill
 /// each block, and no room is left unused.
-fn kept_of(blocks: &[Block], at: usize) -> usize
+fn lower_size(blocks: &[Block], at: usize) -> usize
     requires { at < length blocks.now }
     ensures some { 0 < result }
     ensures fewer { result < 128 }
@@ -83,8 +84,8 @@ fn kept_of(blocks: &[Block], at: usize) -> usize
     }
 }
 
-/// Cuts a full block in two. Where a growth is refused, it stays whole.
-fn cut(blocks: &mut Vec<Block>, at: usize)
+/// Splits a full block in two. Where a growth is refused, it stays whole.
+fn split(blocks: &mut Vec<Block>, at: usize)
     requires at { at < length blocks.old.items }
     requires filled { AllFilled blocks.old.items }
     ensures same { flat blocks.new.items ≡ flat blocks.old.items }
@@ -96,7 +97,7 @@ fn cut(blocks: &mut Vec<Block>, at: usize)
     let Ok(_) = blocks.reserve(1) else {
         return;
     };
-    let kept = kept_of(blocks, at);
+    let kept = lower_size(blocks, at);
     let Ok(upper) = blocks[at].split_off(kept) else {
         return;
     };
@@ -138,9 +139,9 @@ pub(crate) fn put_in(
         begin(blocks, path, file)?;
         return Ok(true);
     }
-    let at = spot(blocks, path.as_bytes());
+    let at = block_for(blocks, path.as_bytes());
     let is_new = put(&mut blocks[at], path, file)?;
-    cut(blocks, at);
+    split(blocks, at);
     Ok(is_new)
 }
 
@@ -152,7 +153,7 @@ pub(crate) fn take_out_of(blocks: &mut Vec<Block>, path: &[u8]) -> bool
     ensures filled { AllFilled blocks.new.items }
     ensures there { result ≡ is_some (find by_bytes path.now (flat blocks.old.items)) }
 {
-    let at = spot(blocks, path);
+    let at = block_for(blocks, path);
     if at >= blocks.len() {
         return false;
     }

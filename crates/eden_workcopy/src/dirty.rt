@@ -1,10 +1,12 @@
+//! The paths at which a working copy differs from its root.
+
 ghost use Rattle.std.specs.Prelude.{◌≡◌, ◌++◌, ◌∷◌, [], if◌then◌else◌, not, IfOk, OnOk};
 ghost use Rattle.eden_ids.specs.FileMaps.{differ, file_at, listing, same_file};
 ghost use Rattle.eden_objects.specs.Files.{commit_files};
 ghost use Rattle.eden_workcopy.specs.Meanings.{means, FitsIn};
 
 use crate::work::WorkCopy;
-use crate::working::seen;
+use crate::working::lent;
 use eden_ids::{Content, FileTree, Naming, NoMemory, Path, is_same_file};
 use eden_objects::Store;
 
@@ -24,7 +26,7 @@ pub(crate) fn add_if(paths: &mut Vec<Path>, path: &Path, wanted: bool) -> Result
 fn is_dirty<T: FileTree>(root: &T, entry: &(Path, Option<Content>)) -> bool
     ensures { result ≡ not (same_file entry.now.1 (file_at (T.files root.now) entry.now.0)) }
 {
-    !is_same_file(seen(&entry.1), root.file(entry.0.as_bytes()))
+    !is_same_file(lent(&entry.1), root.file(entry.0.as_bytes()))
 }
 
 impl WorkCopy {

@@ -1,3 +1,5 @@
+//! The entries of one block.
+
 ghost use Rattle.std.specs.Prelude.{◌≡◌, filter, not, T, Some, None, IfOk, OnOk, OnErr, is_some, option_copied};
 ghost use Rattle.std.specs.Option.{is_none};
 ghost use Rattle.std.specs.Ordering.{is_lt};
@@ -31,7 +33,7 @@ pub(crate) fn is_there(entries: &[(Path, Option<Content>)], at: usize, path: &[u
 
 /// What the entries say of a path, if one of them is its.
 #[tactic(auto, using(crate::proofs::Placing::told_there, crate::proofs::Placing::not_told))]
-pub(crate) fn told<'a>(
+pub(crate) fn find<'a>(
     entries: &'a [(Path, Option<Content>)],
     path: &[u8],
 ) -> Option<&'a Option<Content>>

@@ -1,16 +1,18 @@
 //! What the definitions of overlays promise, each as the contract of a function with no work to do.
 
-ghost use Rattle.std.specs.Prelude.{◌≡◌, ℕ, false, List, None, Some, is_some};
+ghost use Rattle.std.specs.Prelude.{◌≡◌, ℕ, T, false, List, None, Some, is_some};
 ghost use Rattle.std.specs.List.{AllByRecursion};
 ghost use Rattle.std.specs.FinMap as fin;
+ghost use Rattle.std.specs.FinMap.{is_sorted};
 ghost use Rattle.eden_ids.specs.declared.content.Content.{Content};
-ghost use Rattle.eden_ids.specs.FileMaps.{FileMap, file_at, has, listing};
+ghost use Rattle.eden_ids.specs.FileMaps.{FileMap, file_at, has, listing, paths};
 ghost use Rattle.eden_objects.specs.Objects.{Held};
 ghost use Rattle.eden_objects.specs.Commits.{commit_map};
 ghost use Rattle.eden_objects.specs.Files.{commit_files};
 ghost use Rattle.eden_workcopy.specs.declared.work.WorkCopy.{WorkCopy};
 ghost use Rattle.eden_workcopy.specs.Meanings.{means, touched_of, touched_set, FitsIn};
-ghost use Rattle.eden_workcopy.specs.Layers.{Layer, marked, over, over_rule};
+ghost use Rattle.eden_workcopy.specs.Layers.{Layer, by_bytes, marked, over, over_rule};
+ghost use Rattle.eden_workcopy.specs.Listings.{shown_over};
 
 /// What is seen where an overlay lies over a file map.
 pub fn over_law()
@@ -36,9 +38,12 @@ pub fn elsewhere_law()
 pub fn touched_law()
     // They are listed ascending, each once.
     ensures listed { (work : WorkCopy) → marked (touched_of work) ≡ listing (touched_set work) }
+    ensures sorted { (work : WorkCopy) → T (is_sorted by_bytes (touched_of work)) }
     // With each of them stands whether a file is there.
     ensures present { (held : List Held) (work : WorkCopy) → AllByRecursion (λ e. is_some (file_at (means held work) e.0) ≡ e.1) (touched_of work) }
     // At every other path the working copy holds what its root's commit holds.
     ensures elsewhere { (held : List Held) (work : WorkCopy) (p : List ℕ) → has (touched_set work) p ≡ false
         → file_at (means held work) p ≡ file_at (commit_files held work.root) p }
+    // Laid over the commit they show the paths of the files that the working copy holds.
+    ensures shown { (held : List Held) (work : WorkCopy) → listing (shown_over (commit_files held work.root) (touched_of work)) ≡ paths (means held work) }
 {}

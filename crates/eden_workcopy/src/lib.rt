@@ -14,20 +14,23 @@
 #![tactic(auto)]
 
 pub use crate::laws::{elsewhere_law, over_law, touched_law};
+pub use crate::weaving::woven;
 pub use crate::work::WorkCopy;
 pub use crate::working::Working;
 
 mod blocks;
-mod change;
+mod changes;
 mod dirty;
 mod entries;
-mod judged;
+mod entries_walk;
 mod laws;
 mod list;
+mod marks;
 mod overlay;
 mod reroot;
 mod revert;
-mod touch;
-mod walk;
+mod touching;
+mod unjudged;
+mod weaving;
 mod work;
 mod working;

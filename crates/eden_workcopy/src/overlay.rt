@@ -1,9 +1,11 @@
+//! What stands at the paths that were changed.
+
 ghost use Rattle.std.specs.Prelude.{◌≡◌, ◌+◌, ◌^◌, ◌<◌, true, false, None, Some, IfOk, OnOk, OnErr, drop, length, option_copied};
 ghost use Rattle.std.specs.FinMap as fin;
 ghost use Rattle.eden_workcopy.specs.Layers.{place};
 
-use crate::blocks::{Block, copy_all, put_in, take_out_of, told_in, walk_from};
-use crate::walk::Walk;
+use crate::blocks::{Block, copy_all, find, put_in, take_out_of, walk_from};
+use crate::entries_walk::Walk;
 use eden_ids::{Content, NoMemory, Path};
 use std::alloc::Global;
 use std::marker::Model;
@@ -54,7 +56,7 @@ impl Overlay {
     pub(crate) fn get(&self, path: &[u8]) -> Option<&Option<Content>>
         ensures { option_copied result ≡ fin.get self.now path.now }
     {
-        told_in(self.blocks.as_slice(), path)
+        find(self.blocks.as_slice(), path)
     }
 
     /// The paths in byte order, each with what stands there.

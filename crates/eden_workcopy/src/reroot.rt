@@ -1,82 +1,105 @@
-ghost use Rattle.std.specs.Prelude.{◌≡◌, ◌≢◌, ℕ, true, List, Some, None, IfOk, IfErr, OnOk};
+//! The same files over another commit.
+
+ghost use Rattle.std.specs.Prelude.{◌≡◌, ◌≢◌, ℕ, true, List, None, IfOk, IfErr, OnOk};
 ghost use Rattle.std.specs.FinMap as fin;
-ghost use Rattle.eden_ids.specs.FileMaps.{differ, has};
+ghost use Rattle.eden_ids.specs.FileMaps.{FileMap, differ, file_at, has, listing, same_file};
 ghost use Rattle.eden_objects.specs.Commits.{commit_map};
 ghost use Rattle.eden_objects.specs.Files.{commit_files};
-ghost use Rattle.eden_workcopy.specs.internal.Agreements.{Agrees, AllAgree, IsNearer, StaysLean};
+ghost use Rattle.eden_workcopy.specs.internal.Agreements.{IsKept, IsLean, kept_below, kept_entry};
+ghost use Rattle.eden_workcopy.specs.Layers.{over};
 ghost use Rattle.eden_workcopy.specs.Meanings.{means, touched_set, FitsIn};
 
 use crate::overlay::Overlay;
 use crate::work::WorkCopy;
-use eden_ids::{Id, Naming, NoMemory, Path, is_same_file};
+use crate::working::lent;
+use eden_ids::{Content, FileTree, Id, Naming, NoMemory, Path, is_same_file};
 use eden_objects::{CommitFault, Store};
 use eden_treediff::diff;
 
-impl WorkCopy {
-    /// Gives another working copy the file that this one has at a path, unless it has it.
-    #[tactic(auto, using(crate::proofs::Rerooted::same_here, crate::proofs::Rerooted::put_here, crate::proofs::Rerooted::put_nearer, crate::proofs::Rerooted::put_lean))]
-    fn keep<N: Naming + Drop>(
-        &self,
-        store: &Store<N>,
-        next: &mut WorkCopy,
-        path: &Path,
-    ) -> Result<(), NoMemory>
-        ensures root { next.new.root ≡ next.old.root }
-        ensures here { OnOk result (Agrees (means store.now self.now) (means store.now next.new) path.now) }
-        ensures there { OnOk result (IsNearer (means store.now self.now) (means store.now next.old) (means store.now next.new)) }
-        ensures lean { OnOk result (StaysLean store.now (means store.now self.now) next.old next.new) }
+/// Whether this file is seen at a path where an overlay lies over a tree.
+#[tactic(auto, using(crate::proofs::Works::file_told, crate::proofs::Works::file_below))]
+fn is_seen<B: FileTree>(base: &B, overlay: &Overlay, path: &[u8], file: &Option<Content>) -> bool
+    ensures { result ≡ same_file file.now (file_at (over (B.files base.now) overlay.now) path.now) }
+{
+    match overlay.get(path) {
+        Some(told) => is_same_file(lent(file), lent(told)),
+        None => is_same_file(lent(file), base.file(path)),
+    }
+}
+
+/// Takes over what is said of a touched path, unless the new commit has the same file there.
+fn keep_entry<B: FileTree>(
+    base: &B,
+    next: &mut Overlay,
+    entry: &(Path, Option<Content>),
+) -> Result<(), NoMemory>
+    ensures { OnOk result (next.new ≡ kept_entry (B.files base.now) next.old entry.now.0 entry.now.1) }
+{
+    if is_seen(base, next, entry.0.as_bytes(), &entry.1) {
+        return Ok(());
+    }
+    let file = Content::copy_of(&entry.1)?;
+    let key = entry.0.copy()?;
+    next.set(key, file)?;
+    Ok(())
+}
+
+/// Says of a path, unless it was touched, what the old commit has there.
+fn keep_below<R: FileTree>(
+    root: &R,
+    touched: &Overlay,
+    next: &mut Overlay,
+    path: &Path,
+) -> Result<(), NoMemory>
+    ensures { OnOk result (next.new ≡ kept_below (R.files root.now) touched.now next.old path.now) }
+{
+    if touched.get(path.as_bytes()).is_some() {
+        return Ok(());
+    }
+    let file = Content::of_lent(next.allocator(), root.file(path.as_bytes()))?;
+    let key = path.copy()?;
+    next.set(key, file)?;
+    Ok(())
+}
+
+impl Overlay {
+    /// What the same touched paths say over another commit.
+    fn over_another<B: FileTree>(&self, base: &B) -> Result<Overlay, NoMemory>
+        ensures { IfOk result (λ next. (root : FileMap) → IsKept (over root self.now) (B.files base.now) next (fin.keys self.now)) }
     {
-        let file = self.file(store, path.as_bytes());
-        if is_same_file(file, next.file(store, path.as_bytes())) {
-            return Ok(());
+        let mut next = Overlay::new(self.allocator());
+        for entry in self.entries() {
+            keep_entry(base, &mut next, entry)?;
         }
-        let file = self.file_copy(store, path)?;
-        next.put(path.copy()?, file)?;
-        Ok(())
+        Ok(next)
     }
 
-    /// The same at each path that a change touched.
-    fn keep_touched<N: Naming + Drop>(
+    /// Says in another overlay what the old commit has at the untouched ones of the paths on which it differs from the new one.
+    fn keep_differing<R: FileTree>(
         &self,
-        store: &Store<N>,
-        next: &mut WorkCopy,
-    ) -> Result<(), NoMemory>
-        ensures root { next.new.root ≡ next.old.root }
-        ensures here { OnOk result (AllAgree (means store.now self.now) (means store.now next.new) (fin.keys self.now.overlay)) }
-        ensures there { OnOk result (IsNearer (means store.now self.now) (means store.now next.old) (means store.now next.new)) }
-        ensures lean { OnOk result (StaysLean store.now (means store.now self.now) next.old next.new) }
-    {
-        for entry in self.overlay.entries() {
-            self.keep(store, next, &entry.0)?;
-        }
-        Ok(())
-    }
-
-    /// The same at each path that a change touched, and at each of these.
-    fn keep_at<N: Naming + Drop>(
-        &self,
-        store: &Store<N>,
-        next: &mut WorkCopy,
+        root: &R,
+        next: &mut Overlay,
         paths: &[Path],
     ) -> Result<(), NoMemory>
-        ensures root { next.new.root ≡ next.old.root }
-        ensures touched { OnOk result (AllAgree (means store.now self.now) (means store.now next.new) (fin.keys self.now.overlay)) }
-        ensures here { OnOk result (AllAgree (means store.now self.now) (means store.now next.new) paths.now) }
-        ensures there { OnOk result (IsNearer (means store.now self.now) (means store.now next.old) (means store.now next.new)) }
-        ensures lean { OnOk result (StaysLean store.now (means store.now self.now) next.old next.new) }
+        ensures files { OnOk result ((base : FileMap) → paths.now ≡ listing (differ (R.files root.now) base)
+            → IsKept (over (R.files root.now) self.now) base next.old (fin.keys self.now) → over base next.new ≡ over (R.files root.now) self.now) }
+        ensures lean { OnOk result ((base : FileMap) → paths.now ≡ listing (differ (R.files root.now) base)
+            → IsKept (over (R.files root.now) self.now) base next.old (fin.keys self.now) → IsLean (over (R.files root.now) self.now) base next.new) }
     {
-        self.keep_touched(store, next)?;
         for path in paths {
-            self.keep(store, next, path)?;
+            keep_below(root, self, next, path)?;
         }
         Ok(())
     }
+}
 
+impl WorkCopy {
     /// A working copy that holds the same files over another commit. Of its paths those alone count as touched at which it differs from
     /// that commit.
     ///
     /// `NoCommit` comes where the id is no commit's, `NoMemory` where a growth was refused. Only the paths that a change touched and those
-    /// on which the two commits differ are looked at, and bytes are copied only where the new commit has another file.
+    /// on which the two commits differ are looked at, each in one of the commits, and bytes are copied only where the new commit has
+    /// another file.
     pub fn reroot<N: Naming + Drop>(
         &self,
         store: &Store<N>,
@@ -90,18 +113,14 @@ impl WorkCopy {
             → has (differ (means store.now next) (commit_files store.now commit)) p ≡ true) }
         ensures refuses { IfErr result (λ fault. fault ≢ CommitFault.NoMemory → commit_map store.now commit ≡ None) }
     {
-        let paths = match diff(self.overlay.allocator(), store, self.root, commit) {
-            Ok(paths) => paths,
-            Err(CommitFault::NoCommit) => return Err(CommitFault::NoCommit),
-            Err(CommitFault::NoMemory) => return Err(CommitFault::NoMemory),
-        };
-        let mut next = WorkCopy {
+        let paths = diff(self.overlay.allocator(), store, self.root, commit)?;
+        let base = store.commit_files(commit);
+        let mut overlay = self.overlay.over_another(&base)?;
+        let root = store.commit_files(self.root);
+        self.overlay.keep_differing(&root, &mut overlay, &paths)?;
+        Ok(WorkCopy {
             root: commit,
-            overlay: Overlay::new(self.overlay.allocator()),
-        };
-        match self.keep_at(store, &mut next, &paths) {
-            Ok(()) => Ok(next),
-            Err(NoMemory) => Err(CommitFault::NoMemory),
-        }
+            overlay,
+        })
     }
 }

@@ -1,3 +1,5 @@
+//! A path that goes back to what the root's commit has there.
+
 ghost use Rattle.std.specs.Prelude.{◌≡◌, None, Some, is_some, IfOk, IfErr, OnOk, OnErr};
 ghost use Rattle.eden_ids.specs.FileMaps.{file_at, put_option};
 ghost use Rattle.eden_objects.specs.Files.{commit_files};
@@ -5,7 +7,8 @@ ghost use Rattle.eden_workcopy.specs.Meanings.{means, FitsIn};
 ghost use Rattle.eden_workcopy.specs.Reverts.{revert_fault};
 
 use crate::work::WorkCopy;
-use eden_history::ChangeFault;
+use crate::working::Working;
+use eden_history::{ChangeFault, place_fault};
 use eden_ids::{Naming, Path, has_file};
 use eden_objects::Store;
 
@@ -14,8 +17,9 @@ impl WorkCopy {
     fn revert_fault<N: Naming + Drop>(&self, store: &Store<N>, path: &Path) -> Option<ChangeFault>
         ensures { result ≡ revert_fault (means store.now self.now) (commit_files store.now self.now.root) path.now }
     {
-        if has_file(&store.commit_files(self.root), path.as_bytes()) {
-            self.place_fault(store, path)
+        let root = store.commit_files(self.root);
+        if has_file(&root, path.as_bytes()) {
+            place_fault(&Working::of(root, &self.overlay), path)
         } else {
             None
         }

@@ -1,3 +1,5 @@
+//! A working copy, and what is asked of it over a store.
+
 ghost use Rattle.std.specs.Prelude.{◌≡◌, ◌≢◌, None, Some, IfOk, IfErr, OnOk, OnErr, is_some, if◌then◌else◌, nat_lt, nat_eq, ◌<◌, ◌&&◌, take, length};
 ghost use Rattle.std.specs.List.{slice_index_or};
 ghost use Rattle.std.specs.FinMap as fin;

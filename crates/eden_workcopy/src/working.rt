@@ -1,15 +1,19 @@
-ghost use Rattle.std.specs.Prelude.{◌≡◌, ◌+◌, ◌^◌, ◌<◌, ◌∷◌, ◌++◌, [], filter, length, is_some};
+//! A working copy over its store: what is asked of its files, where the root's commit is found once for all questions.
+
+ghost use Rattle.std.specs.Prelude.{◌≡◌, ◌+◌, ◌^◌, ◌<◌, ◌∷◌, ◌++◌, [], Some, None, IfOk, IfErr, filter, length, is_some};
 ghost use Rattle.std.specs.List.{list_any};
 ghost use Rattle.eden_ids.specs.FileMaps.{file_at, has_file_below, lent};
+ghost use Rattle.eden_history.specs.Renames.{absent_fault};
 ghost use Rattle.eden_workcopy.specs.Layers.{over};
 ghost use Rattle.eden_workcopy.specs.internal.Blocks.{before};
 ghost use Rattle.eden_workcopy.specs.Meanings.{means};
 
+use crate::entries_walk::Walk;
 use crate::overlay::Overlay;
-use crate::walk::Walk;
 use crate::work::WorkCopy;
 use arrayvec::ArrayVec;
-use eden_ids::{Content, FileTree, Kind, Naming, Path, has_file};
+use eden_history::{ChangeFault, place_fault};
+use eden_ids::{Content, FileTree, Kind, Naming, NoMemory, Path, has_file};
 use eden_objects::{Commit, Store};
 use std::marker::Model;
 
@@ -37,7 +41,7 @@ impl<'a, N: Naming + Drop> Model for Working<'a, N> {
 }
 
 /// The kind and the bytes of a file.
-pub(crate) fn seen(file: &Option<Content>) -> Option<(Kind, &[u8])>
+pub(crate) fn lent(file: &Option<Content>) -> Option<(Kind, &[u8])>
     ensures { lent result ≡ file.now }
 {
     match file {
@@ -94,7 +98,7 @@ fn file_over<'a, N: Naming + Drop>(
     ensures { lent result ≡ file_at (over base.now overlay.now) path.now }
 {
     match overlay.get(path) {
-        Some(file) => seen(file),
+        Some(file) => lent(file),
         None => base.file(path),
     }
 }
@@ -108,7 +112,7 @@ fn has_below_over<N: Naming + Drop>(base: &Commit<'_, N>, overlay: &Overlay, pat
 {
     let entries = overlay.entries_from(edge(path, b'/').as_slice());
     let end = edge(path, b'/' + 1);
-    if has_present(entries.again(), end.as_slice()) {
+    if has_present(entries.copy(), end.as_slice()) {
         return true;
     }
     let hidden = count_hidden(base, entries, end.as_slice());
@@ -116,11 +120,42 @@ fn has_below_over<N: Naming + Drop>(base: &Commit<'_, N>, overlay: &Overlay, pat
 }
 
 impl<'a, N: Naming + Drop> Working<'a, N> {
+    /// What is seen where an overlay lies over a commit.
+    pub(crate) fn of(base: Commit<'a, N>, overlay: &'a Overlay) -> Working<'a, N>
+        ensures { result ≡ over base.entry overlay.now }
+    {
+        Working { base, overlay }
+    }
+
     /// The kind and the bytes of the file at a path, if one stands there. It takes no memory.
     pub fn file(&self, path: &[u8]) -> Option<(Kind, &'a [u8])>
         ensures { lent result ≡ file_at self.now path.now }
     {
         file_over(&self.base, self.overlay, path)
+    }
+
+    /// The kind and the bytes of the file at a path.
+    ///
+    /// Refused, in this order, as `NotADirectory`, `IsADirectory` or `NoEntry`. It takes no memory.
+    pub fn read(&self, path: &Path) -> Result<(Kind, &'a [u8]), ChangeFault>
+        ensures accepts { IfOk result (λ _. absent_fault self.now path.now ≡ None) }
+        ensures reads { IfOk result (λ seen. file_at self.now path.now ≡ Some (record { kind = seen.0; bytes = seen.1.now })) }
+        ensures refuses { IfErr result (λ fault. absent_fault self.now path.now ≡ Some fault) }
+    {
+        if let Some(fault) = place_fault(self, path) {
+            return Err(fault);
+        }
+        match self.file(path.as_bytes()) {
+            Some(file) => Ok(file),
+            None => Err(ChangeFault::NoEntry),
+        }
+    }
+
+    /// The file at a path, in memory of its own, if one stands there. `NoMemory` comes where a growth was refused.
+    pub fn file_copy(&self, path: &Path) -> Result<Option<Content>, NoMemory>
+        ensures { IfOk result (λ file. file ≡ file_at self.now path.now) }
+    {
+        Content::of_lent(self.overlay.allocator(), self.file(path.as_bytes()))
     }
 }
 
@@ -141,9 +176,6 @@ impl WorkCopy {
     pub fn over<'a, N: Naming + Drop>(&'a self, store: &'a Store<N>) -> Working<'a, N>
         ensures { result ≡ means store.now self.now }
     {
-        Working {
-            base: store.commit_files(self.root),
-            overlay: &self.overlay,
-        }
+        Working::of(store.commit_files(self.root), &self.overlay)
     }
 }

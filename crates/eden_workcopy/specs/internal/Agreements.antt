@@ -1,12 +1,10 @@
 -- File maps that agree with another one at some paths.
-use Rattle.std.specs.Prelude.{◌≡◌, ℕ, false, List, IsSome}
+use Rattle.std.specs.Prelude.{◌≡◌, ℕ, false, List, Option, IsSome, is_some, if◌then◌else◌}
 use Rattle.std.specs.List.{AllByRecursion}
 use Rattle.std.specs.FinMap as fin
+use Rattle.eden_ids.specs.declared.content.Content.{Content}
 use Rattle.eden_ids.specs.FileMaps.{FileMap, file_at, same_file}
-use Rattle.eden_objects.specs.Objects.{Held}
-use Rattle.eden_objects.specs.Files.{commit_files}
-use Rattle.eden_workcopy.specs.declared.work.WorkCopy.{WorkCopy}
-use Rattle.eden_workcopy.specs.Layers.{Layer}
+use Rattle.eden_workcopy.specs.Layers.{Layer, over}
 
 -- the file at a path is that of the wanted map
 abbrev pub Agrees : FileMap → FileMap → List ℕ → Type 0
@@ -23,6 +21,16 @@ IsNearer wanted before after = (p : List ℕ) → Agrees wanted before p → Agr
 abbrev pub IsLean : FileMap → FileMap → Layer → Type 0
 IsLean wanted base layer = (p : List ℕ) → IsSome (fin.get layer p) → same_file (file_at wanted p) (file_at base p) ≡ false
 
--- a working copy whose overlay was such a one still has such a one
-abbrev pub StaysLean : List Held → FileMap → WorkCopy → WorkCopy → Type 0
-StaysLean held wanted before after = IsLean wanted (commit_files held before.root) before.overlay → IsLean wanted (commit_files held after.root) after.overlay
+-- a layer over another commit that agrees at these paths, and still where that commit agrees, and says no more than it must
+pub record IsKept (wanted base : FileMap) (next : Layer) (ps : List (List ℕ)) : Type 0 where
+  pub here : AllAgree wanted (over base next) ps
+  pub there : IsNearer wanted base (over base next)
+  pub lean : IsLean wanted base next
+
+-- the layer with a touched path's file, unless that is seen already
+abbrev pub kept_entry : FileMap → Layer → List ℕ → Option Content → Layer
+kept_entry base next path file = if same_file file (file_at (over base next) path) then next else fin.insert next path file
+
+-- the layer with the old commit's file at a path, unless it was touched
+abbrev pub kept_below : FileMap → Layer → Layer → List ℕ → Layer
+kept_below root touched next path = if is_some (fin.get touched path) then next else fin.insert next path (file_at root path)

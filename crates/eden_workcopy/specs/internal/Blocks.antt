@@ -15,19 +15,19 @@ AllFilled [] = Unit {0}
 AllFilled (b ∷ bs) = (0 < length b.items) × AllFilled bs
 
 -- whether entries begin with a path or with one before it
-abbrev pub begins_by : List ℕ → List Entry → Bool
-begins_by path [] = false
-begins_by path (e ∷ es) = is_le (by_bytes e.0 path)
+abbrev pub begins_at_or_before : List ℕ → List Entry → Bool
+begins_at_or_before path [] = false
+begins_at_or_before path (e ∷ es) = is_le (by_bytes e.0 path)
 
 -- how many blocks at the front begin so
 abbrev pub begun : List ℕ → List (Vec Entry) → ℕ
 begun path [] = 0
-begun path (b ∷ bs) = if begins_by path b.items then suc (begun path bs) else 0
+begun path (b ∷ bs) = if begins_at_or_before path b.items then suc (begun path bs) else 0
 
 -- the place of the last block that begins so, or of the first block
-abbrev pub spot : List ℕ → List (Vec Entry) → ℕ
-spot path [] = 0
-spot path (b ∷ bs) = begun path bs
+abbrev pub block_for : List ℕ → List (Vec Entry) → ℕ
+block_for path [] = 0
+block_for path (b ∷ bs) = begun path bs
 
 -- the entries at the front whose paths come before a path
 abbrev pub before : List ℕ → List Entry → List Entry

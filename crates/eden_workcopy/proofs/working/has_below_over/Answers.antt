@@ -21,8 +21,8 @@ returns-then-has_present g c =
     ∙ below_from path all (fin.entries_sorted c.args.overlay.now) in
     let present : c.has_present.result ≡ list_any (λ e. is_some e.1 && lies_below e.0 path) all =
     c.has_present.ensures
-    ∙ ap (λ k. list_any {X = Entry} (λ e. is_some e.1) (before k c.again.result)) (c.as_slice-2.ensures.value ∙ c.edge-end.ensures)
-    ∙ ap (λ es. list_any {X = Entry} (λ e. is_some e.1) (before (upto path) es)) c.again.ensures
+    ∙ ap (λ k. list_any {X = Entry} (λ e. is_some e.1) (before k c.copy.result)) (c.as_slice-2.ensures.value ∙ c.edge-end.ensures)
+    ∙ ap (λ es. list_any {X = Entry} (λ e. is_some e.1) (before (upto path) es)) c.copy.ensures
     ∙ ap (list_any {X = Entry} (λ e. is_some e.1)) inside
     ∙ any_below path all in
     sym (present_below c.args.base.now c.args.overlay.now path (sym present ∙ c.if-has_present.true))
@@ -36,8 +36,8 @@ returns g c =
     ∙ below_from path all (fin.entries_sorted c.args.overlay.now) in
     let present : c.has_present.result ≡ list_any (λ e. is_some e.1 && lies_below e.0 path) all =
     c.has_present.ensures
-    ∙ ap (λ k. list_any {X = Entry} (λ e. is_some e.1) (before k c.again.result)) (c.as_slice-2.ensures.value ∙ c.edge-end.ensures)
-    ∙ ap (λ es. list_any {X = Entry} (λ e. is_some e.1) (before (upto path) es)) c.again.ensures
+    ∙ ap (λ k. list_any {X = Entry} (λ e. is_some e.1) (before k c.copy.result)) (c.as_slice-2.ensures.value ∙ c.edge-end.ensures)
+    ∙ ap (λ es. list_any {X = Entry} (λ e. is_some e.1) (before (upto path) es)) c.copy.ensures
     ∙ ap (list_any {X = Entry} (λ e. is_some e.1)) inside
     ∙ any_below path all in
     let base = c.args.base.now in

@@ -6,7 +6,7 @@ use Rattle.eden_workcopy.proofs.overlay.Overlay.get.Goals as goal
 
 pub returns : goal.returns
 returns c =
-    c.told_in.ensures
+    c.find.ensures
     ∙ ap (λ bs. fin.find by_bytes c.args.path.now (flat bs)) c.as_slice.ensures.value
     ∙ sym (fin.get-from_sorted by_bytes (flat c.self.inside.blocks.items) c.args.path.now c.self.invariant.0)
     ∙ ap (λ m. fin.get m c.args.path.now) c.self.view_is

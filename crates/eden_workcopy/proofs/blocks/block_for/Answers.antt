@@ -2,9 +2,9 @@ use Rattle.std.proofs.Common.{◌≡◌, ◌∷◌, T, rules, of_calls, sym, ap,
 use Rattle.std.proofs.lemmas.Fn.{always_returns_same}
 use Rattle.std.specs.FinMap.{is_sorted}
 use Rattle.eden_workcopy.specs.Layers.{by_bytes}
-use Rattle.eden_workcopy.specs.internal.Blocks.{flat, AllFilled, begins_by, spot}
+use Rattle.eden_workcopy.specs.internal.Blocks.{flat, AllFilled, begins_at_or_before, block_for}
 use Rattle.eden_workcopy.proofs.Flattened.{begun_is, blocks_parted, rising_back, spot_within, spot_there}
-use Rattle.eden_workcopy.proofs.blocks.spot.Goals as goal
+use Rattle.eden_workcopy.proofs.blocks.block_for.Goals as goal
 
 pub returns-in-Some-clause-is : goal.returns-in-Some-clause-is
 returns-in-Some-clause-is c =
@@ -16,18 +16,18 @@ returns-in-Some-clause-is c =
     let filled : AllFilled (block ∷ later) = subst AllFilled parts c.requires.filled in
     let key = always_returns_same _ _ _ (λ a r f k. search (rules, of_calls)) in
     begun_is path later c.partition_point.result c.partition_point.ensures.bound
-    (c.partition_point.ensures.partitioned (λ b. begins_by path b.items) key (blocks_parted path later (rising_back block.items (flat later) sorted) filled.1))
-    ∙ sym (ap (spot path) parts)
+    (c.partition_point.ensures.partitioned (λ b. begins_at_or_before path b.items) key (blocks_parted path later (rising_back block.items (flat later) sorted) filled.1))
+    ∙ sym (ap (block_for path) parts)
 
 pub returns-in-Some-clause-within : goal.returns-in-Some-clause-within
 returns-in-Some-clause-within c =
-    let is : c.partition_point.result ≡ spot c.args.path.now c.args.blocks.now = returns-in-Some-clause-is c in
+    let is : c.partition_point.result ≡ block_for c.args.path.now c.args.blocks.now = returns-in-Some-clause-is c in
     let within = spot_within c.args.path.now c.args.blocks.now in
     omega (arith, is, within)
 
 pub returns-in-Some-clause-there : goal.returns-in-Some-clause-there
 returns-in-Some-clause-there c =
     λ some.
-    let is : c.partition_point.result ≡ spot c.args.path.now c.args.blocks.now = returns-in-Some-clause-is c in
+    let is : c.partition_point.result ≡ block_for c.args.path.now c.args.blocks.now = returns-in-Some-clause-is c in
     let there = spot_there c.args.path.now c.args.blocks.now some in
     omega (arith, is, there)

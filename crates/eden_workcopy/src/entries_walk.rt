@@ -1,3 +1,5 @@
+//! Entries one after another, from some block on.
+
 ghost use Rattle.std.specs.Prelude.{◌≡◌, ◌∷◌, ◌++◌, T, IfSome, IfNone};
 ghost use Rattle.std.specs.Iterator.{item_count, YieldsFirstRef};
 ghost use Rattle.std.specs.Ordering.{is_lt};
@@ -6,6 +8,7 @@ ghost use Rattle.eden_workcopy.specs.internal.Blocks.{flat, AllFilled};
 
 use crate::blocks::Block;
 use crate::entries::is_before;
+use crate::marks::Marks;
 use eden_ids::{Content, Path};
 use std::marker::Model;
 
@@ -58,7 +61,7 @@ impl<'a> Walk<'a> {
     }
 
     /// A walk over the same entries.
-    pub(crate) fn again(&self) -> Walk<'a>
+    pub(crate) fn copy(&self) -> Walk<'a>
         ensures { result ≡ self.now }
     {
         Walk {
@@ -79,5 +82,26 @@ impl<'a> Iterator for Walk<'a> {
         let (entry, left) = self.block.split_first()?;
         *self = Walk::of(left, self.later);
         Some(entry)
+    }
+}
+
+impl Marks for Walk<'_> {
+    ghost use Rattle.eden_workcopy.specs.Layers.{marks};
+
+    ghost left = { λ walk. marks walk };
+
+    #[tactic(auto, using(crate::proofs::Marked::first_marked, crate::proofs::Marked::none_marked))]
+    fn first(&self) -> Option<(&Path, bool)> {
+        match self.block.split_first() {
+            Some((entry, _)) => Some((&entry.0, entry.1.is_some())),
+            None => None,
+        }
+    }
+
+    #[tactic(auto, using(crate::proofs::Marked::behind_marked, crate::proofs::Marked::behind_none))]
+    fn pass(&mut self) {
+        if let Some((_, left)) = self.block.split_first() {
+            *self = Walk::of(left, self.later);
+        }
     }
 }

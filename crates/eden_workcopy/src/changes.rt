@@ -1,3 +1,5 @@
+//! Changes that are judged before they are made.
+
 ghost use Rattle.std.specs.Prelude.{◌≡◌, ◌≢◌, None, Some, IfOk, IfErr, OnOk, OnErr};
 ghost use Rattle.std.specs.FinMap as fin;
 ghost use Rattle.eden_ids.specs.FileMaps.{file_at};
@@ -5,10 +7,9 @@ ghost use Rattle.eden_history.specs.Renames.{absent_fault, rename_fault, renamed
 ghost use Rattle.eden_workcopy.specs.Meanings.{means, FitsIn};
 
 use crate::work::WorkCopy;
-use eden_history::ChangeFault;
-use eden_ids::{Content, Kind, Naming, NoMemory, Path, Sequence};
+use eden_history::{ChangeFault, rename_fault};
+use eden_ids::{Kind, Naming, NoMemory, Path};
 use eden_objects::Store;
-use std::alloc::Global;
 
 impl WorkCopy {
     /// The kind and the bytes of the file at a path.
@@ -24,13 +25,7 @@ impl WorkCopy {
         ensures reads { IfOk result (λ seen. file_at (means store.now self.now) path.now ≡ Some (record { kind = seen.0; bytes = seen.1.now })) }
         ensures refuses { IfErr result (λ fault. absent_fault (means store.now self.now) path.now ≡ Some fault) }
     {
-        if let Some(fault) = self.place_fault(store, path) {
-            return Err(fault);
-        }
-        match self.file(store, path.as_bytes()) {
-            Some(file) => Ok(file),
-            None => Err(ChangeFault::NoEntry),
-        }
+        self.over(store).read(path)
     }
 
     /// Puts a file at a path, in place of the one that stands there.
@@ -106,28 +101,18 @@ impl WorkCopy {
             → rename_fault (means store.now self.old) old.now new.now ≡ Some fault) }
         ensures same { OnErr result (self.new ≡ self.old) }
     {
-        if let Some(fault) = self.rename_fault(store, old, new) {
+        let files = self.over(store);
+        if let Some(fault) = rename_fault(&files, old, new) {
             return Err(fault);
         }
-        self.move_file(store, old, new)?;
-        Ok(())
-    }
-
-    /// The file at a path, in memory of its own.
-    pub(crate) fn file_copy<N: Naming + Drop>(
-        &self,
-        store: &Store<N>,
-        path: &Path,
-    ) -> Result<Option<Content>, NoMemory>
-        ensures { IfOk result (λ file. file ≡ file_at (means store.now self.now) path.now) }
-    {
-        match self.file(store, path.as_bytes()) {
-            Some((kind, bytes)) => {
-                let content = Content::from_bytes(self.overlay.allocator(), kind, bytes)?;
-                Ok(Some(content))
-            }
-            None => Ok(None),
+        if old == new {
+            return Ok(());
         }
+        let Some(content) = files.file_copy(old)? else {
+            return Ok(());
+        };
+        self.shift_file(old, new, content)?;
+        Ok(())
     }
 
     /// A working copy that is equal to this one. `NoMemory` comes where a growth was refused.

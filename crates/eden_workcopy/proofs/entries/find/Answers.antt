@@ -1,7 +1,7 @@
 use Rattle.std.proofs.Common.{subst}
 use Rattle.eden_workcopy.specs.Layers.{IsThere}
 use Rattle.eden_workcopy.proofs.Placing.{told_is}
-use Rattle.eden_workcopy.proofs.entries.told.Goals as goal
+use Rattle.eden_workcopy.proofs.entries.find.Goals as goal
 
 pub returns-then-is_there : goal.returns-then-is_there
 returns-then-is_there c =

@@ -1,7 +1,8 @@
 //! Changes that were judged before.
 
-ghost use Rattle.std.specs.Prelude.{◌≡◌, None, List, OnOk, OnErr};
+ghost use Rattle.std.specs.Prelude.{◌≡◌, None, Some, List, OnOk, OnErr};
 ghost use Rattle.std.specs.FinMap as fin;
+ghost use Rattle.eden_ids.specs.FileMaps.{file_at};
 ghost use Rattle.eden_objects.specs.Objects.{Held};
 ghost use Rattle.eden_history.specs.Renames.{rename_fault, renamed, write_fault};
 ghost use Rattle.eden_workcopy.specs.Meanings.{means, FitsIn};
@@ -64,9 +65,25 @@ impl WorkCopy {
         if old == new {
             return Ok(());
         }
-        let Some(content) = self.file_copy(store, old)? else {
+        let Some(content) = self.over(store).file_copy(old)? else {
             return Ok(());
         };
+        self.shift_file(old, new, content)?;
+        Ok(())
+    }
+
+    /// The same, where the caller has a copy of the file that stands at the first path.
+    pub fn shift_file(&mut self, old: &Path, new: &Path, content: Content) -> Result<(), NoMemory>
+        ensures root { self.new.root ≡ self.old.root }
+        ensures files { OnOk result ((held : List Held) → file_at (means held self.old) old.now ≡ Some content
+            → means held self.new ≡ renamed (means held self.old) old.now new.now) }
+        ensures fits { OnOk result ((held : List Held) → file_at (means held self.old) old.now ≡ Some content → FitsIn held self.old
+            → rename_fault (means held self.old) old.now new.now ≡ None → FitsIn held self.new) }
+        ensures same { OnErr result (self.new ≡ self.old) }
+    {
+        if old == new {
+            return Ok(());
+        }
         path_law(new);
         let from = old.copy()?;
         let to = new.copy()?;
