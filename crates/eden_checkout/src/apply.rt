@@ -2,7 +2,7 @@
 
 ghost use Rattle.std.specs.Prelude.{◌≡◌, ◌≢◌, ℕ, List, if◌then◌else◌, IfOk, OnOk};
 ghost use Rattle.std.specs.List.{list_any};
-ghost use Rattle.eden_ids.specs.FileMaps.{differ, file_at, lent, listing, put_option, same_path};
+ghost use Rattle.eden_ids.specs.FileMaps.{file_at, lent, listing, put_option, same_path};
 ghost use Rattle.eden_workcopy.specs.Meanings.{means};
 ghost use Rattle.eden_history.specs.Checkouts.{checked_out, conflicts, rule_of};
 
@@ -10,20 +10,6 @@ use eden_history::{Mode, Sides};
 use eden_ids::{Content, FileTree, Kind, Naming, NoMemory, Path, is_same_file};
 use eden_objects::Store;
 use eden_workcopy::WorkCopy;
-use std::alloc::Global;
-
-/// A file in memory of its own.
-fn copied(alloc: Global, file: Option<(Kind, &[u8])>) -> Result<Option<Content>, NoMemory>
-    ensures { IfOk result (λ copy. copy ≡ lent file.entry) }
-{
-    match file {
-        Some((kind, bytes)) => {
-            let content = Content::from_bytes(alloc, kind, bytes)?;
-            Ok(Some(content))
-        }
-        None => Ok(None),
-    }
-}
 
 /// Sees to it that this file stands at a path, or none.
 #[tactic(auto, using(crate::proofs::Settling::put_same))]
@@ -39,7 +25,7 @@ fn put<N: Naming + Drop>(
     if is_same_file(next.file(store, path.as_bytes()), file) {
         return Ok(());
     }
-    let copy = copied(store.allocator(), file)?;
+    let copy = Content::of_lent(store.allocator(), file)?;
     let key = path.copy()?;
     next.set(key, copy)
 }
@@ -71,19 +57,17 @@ pub(crate) fn checked_out<N: Naming + Drop, W: FileTree, R: FileTree, T: FileTre
     start: WorkCopy,
     sides: &Sides<'_, W, R, T, D>,
     mode: Mode,
-    dirty: &[Path],
     found: &[Path],
 ) -> Result<WorkCopy, NoMemory>
     requires mode { mode ≢ Mode.Dry }
     requires start { means store.now start ≡ T.files sides.now.target.now }
-    requires dirty { dirty.now ≡ listing (differ (W.files sides.now.work.now) (R.files sides.now.root.now)) }
     requires found { found.now ≡ listing (conflicts (W.files sides.now.work.now) (R.files sides.now.root.now) (T.files sides.now.target.now)) }
     ensures root { IfOk result (λ next. next.root ≡ start.root) }
     ensures files { IfOk result (λ next. means store.now next
         ≡ checked_out mode (W.files sides.now.work.now) (R.files sides.now.root.now) (T.files sides.now.target.now)) }
 {
     let mut next = start;
-    apply_rule(store, &mut next, sides, mode, dirty)?;
+    apply_rule(store, &mut next, sides, mode, sides.changed)?;
     apply_rule(store, &mut next, sides, mode, found)?;
     Ok(next)
 }

@@ -1,3 +1,5 @@
+//! The plan of a checkout.
+
 ghost use Rattle.std.specs.Prelude.{◌≡◌, ◌≢◌, [], Some, None, IsSome, is_some, filter, if◌then◌else◌, IfOk, IfErr};
 ghost use Rattle.eden_ids.specs.FileMaps.{IsFileMap, differ, file_at, listing, path_set, paths, union};
 ghost use Rattle.eden_ids.specs.Texts.{AreTexts};
@@ -10,7 +12,7 @@ ghost use Rattle.eden_checkout.specs.Plans.{root_files};
 
 use crate::apply::checked_out;
 use eden_history::{Dirty, Mode, Sides};
-use eden_ids::{FileTree, Id, Naming, NoMemory, Path, PathTable, Sequence, has_file};
+use eden_ids::{FileTree, Id, Naming, NoMemory, Path, PathTable, Sequence, has_file, push_where};
 use eden_objects::{CommitFault, Store};
 use eden_treediff::diff;
 use eden_workcopy::WorkCopy;
@@ -25,37 +27,6 @@ pub struct Planned {
     pub unclean: Sequence<Path>,
     /// The paths at which the working copy is in the way of the checkout, in byte order.
     pub conflicts: Sequence<Path>,
-}
-
-/// Those of some paths at which a file stands.
-fn present<T: FileTree>(alloc: Global, files: &T, paths: &[Path]) -> Result<Vec<Path>, NoMemory>
-    ensures { IfOk result (λ present. present.items ≡ filter (λ p. is_some (file_at (T.files files.now) p)) paths.now) }
-{
-    let mut present = Vec::new(alloc);
-    for path in paths {
-        if has_file(files, path.as_bytes()) {
-            present.push(path.copy()?)?;
-        }
-    }
-    Ok(present)
-}
-
-/// Those of some paths that are conflicts. Each is searched for among the dirty paths, and only one of these, or one that clashes with
-/// one of them, is looked up in the trees.
-fn conflicts_among<W: FileTree, R: FileTree, T: FileTree, D: FileTree>(
-    alloc: Global,
-    sides: &Sides<'_, W, R, T, D>,
-    paths: &[Path],
-) -> Result<Vec<Path>, NoMemory>
-    ensures { IfOk result (λ found. found.items ≡ filter (is_conflict (W.files sides.now.work.now) (R.files sides.now.root.now) (T.files sides.now.target.now)) paths.now) }
-{
-    let mut found = Vec::new(alloc);
-    for path in paths {
-        if sides.is_conflict(path) {
-            found.push(path.copy()?)?;
-        }
-    }
-    Ok(found)
 }
 
 /// The paths on which two commits differ, in byte order.
@@ -112,49 +83,38 @@ struct Judged {
     conflicts: Vec<Path>,
 }
 
-/// What becomes of each path, where a working copy is given to begin with.
+/// What becomes of each path, where a working copy is given to begin with. Each path on which the commits differ is searched for among the
+/// dirty ones, and only one of these, or one that clashes with one of them, is looked up in the trees.
 #[tactic(auto, using(crate::proofs::Planning::conflicts_listed))]
-fn judge<'x, N: Naming + Drop, W: FileTree, R: FileTree, T: FileTree, D: FileTree>(
-    alloc: Global,
+fn judge<N: Naming + Drop, W: FileTree, R: FileTree, T: FileTree, D: FileTree>(
     store: &Store<N>,
     start: WorkCopy,
     mode: Mode,
-    work: &'x W,
-    root: &'x R,
-    target: &'x T,
-    dirty: &'x D,
-    changed: &'x [Path],
+    sides: &Sides<'_, W, R, T, D>,
     differing: &[Path],
 ) -> Result<Judged, NoMemory>
-    requires files { IsFileMap (W.files work.now) }
-    requires texts { AreTexts (W.files work.now) }
-    requires dirty { paths (D.files dirty.now) ≡ paths (dirty_files (W.files work.now) (R.files root.now)) }
-    requires changed { changed.now ≡ listing (differ (W.files work.now) (R.files root.now)) }
-    requires differing { differing.now ≡ listing (differ (R.files root.now) (T.files target.now)) }
-    requires start { mode ≢ Mode.Dry → means store.now start ≡ T.files target.now }
+    requires files { IsFileMap (W.files sides.now.work.now) }
+    requires texts { AreTexts (W.files sides.now.work.now) }
+    requires differing { differing.now ≡ listing (differ (R.files sides.now.root.now) (T.files sides.now.target.now)) }
+    requires start { mode ≢ Mode.Dry → means store.now start ≡ T.files sides.now.target.now }
     requires fits { FitsIn store.now start }
     ensures root { IfOk result (λ judged. judged.next.root ≡ start.root) }
     ensures files { IfOk result (λ judged. mode ≢ Mode.Dry → means store.now judged.next
-        ≡ checked_out mode (W.files work.now) (R.files root.now) (T.files target.now)) }
+        ≡ checked_out mode (W.files sides.now.work.now) (R.files sides.now.root.now) (T.files sides.now.target.now)) }
     ensures dry { IfOk result (λ judged. mode ≡ Mode.Dry → judged.next ≡ start) }
     ensures fits { IfOk result (λ judged. FitsIn store.now judged.next) }
-    ensures conflicts { IfOk result (λ judged. judged.conflicts.items ≡ listing (conflicts (W.files work.now) (R.files root.now) (T.files target.now))) }
+    ensures conflicts { IfOk result (λ judged. judged.conflicts.items
+        ≡ listing (conflicts (W.files sides.now.work.now) (R.files sides.now.root.now) (T.files sides.now.target.now))) }
 {
-    let sides = Sides {
-        work,
-        root,
-        target,
-        dirty,
-        changed,
-    };
-    let conflicts = conflicts_among(alloc, &sides, differing)?;
+    let mut conflicts = Vec::new(store.allocator());
+    push_where(&mut conflicts, differing, |path| sides.is_conflict(path))?;
     match mode {
         Mode::Dry => Ok(Judged {
             next: start,
             conflicts,
         }),
         _ => {
-            let next = checked_out(store, start, &sides, mode, changed, &conflicts)?;
+            let next = checked_out(store, start, sides, mode, &conflicts)?;
             Ok(Judged { next, conflicts })
         }
     }
@@ -223,15 +183,23 @@ pub fn plan<N: Naming + Drop>(
     let files = work.over(store);
     let root = store.commit_files(work.root());
     let target = store.commit_files(commit);
-    let listed = present(alloc, &files, &changed)?;
+    let mut listed = Vec::new(alloc);
+    push_where(&mut listed, &changed, |path| {
+        has_file(&files, path.as_bytes())
+    })?;
     let dirty = Dirty {
         work: &files,
         root: &root,
         listed: &listed,
     };
-    let judged = judge(
-        alloc, store, start, mode, &files, &root, &target, &dirty, &changed, &differing,
-    )?;
+    let sides = Sides {
+        work: &files,
+        root: &root,
+        target: &target,
+        dirty: &dirty,
+        changed: &changed,
+    };
+    let judged = judge(store, start, mode, &sides, &differing)?;
     let unclean = unclean_paths(alloc, store, &changed, &judged.next, mode)?;
     Ok(Planned {
         next: judged.next,

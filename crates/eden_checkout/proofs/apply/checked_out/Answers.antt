@@ -7,5 +7,5 @@ returns-clause-files g c =
     let held = c.args.store.now in
     let sides = c.args.sides.now in
     all_settled c.args.mode (g.W.FileTree.files sides.work.now) (g.R.FileTree.files sides.root.now) (g.T.FileTree.files sides.target.now)
-    (means held c.args.start) (means held c.apply_rule.new.next) (means held c.apply_rule-2.new.next) c.args.dirty.now c.args.found.now
-    c.requires.mode c.requires.dirty c.requires.found c.requires.start c.in_ok-apply_rule.ensures.files c.in_ok-apply_rule-2.ensures.files
+    (means held c.args.start) (means held c.apply_rule.new.next) (means held c.apply_rule-2.new.next) sides.changed.now c.args.found.now
+    c.requires.mode c.args.sides.now.each c.requires.found c.requires.start c.in_ok-apply_rule.ensures.files c.in_ok-apply_rule-2.ensures.files

@@ -1,4 +1,8 @@
-use Rattle.std.proofs.Common.{ap, sym, subst, ◌∙◌}
+use Rattle.std.proofs.Common.{rules, of_calls, is_some, ◌++◌, ap, sym, subst, ◌∙◌}
+use Rattle.std.specs.Prelude.{filter}
+use Rattle.std.proofs.lemmas.Fn.{always_returns_same}
+use Rattle.eden_ids.specs.FileMaps.{FileMap, differ, file_at, listing}
+use Rattle.eden_history.proofs.DirtyFiles.{dirty_listed}
 use Rattle.eden_ids.specs.Texts.{AreTexts}
 use Rattle.eden_objects.specs.Files.{commit_files}
 use Rattle.eden_workcopy.specs.Meanings.{means}
@@ -26,3 +30,19 @@ returns-clause-unclean g c =
 
 pub judge-requires-clause-texts : goal.judge-requires-clause-texts
 judge-requires-clause-texts g c = subst AreTexts (sym c.over-files.ensures) c.requires.texts
+
+pub invariant_of-dirty : goal.invariant_of-dirty
+invariant_of-dirty g c =
+    let held = c.args.store.now in
+    let files = c.over-files.result in
+    let root = c.commit_files-root.result in
+    let changed = c.deref.ensures.value ∙ c.in_ok-changed.ensures
+    ∙ ap (λ (m : FileMap). listing (differ m (root_files held c.args.work.now))) (sym c.over-files.ensures)
+    ∙ ap (λ (m : FileMap). listing (differ files m)) (sym (c.commit_files-root.ensures ∙ ap (commit_files held) c.root-2.ensures)) in record {
+      each =
+          c.deref-2.ensures.value
+          ∙ c.in_ok-push_where.ensures (λ p. is_some (file_at files p)) (always_returns_same _ _ _ (λ a r f k. search (rules, of_calls)))
+          ∙ ap (λ ps. ps ++ filter (λ p. is_some (file_at files p)) c.deref.result.now) c.new-listed.ensures.items
+          ∙ ap (filter (λ p. is_some (file_at files p))) changed
+          ∙ dirty_listed files root;
+    }
