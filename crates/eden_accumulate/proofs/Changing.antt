@@ -108,9 +108,9 @@ pub write_follows : {held : List Held} {old new : WorkCopy} {log other more : jo
     → IsRefusal mount (Write path kind bytes) None → IsChange (Write path kind bytes) → new.root ≡ old.root
     → ((h : List Held) → means h new ≡ fin.insert (means h old) path (record { kind = kind; bytes = bytes }))
     → ((h : List Held) → FitsIn h old → write_fault (means h old) path bytes ≡ None → FitsIn h new)
-    → (delta : FilesChanged) → delta ≡ touched_at path (is_some (file_at (files_of mount) path)) true → other ≡ log → GrowsBy other more delta
+    → (seen : FileMap) → seen ≡ means held old → (delta : FilesChanged) → delta ≡ touched_at path (is_some (file_at seen path)) true → other ≡ log → GrowsBy other more delta
     → Follows mount (Write path kind bytes) (state held new more)
-write_follows {held} {old} {new} {log} {other} {more} {mount} path kind bytes view judged text root files fits delta is same grows world h =
+write_follows {held} {old} {new} {log} {other} {more} {mount} path kind bytes view judged text root files fits seen all delta is same grows world h =
     let allowed = sym (judged world h) in
     let here = files_are held old log mount view world h in
     file_stands held old new log more mount view world h (Write path kind bytes) refl refl allowed refl text
@@ -118,7 +118,7 @@ write_follows {held} {old} {new} {log} {other} {more} {mount} path kind bytes vi
     root
     (files held ∙ ap (λ m. fin.insert m path (record { kind = kind; bytes = bytes })) here ∙ files-written (commits_of world) (now world) path kind bytes)
     delta
-    (ap File (is ∙ ap (λ m. touched_at path (is_some (file_at m path)) true) h.files) ∙ delta-written (commits_of world) (now world) path kind bytes)
+    (ap File (is ∙ ap (λ m. touched_at path (is_some (file_at m path)) true) (all ∙ here)) ∙ delta-written (commits_of world) (now world) path kind bytes)
     (grown_by log other more delta same grows)
 
 -- ---- remove
@@ -192,9 +192,9 @@ pub rename_follows : {held : List Held} {before after : WorkCopy} {log other mor
     → IsRefusal mount (Rename old new) None → IsChange (Rename old new) → same_bytes old new ≡ false → old ≢ new → after.root ≡ before.root
     → means held after ≡ renamed (means held before) old new
     → (FitsIn held before → rename_fault (means held before) old new ≡ None → FitsIn held after)
-    → (delta : FilesChanged) → delta ≡ moved_delta (files_of mount) old new → other ≡ log → GrowsBy other more delta
+    → (seen : FileMap) → seen ≡ means held before → (delta : FilesChanged) → delta ≡ moved_delta seen old new → other ≡ log → GrowsBy other more delta
     → Follows mount (Rename old new) (state held after more)
-rename_follows {held} {before} {after} {log} {other} {more} {mount} old new view judged text distinct apart root files fits delta is same grows world h =
+rename_follows {held} {before} {after} {log} {other} {more} {mount} old new view judged text distinct apart root files fits seen all delta is same grows world h =
     let allowed = sym (judged world h) in
     let here = files_are held before log mount view world h in
     let free = allowed_files (commits_of world) (now world) (Rename old new) allowed in
@@ -204,8 +204,18 @@ rename_follows {held} {before} {after} {log} {other} {more} {mount} old new view
     root
     (files ∙ ap (λ m. renamed m old new) here ∙ files-renamed (commits_of world) (now world) old new)
     delta
-    (ap File (is ∙ ap (λ m. moved_delta m old new) h.files) ∙ delta-renamed (commits_of world) (now world) old new distinct apart stood)
+    (ap File (is ∙ ap (λ m. moved_delta m old new) (all ∙ here)) ∙ delta-renamed (commits_of world) (now world) old new distinct apart stood)
     (grown_by log other more delta same grows)
+
+-- the file that a rename moves is there
+pub stood : {held : List Held} {work : WorkCopy} {log : journal.Log} {mount : State} (old new : List ℕ) → state held work log ≡ mount → IsPresent (state held work log)
+    → IsRefusal mount (Rename old new) None → is_some (file_at (means held work) old) ≡ true
+stood {held} {work} {log} {mount} old new view at judged =
+    let world = at.0 in
+    let h : StandsFor mount world = subst (λ m. StandsFor m world) view at.1 in
+    let free = allowed_files (commits_of world) (now world) (Rename old new) (sym (judged world h)) in
+    ap (λ files. is_some (file_at files old)) (files_are held work log mount view world h)
+    ∙ present (now world).files old (first-none (absent_fault (now world).files old) _ free).0
 
 -- ---- flush and remount
 

@@ -11,7 +11,7 @@ use eden_history::{Answer, Change, ChangeFault, Position};
 use eden_ids::{Naming, NoMemory};
 
 /// A refusal as an answer. A want of memory is none.
-fn refused(fault: ChangeFault) -> Option<Answer>
+fn answer_refused(fault: ChangeFault) -> Option<Answer>
     ensures { result ≡ applied.refused fault }
 {
     match fault {
@@ -21,17 +21,17 @@ fn refused(fault: ChangeFault) -> Option<Answer>
 }
 
 /// What a change came to, as an answer.
-fn at(told: Result<Position, ChangeFault>) -> Option<Answer>
+fn answer_at(told: Result<Position, ChangeFault>) -> Option<Answer>
     ensures { result ≡ applied.told_as answer.At told }
 {
     match told {
         Ok(position) => Some(Answer::At(position)),
-        Err(fault) => refused(fault),
+        Err(fault) => answer_refused(fault),
     }
 }
 
 /// What a checkout came to, as an answer.
-fn checked(told: Result<Checked, ChangeFault>) -> Option<Answer>
+fn answer_checked(told: Result<Checked, ChangeFault>) -> Option<Answer>
     ensures { result ≡ applied.told_as (λ checked. answer.Checked checked.position checked.conflicts) told }
 {
     match told {
@@ -39,7 +39,7 @@ fn checked(told: Result<Checked, ChangeFault>) -> Option<Answer>
             position: checked.position,
             conflicts: checked.conflicts,
         }),
-        Err(fault) => refused(fault),
+        Err(fault) => answer_refused(fault),
     }
 }
 
@@ -53,25 +53,26 @@ impl<N: Naming + Drop> Mount<N> {
         ensures stands { OnOk result (Follows N.id self.old change.now self.new) }
         ensures unchanged { OnErr result (self.new ≡ self.old) }
     {
-        match self.made(change) {
-            Some(answer) => Ok(answer),
-            None => Err(NoMemory),
-        }
+        self.answer_to(change).ok_or(NoMemory)
     }
 
     /// Makes a change, and tells its answer. With no memory it is not made.
-    fn made(&mut self, change: &Change) -> Option<Answer>
+    fn answer_to(&mut self, change: &Change) -> Option<Answer>
         ensures { applied.Applies N.id self.old change.now result self.new }
     {
         match change {
-            Change::Write { path, kind, bytes } => at(self.write(path, *kind, bytes.as_slice())),
-            Change::Remove { path } => at(self.remove(path)),
-            Change::Rename { old, new } => at(self.rename(old, new)),
-            Change::Checkout { commit, mode } => checked(self.checkout(*commit, *mode)),
-            Change::Reset { commit } => at(self.reset(*commit)),
-            Change::Flush => at(self.flush()),
-            Change::Remount { generation } => at(self.remount(*generation)),
-            Change::Import { objects } => at(self.import(objects.as_slice())),
+            Change::Write { path, kind, bytes } => answer_at(self.write(
+                path,
+                *kind,
+                bytes.as_slice(),
+            )),
+            Change::Remove { path } => answer_at(self.remove(path)),
+            Change::Rename { old, new } => answer_at(self.rename(old, new)),
+            Change::Checkout { commit, mode } => answer_checked(self.checkout(*commit, *mode)),
+            Change::Reset { commit } => answer_at(self.reset(*commit)),
+            Change::Flush => answer_at(self.flush()),
+            Change::Remount { generation } => answer_at(self.remount(*generation)),
+            Change::Import { objects } => answer_at(self.import(objects.as_slice())),
         }
     }
 }

@@ -1,3 +1,5 @@
+//! Objects taken into the store, all of them or none.
+
 ghost use Rattle.std.specs.Prelude.{◌≡◌, ◌≢◌, IfOk, IfErr, OnOk, OnErr};
 ghost use Rattle.eden_history.specs.declared.answer.Answer.TheVariants.{At};
 ghost use Rattle.eden_history.specs.declared.change.Change.TheVariants.{Import};

@@ -31,8 +31,6 @@ mod import;
 mod importer;
 mod laws;
 mod mount;
-mod parts;
 mod range;
 mod root;
 mod snapshot;
-mod stands_law;

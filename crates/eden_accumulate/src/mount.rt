@@ -1,4 +1,6 @@
-ghost use Rattle.std.specs.Prelude.{◌≡◌, ◌≢◌, None, Some, IfOk, IfErr, OnOk, OnErr, IsSome, not, nat_lt, ◌^◌, ◌-◌, if◌then◌else◌};
+//! A mount, its parts, and what it tells of the present.
+
+ghost use Rattle.std.specs.Prelude.{◌≡◌, ◌≢◌, [], None, Some, IfOk, IfErr, OnOk, OnErr, IsSome, not, nat_lt, ◌^◌, ◌-◌, if◌then◌else◌};
 ghost use Rattle.eden_ids.specs.FileMaps.{file_at};
 ghost use Rattle.eden_objects.specs.Commits.{commit_map};
 ghost use Rattle.eden_objects.specs.Files.{commit_files};
@@ -7,7 +9,7 @@ ghost use Rattle.eden_history.specs.Worlds.{WorldState, now, opened, position_of
 ghost use Rattle.eden_history.specs.Renames.{absent_fault};
 
 use eden_history::{ChangeFault, MountFault, Position};
-use eden_ids::{Id, Kind, Naming, Path, id_law};
+use eden_ids::{Id, Kind, Naming, NoMemory, Path, id_law};
 use eden_journal::Journal;
 use eden_objects::{CommitFault, Store};
 use eden_workcopy::WorkCopy;
@@ -41,7 +43,7 @@ impl<N: Naming + Drop> Model for Mount<N> {
 }
 
 impl<N: Naming + Drop> Mount<N> {
-    ghost use Rattle.eden_accumulate.specs.Mounts.{StandsFor, files_of};
+    ghost use Rattle.eden_accumulate.specs.Mounts.{StandsFor, begun_at, files_of};
 
     /// A mount of a commit, with no event, at number 1 of a generation. The limit is how many bytes the journal may hold.
     ///
@@ -118,5 +120,53 @@ impl<N: Naming + Drop> Mount<N> {
             → absent_fault (now world).files path.now ≡ Some fault) }
     {
         self.work.read(&self.store, path)
+    }
+
+    /// A mount of its parts, with no event, that begins at the journal's head.
+    ///
+    /// Condition: over the store the working copy holds files, the journal's root is the working copy's, and the journal holds nothing. It
+    /// takes no memory.
+    pub fn from_parts(store: Store<N>, work: WorkCopy, journal: Journal) -> Mount<N>
+        requires fits { FitsIn store work }
+        requires root { journal.log.root ≡ work.root }
+        requires nothing { journal.log.held ≡ [] }
+        ensures value { result ≡ record { held = store; work = work; log = journal.log } }
+        ensures stands { StandsFor result (begun_at result) }
+    {
+        // A journal stands for some history, and one that holds nothing also for the one that begins at its head.
+        let _ = journal.head();
+        let _ = journal.generation();
+        store.closed_law();
+        id_law(work.root());
+        Mount {
+            store,
+            work,
+            journal,
+        }
+    }
+
+    /// A copy of the store, as `Store::share` gives it: it has the same objects, and keeps them whatever either takes in afterwards.
+    /// `NoMemory` comes where a growth was refused. Either way the mount is as it was.
+    pub fn share(&mut self) -> Result<Store<N>, NoMemory>
+        ensures copy { IfOk result (λ store. store ≡ self.old.held) }
+        ensures same { self.new ≡ self.old }
+    {
+        self.store.share()
+    }
+
+    /// A mount that is equal to this one, over a copy of the store, so that what either mount takes in afterwards is not in the other.
+    /// `NoMemory` comes where a growth was refused. Either way this mount is as it was.
+    pub fn copy(&mut self) -> Result<Mount<N>, NoMemory>
+        ensures copy { IfOk result (λ mount. mount ≡ self.old) }
+        ensures same { self.new ≡ self.old }
+    {
+        let work = self.work.copy()?;
+        let journal = self.journal.copy()?;
+        let store = self.share()?;
+        Ok(Mount {
+            store,
+            work,
+            journal,
+        })
     }
 }

@@ -1,3 +1,5 @@
+//! What changed since a position, as a range and path by path.
+
 ghost use Rattle.std.specs.Prelude.{◌≡◌, ◌≢◌, None, Some, true, IfOk, IfErr};
 ghost use Rattle.eden_objects.specs.Commits.{commit_map};
 ghost use Rattle.eden_history.specs.Worlds.{WorldState, now, position_of};
@@ -8,10 +10,11 @@ ghost use Rattle.eden_accumulate.specs.Mounts.{StandsFor};
 ghost use Rattle.eden_accumulate.specs.Ranges.{EndsNow, IsStatus, Tells};
 
 use crate::mount::Mount;
+use eden_globs::Filter;
 use eden_history::{Marked, Position, SinceFault};
 use eden_ids::Naming;
 use eden_objects::CommitFault;
-use eden_ranges::{Range, accumulate, expand};
+use eden_ranges::{Range, accumulate, expand_owned};
 
 /// What changed since a position, told path by path.
 #[derive(Drop)]
@@ -69,11 +72,10 @@ impl<N: Naming + Drop> Mount<N> {
             Ok(range) => range,
             Err(fault) => return Err(fault),
         };
-        match expand(self.store.allocator(), &self.store, &range) {
-            Ok(marked) => Ok(Changes {
-                to: range.to,
-                marked,
-            }),
+        let to = range.to;
+        let alloc = self.store.allocator();
+        match expand_owned(alloc, &self.store, range, &Filter::all(alloc)) {
+            Ok(marked) => Ok(Changes { to, marked }),
             // Each root of a mount's range is a commit.
             Err(CommitFault::NoCommit) => unreachable!(),
             Err(CommitFault::NoMemory) => Err(SinceFault::NoMemory),

@@ -1,3 +1,5 @@
+//! The changes of the commit: reset and checkout.
+
 ghost use Rattle.std.specs.Prelude.{◌≡◌, ◌≢◌, None, Some, IfOk, IfErr, OnOk, OnErr};
 ghost use Rattle.eden_objects.specs.Commits.{commit_map};
 ghost use Rattle.eden_history.specs.declared.answer.Answer.TheVariants as answer;
@@ -45,7 +47,7 @@ impl<N: Naming + Drop> Mount<N> {
     fn reset_refusal(&self, commit: Id) -> Option<ChangeFault>
         ensures { IsRefusal self.now (Reset commit) result }
     {
-        self.first_fault(self.commit_fault(commit))
+        self.commit_fault(commit).or(self.number_fault())
     }
 
     /// Goes over to another commit, and leaves the files as they are. The answer is the position after it.
@@ -84,7 +86,7 @@ impl<N: Naming + Drop> Mount<N> {
         if is_dry(mode) {
             return fault;
         }
-        self.first_fault(fault)
+        fault.or(self.number_fault())
     }
 
     /// Goes over to another commit, and makes the files those of that commit as far as the mode says. `Dry` changes nothing and is no

@@ -1,4 +1,5 @@
 use Rattle.std.proofs.Common.{◌≡◌, true, false, not, rules, ap, ◌∙◌}
+use Rattle.std.specs.Option.{option_or}
 use Rattle.eden_history.specs.declared.change.Change.TheVariants.{Checkout}
 use Rattle.eden_history.specs.Checkouts.{is_dry}
 use Rattle.eden_accumulate.proofs.Standing.{refusal-free, refusal-numbered}
@@ -16,6 +17,6 @@ pub returns : goal.returns
 returns g c =
     λ world h.
     let real : is_dry c.args.mode ≡ false = search rules in
-    c.first_fault.ensures
+    c.or.ensures ∙ ap (option_or c.commit_fault-fault.result) c.number_fault.ensures
     ∙ refusal-numbered c.args.self.now (Checkout c.args.commit c.args.mode) c.commit_fault-fault.result world h
     (c.commit_fault-fault.ensures ∙ commit-fault c.args.self.now world h c.args.commit) (ap not real)

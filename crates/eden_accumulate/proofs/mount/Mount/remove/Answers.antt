@@ -1,4 +1,5 @@
-use Rattle.std.proofs.Common.{refl}
+use Rattle.std.proofs.Common.{refl, ap, ◌∙◌}
+use Rattle.eden_journal.specs.Deltas.{removed}
 use Rattle.eden_history.specs.declared.change.Change.TheVariants.{Remove}
 use Rattle.eden_accumulate.proofs.Standing.{answered, still_present}
 use Rattle.eden_accumulate.proofs.Changing.{kept, left, remove_follows, state}
@@ -23,14 +24,14 @@ append_file-requires-clause-below g c =
 pub returns-clause-stands : goal.returns-clause-stands
 returns-clause-stands g c =
     remove_follows c.args.path.now c.self.view_is c.in_default.ensures c.path_law.ensures c.take_file.ensures.root c.in_ok-take_file.ensures.files c.in_ok-take_file.ensures.fits
-    c.in_ok-delta.delta c.in_ok-delta.ensures c.reserve.ensures.log c.append_file.ensures.stands
+    c.removed-delta.result (c.removed-delta.ensures ∙ ap removed c.in_ok-copy.ensures) c.reserve.ensures.log c.append_file.ensures.stands
 
 pub invariant_of-self-2 : goal.invariant_of-self-2
 invariant_of-self-2 g c =
     let m = c.self.inside in
     still_present (state m.store m.work m.journal.log) c.args.self.now (state m.store c.take_file.new.self c.append_file.new.self.log) (Remove c.args.path.now) c.self.view_is c.self.invariant
     (remove_follows c.args.path.now c.self.view_is c.in_default.ensures c.path_law.ensures c.take_file.ensures.root c.in_ok-take_file.ensures.files c.in_ok-take_file.ensures.fits
-    c.in_ok-delta.delta c.in_ok-delta.ensures c.reserve.ensures.log c.append_file.ensures.stands)
+    c.removed-delta.result (c.removed-delta.ensures ∙ ap removed c.in_ok-copy.ensures) c.reserve.ensures.log c.append_file.ensures.stands)
 
 pub returns-clause-answers : goal.returns-clause-answers
 returns-clause-answers g c =

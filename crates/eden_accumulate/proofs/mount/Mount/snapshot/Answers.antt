@@ -1,4 +1,7 @@
-use Rattle.std.proofs.Common.{ap, subst, ◌∙◌}
+use Rattle.std.proofs.Common.{T, List, sym, ap, subst, ◌∙◌}
+use Rattle.std.specs.FinMap.{is_sorted}
+use Rattle.eden_workcopy.specs.Layers.{Mark, by_bytes}
+use Rattle.eden_workcopy.proofs.WovenRows.{marks_up}
 use Rattle.eden_workcopy.specs.Meanings.{touched_of}
 use Rattle.eden_history.specs.Worlds.{now}
 use Rattle.eden_accumulate.specs.Mounts.{State}
@@ -11,7 +14,12 @@ returns-clause-files g c =
     λ world h patterns.
     let n = c.args.self.now in
     let present : IsPresent n = subst IsPresent c.self.view_is c.self.invariant in
-    shows n.held n.work (record { position = c.position.result; touched = c.from_vec.result }) patterns (now world).files
+    shows n.held n.work c.position.result.root c.from_vec.result patterns (now world).files
     ((λ i. (c.position.ensures.log i).root) ∙ root_is n present)
     (c.from_vec.ensures ∙ c.in_ok-touched.ensures ∙ ap (λ (m : State). touched_of m.work) c.self.view_is)
     h.files
+
+pub invariant_of-result : goal.invariant_of-result
+invariant_of-result g c = record {
+  ascending = subst (λ (ts : List Mark). T (is_sorted by_bytes ts)) (sym (c.from_vec.ensures ∙ c.in_ok-touched.ensures)) (marks_up c.self.inside.work.overlay);
+}

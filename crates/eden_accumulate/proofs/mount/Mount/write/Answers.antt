@@ -1,8 +1,12 @@
-use Rattle.std.proofs.Common.{refl}
+use Rattle.std.proofs.Common.{refl, ap, ◌∙◌}
 use Rattle.eden_history.specs.declared.change.Change.TheVariants.{Write}
+use Rattle.eden_accumulate.specs.Mounts.{files_of}
 use Rattle.eden_accumulate.proofs.Standing.{answered, still_present}
 use Rattle.eden_accumulate.proofs.Changing.{kept, left, state, write_follows}
 use Rattle.eden_accumulate.proofs.mount.Mount.write.Goals as goal
+
+pub write_refusal-requires : goal.write_refusal-requires
+write_refusal-requires g c = c.over-files.ensures ∙ ap files_of c.self.view_is
 
 pub invariant_of-self : goal.invariant_of-self
 invariant_of-self g c =
@@ -23,14 +27,14 @@ append_file-requires-clause-below g c =
 pub returns-clause-stands : goal.returns-clause-stands
 returns-clause-stands g c =
     write_follows c.args.path.now c.args.kind c.args.bytes.now c.self.view_is c.in_default.ensures (c.path_law.ensures, c.bytes_law.ensures) c.put_file.ensures.root c.in_ok-put_file.ensures.files c.in_ok-put_file.ensures.fits
-    c.in_ok-delta.delta c.in_ok-delta.ensures c.reserve.ensures.log c.append_file.ensures.stands
+    c.over-files.result c.over-files.ensures c.in_ok-delta.delta c.in_ok-delta.ensures c.reserve.ensures.log c.append_file.ensures.stands
 
 pub invariant_of-self-2 : goal.invariant_of-self-2
 invariant_of-self-2 g c =
     let m = c.self.inside in
     still_present (state m.store m.work m.journal.log) c.args.self.now (state m.store c.put_file.new.self c.append_file.new.self.log) (Write c.args.path.now c.args.kind c.args.bytes.now) c.self.view_is c.self.invariant
     (write_follows c.args.path.now c.args.kind c.args.bytes.now c.self.view_is c.in_default.ensures (c.path_law.ensures, c.bytes_law.ensures) c.put_file.ensures.root c.in_ok-put_file.ensures.files c.in_ok-put_file.ensures.fits
-    c.in_ok-delta.delta c.in_ok-delta.ensures c.reserve.ensures.log c.append_file.ensures.stands)
+    c.over-files.result c.over-files.ensures c.in_ok-delta.delta c.in_ok-delta.ensures c.reserve.ensures.log c.append_file.ensures.stands)
 
 pub returns-clause-answers : goal.returns-clause-answers
 returns-clause-answers g c =
