@@ -10,7 +10,7 @@ use Rattle.eden_messages.specs.declared.message.Reply.TheVariants.{BasisIs, Chan
 use Rattle.eden_messages.specs.Spells.{query_bytes, position_bytes, text_bytes, filter_bytes, paths_bytes, list_bytes, content_bytes, cause_bytes, request_bytes, IsRequest, SpellsRequest, reply_bytes, IsReply, SpellsReply}
 use Rattle.eden_wire.specs.declared.fault.DecodeFault.{DecodeFault}
 use Rattle.eden_wire.specs.declared.fault.DecodeFault.TheVariants.{TooLarge, Version, BadTag}
-use Rattle.eden_wire.specs.Reading.{◌>>=◌, Gives, byte_at, query_at, position_at, path_at, filter_at, path_listing_at, listing_at, content_at, cause_at, tag_at, ended, basis_at, poll_at, fetch_at, read_request, based_at, changes_at, held_at, refused_at, read_reply}
+use Rattle.eden_wire.specs.Reading.{◌>>=◌, Gives, byte_at, query_at, position_at, path_at, filter_at, path_listing_at, listing_at, content_at, cause_at, tag_at, ended, basis_at, poll_at, fetch_at, read_request, basis_is_at, changes_are_at, content_is_at, refused_at, read_reply}
 use Rattle.eden_wire.proofs.Numbers.{IsBytes, bind_ok, guard_ok, held_ok, Takes, Takes-then, byte_takes, ended_ok}
 use Rattle.eden_wire.proofs.FieldLaws.{query_takes, query_again, position_takes, position_again, path_takes, path_again, filter_takes, filter_again, path_listing_takes, path_listing_again, listing_takes, listing_again, content_takes, content_again, cause_takes, cause_again, chosen}
 
@@ -128,8 +128,8 @@ request_read body request spells =
 
 -- ---- replies
 
-based_takes : (bytes : List ℕ) (y : Reply) → IsBytes bytes → based_at bytes ≡ Ok y → (1 ∷ 129 ∷ bytes ≡ reply_bytes y) × IsReply y
-unfolding based_at
+based_takes : (bytes : List ℕ) (y : Reply) → IsBytes bytes → basis_is_at bytes ≡ Ok y → (1 ∷ 129 ∷ bytes ≡ reply_bytes y) × IsReply y
+unfolding basis_is_at
 based_takes bytes y fits e =
     let a = bind_ok (query_at bytes) (λ q. position_at q.1 >>= λ s. path_listing_at s.1 >>= λ l. ended (BasisIs q.0 s.0 l.0) l.1) y e in
     let b = bind_ok (position_at a.0.1) (λ s. path_listing_at s.1 >>= λ l. ended (BasisIs a.0.0 s.0 l.0) l.1) y a.2 in
@@ -143,8 +143,8 @@ based_takes bytes y fits e =
     subst (λ (m : Reply). (1 ∷ 129 ∷ bytes ≡ reply_bytes m) × IsReply m) end.0
     (ap (λ (r : List ℕ). 1 ∷ 129 ∷ r) (all_taken bytes _ c.0.1 three end.1), (t0.1, t1.1, t2.1))
 
-held_takes : (bytes : List ℕ) (y : Reply) → IsBytes bytes → held_at bytes ≡ Ok y → (1 ∷ 131 ∷ bytes ≡ reply_bytes y) × IsReply y
-unfolding held_at
+held_takes : (bytes : List ℕ) (y : Reply) → IsBytes bytes → content_is_at bytes ≡ Ok y → (1 ∷ 131 ∷ bytes ≡ reply_bytes y) × IsReply y
+unfolding content_is_at
 held_takes bytes y fits e =
     let a = bind_ok (query_at bytes) (λ q. position_at q.1 >>= λ s. path_at s.1 >>= λ p. content_at p.1 >>= λ v. ended (ContentIs q.0 s.0 p.0 v.0) v.1) y e in
     let b = bind_ok (position_at a.0.1) (λ s. path_at s.1 >>= λ p. content_at p.1 >>= λ v. ended (ContentIs a.0.0 s.0 p.0 v.0) v.1) y a.2 in
@@ -161,8 +161,8 @@ held_takes bytes y fits e =
     subst (λ (m : Reply). (1 ∷ 131 ∷ bytes ≡ reply_bytes m) × IsReply m) end.0
     (ap (λ (r : List ℕ). 1 ∷ 131 ∷ r) (all_taken bytes _ d.0.1 four end.1), (t0.1, t1.1, t2.1, t3.1))
 
-changes_takes : (bytes : List ℕ) (y : Reply) → IsBytes bytes → changes_at bytes ≡ Ok y → (1 ∷ 130 ∷ bytes ≡ reply_bytes y) × IsReply y
-unfolding changes_at
+changes_takes : (bytes : List ℕ) (y : Reply) → IsBytes bytes → changes_are_at bytes ≡ Ok y → (1 ∷ 130 ∷ bytes ≡ reply_bytes y) × IsReply y
+unfolding changes_are_at
 changes_takes bytes y fits e =
     let a = bind_ok (query_at bytes) (λ q. position_at q.1 >>= λ s. listing_at s.1 >>= λ l. ended (ChangesAre q.0 s.0 l.0) l.1) y e in
     let b = bind_ok (position_at a.0.1) (λ s. listing_at s.1 >>= λ l. ended (ChangesAre a.0.0 s.0 l.0) l.1) y a.2 in
@@ -196,13 +196,13 @@ spells_reply body known tag rest reply t e is =
 pub reply_spelled : (body : List ℕ) (reply : Reply) → IsBytes body → read_reply body ≡ Ok reply → SpellsReply body reply
 unfolding read_reply
 reply_spelled body reply fits e =
-    let a = bind_ok (tag_at body) (λ t. cond (eqb t.0 129) (based_at t.1) (cond (eqb t.0 130) (changes_at t.1) (cond (eqb t.0 131) (held_at t.1) (cond (eqb t.0 132) (refused_at t.1) (Err BadTag))))) reply e in
+    let a = bind_ok (tag_at body) (λ t. cond (eqb t.0 129) (basis_is_at t.1) (cond (eqb t.0 130) (changes_are_at t.1) (cond (eqb t.0 131) (content_is_at t.1) (cond (eqb t.0 132) (refused_at t.1) (Err BadTag))))) reply e in
     let t = tag_takes body a.0 fits a.1 in
-    elim (chosen (eqb a.0.0 129) (based_at a.0.1) (cond (eqb a.0.0 130) (changes_at a.0.1) (cond (eqb a.0.0 131) (held_at a.0.1) (cond (eqb a.0.0 132) (refused_at a.0.1) (Err BadTag)))) (Ok reply) a.2) [
+    elim (chosen (eqb a.0.0 129) (basis_is_at a.0.1) (cond (eqb a.0.0 130) (changes_are_at a.0.1) (cond (eqb a.0.0 131) (content_is_at a.0.1) (cond (eqb a.0.0 132) (refused_at a.0.1) (Err BadTag)))) (Ok reply) a.2) [
       | inl h ↦ spells_reply body 129 a.0.0 a.0.1 reply t h.0 (based_takes a.0.1 reply t.rest_fits h.1)
-      | inr h ↦ elim (chosen (eqb a.0.0 130) (changes_at a.0.1) (cond (eqb a.0.0 131) (held_at a.0.1) (cond (eqb a.0.0 132) (refused_at a.0.1) (Err BadTag))) (Ok reply) h.1) [
+      | inr h ↦ elim (chosen (eqb a.0.0 130) (changes_are_at a.0.1) (cond (eqb a.0.0 131) (content_is_at a.0.1) (cond (eqb a.0.0 132) (refused_at a.0.1) (Err BadTag))) (Ok reply) h.1) [
         | inl k ↦ spells_reply body 130 a.0.0 a.0.1 reply t k.0 (changes_takes a.0.1 reply t.rest_fits k.1)
-        | inr k ↦ elim (chosen (eqb a.0.0 131) (held_at a.0.1) (cond (eqb a.0.0 132) (refused_at a.0.1) (Err BadTag)) (Ok reply) k.1) [
+        | inr k ↦ elim (chosen (eqb a.0.0 131) (content_is_at a.0.1) (cond (eqb a.0.0 132) (refused_at a.0.1) (Err BadTag)) (Ok reply) k.1) [
           | inl l ↦ spells_reply body 131 a.0.0 a.0.1 reply t l.0 (held_takes a.0.1 reply t.rest_fits l.1)
           | inr l ↦
               let m = held_ok (eqb a.0.0 132) (refused_at a.0.1) BadTag reply l.1 in
@@ -212,7 +212,7 @@ reply_spelled body reply fits e =
     ]
 
 reply_again : (reply : Reply) → IsReply reply → length (reply_bytes reply) ≤ 16777216 → read_reply (reply_bytes reply) ≡ Ok reply
-unfolding read_reply based_at changes_at held_at refused_at
+unfolding read_reply basis_is_at changes_are_at content_is_at refused_at
 reply_again (BasisIs query position paths) is limit =
     let rest = query_bytes query ++ (position_bytes position ++ paths_bytes paths) in
     let end : path_listing_at (paths_bytes paths) ≡ Ok (paths, []) = ap path_listing_at (sym (append-nil (paths_bytes paths))) ∙ path_listing_again paths [] is.2 in

@@ -228,23 +228,23 @@ read_request body = do
       if tag.0 == 2 then poll_at tag.1 else
       if tag.0 == 3 then fetch_at tag.1 else Err BadTag
 
-unfoldable pub based_at : List ℕ → Result Reply DecodeFault
-based_at bytes = do
+unfoldable pub basis_is_at : List ℕ → Result Reply DecodeFault
+basis_is_at bytes = do
   query ← query_at bytes
   position ← position_at query.1
   paths ← path_listing_at position.1
   ended (BasisIs query.0 position.0 paths.0) paths.1
 
-unfoldable pub held_at : List ℕ → Result Reply DecodeFault
-held_at bytes = do
+unfoldable pub content_is_at : List ℕ → Result Reply DecodeFault
+content_is_at bytes = do
   query ← query_at bytes
   position ← position_at query.1
   path ← path_at position.1
   content ← content_at path.1
   ended (ContentIs query.0 position.0 path.0 content.0) content.1
 
-unfoldable pub changes_at : List ℕ → Result Reply DecodeFault
-changes_at bytes = do
+unfoldable pub changes_are_at : List ℕ → Result Reply DecodeFault
+changes_are_at bytes = do
   query ← query_at bytes
   target ← position_at query.1
   marked ← listing_at target.1
@@ -260,7 +260,7 @@ refused_at bytes = do
 unfoldable pub read_reply : List ℕ → Result Reply DecodeFault
 read_reply body = do
   tag ← tag_at body
-  if tag.0 == 129 then based_at tag.1 else
-      if tag.0 == 130 then changes_at tag.1 else
-      if tag.0 == 131 then held_at tag.1 else
+  if tag.0 == 129 then basis_is_at tag.1 else
+      if tag.0 == 130 then changes_are_at tag.1 else
+      if tag.0 == 131 then content_is_at tag.1 else
       if tag.0 == 132 then refused_at tag.1 else Err BadTag

@@ -1,8 +1,12 @@
+//! Bodies read: a request or a reply of its bytes.
+
 ghost use Rattle.std.specs.Prelude.{◌≡◌, None, Ok, IfOk};
+ghost use Rattle.std.specs.Option.{option_copied};
 ghost use Rattle.eden_messages.specs.declared.message.Request.{Request};
 ghost use Rattle.eden_messages.specs.declared.message.Reply.{Reply};
 ghost use Rattle.eden_messages.specs.Spells.{SpellsRequest, SpellsReply};
-ghost use Rattle.eden_wire.specs.Reading.{Gives, tag_at, is_above, next_at, paths_at, path_listing_at, marked_at, list_at, listing_at, basis_at, poll_at, fetch_at, based_at, changes_at, held_at, refused_at, read_request, read_reply};
+ghost use Rattle.eden_wire.specs.Reading.{Gives, tag_at, next_at, paths_at, path_listing_at, marked_at, list_at, listing_at, basis_at, poll_at, ended, fetch_at, basis_is_at, changes_are_at, content_is_at, refused_at, read_request, read_reply};
+ghost use Rattle.eden_wire.specs.Reading as reading;
 ghost use Rattle.eden_wire.specs.internal.Listing.{last_marked, last_path};
 
 use crate::fault::DecodeFault;
@@ -30,13 +34,13 @@ fn tag_of(body: &[u8]) -> Result<(u8, &[u8]), DecodeFault>
     byte_of(rest)
 }
 
-/// Whether the path is above the last of these.
-fn is_above_last(marked: &[Marked], path: &Path) -> bool
-    ensures { result ≡ is_above (last_marked marked.now) path.now }
+/// Whether the path is above the one before it, if there is one.
+fn is_above(last: Option<&Path>, path: &Path) -> bool
+    ensures { result ≡ reading.is_above (option_copied last.entry) path.now }
 {
-    match marked.last() {
+    match last {
         None => true,
-        Some(last) => last.path < *path,
+        Some(last) => *last < *path,
     }
 }
 
@@ -50,11 +54,7 @@ fn next_of<'a>(
     ensures { Gives (λ x. (x.0, x.1.now)) result (next_at (last_path before.now) bytes.now) }
 {
     let (path, rest) = path_of(alloc, bytes)?;
-    let above = match before.last() {
-        None => true,
-        Some(last) => *last < path,
-    };
-    if !above {
+    if !is_above(before.last(), &path) {
         return Err(DecodeFault::BadField);
     }
     Ok((path, rest))
@@ -68,10 +68,7 @@ fn paths_of(alloc: Global, count: u32, bytes: &[u8]) -> Result<(Vec<Path>, &[u8]
     let mut rest = bytes;
     for _ in 0..count {
         let (path, after) = next_of(alloc, list.as_slice(), rest)?;
-        match list.push(path) {
-            Ok(()) => {}
-            Err(_) => return Err(DecodeFault::NoMemory),
-        }
+        list.push(path)?;
         rest = after;
     }
     Ok((list, rest))
@@ -97,7 +94,7 @@ fn marked_of<'a>(
 {
     let (mark, rest) = mark_of(bytes)?;
     let (path, rest) = path_of(alloc, rest)?;
-    if !is_above_last(before, &path) {
+    if !is_above(before.last().map(|last| &last.path), &path) {
         return Err(DecodeFault::BadField);
     }
     Ok((Marked { mark, path }, rest))
@@ -111,10 +108,7 @@ fn list_of(alloc: Global, count: u32, bytes: &[u8]) -> Result<(Vec<Marked>, &[u8
     let mut rest = bytes;
     for _ in 0..count {
         let (marked, after) = marked_of(alloc, list.as_slice(), rest)?;
-        match list.push(marked) {
-            Ok(()) => {}
-            Err(_) => return Err(DecodeFault::NoMemory),
-        }
+        list.push(marked)?;
         rest = after;
     }
     Ok((list, rest))
@@ -129,16 +123,24 @@ fn listing_of(alloc: Global, bytes: &[u8]) -> Result<(Sequence<Marked>, &[u8]), 
     Ok((Sequence::from_vec(list), rest))
 }
 
+/// The message that was read, where no byte stands after its last field.
+fn whole<T: Drop>(message: T, rest: &[u8]) -> Result<T, DecodeFault>
+    ensures { result ≡ ended message rest.now }
+{
+    if rest.is_empty() {
+        Ok(message)
+    } else {
+        Err(DecodeFault::Trailing)
+    }
+}
+
 #[tactic(auto, unfolding(crate::specs::Reading::basis_at))]
 fn basis_of(alloc: Global, bytes: &[u8]) -> Result<Request, DecodeFault>
     ensures { Gives (λ request. request) result (basis_at bytes.now) }
 {
     let (query, rest) = query_of(bytes)?;
     let (filter, rest) = filter_of(alloc, rest)?;
-    if !rest.is_empty() {
-        return Err(DecodeFault::Trailing);
-    }
-    Ok(Request::Basis { query, filter })
+    whole(Request::Basis { query, filter }, rest)
 }
 
 #[tactic(auto, unfolding(crate::specs::Reading::fetch_at))]
@@ -147,10 +149,7 @@ fn fetch_of(alloc: Global, bytes: &[u8]) -> Result<Request, DecodeFault>
 {
     let (query, rest) = query_of(bytes)?;
     let (path, rest) = path_of(alloc, rest)?;
-    if !rest.is_empty() {
-        return Err(DecodeFault::Trailing);
-    }
-    Ok(Request::Fetch { query, path })
+    whole(Request::Fetch { query, path }, rest)
 }
 
 #[tactic(auto, unfolding(crate::specs::Reading::poll_at))]
@@ -160,67 +159,59 @@ fn poll_of(alloc: Global, bytes: &[u8]) -> Result<Request, DecodeFault>
     let (query, rest) = query_of(bytes)?;
     let (since, rest) = position_of(rest)?;
     let (filter, rest) = filter_of(alloc, rest)?;
-    if !rest.is_empty() {
-        return Err(DecodeFault::Trailing);
-    }
-    Ok(Request::Poll {
+    let message = Request::Poll {
         query,
         since,
         filter,
-    })
+    };
+    whole(message, rest)
 }
 
-#[tactic(auto, unfolding(crate::specs::Reading::based_at))]
-fn based_of(alloc: Global, bytes: &[u8]) -> Result<Reply, DecodeFault>
-    ensures { Gives (λ reply. reply) result (based_at bytes.now) }
+#[tactic(auto, unfolding(crate::specs::Reading::basis_is_at))]
+fn basis_is_of(alloc: Global, bytes: &[u8]) -> Result<Reply, DecodeFault>
+    ensures { Gives (λ reply. reply) result (basis_is_at bytes.now) }
 {
     let (query, rest) = query_of(bytes)?;
     let (position, rest) = position_of(rest)?;
     let (paths, rest) = path_listing_of(alloc, rest)?;
-    if !rest.is_empty() {
-        return Err(DecodeFault::Trailing);
-    }
-    Ok(Reply::BasisIs {
+    let message = Reply::BasisIs {
         query,
         position,
         paths,
-    })
+    };
+    whole(message, rest)
 }
 
-#[tactic(auto, unfolding(crate::specs::Reading::held_at))]
-fn held_of(alloc: Global, bytes: &[u8]) -> Result<Reply, DecodeFault>
-    ensures { Gives (λ reply. reply) result (held_at bytes.now) }
+#[tactic(auto, unfolding(crate::specs::Reading::content_is_at))]
+fn content_is_of(alloc: Global, bytes: &[u8]) -> Result<Reply, DecodeFault>
+    ensures { Gives (λ reply. reply) result (content_is_at bytes.now) }
 {
     let (query, rest) = query_of(bytes)?;
     let (position, rest) = position_of(rest)?;
     let (path, rest) = path_of(alloc, rest)?;
     let (content, rest) = content_of(alloc, rest)?;
-    if !rest.is_empty() {
-        return Err(DecodeFault::Trailing);
-    }
-    Ok(Reply::ContentIs {
+    let message = Reply::ContentIs {
         query,
         position,
         path,
         content,
-    })
+    };
+    whole(message, rest)
 }
 
-#[tactic(auto, unfolding(crate::specs::Reading::changes_at))]
-fn changes_of(alloc: Global, bytes: &[u8]) -> Result<Reply, DecodeFault>
-    ensures { Gives (λ reply. reply) result (changes_at bytes.now) }
+#[tactic(auto, unfolding(crate::specs::Reading::changes_are_at))]
+fn changes_are_of(alloc: Global, bytes: &[u8]) -> Result<Reply, DecodeFault>
+    ensures { Gives (λ reply. reply) result (changes_are_at bytes.now) }
 {
     let (query, rest) = query_of(bytes)?;
     let (target, rest) = position_of(rest)?;
     let (marked, rest) = listing_of(alloc, rest)?;
-    if !rest.is_empty() {
-        return Err(DecodeFault::Trailing);
-    }
-    Ok(Reply::ChangesAre {
+    let message = Reply::ChangesAre {
         query,
         target,
         marked,
-    })
+    };
+    whole(message, rest)
 }
 
 #[tactic(auto, unfolding(crate::specs::Reading::refused_at))]
@@ -229,10 +220,7 @@ fn refused_of(bytes: &[u8]) -> Result<Reply, DecodeFault>
 {
     let (query, rest) = query_of(bytes)?;
     let (cause, rest) = cause_of(rest)?;
-    if !rest.is_empty() {
-        return Err(DecodeFault::Trailing);
-    }
-    Ok(Reply::Refused { query, cause })
+    whole(Reply::Refused { query, cause }, rest)
 }
 
 #[tactic(auto, unfolding(crate::specs::Reading::read_request))]
@@ -254,9 +242,9 @@ fn reply_of(alloc: Global, body: &[u8]) -> Result<Reply, DecodeFault>
 {
     let (tag, rest) = tag_of(body)?;
     match tag {
-        0x81 => based_of(alloc, rest),
-        0x82 => changes_of(alloc, rest),
-        0x83 => held_of(alloc, rest),
+        0x81 => basis_is_of(alloc, rest),
+        0x82 => changes_are_of(alloc, rest),
+        0x83 => content_is_of(alloc, rest),
         0x84 => refused_of(rest),
         _ => Err(DecodeFault::BadTag),
     }

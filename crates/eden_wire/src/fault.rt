@@ -1,5 +1,7 @@
+//! Why a message has no frame, and why bytes are no message.
+
 use bytes::TryGetError;
-use std::alloc::AllocError;
+use std::alloc::{AllocError, AllocFailed};
 use thiserror::Error;
 
 /// Why a message has no frame.
@@ -69,6 +71,17 @@ impl From<AllocError> for DecodeFault {
     ghost from_gives = { λ _ fault. fault ≡ NoMemory };
 
     fn from(_fault: AllocError) -> DecodeFault {
+        DecodeFault::NoMemory
+    }
+}
+
+impl<T: Drop> From<AllocFailed<T>> for DecodeFault {
+    ghost use Rattle.std.specs.Prelude.{◌≡◌};
+    ghost use Rattle.eden_wire.specs.declared.fault.DecodeFault.TheVariants.{NoMemory};
+
+    ghost from_gives = { λ _ fault. fault ≡ NoMemory };
+
+    fn from(_fault: AllocFailed<T>) -> DecodeFault {
         DecodeFault::NoMemory
     }
 }

@@ -1,3 +1,5 @@
+//! The fields that bodies are made of, read one after another.
+
 ghost use Rattle.std.specs.Prelude.{◌≡◌, map};
 ghost use Rattle.std.specs.Int.{w16, w32, w64};
 ghost use Rattle.eden_wire.specs.Reading.{Gives, byte_at, number_at, text_at, query_at, root_at, position_at, path_of, path_at, patterns_at, filter_of, filter_at, mark_of_byte, mark_at, kind_of_byte, bytes_at, content_at, cause_of, cause_at};

@@ -14,7 +14,7 @@ returns-in_err-path c =
 pub loop-preserved : goal.loop-preserved
 loop-preserved c =
     let read = rw c.as_slice.ensures.value at c.in_ok-path.ensures in
-    rw c.in-Ok.ensures.items (items_go_on (λ p. p) next_at c.loop.list.items c.args.count c.loop.counter c.loop.rest.now c.in_ok-path.path c.in_ok-path.after.now
+    rw c.in_ok-push.ensures.items (items_go_on (λ p. p) next_at c.loop.list.items c.args.count c.loop.counter c.loop.rest.now c.in_ok-path.path c.in_ok-path.after.now
     (paths_at c.args.count None c.args.bytes.now) c.loop-test.true read c.loop.invariant)
 
 pub returns : goal.returns
