@@ -1,3 +1,5 @@
+//! Why an object can't be read or put, and why a reading ended.
+
 use eden_objects::PutFault;
 use thiserror::Error;
 

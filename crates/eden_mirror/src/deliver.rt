@@ -34,7 +34,7 @@ impl Mirror {
     }
 
     /// Awaits the contents of these paths, or is placed where there is none.
-    fn gather(&mut self, target: Position, awaited: Awaited) -> Outcome
+    fn await_contents(&mut self, target: Position, awaited: Awaited) -> Outcome
         ensures { (self.new, result) ≡ gathers self.old (query_numbered self.old self.old.last) target awaited }
     {
         if awaited.is_empty() {
@@ -63,7 +63,7 @@ impl Mirror {
         }
         let awaited = Awaited::of_paths(self.alloc(), paths)?;
         self.files = Files::new(self.alloc());
-        Ok(self.gather(target, awaited))
+        Ok(self.await_contents(target, awaited))
     }
 
     /// Takes the list of the paths that changed.
@@ -84,7 +84,7 @@ impl Mirror {
             return Ok(Outcome::Ignored);
         }
         let awaited = Awaited::of_marked(self.alloc(), marked)?;
-        Ok(self.gather(target, awaited))
+        Ok(self.await_contents(target, awaited))
     }
 
     /// Whether a content counts in the round that is under way.

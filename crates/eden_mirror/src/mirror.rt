@@ -153,7 +153,7 @@ impl Mirror {
     }
 
     /// The question of the round with a number.
-    fn numbered(&self, number: u64) -> Query
+    fn query_numbered(&self, number: u64) -> Query
         ensures { result ≡ query_numbered self.now number }
     {
         Query {
@@ -167,7 +167,7 @@ impl Mirror {
     pub(crate) fn query(&self) -> Query
         ensures { result ≡ query_numbered self.now self.now.last }
     {
-        self.numbered(self.last)
+        self.query_numbered(self.last)
     }
 
     /// The request for the list of a round.
@@ -243,7 +243,7 @@ impl Mirror {
             return self.outstanding();
         }
         match self.last.checked_add(1) {
-            Some(next) => self.list_alone(self.numbered(next)),
+            Some(next) => self.list_alone(self.query_numbered(next)),
             None => Ok(Vec::new(self.alloc)),
         }
     }

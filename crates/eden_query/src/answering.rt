@@ -2,7 +2,6 @@
 
 ghost use Rattle.std.specs.Prelude.{◌≡◌, ◌≢◌, ◌≤◌, [], length, true, false, is_some, IfOk, IfErr, OnOk};
 ghost use Rattle.eden_objects.specs.Commits.{commit_map};
-ghost use Rattle.eden_accumulate.specs.Snapshots.{shown_to};
 ghost use Rattle.eden_messages.specs.Replies.{bounded};
 ghost use Rattle.eden_messages.specs.Spells.{reply_bytes};
 ghost use Rattle.eden_messages.specs.declared.message.Reply.TheVariants as ReplyIs;
@@ -10,27 +9,13 @@ ghost use Rattle.eden_query.specs.Answers.{IsSpelledOfWorlds};
 ghost use Rattle.eden_query.specs.Raws.{is_answerable, patterns_of, told};
 
 use crate::raw::Raw;
-use eden_accumulate::Snapshot;
 use eden_globs::Filter;
 use eden_history::Position;
 use eden_ids::{Content, Naming, NoMemory, Path, Sequence};
 use eden_messages::{Query, Reply, Request};
 use eden_objects::{CommitFault, Store};
-use eden_ranges::expand_admitted;
+use eden_ranges::{expand_admitted, expand_owned};
 use std::alloc::Global;
-
-/// The paths of the files that the snapshot shows and the filter admits.
-fn listed<N: Naming + Drop>(
-    snapshot: &Snapshot,
-    store: &Store<N>,
-    filter: &Filter,
-) -> Result<Sequence<Path>, CommitFault>
-    ensures paths { IfOk result (λ paths. paths ≡ shown_to filter.now store.now snapshot.now) }
-    ensures listed { OnOk result (is_some (commit_map store.now snapshot.now.position.root) ≡ true) }
-    ensures fault { IfErr result (λ fault. fault ≢ CommitFault.NoMemory → is_some (commit_map store.now snapshot.now.position.root) ≡ false) }
-{
-    Ok(Sequence::from_vec(snapshot.files(store, filter)?))
-}
 
 /// The reply that tells a file, or the lack of one.
 fn content_reply(query: Query, position: Position, path: Path, content: Option<Content>) -> Reply
@@ -82,7 +67,7 @@ pub fn answer<N: Naming + Drop>(
             let reply = Reply::BasisIs {
                 query: *query,
                 position: snapshot.position(),
-                paths: listed(snapshot, store, filter)?,
+                paths: Sequence::from_vec(snapshot.files(store, filter)?),
             };
             Ok(reply.bounded(*query))
         }
@@ -97,7 +82,8 @@ pub fn answer<N: Naming + Drop>(
     }
 }
 
-/// The reply that `answer` gives. A file that was held is moved into it.
+/// The reply that `answer` gives. A file that was held is moved into it, and so are the paths of a range that tells changes of files
+/// alone.
 #[tactic(auto, using(crate::proofs::ReplyFits::bounded_fits))]
 fn answered<N: Naming + Drop>(
     alloc: Global,
@@ -112,6 +98,15 @@ fn answered<N: Naming + Drop>(
     match raw {
         Raw::Held(query, position, path, content) => {
             Ok(content_reply(query, position, path, content))
+        }
+        Raw::Ranged(query, range) => {
+            let target = range.to;
+            let reply = Reply::ChangesAre {
+                query,
+                target,
+                marked: Sequence::from_vec(expand_owned(alloc, store, range, filter)?),
+            };
+            Ok(reply.bounded(query))
         }
         other => answer(alloc, &other, store, filter),
     }

@@ -15,13 +15,13 @@ use crate::raw::Raw;
 use crate::served::Served;
 use eden_accumulate::Mount;
 use eden_history::{Answer, Change, Position};
-use eden_ids::{Content, Naming, NoMemory, Path, Sequence};
+use eden_ids::{Content, Naming, NoMemory, Path};
 use eden_messages::{Cause, Query, Request};
 use eden_objects::Store;
 
 /// Which files are held, as a basis asks for them.
 #[tactic(auto, using(crate::proofs::Telling::based_tells, crate::proofs::Telling::based_commits, crate::proofs::Telling::based_settled))]
-fn based<N: Naming + Drop>(mount: &Mount<N>, query: Query) -> Result<Raw, NoMemory>
+fn hold_basis<N: Naming + Drop>(mount: &Mount<N>, query: Query) -> Result<Raw, NoMemory>
     ensures replies { IfOk result (λ raw. (world : WorldState) → StandsFor mount.now world → (patterns : List (List ℕ))
         → told mount.now.held patterns raw ≡ reply_of world (Request.Basis query patterns)) }
     ensures settled { IfOk result (λ raw. (world : WorldState) → StandsFor mount.now world → settled raw ≡ Ok (position_of (now world))) }
@@ -34,7 +34,7 @@ fn based<N: Naming + Drop>(mount: &Mount<N>, query: Query) -> Result<Raw, NoMemo
 
 /// What changed since a position, as it is asked for.
 #[tactic(auto, using(crate::proofs::Telling::ranged_tells, crate::proofs::Telling::refused_tells, crate::proofs::Telling::ranged_commits, crate::proofs::Telling::ranged_settled, crate::proofs::Telling::refused_settled))]
-fn ranged<N: Naming + Drop>(
+fn hold_poll<N: Naming + Drop>(
     mount: &Mount<N>,
     query: Query,
     since: &Position,
@@ -56,26 +56,21 @@ fn ranged<N: Naming + Drop>(
 fn content_at<N: Naming + Drop>(mount: &Mount<N>, path: &Path) -> Result<Option<Content>, NoMemory>
     ensures { IfOk result (λ content. content ≡ file_at (files_of mount.now) path.now) }
 {
-    match mount.work().file(mount.store(), path.as_bytes()) {
-        Some((kind, bytes)) => Ok(Some(Content {
-            kind,
-            bytes: Sequence::from_vec(bytes.to_vec(mount.store().allocator())?),
-        })),
-        None => Ok(None),
-    }
+    let store = mount.store();
+    Content::of_lent(store.allocator(), mount.work().file(store, path.as_bytes()))
 }
 
 /// What a request asks for.
 #[tactic(auto, using(crate::proofs::Telling::held_tells, crate::proofs::Telling::held_commits, crate::proofs::Telling::held_settled))]
-fn raw_of<N: Naming + Drop>(mount: &Mount<N>, request: &Request) -> Result<Raw, NoMemory>
+fn hold<N: Naming + Drop>(mount: &Mount<N>, request: &Request) -> Result<Raw, NoMemory>
     ensures replies { IfOk result (λ raw. (world : WorldState) → StandsFor mount.now world
         → told mount.now.held (patterns_of request.now) raw ≡ reply_of world request.now) }
     ensures settled { IfOk result (λ raw. (world : WorldState) → StandsFor mount.now world → settled raw ≡ settled_of world request.now) }
     ensures commits { IfOk result (λ raw. NamesCommits (commit_map mount.now.held) raw) }
 {
     match request {
-        Request::Basis { query, .. } => based(mount, *query),
-        Request::Poll { query, since, .. } => ranged(mount, *query, since),
+        Request::Basis { query, .. } => hold_basis(mount, *query),
+        Request::Poll { query, since, .. } => hold_poll(mount, *query, since),
         Request::Fetch { query, path } => {
             mount.stands_law();
             let content = content_at(mount, path)?;
@@ -111,7 +106,7 @@ impl<N: Naming + Drop> Served<N> for Mount<N> {
     #[tactic(auto, using(crate::proofs::Telling::named_answerable))]
     fn hold(&mut self, _caller: u64, request: &Request) -> Result<(Raw, Store<N>), NoMemory> {
         self.stands_law();
-        let raw = raw_of(self, request)?;
+        let raw = hold(self, request)?;
         Ok((raw, self.share()?))
     }
 

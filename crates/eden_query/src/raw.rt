@@ -1,3 +1,5 @@
+//! What is held of a mount once a request was asked of it.
+
 use eden_accumulate::Snapshot;
 use eden_history::Position;
 use eden_ids::{Content, Path};

@@ -1,3 +1,5 @@
+//! The commands of a script.
+
 use crate::label::Label;
 use crate::lines::Word;
 use eden_history::Mode;

@@ -1,3 +1,5 @@
+//! Bytes as the words of a line, with backslashes before what a word can't hold, and read back.
+
 ghost use Rattle.std.specs.Prelude.{◌≡◌, ◌++◌, length, take, map, MatchOption, OnOk, OnErr, IfOk};
 ghost use Rattle.std.specs.List.{flat_map};
 ghost use Rattle.std.specs.Option.{option_map, option_copied};

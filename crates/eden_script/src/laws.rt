@@ -1,3 +1,5 @@
+//! What the definitions of scripts promise, as the contracts of functions with no work to do.
+
 ghost use Rattle.eden_script.specs.Laws.{EscapesAreUndone, EscapedIsOneWord, LinesAreReadBack, LinesHaveNoLineFeed, NumbersAreReadBack, NumbersHaveOneText, DecimalsAreNotEscaped};
 
 /// What `push_escaped` wrote is read as the bytes that were written.

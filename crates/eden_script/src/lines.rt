@@ -1,3 +1,5 @@
+//! The words of a line.
+
 ghost use Rattle.std.specs.Prelude.{◌≡◌, IfOk};
 ghost use Rattle.std.specs.Option.{option_map};
 ghost use Rattle.eden_script.specs.Words.{word_of, words_of};

@@ -1,3 +1,5 @@
+//! Numbers as decimal texts.
+
 ghost use Rattle.std.specs.Prelude.{◌≡◌, ◌++◌, OnOk, OnErr, decimal};
 ghost use Rattle.eden_ids.specs.Fronts.{KeepsFront};
 
