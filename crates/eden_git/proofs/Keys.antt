@@ -4,7 +4,8 @@ use Rattle.std.proofs.lemmas.List.{append-nil}
 use Rattle.eden_ids.specs.declared.content.Kind.{Kind}
 use Rattle.eden_git.specs.declared.entry.RawEntry.{RawEntry}
 use Rattle.eden_git.specs.Trees.{key, key_of}
-use Rattle.eden_git.specs.Entries.{plain, ending_of}
+use Rattle.eden_git.specs.Entries.{plain}
+use Rattle.eden_git.specs.internal.Parts.{ending_of}
 
 key_of_parts : (name : List ℕ) (kind : Option Kind) → name ++ ending_of kind ≡ key_of name kind
 key_of_parts name None = refl

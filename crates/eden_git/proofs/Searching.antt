@@ -11,7 +11,8 @@ use Rattle.eden_ids.specs.declared.id.Id.{Id}
 use Rattle.eden_ids.specs.declared.content.Kind.{Kind}
 use Rattle.eden_ids.specs.Sameness.{same_bytes}
 use Rattle.eden_git.specs.Trees.{Entry, key, key_of}
-use Rattle.eden_git.specs.Starts.{AreInOrder, first_from, is_before}
+use Rattle.eden_git.specs.Starts.{AreInOrder}
+use Rattle.eden_git.specs.internal.Searched.{first_from, is_before}
 use Rattle.eden_git.specs.Directories.{dir_if, dir_named, file_if, file_named, or_later}
 use Rattle.eden_ids.proofs.ByteOrder.{is_less}
 

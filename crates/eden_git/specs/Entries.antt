@@ -1,8 +1,6 @@
 -- What the readers of entries give, as the lists that they stand for.
-use Rattle.std.specs.Prelude.{ℕ, List, [], ◌∷◌, take, drop, length, nat_lt, if◌then◌else◌, Option, Some, None, Result, Ok, Err}
+use Rattle.std.specs.Prelude.{ℕ, List, Option, Some, None, Result, Ok, Err}
 use Rattle.std.specs.Borrow.{Bor}
-use Rattle.eden_ids.specs.declared.content.Kind.{Kind}
-use Rattle.eden_ids.specs.declared.id.Id.{Id}
 use Rattle.eden_git.specs.declared.entry.RawEntry.{RawEntry}
 use Rattle.eden_git.specs.declared.fault.EntryFault.{EntryFault}
 use Rattle.eden_git.specs.Trees.{Entry}
@@ -18,18 +16,6 @@ abbrev pub reading_of : Result (RawEntry × Bor (List ℕ)) EntryFault → Resul
 reading_of (Err fault) = Err fault
 reading_of (Ok read) = Ok (plain read.0, read.1.now)
 
-abbrev pub id_front : List ℕ → Option (Id × List ℕ)
-id_front bytes = if nat_lt (length bytes) 20 then None else Some (record { 0 = take 20 bytes }, drop 20 bytes)
-
-abbrev pub id_of_parts : Option (Id × Bor (List ℕ)) → Option (Id × List ℕ)
-id_of_parts None = None
-id_of_parts (Some parts) = Some (parts.0, parts.1.now)
-
 abbrev pub option_plain : Option RawEntry → Option Entry
 option_plain None = None
 option_plain (Some e) = Some (plain e)
-
--- what follows a name where entries are compared
-abbrev pub ending_of : Option Kind → List ℕ
-ending_of None = 47 ∷ []
-ending_of (Some kind) = []

@@ -5,3 +5,4 @@ pub mod Starts
 pub mod Columns
 pub mod Directories
 pub mod Commits
+pub mod internal

@@ -1,6 +1,6 @@
--- Where the entries of a tree's payload begin and end, and a search among them. Entries stand in the order of their keys.
-use Rattle.std.specs.Prelude.{◌≡◌, ◌+◌, ℕ, Bool, false, if◌then◌else◌, List, [], ◌∷◌, ◌++◌, map, length, codes, Option, Some, None}
-use Rattle.std.specs.Ordering.{nat_cmp, is_lt}
+-- Where the entries of a tree's payload begin and end. Entries stand in the order of their keys.
+use Rattle.std.specs.Prelude.{◌≡◌, ◌+◌, ℕ, List, [], ◌∷◌, ◌++◌, map, length, codes, Option, Some, None}
+use Rattle.std.specs.Ordering.{nat_cmp}
 use Rattle.std.specs.Cmp.Lexicographic.{slice_cmp}
 use Rattle.std.specs.List.Sorted.{IsStrictlySortedBy}
 use Rattle.eden_ids.specs.declared.content.Kind.{Kind}
@@ -34,12 +34,3 @@ AreStarts payload starts = starts ≡ places 0 (entries_of payload)
 -- the keys of entries ascend
 abbrev pub AreInOrder : List Entry → Type 0
 AreInOrder es = IsStrictlySortedBy (slice_cmp nat_cmp) (map key es)
-
-abbrev pub is_before : List ℕ → Option Entry → Bool
-is_before wanted None = false
-is_before wanted (Some e) = is_lt (slice_cmp nat_cmp (key e) wanted)
-
--- the first entry that doesn't stand before a key
-abbrev pub first_from : List ℕ → List Entry → Option Entry
-first_from wanted [] = None
-first_from wanted (e ∷ es) = if is_before wanted (Some e) then first_from wanted es else Some e

@@ -1,7 +1,8 @@
 //! One entry of a tree, read from the bytes where it stands.
 ghost use Rattle.std.specs.Prelude.{◌≡◌, ◌<◌, length, IfOk};
 ghost use Rattle.eden_git.specs.Trees.{cut, is_name, kind_of_mode, read_entry, read_id, read_kind};
-ghost use Rattle.eden_git.specs.Entries.{plain, parts_of, reading_of, id_of_parts, id_front};
+ghost use Rattle.eden_git.specs.Entries.{plain, parts_of, reading_of};
+ghost use Rattle.eden_git.specs.internal.Parts.{id_of_parts, id_front};
 
 use crate::fault::EntryFault;
 use bstr::ByteSlice;

@@ -3,7 +3,8 @@ ghost use Rattle.std.specs.Prelude.{◌≡◌};
 ghost use Rattle.std.specs.Ordering.{nat_cmp};
 ghost use Rattle.std.specs.Cmp.Lexicographic.{slice_cmp};
 ghost use Rattle.eden_git.specs.Trees.{key};
-ghost use Rattle.eden_git.specs.Entries.{ending_of, plain};
+ghost use Rattle.eden_git.specs.Entries.{plain};
+ghost use Rattle.eden_git.specs.internal.Parts.{ending_of};
 
 use crate::entry::RawEntry;
 use std::cmp::Ordering;

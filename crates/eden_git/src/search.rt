@@ -1,7 +1,8 @@
 //! An entry that is read between two places that are kept, and a search among the entries of a tree.
 ghost use Rattle.std.specs.Prelude.{◌≡◌, ◌≤◌, ◌+◌, length, slice_get};
 ghost use Rattle.eden_git.specs.Entries.{option_plain, plain};
-ghost use Rattle.eden_git.specs.Starts.{AreInOrder, first_from, is_before, mode_of, written};
+ghost use Rattle.eden_git.specs.Starts.{AreInOrder, mode_of, written};
+ghost use Rattle.eden_git.specs.internal.Searched.{first_from, is_before};
 ghost use Rattle.eden_git.specs.Trees.{Entry, key};
 
 use crate::entry::RawEntry;

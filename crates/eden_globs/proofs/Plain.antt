@@ -7,7 +7,7 @@ use Rattle.eden_ids.specs.Sameness.{same_bytes}
 use Rattle.eden_globs.specs.Filters.{admits, first_then, is_any_names, is_none_left, is_plain, name_matches, path_matches, pattern_admits, some_rest}
 use Rattle.eden_globs.proofs.Entering.{first_part}
 use Rattle.eden_globs.proofs.Splitting.{here, later}
-use Rattle.std.proofs.Math.Bool.{or-false}
+use Rattle.std.proofs.Math.Bool.{or-false, and_assoc, and-or_distrib_left}
 use Rattle.eden_ids.proofs.ByteOrder.{begins_with_none}
 
 all_rests : (names : List (List ℕ)) → some_rest (path_matches []) names ≡ true
@@ -67,10 +67,6 @@ slash_other b c = grind arith
 
 both_slashes : (b c : ℕ) → nat_eq b 47 ≡ true → nat_eq c 47 ≡ true → nat_eq b c ≡ true
 both_slashes b c = grind arith
-
-and_assoc : (a b c : Bool) → ((a && b) && c) ≡ (a && (b && c))
-and_assoc true b c = refl
-and_assoc false b c = refl
 
 module _ (b : ℕ) (bytes first : List ℕ) (rest : List (List ℕ)) (star : nat_eq b 42 ≡ false) (any : nat_eq b 63 ≡ false) (backslash : nat_eq b 92 ≡ false)
     (parts : components bytes ≡ first ∷ rest) (name : is_any_names first ≡ false) where
@@ -157,10 +153,6 @@ rest_after c path = by (nat_eq c 47) refl
         ap (path_matches (components (codes "/**"))) (later c path e ∙ ap (onto_first c) (first_part path).1.1)
         ∙ sym (ap (λ t. t && starts_with nat_eq path []) (turned_not c e))
 
-parted : (a b c : Bool) → (a && (b || c)) ≡ ((a && b) || (a && c))
-parted true b c = refl
-parted false b c = refl
-
 with_rest : (pattern path : List ℕ) → is_plain pattern ≡ true → pattern_admits (pattern ++ codes "/**") path ≡ (same_bytes pattern path || lies_below path pattern)
 with_rest [] [] plain = refl
 with_rest [] (c ∷ path) plain = rest_after c path
@@ -173,7 +165,7 @@ with_rest (b ∷ pattern) (c ∷ path) plain =
     let parts = named_first (pattern ++ codes "/**") (plain_start pattern (codes "/**") bytes.3 refl) in
     at_byte b (pattern ++ codes "/**") parts.0 parts.1.0 bytes.0 bytes.1 bytes.2 parts.1.1.0 parts.1.1.1 c path
     ∙ ap (λ t. nat_eq b c && t) (with_rest pattern path bytes.3)
-    ∙ parted (nat_eq b c) (same_bytes pattern path) (lies_below path pattern)
+    ∙ and-or_distrib_left (nat_eq b c) (same_bytes pattern path) (lies_below path pattern)
 
 pub itself_and_below : (pattern path : List ℕ) → is_plain pattern ≡ true → admits ((pattern ++ codes "/**") ∷ []) path ≡ (same_bytes pattern path || lies_below path pattern)
 itself_and_below pattern path plain = or-false (pattern_admits (pattern ++ codes "/**") path) ∙ with_rest pattern path plain

@@ -1,3 +1,5 @@
+//! What one thread has seen of a head word.
+
 use atomic_table::Seat;
 use std::marker::Model;
 

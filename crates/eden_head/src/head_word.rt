@@ -1,3 +1,5 @@
+//! A number that threads share, and that only rises.
+
 ghost use Rattle.std.specs.Prelude.{◌≡◌, ◌≤◌, max, IfOk};
 
 use crate::head_seat::HeadSeat;

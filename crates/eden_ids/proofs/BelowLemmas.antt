@@ -1,5 +1,5 @@
 -- A path is below another where it begins with it, and a slash comes next.
-use Rattle.std.proofs.Common.{◌≡◌, ℕ, Bool, true, false, ◌&&◌, nat_eq, List, [], ◌∷◌, ◌++◌, length, drop, refl, ap, sym, ◌∙◌}
+use Rattle.std.proofs.Common.{◌≡◌, ℕ, ◌&&◌, nat_eq, List, [], ◌∷◌, ◌++◌, length, drop, refl, ap, sym, ◌∙◌}
 use Rattle.std.specs.List.{starts_with}
 use Rattle.eden_ids.specs.Paths.{lies_below}
 use Rattle.std.proofs.Math.Bool.{and_assoc}

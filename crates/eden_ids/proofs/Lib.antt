@@ -1,4 +1,5 @@
 pub mod BelowLemmas
+pub mod Bools
 pub mod FileMapLemmas
 pub mod ByteOrder
 pub mod TreeQuestions

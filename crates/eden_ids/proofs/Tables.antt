@@ -1,19 +1,15 @@
 -- Sets of paths that grow by one path after another.
-use Rattle.std.proofs.Common.{◌≡◌, ℕ, Bool, true, false, cond, ◌||◌, List, [], ◌∷◌, ◌++◌, Option, Some, is_some, refl, sym, ap, ◌∙◌}
+use Rattle.std.proofs.Common.{◌≡◌, ℕ, Bool, true, false, ◌||◌, List, [], ◌∷◌, ◌++◌, is_some, refl, sym, ap, ◌∙◌}
 use Rattle.std.specs.List.{list_any}
 use Rattle.std.specs.Cmp.Lexicographic.{nat_list_cmp_total}
 use Rattle.std.specs.FinMap as fin
 use Rattle.eden_ids.specs.FileMaps.{PathSet, has, no_paths, path_set, same_path, union}
 use Rattle.eden_ids.proofs.FileMapLemmas.{has-append, has-none, has-path_set, has-union, same_path_set, some_cond}
-use Rattle.std.proofs.Math.Bool.{or-false}
+use Rattle.eden_ids.proofs.Bools.{or_turned}
+use Rattle.std.proofs.Math.Bool.{or-false, or_assoc}
 
 pub has-insert : (t : PathSet) (p q : List ℕ) → has (fin.insert t p tt) q ≡ (same_path q p || has t q)
 has-insert t p q = ap is_some (fin.get-insert nat_list_cmp_total t p tt q) ∙ some_cond (same_path q p) (fin.get t q)
-
-union_next : (a b c : Bool) → ((a || b) || c) ≡ (b || (a || c))
-union_next true true c = refl
-union_next true false c = refl
-union_next false b c = refl
 
 -- the first of some paths is added
 pub union-more : (p : List ℕ) (ps : List (List ℕ)) (t : PathSet) → union (path_set ps) (fin.insert t p tt) ≡ union (path_set (p ∷ ps)) t
@@ -21,7 +17,7 @@ union-more p ps t = same_path_set _ _ (λ q.
     has-union (path_set ps) (fin.insert t p tt) q
     ∙ ap (λ b. has (path_set ps) q || b) (has-insert t p q)
     ∙ ap (λ b. b || (same_path q p || has t q)) (has-path_set ps q)
-    ∙ sym (union_next (same_path q p) (list_any (λ r. same_path q r) ps) (has t q))
+    ∙ sym (or_assoc (same_path q p) (list_any (λ r. same_path q r) ps) (has t q) ∙ or_turned (same_path q p) (list_any (λ r. same_path q r) ps) (has t q))
     ∙ ap (λ b. b || has t q) (sym (has-path_set (p ∷ ps) q))
     ∙ sym (has-union (path_set (p ∷ ps)) t q))
 

@@ -105,10 +105,6 @@ some_bit p (u ∷ us) = by (p u) (some_bit p us)
     by true rest = let e : nat_eq (1 + 2 * mask_l (map p us)) 0 ≡ false = grind (arith) in rw e refl
     by false rest = let e : nat_eq (0 + 2 * mask_l (map p us)) 0 ≡ nat_eq (mask_l (map p us)) 0 = grind (arith) in rw e rest
 
-and_false : (s t : Bool) → s ≡ false → (s && t) ≡ false
-and_false true t is = cc
-and_false false t is = refl
-
 -- no row holds an id where none has its first word
 seldom : (id : Id) (vs : List Id) → IsOfItsWords id → Each1 IsOfItsWords vs → list_any (same_word 0 id) vs ≡ false → list_any (same_id id) vs ≡ false
 seldom id [] whole each none = refl

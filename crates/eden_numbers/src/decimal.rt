@@ -1,3 +1,5 @@
+//! Numbers by their decimal texts.
+
 ghost use Rattle.std.specs.Prelude.{◌≡◌};
 ghost use Rattle.eden_numbers.specs.Numbers.{number_of};
 

@@ -1,3 +1,5 @@
+//! Rows of a table that stand in one map.
+
 ghost use Rattle.std.specs.Prelude.{◌≡◌, ◌++◌, ◌∷◌, [], None, IfOk, OnOk, OnErr, length, option_copied, reverse};
 ghost use Rattle.std.specs.Map.{lookup};
 ghost use Rattle.eden_ids.specs.Sameness.{same_id};

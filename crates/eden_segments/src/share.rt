@@ -1,3 +1,5 @@
+//! Values of which a copy takes a few pointers.
+
 use eden_ids::NoMemory;
 
 /// A value of which there can be another that is equal, and that takes a few pointers, whatever the value holds.

@@ -1,3 +1,5 @@
+//! A value with several owners, which none of them changes.
+
 ghost use Rattle.std.specs.Prelude.{◌≡◌, IfOk};
 
 use crate::share::Share;

@@ -1,3 +1,5 @@
+//! A table from ids to values that only grows.
+
 ghost use Rattle.std.specs.Prelude.{◌≡◌, ◌∷◌, [], None, IfOk, OnOk, OnErr, option_copied};
 ghost use Rattle.std.specs.Map.{lookup};
 ghost use Rattle.eden_ids.specs.Sameness.{same_id};

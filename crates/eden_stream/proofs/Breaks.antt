@@ -4,7 +4,8 @@ use Rattle.std.proofs.Math.Seq.{drop-cons}
 use Rattle.std.proofs.lemmas.Bool.{cases_lt}
 use Rattle.std.proofs.lemmas.List.{get_or-drop, get_or-take, length-take, take_all}
 use Rattle.std.proofs.lemmas.Grind.{get_or_default_zero}
-use Rattle.eden_stream.specs.Lines.{BreaksAt, HasNoBreak}
+use Rattle.eden_stream.specs.Lines.{HasNoBreak}
+use Rattle.eden_stream.specs.internal.LineSteps.{BreaksAt}
 
 -- the byte at place k of the first `more` bytes from `start` on
 read_at : (items : List ℕ) (start more k d : ℕ) → k < length (take more (drop start items)) → get_or (take more (drop start items)) k d ≡ get_or items (start + k) 0

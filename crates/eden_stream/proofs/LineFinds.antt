@@ -4,7 +4,8 @@ use Rattle.std.specs.Prelude.{⊤}
 use Rattle.std.specs.Str.Lines.{strip_carriage_return}
 use Rattle.std.proofs.Math.Dec.{eqb}
 use Rattle.std.proofs.lemmas.List.{length-take-le, take_all, take-take}
-use Rattle.eden_stream.specs.Lines.{BreaksAt, IsSpoken}
+use Rattle.eden_stream.specs.Lines.{IsSpoken}
+use Rattle.eden_stream.specs.internal.LineSteps.{BreaksAt}
 use Rattle.eden_stream.specs.internal.LineSteps.{BeginsWith, FindsLine, Judges}
 use Rattle.eden_stream.specs.declared.framing.Next.{Next}
 use Rattle.eden_stream.specs.declared.framing.Next.TheVariants.{Item, Skipped, Partial, Faulty}

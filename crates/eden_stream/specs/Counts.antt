@@ -22,7 +22,3 @@ RoseBy n old new = min (old + n) (2 ^ 64 - 1) ≤ new
 -- a count rose, or stands at the largest u64
 abbrev pub Rose : ℕ → ℕ → Type 0
 Rose old new = RoseBy 1 old new
-
--- a count did not fall, of those that a u64 holds
-abbrev pub Grew : ℕ → ℕ → Type 0
-Grew old new = RoseBy 0 old new

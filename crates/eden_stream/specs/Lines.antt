@@ -1,5 +1,5 @@
 -- The bytes of a script as lines. `lines` itself is std's word.
-use Rattle.std.specs.Prelude.{◌≡◌, ◌≢◌, ℕ, ◌<◌, ◌≤◌, ◌⊎◌, All, List, [], ◌∷◌, ◌++◌, length, slice_index, take}
+use Rattle.std.specs.Prelude.{◌≡◌, ◌≢◌, ℕ, ◌<◌, ◌≤◌, ◌⊎◌, All, List, [], ◌∷◌, ◌++◌, length, slice_index}
 
 -- no byte ends a line
 abbrev pub HasNoBreak : List ℕ → Type 0
@@ -24,9 +24,3 @@ IsTooLong line = (65536 < length line) × (¬ IsComment line)
 -- the line says something, and is no longer than a line may be
 abbrev pub IsSpoken : List ℕ → Type 0
 IsSpoken line = (0 < length line) × (¬ IsComment line) × (length line ≤ 65536)
-
--- the first line of the bytes ends at place n
-pub record BreaksAt (bytes : List ℕ) (n : ℕ) : Type 0 where
-  pub within : n < length bytes
-  pub found : slice_index bytes n ≡ 10
-  pub before : HasNoBreak (take n bytes)

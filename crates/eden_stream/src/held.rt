@@ -1,6 +1,7 @@
 //! The bytes that were read and not answered yet.
 ghost use Rattle.std.specs.Prelude.{◌≡◌, ◌≢◌, ℕ, ◌+◌, ◌∷◌, ◌++◌, ◌<◌, ◌≤◌, List, [], MatchOption, OnErr, OnOk, drop, length, slice_index, take};
-ghost use Rattle.eden_stream.specs.Lines.{BreaksAt, HasNoBreak};
+ghost use Rattle.eden_stream.specs.Lines.{HasNoBreak};
+ghost use Rattle.eden_stream.specs.internal.LineSteps.{BreaksAt};
 
 use bstr::ByteSlice;
 use std::alloc::{AllocError, Global};

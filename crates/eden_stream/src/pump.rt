@@ -1,7 +1,8 @@
 //! The pump that cuts a stream into items and has them answered.
 ghost use Rattle.std.specs.Prelude.{◌≡◌, ◌≢◌, Bool, ℕ, ◌+◌, ◌<◌, ◌≤◌, ◌++◌, [], List, Result, length, take, drop, IsErrOf};
 ghost use Rattle.std.specs.Bool.{OnFalse, OnTrue};
-ghost use Rattle.eden_stream.specs.Counts.{Grew, Rose, RoseBy};
+ghost use Rattle.eden_stream.specs.Counts.{Rose, RoseBy};
+ghost use Rattle.eden_stream.specs.internal.Grown.{Grew};
 ghost use Rattle.eden_stream.specs.Pumps.{Ends};
 ghost use Rattle.eden_stream.specs.internal.Steps.{Sends, Tears, TakesTurn};
 

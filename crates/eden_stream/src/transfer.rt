@@ -2,7 +2,8 @@
 ghost use Rattle.std.specs.Prelude.{◌≡◌, ◌+◌, ◌<◌, ◌≤◌, [], length};
 ghost use Rattle.std.specs.Bool.{OnFalse, OnTrue};
 ghost use Rattle.std.specs.Io.KnownBytes.{Appends};
-ghost use Rattle.eden_stream.specs.Counts.{Grew, Rose, RoseBy};
+ghost use Rattle.eden_stream.specs.Counts.{Rose, RoseBy};
+ghost use Rattle.eden_stream.specs.internal.Grown.{Grew};
 ghost use Rattle.eden_stream.specs.internal.Steps.{HasReceived, Sends, Tears};
 
 use super::counts::{CountedRead, CountedWrite};

@@ -1,5 +1,5 @@
 -- The lines of a stream as items, what a machine tells of them, and what the steps say that find them.
-use Rattle.std.specs.Prelude.{◌≡◌, Bool, true, ℕ, ◌<◌, ◌≤◌, ◌⊎◌, ⊤, List, [], ◌∷◌, ◌++◌, length, take, drop, Option, None, Some, Result, Ok, Err}
+use Rattle.std.specs.Prelude.{◌≡◌, Bool, true, ℕ, ◌<◌, ◌≤◌, ◌⊎◌, ⊤, List, [], ◌∷◌, ◌++◌, length, take, drop, Option, None, Some, Result, Ok, Err, slice_index}
 use Rattle.std.specs.Str.Lines.{lines, strip_carriage_return}
 use Rattle.eden_stream.specs.Grammars.{Grammar}
 use Rattle.eden_stream.specs.Lines.{HasNoBreak, IsComment, IsSkipped, IsSpoken, IsTooLong, IsWholeLines}
@@ -91,3 +91,9 @@ run_as (Err stops.Read) = Err faults.Read
 run_as (Err stops.Write) = Err faults.Write
 run_as (Err stops.TurnsSpent) = Err faults.TurnsSpent
 run_as (Err stops.NoMemory) = Err faults.NoMemory
+
+-- the first line of the bytes ends at place n
+pub record BreaksAt (bytes : List ℕ) (n : ℕ) : Type 0 where
+  pub within : n < length bytes
+  pub found : slice_index bytes n ≡ 10
+  pub before : HasNoBreak (take n bytes)

@@ -5,7 +5,8 @@ use Rattle.std.proofs.lemmas.Iterator.{YieldsList-from_slice}
 use Rattle.std.proofs.lemmas.Iterator.Consumers.{YieldsList-from_chain}
 use Rattle.std.proofs.lemmas.Iterator.Search.{cmp_from_yields_List}
 use Rattle.eden_git.specs.Trees.{key}
-use Rattle.eden_git.specs.Entries.{plain, ending_of}
+use Rattle.eden_git.specs.Entries.{plain}
+use Rattle.eden_git.specs.internal.Parts.{ending_of}
 use Rattle.eden_git.proofs.Keys.{key_is}
 use Rattle.eden_git.proofs.order.key_order.Goals as goal
 

@@ -1,6 +1,7 @@
 -- The account of the pumping, and what its reads have counted.
 use Rattle.std.proofs.Common.{◌+◌, ◌-◌, ◌*◌, ◌≤◌, [], length}
-use Rattle.eden_stream.specs.Counts.{Grew, RoseBy}
+use Rattle.eden_stream.specs.Counts.{RoseBy}
+use Rattle.eden_stream.specs.internal.Grown.{Grew}
 use Rattle.eden_stream.specs.Pumps.{Ran, Tellings}
 use Rattle.eden_stream.proofs.pump.pump_with.Given as goal
 

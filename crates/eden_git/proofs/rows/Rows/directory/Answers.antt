@@ -1,6 +1,6 @@
 use Rattle.std.proofs.Common.{rules, ◌≡◌, ◌∙◌, ◌∷◌, ◌++◌, [], Some}
 use Rattle.eden_git.specs.Entries.{plain}
-use Rattle.eden_git.specs.Starts.{first_from}
+use Rattle.eden_git.specs.internal.Searched.{first_from}
 use Rattle.eden_git.proofs.Searching.{dir_first}
 use Rattle.eden_git.proofs.rows.Rows.directory.Goals as goal
 

@@ -1,7 +1,7 @@
 use Rattle.std.proofs.Common.{◌≡◌, ◌≤◌, ◌-◌, drop, length}
 use Rattle.std.specs.List.{slice_get}
 use Rattle.eden_git.specs.Entries.{plain}
-use Rattle.eden_git.specs.Starts.{first_from}
+use Rattle.eden_git.specs.internal.Searched.{first_from}
 use Rattle.eden_git.specs.Trees.{key}
 use Rattle.eden_git.proofs.rows.Rows.first_from.Given as goal
 

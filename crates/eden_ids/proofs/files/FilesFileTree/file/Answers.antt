@@ -1,10 +1,10 @@
-use Rattle.std.proofs.Common.{◌≡◌, Bool, true, false, ◌||◌, Option, None, Some, is_some, List, ℕ, refl, sym, ap, ◌∙◌}
+use Rattle.std.proofs.Common.{◌≡◌, true, false, ◌||◌, Option, None, Some, is_some, List, ℕ, refl, sym, ap, ◌∙◌}
 use Rattle.std.specs.Cmp.Lexicographic.{pointwise, bytes_decides}
 use Rattle.std.specs.List.{list_any}
 use Rattle.std.specs.FinMap as fin
 use Rattle.std.specs.Prelude.{nat_eq}
 use Rattle.eden_ids.specs.declared.content.Content.{Content}
-use Rattle.eden_ids.specs.FileMaps.{file_at, paths, same_path}
+use Rattle.eden_ids.specs.FileMaps.{file_at, same_path}
 use Rattle.eden_ids.proofs.FileMapLemmas.{same_path-other}
 use Rattle.eden_ids.proofs.files.FilesFileTree.file.Goals as goal
 

@@ -1,6 +1,7 @@
 -- What was searched before and what was searched now hold no break together.
 use Rattle.std.proofs.Common.{◌≡◌, ◌+◌, ◌-◌, ◌<◌, ◌∙◌, length, sym, ap, subst, arith, length-drop}
-use Rattle.eden_stream.specs.Lines.{BreaksAt, HasNoBreak}
+use Rattle.eden_stream.specs.Lines.{HasNoBreak}
+use Rattle.eden_stream.specs.internal.LineSteps.{BreaksAt}
 use Rattle.eden_stream.proofs.Breaks.{breaks_from, clear_on, clear_to_end, rest_is, unended_from}
 use Rattle.eden_stream.proofs.held.Held.find_break.Goals as goal
 

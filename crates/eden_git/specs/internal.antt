@@ -1,0 +1,3 @@
+-- Words that the code alone uses.
+pub mod Parts
+pub mod Searched
