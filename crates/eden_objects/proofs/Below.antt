@@ -4,6 +4,7 @@ use Rattle.std.proofs.lemmas.Slice.Eq.{bytes_eq-Decides}
 use Rattle.std.proofs.lemmas.List.Elements.{filter-append}
 use Rattle.std.specs.Prelude.{filter}
 use Rattle.std.specs.List.{AllByRecursion}
+use Rattle.std.proofs.Math.Bool.{and_comm}
 use Rattle.eden_ids.specs.declared.id.Id.{Id}
 use Rattle.eden_ids.specs.declared.content.Kind.{Kind}
 use Rattle.eden_ids.specs.Paths.{lies_below}
@@ -96,10 +97,6 @@ module _ (rows : Id → List Row) (test inner : List ℕ → Bool) (c : List ℕ
       ∙ joined e.kind e.id (same_bytes e.name c) (dir_named c es) (kept (entries_rows rows es)) (by_name es names.1 differ.1)
       (λ t. none_kept es names.1 (apart_from e.name c es ((bytes_eq-Decides e.name c).0 t) differ.0))
 
-and_true : (a : Bool) → a ≡ (a && true)
-and_true true = refl
-and_true false = refl
-
 all_kept : (rows : List Row) → filter (λ row. true) rows ≡ rows
 all_kept [] = refl
 all_kept (row ∷ rows) = ap (λ (more : List Row). row ∷ more) (all_kept rows)
@@ -112,7 +109,7 @@ below_here held id p closed has none =
     let free : has_slash p ≡ false = cut_none p (sym none) in
     ap (filter (λ row. lies_below row.0 p)) (rows_here held closed id has)
     ∙ by_name (tree_rows held) (λ q. lies_below q p) (λ q. true) p (λ n slashless. name_not_below n p slashless)
-    (λ n q slashless. below_name n p q slashless free ∙ and_true (same_bytes n p)) (entries_in held id) is.2 is.5
+    (λ n q slashless. below_name n p q slashless free ∙ sym (and_comm (same_bytes n p) true)) (entries_in held id) is.2 is.5
     ∙ ap (map (behind (p ++ 47 ∷ []))) (all_kept (then_rows (tree_rows held) (dir_named p (entries_in held id))))
 
 -- below a path with a slash stand the files that stand below what follows it in the directory that it begins with

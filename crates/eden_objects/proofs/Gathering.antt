@@ -7,6 +7,7 @@ use Rattle.std.proofs.Math.Seq.{take-append_seam}
 use Rattle.std.specs.Prelude.{filter}
 use Rattle.std.specs.List.{AllByRecursion}
 use Rattle.eden_globs.specs.Filters.{admits}
+use Rattle.eden_globs.specs.Fronts.{Enters}
 use Rattle.eden_ids.specs.declared.id.Id.{Id}
 use Rattle.eden_ids.specs.declared.content.Kind.{Kind}
 use Rattle.eden_ids.specs.Paths.{lies_below}
@@ -128,10 +129,9 @@ pub nothing_before : (test : List ℕ → Bool) (front : List ℕ) (rows found :
 nothing_before test front rows found none is =
     sym (is ∙ ap (λ p. rows_behind test p rows) none ∙ ap (filter (λ row. test row.0)) (behind_nothing rows))
 
-every_row : (rows : List Row) → filter (λ row. admits [] row.0) rows ≡ rows
-every_row [] = refl
-every_row (row ∷ rows) = ap (λ (more : List Row). row ∷ more) (every_row rows)
-
-pub all_wanted : (patterns : List (List ℕ)) (front whole : List ℕ) (rows found : List Row) → patterns ≡ [] → front ≡ whole → found ≡ rows_behind (admits patterns) front rows → found ≡ map (behind whole) rows
-all_wanted patterns front whole rows found none is wanted =
-    wanted ∙ ap (λ p. filter (λ row. admits p row.0) (map (behind front) rows)) none ∙ every_row (map (behind front) rows) ∙ ap (λ p. map (behind p) rows) is
+-- a directory that is not entered has nothing that is wanted
+pub none_entered : (patterns : List (List ℕ)) (top old new : List ℕ) (rows : List Row) → old ≡ [] → Enters patterns top old new None
+    → rows_behind (admits patterns) (top ++ 47 ∷ []) rows ≡ []
+none_entered patterns top old new rows nothing is =
+    none_wanted (admits patterns) top rows
+    (λ path below. is.1 path (ap (λ front. lies_below path (front ++ top)) nothing ∙ below))

@@ -7,6 +7,7 @@ use Rattle.eden_objects.specs.Objects.{Held}
 use Rattle.eden_objects.specs.Commits.{Row, commit_map, content_of, tree_rows}
 use Rattle.eden_objects.specs.Closed.{HasTree}
 
+-- the files of a commit as a look-up tells them, and none where there is none
 abbrev pub files_of : Option FileMap → FileMap
 files_of None = no_files
 files_of (Some files) = files

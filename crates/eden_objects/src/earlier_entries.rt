@@ -49,9 +49,7 @@ impl<'a> Seen<'a> {
     pub(crate) fn note(&mut self, entry: RawEntry<'a>) -> Result<(), NoMemory>
         ensures { OnOk result ((earlier : List Entry) → HasSeen self.old earlier → HasSeen self.new (plain entry.entry ∷ earlier)) }
     {
-        if self.names.insert(entry.name).is_err() {
-            return Err(NoMemory);
-        }
+        self.names.insert(entry.name)?;
         self.last = Some(entry);
         Ok(())
     }

@@ -30,11 +30,8 @@ pub struct Entry {
 fn copy_of(alloc: Global, entry: &RawEntry<'_>) -> Result<Entry, NoMemory>
     ensures { IfOk result (λ copy. copied copy ≡ plain entry.now) }
 {
-    let Ok(name) = entry.name.to_vec(alloc) else {
-        return Err(NoMemory);
-    };
     Ok(Entry {
-        name,
+        name: entry.name.to_vec(alloc)?,
         kind: entry.kind,
         id: entry.id,
     })
@@ -45,10 +42,7 @@ fn push_copy(alloc: Global, found: &mut Vec<Entry>, entry: &RawEntry<'_>) -> Res
     ensures { OnOk result (map copied found.new.items ≡ map copied found.old.items ++ plain entry.now ∷ []) }
 {
     let copy = copy_of(alloc, entry)?;
-    match found.push(copy) {
-        Ok(()) => Ok(()),
-        Err(_) => Err(NoMemory),
-    }
+    Ok(found.push(copy)?)
 }
 
 /// The entries that are lent.
@@ -125,9 +119,6 @@ impl<N: Naming + Drop> Store<N> {
         let Some(rows) = self.rows(tree) else {
             return Ok(None);
         };
-        match copies_of(self.allocator(), &rows) {
-            Ok(found) => Ok(Some(found)),
-            Err(NoMemory) => Err(NoMemory),
-        }
+        Ok(Some(copies_of(self.allocator(), &rows)?))
     }
 }

@@ -1,6 +1,7 @@
 //! Why an object is not put, and why a question about a commit has no answer.
 ghost use Rattle.std.specs.Prelude.{◌≡◌};
 ghost use Rattle.eden_objects.specs.declared.fault.CommitFault.TheVariants as fault;
+ghost use Rattle.eden_objects.specs.declared.fault.PutFault.TheVariants as put;
 ghost use Rattle.eden_objects.specs.Puts.{unread};
 
 use eden_git::EntryFault;
@@ -64,6 +65,30 @@ impl From<EntryFault> for PutFault {
             EntryFault::BadMode => PutFault::BadMode,
             EntryFault::BadName => PutFault::BadName,
         }
+    }
+}
+
+impl From<NoMemory> for PutFault {
+    ghost from_gives = { λ _ e. e ≡ put.NoMemory };
+
+    fn from(_e: NoMemory) -> PutFault {
+        PutFault::NoMemory
+    }
+}
+
+impl<T: Drop> From<AllocFailed<T>> for PutFault {
+    ghost from_gives = { λ _ e. e ≡ put.NoMemory };
+
+    fn from(_e: AllocFailed<T>) -> PutFault {
+        PutFault::NoMemory
+    }
+}
+
+impl From<AllocError> for PutFault {
+    ghost from_gives = { λ _ e. e ≡ put.NoMemory };
+
+    fn from(_e: AllocError) -> PutFault {
+        PutFault::NoMemory
     }
 }
 

@@ -117,9 +117,7 @@ impl<N: Naming + Drop> Store<N> {
                 return Err(fault);
             }
             size = size.or_greater(self.size_of(&entry));
-            if seen.note(entry).is_err() {
-                return Err(PutFault::NoMemory);
-            }
+            seen.note(entry)?;
             rest = behind;
         }
         Ok(size)
@@ -180,17 +178,12 @@ impl<N: Naming + Drop> Store<N> {
         ensures refuses { IfErr result (λ fault. fault ≢ PutFault.NoMemory → tree_fault payload.now self.now ≡ Some fault) }
     {
         let size = self.tree_size(payload)?;
-        let Ok(columns) = Columns::of(self.allocator(), payload) else {
-            return Err(PutFault::NoMemory);
-        };
+        let columns = Columns::of(self.allocator(), payload)?;
         let outline = Outline {
             size,
             files: self.count_of_entries(&Rows::new(payload, &columns)),
             columns,
         };
-        match Shared::new(self.allocator(), outline) {
-            Ok(outline) => Ok(outline),
-            Err(_) => Err(PutFault::NoMemory),
-        }
+        Ok(Shared::new(self.allocator(), outline)?)
     }
 }

@@ -1,12 +1,12 @@
 //! Listings: the files of a commit, or those below a directory, in byte order of their paths.
 
-ghost use Rattle.std.specs.Prelude.{◌≡◌, ◌++◌, ◌∷◌, [], Some, map, IfOk, OnOk};
+ghost use Rattle.std.specs.Prelude.{◌≡◌, ◌++◌, ◌∷◌, [], Some, IfOk, OnOk};
 ghost use Rattle.eden_globs.specs.Filters.{admits};
 ghost use Rattle.eden_ids.specs.Paths.{IsPath, lies_below};
 ghost use Rattle.eden_objects.specs.Commits.{commit_rows, rows_where, tree_rows};
 ghost use Rattle.eden_objects.specs.Closed.{HasTree};
 ghost use Rattle.eden_objects.specs.Listings.{ArePaths, Lists};
-ghost use Rattle.eden_objects.specs.internal.Below.{IsBelow, behind, rows_behind, rows_below};
+ghost use Rattle.eden_objects.specs.internal.Below.{IsBelow, rows_behind, rows_below};
 
 use crate::fault::{CommitFault, NoCommit};
 use crate::store::Store;
@@ -52,34 +52,42 @@ impl<N: Naming + Drop> Store<N> {
         }
     }
 
-    /// The files of a commit that stand below a path, each with its path, its kind and its blob, in byte order of the paths. The path
-    /// need not be a directory of the commit: then there are none.
+    /// The files of a commit that stand below a path and that a filter admits, each with its path, its kind and its blob, in byte order of
+    /// the paths. The path need not be a directory of the commit: then there are none.
     ///
     /// `NoCommit` comes where the id is no commit's; `NoMemory` may stand in place of any answer where a growth was refused. The
-    /// directories on the way to the path are searched, and those below it are read; no others are.
-    pub fn list_below(&self, commit: Id, top: &Path) -> Result<Vec<(Path, Kind, Id)>, CommitFault>
-        ensures { Lists result (rows_where (λ p. lies_below p top.now) (commit_rows self.now commit)) }
+    /// directories on the way to the path are searched, and those below it are read below which the filter may admit something
+    /// (`Filter::admits_below`); no others are.
+    pub fn list_below(
+        &self,
+        commit: Id,
+        top: &Path,
+        filter: &Filter,
+    ) -> Result<Vec<(Path, Kind, Id)>, CommitFault>
+        ensures { Lists result (rows_where (admits filter.now) (rows_where (λ p. lies_below p top.now) (commit_rows self.now commit))) }
     {
         match self.root_tree(commit) {
-            Ok(Some(tree)) => self.list_directory(tree, top.as_bytes()),
+            Ok(Some(tree)) => self.list_directory(tree, top.as_bytes(), filter),
             Ok(None) => Ok(Vec::new(self.allocator())),
             Err(NoCommit) => Err(CommitFault::NoCommit),
         }
     }
 
-    /// The files of a tree that stand below a path.
-    fn list_directory(&self, tree: Id, path: &[u8]) -> Result<Vec<(Path, Kind, Id)>, CommitFault>
+    /// The files of a tree that stand below a path and that a filter admits.
+    fn list_directory(
+        &self,
+        tree: Id,
+        path: &[u8],
+        filter: &Filter,
+    ) -> Result<Vec<(Path, Kind, Id)>, CommitFault>
         requires { HasTree self.now tree }
-        ensures { Lists result (Some (rows_below self.now tree path.now)) }
+        ensures { Lists result (rows_where (admits filter.now) (Some (rows_below self.now tree path.now))) }
     {
         self.closed_law();
         let Some(dir) = self.directory_below(tree, path) else {
             return Ok(Vec::new(self.allocator()));
         };
-        match self.gather_all(dir, path) {
-            Ok(rows) => Ok(rows),
-            Err(NoMemory) => Err(CommitFault::NoMemory),
-        }
+        Ok(self.gather_below(dir, path, filter)?)
     }
 
     /// The directory of a tree at a path.
@@ -105,18 +113,22 @@ impl<N: Naming + Drop> Store<N> {
         }
     }
 
-    /// The files of a tree, behind the path of its directory.
-    #[tactic(auto, using(crate::proofs::Gathering::all_wanted))]
-    fn gather_all(&self, dir: Id, path: &[u8]) -> Result<Vec<(Path, Kind, Id)>, NoMemory>
+    /// The files of a tree that a filter admits, behind the path of its directory.
+    fn gather_below(
+        &self,
+        dir: Id,
+        path: &[u8],
+        filter: &Filter,
+    ) -> Result<Vec<(Path, Kind, Id)>, NoMemory>
         requires tree { HasTree self.now dir }
         requires paths { ArePaths (path.now ++ 47 ∷ []) (tree_rows self.now dir) }
-        ensures { IfOk result (λ rows. rows.items ≡ map (behind (path.now ++ 47 ∷ [])) (tree_rows self.now dir)) }
+        ensures { IfOk result (λ rows. rows.items ≡ rows_behind (admits filter.now) (path.now ++ 47 ∷ []) (tree_rows self.now dir)) }
     {
-        let filter = Filter::all(self.allocator());
         let mut front = Front::new(self.allocator());
-        // A filter without patterns lets it be entered.
-        let _ = front.enter(&filter, path)?;
-        self.gather_behind(dir, &filter, front)
+        let Some(_) = front.enter(filter, path)? else {
+            return Ok(Vec::new(self.allocator()));
+        };
+        self.gather_behind(dir, filter, front)
     }
 
     /// The files of a tree that a filter admits.
@@ -126,10 +138,7 @@ impl<N: Naming + Drop> Store<N> {
         ensures { Lists result (rows_where (admits filter.now) (Some (tree_rows self.now tree))) }
     {
         self.closed_law();
-        match self.gather_behind(tree, filter, Front::new(self.allocator())) {
-            Ok(rows) => Ok(rows),
-            Err(NoMemory) => Err(CommitFault::NoMemory),
-        }
+        Ok(self.gather_behind(tree, filter, Front::new(self.allocator()))?)
     }
 
     /// The files of a tree that a filter admits behind these bytes.

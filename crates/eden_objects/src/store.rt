@@ -89,10 +89,8 @@ impl<N: Naming + Drop> Store<N> {
         if payload.len() > PAYLOAD_LIMIT {
             return Err(PutFault::TooLarge);
         }
-        match self.outline_of(payload) {
-            Ok(outline) => self.put(payload, Body::Tree(outline)),
-            Err(fault) => Err(fault),
-        }
+        let outline = self.outline_of(payload)?;
+        self.put(payload, Body::Tree(outline))
     }
 
     /// Puts a commit, whose payload begins with `tree `, the 40 lowercase hexadecimal digits of a tree's id and a line feed, and
@@ -104,10 +102,8 @@ impl<N: Naming + Drop> Store<N> {
     pub fn put_commit(&mut self, payload: &[u8]) -> Result<Id, PutFault>
         ensures { PutGives result self.old self.new (commit_outcome N.id payload.now self.old) }
     {
-        match self.tree_of_commit(payload) {
-            Ok(tree) => self.put(payload, Body::Commit { tree }),
-            Err(fault) => Err(fault),
-        }
+        let tree = self.tree_of_commit(payload)?;
+        self.put(payload, Body::Commit { tree })
     }
 
     /// The object with an id.
@@ -183,12 +179,8 @@ impl<N: Naming + Drop> Store<N> {
         if let Some(held) = self.object(id) {
             return held.id_or_taken(id, word, payload);
         }
-        let Ok(payload) = Bytes::copy_from_slice(self.allocator(), payload) else {
-            return Err(PutFault::NoMemory);
-        };
-        match self.add(id, Stored { payload, body }) {
-            Ok(()) => Ok(id),
-            Err(_) => Err(PutFault::NoMemory),
-        }
+        let payload = Bytes::copy_from_slice(self.allocator(), payload)?;
+        self.add(id, Stored { payload, body })?;
+        Ok(id)
     }
 }

@@ -112,11 +112,8 @@ impl Stored {
 
 impl Share for Stored {
     fn share(&self) -> Result<Stored, NoMemory> {
-        let Ok(payload) = self.payload.clone() else {
-            return Err(NoMemory);
-        };
         Ok(Stored {
-            payload,
+            payload: self.payload.clone()?,
             body: self.body.share()?,
         })
     }

@@ -1,5 +1,6 @@
 -- Entries with which both sides begin are left out: the two sides have the same files there.
-use Rattle.std.proofs.Common.{◌≡◌, ℕ, ◌++◌, Bool, true, false, not, ◌&&◌, List, [], ◌∷◌, Option, Some, None, refl, sym, ap, subst}
+use Rattle.std.proofs.Common.{◌≡◌, ℕ, ◌++◌, Bool, true, false, not, ◌&&◌, List, [], ◌∷◌, Option, Some, None, refl, sym, ap, ◌∙◌, subst}
+use Rattle.std.proofs.lemmas.List.{append-nil}
 use Rattle.std.specs.Cmp.{tied_itself}
 use Rattle.std.specs.Cmp.Lexicographic.{nat_list_cmp_total}
 use Rattle.std.specs.FinMap.Entries.{by_order}
@@ -14,17 +15,11 @@ use Rattle.eden_treediff.specs.Merges.{merge_rows}
 use Rattle.eden_treediff.specs.internal.Merging.{IsLeftOut, Rests}
 use Rattle.eden_treediff.specs.internal.Pairs.{Next, is_changed, next_pair, same_mode}
 use Rattle.eden_treediff.specs.internal.Walks.{IsSide, side_depth, side_entries, side_rows, wanted_behind}
-use Rattle.eden_treediff.proofs.Legal.{AreLegal, legal_after, legal_begins}
-use Rattle.eden_treediff.proofs.Settling.{same_goes_on}
-use Rattle.eden_treediff.proofs.Steps.{IsWay, all_merged, here, is_next, merge_entries, one_more, skipped, unchanged, way_begins, way_goes_on}
+use Rattle.eden_treediff.proofs.Legal.{legal_begins}
+use Rattle.eden_treediff.proofs.Settling.{nothing_left}
+use Rattle.eden_treediff.proofs.Steps.{all_merged, way_begins}
+use Rattle.eden_treediff.proofs.Turns.{Stands, Turn, goes_on_same}
 use Rattle.eden_ids.proofs.FileMapLemmas.{same_kind-refl}
-
--- what the walk knows where these entries are left: what is to be found beside what was found, whether all so far is the same, and
--- that the entries are those of trees
-abbrev pub Stands : List Held → ℕ → ℕ → (List ℕ → Bool) → List ℕ → List (List ℕ) → List (List ℕ) → List (List ℕ) → Bool → Rests → Type 0
-Stands held m n test front target done whole same rests =
-    (target ≡ done ++ wanted_behind test front (merge_entries held rests.0 rests.1)) × (same ≡ true → whole ≡ merge_entries held rests.0 rests.1)
-    × IsWay held m n rests.0 rests.1 × AreLegal held front rests.0 × AreLegal held front rests.1
 
 mode_itself : (kind : Option Kind) → same_mode kind kind ≡ true
 mode_itself None = refl
@@ -37,29 +32,27 @@ next_itself : (e : Entry) (es fs : List Entry) → Some (Some e, Some e, es, fs)
 next_itself e es fs =
     sym (ap (λ o. Some (by_order o (Some e, None, es, e ∷ fs) (Some e, Some e, es, fs) (None, Some e, e ∷ es, fs))) (tied_itself nat_list_cmp_total (key e)))
 
-left_front : (held : List Held) (m n : ℕ) (test : List ℕ → Bool) (front : List ℕ) (target done whole : List (List ℕ)) (same : Bool) (es us vs : List Entry)
+left_front : {held : List Held} {m n : ℕ} {test : List ℕ → Bool} {front : List ℕ} {target done whole : List (List ℕ)} {same : Bool} (es us vs : List Entry)
     → Stands held m n test front target done whole same (es ++ us, es ++ vs) → Stands held m n test front target done whole same (us, vs)
-left_front held m n test front target done whole same [] us vs is = is
-left_front held m n test front target done whole same (e ∷ es) us vs is =
-    let left : List Entry = e ∷ es ++ us in
-    let right : List Entry = e ∷ es ++ vs in
-    let next : Next = (Some e, Some e, es ++ us, es ++ vs) in
-    let itself = next_itself e (es ++ us) (es ++ vs) in
-    let met = is_next held m n left right next is.2 itself in
-    left_front held m n test front target done whole same es us vs (
-      skipped held m n left right next test front target done is.2 itself (same_entry e) is.0,
-      (λ yes. same_goes_on whole (merge_entries held left right) (here held next) (merge_entries held next.2 next.3) (one_more held m n left right next is.2 itself)
-          (unchanged held m n left right next is.2 itself (same_entry e)) (is.1 yes)),
-      way_goes_on held m n left right next is.2 itself,
-      legal_after held front left (Some e) (es ++ us) met.0 is.3,
-      legal_after held front right (Some e) (es ++ vs) met.1 is.4,
-    )
+left_front [] us vs is = is
+left_front (e ∷ es) us vs is = left_front es us vs (goes_on_same (record { rests = (e ∷ es ++ us, e ∷ es ++ vs); stands = is; is = next_itself e (es ++ us) (es ++ vs) }) (same_entry e))
 
-pub left_out : (held : List Held) (m n : ℕ) (test : List ℕ → Bool) (front : List ℕ) (target done whole : List (List ℕ)) (same : Bool) (old rests : Rests) → IsLeftOut old rests
+left_out : {held : List Held} {m n : ℕ} {test : List ℕ → Bool} {front : List ℕ} {target done whole : List (List ℕ)} {same : Bool} (old rests : Rests) → IsLeftOut old rests
     → Stands held m n test front target done whole same old → Stands held m n test front target done whole same rests
-left_out held m n test front target done whole same old rests out is =
-    left_front held m n test front target done whole same out.0 rests.0 rests.1
-    (subst (λ (r : Rests). Stands held m n test front target done whole same r) (λ i. (out.1 i, out.2 i)) is)
+left_out {held} {m} {n} {test} {front} {target} {done} {whole} {same} old rests out is =
+    left_front out.0 rests.0 rests.1 (subst (Stands held m n test front target done whole same) (λ i. (out.1 i, out.2 i)) is)
+
+pub turn_of : {held : List Held} {m n : ℕ} {test : List ℕ → Bool} {front : List ℕ} {target done whole : List (List ℕ)} {same : Bool} {old : Rests} {next : Next}
+    → (rests : Rests) × IsLeftOut old rests × (Some next ≡ next_pair rests.0 rests.1) → Stands held m n test front target done whole same old → Turn held m n test front target done whole same next
+turn_of {old = old} met is = record { rests = met.0; stands = left_out old met.0 met.1 is; is = met.2 }
+
+-- with no further pair all was found
+pub ends : {held : List Held} {m n : ℕ} {test : List ℕ → Bool} {front : List ℕ} {target done whole : List (List ℕ)} {same : Bool} {old : Rests}
+    → (rests : Rests) × IsLeftOut old rests × (None ≡ next_pair rests.0 rests.1) → Stands held m n test front target done whole same old → (done ≡ target) × (same ≡ true → whole ≡ [])
+ends {test = test} {front = front} {done = done} {old = old} met is =
+    let stands = left_out old met.0 met.1 is in
+    let none = nothing_left _ met.0.0 met.0.1 met.2 in
+    (sym (stands.found ∙ ap (λ ps. done ++ wanted_behind test front ps) none ∙ append-nil done), λ yes. stands.alike yes ∙ none)
 
 pub begins : (held : List Held) (first second : Option Id) (test : List ℕ → Bool) (front : List ℕ) (done : List (List ℕ)) → IsClosed held → IsSide held first → IsSide held second
     → ArePaths front (side_rows held first) → ArePaths front (side_rows held second) → (rests : Rests) → rests ≡ (side_entries held first, side_entries held second)
@@ -68,10 +61,10 @@ pub begins : (held : List Held) (first second : Option Id) (test : List ℕ → 
 begins held first second test front done closed one two paths others rests is =
     let whole = all_merged held first second closed one two in
     let whole_paths : List (List ℕ) = merge_rows (side_rows held first) (side_rows held second) in
-    subst (λ (r : Rests). Stands held (side_depth held first) (side_depth held second) test front (done ++ wanted_behind test front whole_paths) done whole_paths true r) (sym is) (
-      ap (λ ps. done ++ wanted_behind test front ps) whole,
-      (λ yes. whole),
-      way_begins held first second closed one two,
-      legal_begins held front first closed one paths,
-      legal_begins held front second closed two others,
-    )
+    subst (λ (r : Rests). Stands held (side_depth held first) (side_depth held second) test front (done ++ wanted_behind test front whole_paths) done whole_paths true r) (sym is) (record {
+      found = ap (λ ps. done ++ wanted_behind test front ps) whole;
+      alike = λ yes. whole;
+      way = way_begins held first second closed one two;
+      first_legal = legal_begins held front first closed one paths;
+      second_legal = legal_begins held front second closed two others;
+    })

@@ -9,4 +9,5 @@ mod Settling
 mod Sides
 mod Rows
 mod Merging
+mod Turns
 mod Leaving

@@ -69,16 +69,7 @@ nothing_left held (e ∷ es) [] is = absurd (cc)
 nothing_left held [] (f ∷ fs) is = absurd (cc)
 nothing_left held (e ∷ es) (f ∷ fs) is = absurd (cc)
 
-pub all_walked : (held : List Held) (es fs : List Entry) (test : List ℕ → Bool) (front : List ℕ) (target done : List (List ℕ)) → None ≡ next_pair es fs
-    → target ≡ done ++ wanted_behind test front (merge_entries held es fs) → done ≡ target
-all_walked held es fs test front target done end so_far =
-    sym (so_far ∙ ap (λ ps. done ++ wanted_behind test front ps) (nothing_left held es fs end) ∙ append-nil done)
-
 -- ---- whether the sides hold the same files, as far as the walk has come
-
--- a pair without paths leaves it open
-pub same_goes_on : (whole all ps qs : List (List ℕ)) → all ≡ ps ++ qs → ps ≡ [] → whole ≡ all → whole ≡ qs
-same_goes_on whole all ps qs parts none so_far = so_far ∙ parts ∙ ap (λ more. more ++ qs) none
 
 -- a pair with paths decides it
 pub other_from : (P : Type 0) (whole all ps qs : List (List ℕ)) (same : Bool) → all ≡ ps ++ qs → (same ≡ true → whole ≡ all) → (same ≡ false → P → whole ≡ [] → ⊥) → (P → ps ≡ [] → ⊥)

@@ -77,16 +77,9 @@ pub fn diff_admitted<N: Naming + Drop>(
     ensures fault { IfErr result (λ fault. fault ≢ CommitFault.NoMemory → differences (commit_map store.now first) (commit_map store.now second) ≡ None) }
 {
     store.closed_law();
-    let Ok(tree) = side_of(store, first) else {
-        return Err(CommitFault::NoCommit);
-    };
-    let Ok(other) = side_of(store, second) else {
-        return Err(CommitFault::NoCommit);
-    };
-    match paths_between(alloc, store, tree, other, filter) {
-        Ok(paths) => Ok(paths),
-        Err(NoMemory) => Err(CommitFault::NoMemory),
-    }
+    let tree = side_of(store, first)?;
+    let other = side_of(store, second)?;
+    Ok(paths_between(alloc, store, tree, other, filter)?)
 }
 
 /// The paths on which two commits differ, in byte order: those of a file that one of them alone has, and those at which they have

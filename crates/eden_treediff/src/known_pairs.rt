@@ -36,9 +36,7 @@ impl Settled {
     pub(crate) fn add(&mut self, first: Option<Id>, second: Option<Id>) -> Result<(), NoMemory>
         ensures { OnOk result (Updates sides_cmp self.old.pairs self.new.pairs (first, second) true) }
     {
-        match self.pairs.insert((first, second)) {
-            Ok(_) => Ok(()),
-            Err(_) => Err(NoMemory),
-        }
+        self.pairs.insert((first, second))?;
+        Ok(())
     }
 }

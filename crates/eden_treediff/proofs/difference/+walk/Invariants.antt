@@ -3,7 +3,7 @@ use Rattle.eden_globs.specs.Filters.{admits}
 use Rattle.eden_treediff.specs.Merges.{merge_rows}
 use Rattle.eden_treediff.specs.internal.Settled.{AreSettled, HoldSame, KeepsSettled}
 use Rattle.eden_treediff.specs.internal.Walks.{side_depth, side_rows, wanted_behind}
-use Rattle.eden_treediff.proofs.Leaving.{Stands}
+use Rattle.eden_treediff.proofs.Turns.{Stands}
 use Rattle.eden_treediff.proofs.difference.+walk.Given as goal
 
 abbrev pub decreases-walk : goal.decreases-walk

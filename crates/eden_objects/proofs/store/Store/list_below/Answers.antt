@@ -1,4 +1,5 @@
 use Rattle.std.proofs.Common.{◌≡◌, Some, ap, sym, subst, ◌∙◌}
+use Rattle.eden_globs.specs.Filters.{admits}
 use Rattle.eden_ids.specs.Paths.{lies_below}
 use Rattle.eden_objects.specs.Commits.{commit_rows, rows_where}
 use Rattle.eden_objects.specs.Listings.{Lists}
@@ -12,4 +13,4 @@ returns-in-Ok-Some g c =
     ≡ rows_where (λ p. lies_below p c.args.top.now) (commit_rows c.args.self.now c.args.commit) =
     ap (λ path. Some (rows_below c.args.self.now c.in-Ok-Some.tree path)) c.as_bytes.ensures.bytes
     ∙ ap (rows_where (λ p. lies_below p c.args.top.now)) (sym rows) in
-    subst (Lists c.list_directory.result) whole c.list_directory.ensures
+    subst (λ found. Lists c.list_directory.result (rows_where (admits c.args.filter.now) found)) whole c.list_directory.ensures

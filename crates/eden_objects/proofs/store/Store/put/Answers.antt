@@ -1,10 +1,10 @@
-use Rattle.std.proofs.Common.{rules, arith, ◌≡◌, ◌<◌, ℕ, None, Some, false, refl, get_or}
+use Rattle.std.proofs.Common.{rules, arith, ◌≡◌, ◌<◌, ℕ, Some, false, get_or}
 use Rattle.eden_ids.proofs.Texts.{bytes_are}
 use Rattle.eden_objects.specs.Objects.{find, zero_id}
 use Rattle.eden_ids.specs.Sameness.{same_id}
 use Rattle.eden_objects.specs.Puts.{named}
 use Rattle.eden_objects.specs.Contents.{held_of, word_of}
-use Rattle.eden_objects.proofs.Putting.{no_memory, standing}
+use Rattle.eden_objects.proofs.Putting.{standing}
 use Rattle.eden_objects.proofs.store.Store.put.Goals as goal
 
 pub returns-in-Some : goal.returns-in-Some
@@ -14,25 +14,8 @@ returns-in-Some g c =
     let found : find c.id_of-id.result c.args.self.now ≡ Some (held_of c.id_of-id.result c.in-Some.held.now) = search rules in
     rw (c.id_or_taken.ensures, c.word-word.ensures) (standing (named g.N.Naming.id (word_of c.args.body) c.args.payload.now) c.args.self.now c.id_of-id.result c.in-Some.held.now called zero found)
 
-pub returns-in_default-copy_from_slice : goal.returns-in_default-copy_from_slice
-returns-in_default-copy_from_slice g c =
-    let called : (named g.N.Naming.id (word_of c.args.body) c.args.payload.now).id ≡ c.id_of-id.result = search rules in
-    let zero : same_id c.id_of-id.result zero_id ≡ false = search rules in
-    let absent : find c.id_of-id.result c.args.self.now ≡ None = search rules in
-    let added = no_memory (named g.N.Naming.id (word_of c.args.body) c.args.payload.now) c.args.self.now c.id_of-id.result called zero absent in
-    (refl, added.0, added.1, added.2)
-
-pub returns-in-Err : goal.returns-in-Err
-returns-in-Err g c =
-    let called : (named g.N.Naming.id (word_of c.args.body) c.args.payload.now).id ≡ c.id_of-id.result = search rules in
-    let zero : same_id c.id_of-id.result zero_id ≡ false = search rules in
-    let absent : find c.id_of-id.result c.args.self.now ≡ None = search rules in
-    let added = no_memory (named g.N.Naming.id (word_of c.args.body) c.args.payload.now) c.args.self.now c.id_of-id.result called zero absent in
-    let same : c.add.new.self ≡ c.args.self.now = search rules in
-    (same, added.0, added.1, added.2)
-
 pub add-requires-clause-small : goal.add-requires-clause-small
 add-requires-clause-small g c =
     let below : (i : ℕ) → get_or c.args.payload.now i 0 < 256 = λ i. omega (arith, c.type_inv.payload i) in
-    let same : c.in-Ok.payload ≡ c.args.payload.now = c.in-Ok.ensures in
+    let same : c.in_ok-payload.payload ≡ c.args.payload.now = c.in_ok-payload.ensures in
     record { few = rw same c.requires.small; bytes = rw same (bytes_are c.args.payload.now below) }

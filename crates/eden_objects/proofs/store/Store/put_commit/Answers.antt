@@ -1,12 +1,7 @@
-use Rattle.std.proofs.Common.{rules, ◌≡◌, Some, None}
+use Rattle.std.proofs.Common.{rules, ◌≡◌, Err, Some, None}
 use Rattle.eden_objects.specs.Puts.{commit_fault}
 use Rattle.eden_objects.proofs.Refusals.{commit_refused, commit_sound, few_bytes}
 use Rattle.eden_objects.proofs.store.Store.put_commit.Goals as goal
-
-pub returns-in-Err : goal.returns-in-Err
-returns-in-Err g c =
-    let is : commit_fault c.args.payload.now c.args.self.now ≡ Some c.in-Err.fault = search rules in
-    commit_refused g.N.Naming.id c.args.payload.now c.args.self.now c.in-Err.fault is
 
 pub put-requires-clause-sound : goal.put-requires-clause-sound
 put-requires-clause-sound g c =
@@ -17,3 +12,9 @@ pub put-requires-clause-small : goal.put-requires-clause-small
 put-requires-clause-small g c =
     let is : commit_fault c.args.payload.now c.args.self.now ≡ None = search rules in
     few_bytes c.args.payload.now _ is
+
+pub returns-in_err-tree : goal.returns-in_err-tree
+returns-in_err-tree g c =
+    let is : commit_fault c.args.payload.now c.args.self.now ≡ Some c.in_err-tree.field-0.0 = search rules in
+    let told : c.from_residual.result ≡ Err c.in_err-tree.field-0.0 = search rules in
+    rw told (commit_refused g.N.Naming.id c.args.payload.now c.args.self.now c.in_err-tree.field-0.0 is)
