@@ -12,7 +12,6 @@ use Rattle.eden_objects.proofs.CommitLaws.{file_maps}
 use Rattle.eden_history.specs.declared.change.Change.{Change}
 use Rattle.eden_history.specs.declared.change.Change.TheVariants.{Write, Remove, Rename, Checkout, Reset, Flush, Remount, Import}
 use Rattle.eden_history.specs.Worlds.{Row, Event, Commits, WorldState, commits_of, last_row, now, opened}
-use Rattle.eden_history.specs.Named.{held_files}
 use Rattle.eden_history.specs.Outcome.{change_fault, next_files, next_row, outcome, refusal}
 use Rattle.eden_history.specs.Outcome.Outcome.{Next}
 use Rattle.eden_history.specs.Legal.{AreMade, IsLegal, IsWorld}
@@ -24,7 +23,7 @@ use Rattle.eden_history.proofs.Steps.{is_made}
 abbrev pub AreFileMaps : Commits → Type 0
 AreFileMaps commits = (id : Id) (files : FileMap) → commits id ≡ Some files → IsFileMap files
 
-held_fits : (commits : Commits) → AreFileMaps commits → (id : Id) → IsFileMap (held_files commits id)
+held_fits : (commits : Commits) → AreFileMaps commits → (id : Id) → IsFileMap (files_of (commits id))
 held_fits commits fits id = by (commits id) refl
   where
     by : (found : Option FileMap) → commits id ≡ found → IsFileMap (files_of found)
@@ -37,7 +36,7 @@ next_fits commits row (Write path kind bytes) maps e fits = write_fits row.files
 next_fits commits row (Remove path) maps e fits = IsFileMap-remove row.files path fits
 next_fits commits row (Rename old new) maps e fits = rename_fits row.files old new fits e
 next_fits commits row (Checkout commit mode) maps e fits =
-    checked_out_no_clash mode row.files (held_files commits row.root) (held_files commits commit) fits (held_fits commits maps commit)
+    checked_out_no_clash mode row.files (files_of (commits row.root)) (files_of (commits commit)) fits (held_fits commits maps commit)
 next_fits commits row (Reset commit) maps e fits = fits
 next_fits commits row Flush maps e fits = fits
 next_fits commits row (Remount generation) maps e fits = fits
@@ -65,7 +64,7 @@ pub legal_files : (world : WorldState) → IsClosed world.held → IsLegal world
 legal_files world closed legal = made_fits (commits_of world) world.opening world.past (file_maps world.held closed) legal.0 legal.1
 
 -- the files of a commit are a file map
-pub commit_fits : (held : List Held) → IsClosed held → (id : Id) → IsFileMap (held_files (commit_map held) id)
+pub commit_fits : (held : List Held) → IsClosed held → (id : Id) → IsFileMap (files_of (commit_map held id))
 commit_fits held closed id = held_fits (commit_map held) (file_maps held closed) id
 
 -- ---- worlds
@@ -76,7 +75,7 @@ world_files name world is = legal_files world is.closed is.legal
 
 -- a mount of a commit, with no event, is a world
 pub world_opens : (name : List ℕ → List ℕ → Id) (held : List Held) (generation limit : ℕ) (root : Id) (files : FileMap) → IsClosed held → AllNamed name held
-    → IsSome (commit_map held root) → files ≡ held_files (commit_map held) root → IsWorld name (opened held generation limit root files)
+    → IsSome (commit_map held root) → files ≡ files_of (commit_map held root) → IsWorld name (opened held generation limit root files)
 world_opens name held generation limit root files closed named there is =
     record {
       closed = closed;

@@ -2,6 +2,7 @@ pub mod CheckoutLaws
 pub mod DirtyFiles
 mod SortedPaths
 pub mod RenameLaws
+pub mod CarriedLemmas
 pub mod Committed
 pub mod Steps
 pub mod LegalFiles
@@ -11,5 +12,6 @@ pub mod Ends
 pub mod Saying
 pub mod Floors
 pub mod Following
+pub mod Kept
 pub mod Spelled
 pub mod Alike

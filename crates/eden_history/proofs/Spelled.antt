@@ -2,7 +2,7 @@
 use Rattle.std.proofs.Common.{◌≡◌, ℕ, ◌^◌, ◌<◌, ◌⊎◌, inl, inr, Bool, true, false, cond, ◌||◌, is_some, nat_lt, List, [], ◌∷◌, ◌++◌, length, Option, Some, None, Ok, refl, sym, ap, subst, ◌∙◌, arith}
 use Rattle.std.specs.Prelude.{if◌then◌else◌}
 use Rattle.std.proofs.lemmas.Bool.{ltb-false}
-use Rattle.std.specs.List.{AllByRecursion}
+use Rattle.std.specs.List.{AllByRecursion, flat_map}
 use Rattle.std.proofs.lemmas.List.{map-append}
 use Rattle.std.specs.FinMap as fin
 use Rattle.eden_ids.specs.declared.id.Id.{Id}
@@ -30,9 +30,9 @@ use Rattle.eden_history.specs.declared.change.ChangeFault.{ChangeFault}
 use Rattle.eden_history.specs.declared.change.ChangeFault.TheVariants.{TooLarge}
 use Rattle.eden_history.specs.Worlds.{Row, Event, Commits, Namer, WorldState, commits_of, last_row, now, opened}
 use Rattle.eden_history.specs.Checkouts.{checked_out, is_blocked, is_clean, rule_of, unclean}
-use Rattle.eden_history.specs.Named.{commits_differ, held_files, named, unclean_set}
+use Rattle.eden_history.specs.Named.{commits_differ, moved_prefixes, named, unclean_set}
 use Rattle.eden_history.specs.Said.{paths_said, said_of}
-use Rattle.eden_history.specs.Changes.{is_in_range, said, said_since}
+use Rattle.eden_history.specs.Changes.{events_in, is_in_range, prefixes_since, prefixes_told, said, said_since}
 use Rattle.eden_history.specs.Outcome.{Outcome, change_fault, event_at, extended, is_event, judged, next_files, next_generation, next_root, next_row, outcome, refusal, row_after, world_after}
 use Rattle.eden_history.specs.Outcome.Outcome.{Refuses, NoEvent, Next}
 use Rattle.eden_history.specs.Renames.{moved, place_fault, renamed, write_fault}
@@ -52,7 +52,7 @@ use Rattle.eden_history.proofs.Steps.{has_room, is_made}
 abbrev HoldTexts : Commits → Type 0
 HoldTexts commits = (id : Id) (files : FileMap) → commits id ≡ Some files → AreTexts files
 
-pub held_texts : (commits : Commits) → HoldTexts commits → (id : Id) → AreTexts (held_files commits id)
+pub held_texts : (commits : Commits) → HoldTexts commits → (id : Id) → AreTexts (files_of (commits id))
 held_texts commits texts id = by (commits id) refl
   where
     by : (found : Option FileMap) → commits id ≡ found → AreTexts (files_of found)
@@ -113,7 +113,7 @@ texts_next commits row (Write path kind bytes) held allowed is texts =
 texts_next commits row (Remove path) held allowed is texts = texts_remove row.files path texts
 texts_next commits row (Rename old new) held allowed is texts = texts_renamed row.files old new texts is.1
 texts_next commits row (Checkout commit mode) held allowed is texts =
-    texts_checked_out mode row.files (held_files commits row.root) (held_files commits commit) texts (held_texts commits held commit)
+    texts_checked_out mode row.files (files_of (commits row.root)) (files_of (commits commit)) texts (held_texts commits held commit)
 texts_next commits row (Reset commit) held allowed is texts = texts
 texts_next commits row Flush held allowed is texts = texts
 texts_next commits row (Remount generation) held allowed is texts = texts
@@ -181,10 +181,10 @@ names_texts commits before (Checkout commit mode) after held is old new =
     let root = held_texts commits held before.root in
     let target = held_texts commits held commit in
     all_of_union IsPathText (unclean_set commits before commit after) (commits_differ commits before.root commit)
-    (unclean_texts before.files (held_files commits before.root) after.files (held_files commits commit) old root new target)
-    (differ_texts (held_files commits before.root) (held_files commits commit) root target)
+    (unclean_texts before.files (files_of (commits before.root)) after.files (files_of (commits commit)) old root new target)
+    (differ_texts (files_of (commits before.root)) (files_of (commits commit)) root target)
 names_texts commits before (Reset commit) after held is old new =
-    differ_texts (held_files commits before.root) (held_files commits commit) (held_texts commits held before.root) (held_texts commits held commit)
+    differ_texts (files_of (commits before.root)) (files_of (commits commit)) (held_texts commits held before.root) (held_texts commits held commit)
 names_texts commits before Flush after held is old new = tt
 names_texts commits before (Remount generation) after held is old new = tt
 names_texts commits before (Import objects) after held is old new = tt
@@ -229,11 +229,39 @@ named_texts name world since is spellable =
     (said_texts (commits_of world) (now world).generation since (now world).sequence world.opening world.past
     (commits_texts world.held is.closed spellable.small) spellable.opening spellable.changes is.legal.1)
 
+-- ---- directories
+
+moved_texts : (change : Change) → IsChange change → AllByRecursion IsPathText (moved_prefixes change)
+moved_texts change is = tt
+
+told_texts : (commits : Commits) (generation since until : ℕ) (opening : Row) (past : List Event) → AllByRecursion (λ event. IsChange event.change) past
+    → AreMade commits opening past → AllByRecursion IsPathText (prefixes_told generation since until past)
+told_texts commits generation since until opening [] are made = tt
+told_texts commits generation since until opening (event ∷ past) are made =
+    by (is_in_range generation since until event.row) (told_texts commits generation since until opening past are.1 made.1)
+  where
+    here : AllByRecursion IsPathText event.prefixes
+    here =
+        subst (λ (e : Event). AllByRecursion IsPathText e.prefixes) (sym (is_made commits (last_row opening past) event made.0).made)
+        (moved_texts event.change are.0)
+
+    by : (counts : Bool) → AllByRecursion IsPathText (prefixes_told generation since until past)
+        → AllByRecursion IsPathText (flat_map (λ e. e.prefixes) (cond counts (event ∷ events_in generation since until past) (events_in generation since until past)))
+    by true older = all_both event.prefixes (prefixes_told generation since until past) here older
+    by false older = older
+
+-- the directories between which files were moved since a number of the present generation
+pub prefixes_texts : (name : List ℕ → List ℕ → Id) (world : WorldState) (since : ℕ) → IsWorld name world → IsSpellable world
+    → AllByRecursion IsPathText (prefixes_since world since)
+prefixes_texts name world since is spellable =
+    all_of_set IsPathText (prefixes_told (now world).generation since (now world).sequence world.past)
+    (told_texts (commits_of world) (now world).generation since (now world).sequence world.opening world.past spellable.changes is.legal.1)
+
 -- ---- worlds
 
 -- a mount of a commit, with no event, is spellable
 pub spellable_opens : (held : List Held) (generation limit : ℕ) (root : Id) (files : FileMap) → IsClosed held → AreSmall held → generation < 2 ^ 64 → IsIdText root
-    → files ≡ held_files (commit_map held) root → IsSpellable (opened held generation limit root files)
+    → files ≡ files_of (commit_map held root) → IsSpellable (opened held generation limit root files)
 spellable_opens held generation limit root files closed small fits id is =
     let texts : AreTexts files = subst AreTexts (sym is) (held_texts (commit_map held) (commits_texts held closed small) root) in
     record { small = small; opening = record { generation = fits; sequence = omega arith; root = id; files = texts }; changes = tt }

@@ -1,5 +1,6 @@
 pub mod Worlds
 pub mod Renames
+pub mod Carried
 pub mod Checkouts
 pub mod DirtyFiles
 pub mod Named

@@ -13,12 +13,13 @@ use Rattle.eden_history.specs.declared.change.ChangeFault.TheVariants.{NoCommit,
 use Rattle.eden_history.specs.declared.position.Position.{Position}
 use Rattle.eden_objects.specs.declared.import.ImportFault.TheVariants as imports
 use Rattle.eden_objects.specs.Imports.{Imported, import_outcome}
+use Rattle.eden_objects.specs.Files.{files_of}
 use Rattle.eden_history.specs.Worlds.{Row, Event, Commits, Namer, WorldState, commits_of, now, position_of}
 use Rattle.eden_history.specs.Imports.{world_imported}
 use Rattle.eden_history.specs.Renames.{absent_fault, write_fault, rename_fault, renamed}
 use Rattle.eden_ids.specs.Sameness.{same_bytes}
 use Rattle.eden_history.specs.Checkouts.{checked_out, conflicts, is_dry}
-use Rattle.eden_history.specs.Named.{held_files, unclean_paths, named}
+use Rattle.eden_history.specs.Named.{moved_prefixes, named, unclean_paths}
 
 -- a commit has to be there
 abbrev pub commit_fault : Option FileMap → Option ChangeFault
@@ -64,7 +65,7 @@ files_changed files change = files
 
 -- the files after a change that is not refused
 unfoldable pub next_files : Commits → Row → Change → FileMap
-next_files commits row (Checkout commit mode) = checked_out mode row.files (held_files commits row.root) (held_files commits commit)
+next_files commits row (Checkout commit mode) = checked_out mode row.files (files_of (commits row.root)) (files_of (commits commit))
 next_files commits row change = files_changed row.files change
 
 abbrev pub next_generation : Row → Change → ℕ
@@ -95,8 +96,13 @@ pub data Outcome : Type 0 where
 
 -- the event that a change makes, with the row after it
 abbrev pub event_at : Commits → Row → Change → Row → Event
-event_at commits before change after =
-    record { change = change; row = after; names = named commits before change after; unclean = unclean_paths commits before change after }
+event_at commits before change after = record {
+  change = change;
+  row = after;
+  names = named commits before change after;
+  unclean = unclean_paths commits before change after;
+  prefixes = moved_prefixes change;
+}
 
 abbrev pub judged : Commits → Row → Change → Option ChangeFault → Outcome
 judged commits row change (Some fault) = Refuses fault
@@ -108,7 +114,7 @@ outcome commits row change = judged commits row change (refusal commits row chan
 -- a checkout, also one that is only tried, is answered with its conflicts
 abbrev pub answer_at : Commits → Row → Change → Position → Answer
 answer_at commits row (Checkout commit mode) position =
-    Checked position (listing (conflicts row.files (held_files commits row.root) (held_files commits commit)))
+    Checked position (listing (conflicts row.files (files_of (commits row.root)) (files_of (commits commit))))
 answer_at commits row change position = At position
 
 abbrev pub answered : Commits → Row → Change → Outcome → Answer

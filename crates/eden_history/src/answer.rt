@@ -48,3 +48,13 @@ pub enum SinceFault {
     #[error("NoMemory")]
     NoMemory,
 }
+
+impl From<NoMemory> for SinceFault {
+    ghost use Rattle.eden_history.specs.declared.answer.SinceFault.TheVariants as faults;
+
+    ghost from_gives = { λ _ fault. fault ≡ faults.NoMemory };
+
+    fn from(_fault: NoMemory) -> SinceFault {
+        SinceFault::NoMemory
+    }
+}

@@ -14,9 +14,11 @@
 #![tactic(auto)]
 
 pub use crate::answer::{Answer, SinceFault};
+pub use crate::carried_laws::carried_law;
 pub use crate::change::{Change, ChangeFault, Mode};
 pub use crate::checkout_laws::checkout_law;
 pub use crate::dirty::Dirty;
+pub use crate::listed::is_listed;
 pub use crate::mark::{Mark, Marked};
 pub use crate::mount_fault::MountFault;
 pub use crate::position::Position;
@@ -26,6 +28,7 @@ pub use crate::touches::Touch;
 pub use crate::tree_faults::{absent_fault, place_fault, rename_fault, write_fault};
 
 mod answer;
+mod carried_laws;
 mod change;
 mod checkout_laws;
 mod dirty;

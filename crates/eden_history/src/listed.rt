@@ -10,7 +10,7 @@ ghost use Rattle.eden_ids.specs.FileMaps.{same_path};
 use eden_ids::Path;
 
 /// Whether a path is one of some paths in byte order. It is searched for by halves, and takes no memory.
-pub(crate) fn is_listed(paths: &[Path], path: &[u8]) -> bool
+pub fn is_listed(paths: &[Path], path: &[u8]) -> bool
     requires { IsStrictlySortedBy (slice_cmp nat_cmp) paths.now }
     ensures { result ≡ list_any (λ p. same_path path.now p) paths.now }
 {
