@@ -12,7 +12,7 @@ use eden_ids::NoMemory;
 use eden_messages::Request;
 use std::cmp::Ordering;
 
-/// The path of which a content is asked.
+/// The path of which a content is asked, or what stands below it.
 fn path_of(request: &Request) -> &[u8]
     ensures { result.now ≡ path_in request.now }
 {
@@ -20,6 +20,7 @@ fn path_of(request: &Request) -> &[u8]
         Request::Basis { .. } => &[],
         Request::Poll { .. } => &[],
         Request::Fetch { path, .. } => path.as_bytes(),
+        Request::List { prefix, .. } => prefix.as_bytes(),
     }
 }
 

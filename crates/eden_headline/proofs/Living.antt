@@ -1,16 +1,16 @@
 -- A mirror keeps its id, its life and its filter, whatever comes to it.
-use Rattle.std.proofs.Common.{◌≡◌, Bool, true, false, List, [], ◌∷◌, ℕ, refl}
-use Rattle.std.proofs.Common.{◌≡◌, Bool, true, false, List, [], ◌∷◌, ℕ, if◌then◌else◌, refl, ◌∙◌}
+use Rattle.std.proofs.Common.{◌≡◌, Bool, true, false, ◌&&◌, List, [], ◌∷◌, ◌++◌, ℕ, if◌then◌else◌, refl, ◌∙◌}
 use Rattle.eden_ids.specs.FileMaps.{put_option}
 use Rattle.eden_history.specs.declared.position.Position.{Position}
 use Rattle.eden_messages.specs.declared.message.Cause.{Cause}
 use Rattle.eden_messages.specs.declared.message.Cause.TheVariants.{Stale, Ahead, Truncated, TooLarge}
 use Rattle.eden_messages.specs.declared.message.Query.{Query}
 use Rattle.eden_messages.specs.declared.message.Reply.{Reply}
-use Rattle.eden_messages.specs.declared.message.Reply.TheVariants.{BasisIs, ChangesAre, ContentIs, Refused}
-use Rattle.eden_messages.specs.declared.message.Request.TheVariants.{Basis, Poll, Fetch}
+use Rattle.eden_messages.specs.declared.message.Reply.TheVariants.{BasisIs, ChangesAre, ContentIs, Refused, ListIs}
+use Rattle.eden_messages.specs.declared.message.Request.TheVariants.{Basis, Poll, Fetch, List as Below}
 use Rattle.eden_messages.specs.declared.outcome.Outcome.{Outcome}
-use Rattle.eden_messages.specs.Mirrors.{MirrorState, Round, begun, counts, delivered, delivered_in, distinct, emptied, fetched, gathers, has_number, next_round, query_of, refused, same_query, taken_if, without}
+use Rattle.eden_messages.specs.declared.outcome.Outcome.TheVariants.{Ended}
+use Rattle.eden_messages.specs.Mirrors.{MirrorState, Round, begun, counts, delivered, delivered_in, distinct, emptied, ends_round, fetched, gathers, has_number, listed_below, listed_files, next_round, query_of, refused, same_query, taken_if, without}
 use Rattle.eden_messages.specs.Mirrors.Round.{Idle, Asked, Gathering}
 use Rattle.eden_messages.specs.Spells.{paths_of}
 
@@ -31,9 +31,10 @@ begun_keeps m = by (has_number m)
     by true = record { id = refl; life = refl; patterns = refl }
     by false = same m
 
-gathers_keeps : (m : MirrorState) (query : Query) (target : Position) (awaited : List (List ℕ)) → KeepsName m (gathers m query target awaited).0
-gathers_keeps m query target [] = record { id = refl; life = refl; patterns = refl }
-gathers_keeps m query target (path ∷ paths) = record { id = refl; life = refl; patterns = refl }
+gathers_keeps : (m : MirrorState) (query : Query) (target : Position) (awaited prefixes : List (List ℕ)) → KeepsName m (gathers m query target awaited prefixes).0
+gathers_keeps m query target [] [] = record { id = refl; life = refl; patterns = refl }
+gathers_keeps m query target [] (prefix ∷ prefixes) = record { id = refl; life = refl; patterns = refl }
+gathers_keeps m query target (path ∷ paths) prefixes = record { id = refl; life = refl; patterns = refl }
 
 taken_keeps : (b : Bool) (m : MirrorState) (taken : MirrorState × Outcome) → KeepsName m taken.0 → KeepsName m (taken_if b m taken).0
 taken_keeps true m taken is = is
@@ -53,24 +54,33 @@ over m n taken first second =
 in_round_keeps : (m : MirrorState) (round : Round) (reply : Reply) → KeepsName m (delivered_in m round reply).0
 in_round_keeps m Idle reply = same m
 in_round_keeps m (Asked (Basis asked patterns)) (BasisIs query target paths) =
-    taken_keeps (same_query query asked) m (gathers (emptied m) asked target (distinct paths))
-    (over m (emptied m) (gathers (emptied m) asked target (distinct paths)) (record { id = refl; life = refl; patterns = refl })
-    (gathers_keeps (emptied m) asked target (distinct paths)))
+    taken_keeps (same_query query asked) m (gathers (emptied m) asked target (distinct paths) [])
+    (over m (emptied m) (gathers (emptied m) asked target (distinct paths) []) (record { id = refl; life = refl; patterns = refl })
+    (gathers_keeps (emptied m) asked target (distinct paths) []))
 in_round_keeps m (Asked (Poll asked since patterns)) (BasisIs query target paths) = same m
 in_round_keeps m (Asked (Fetch asked path)) (BasisIs query target paths) = same m
-in_round_keeps m (Asked (Basis asked patterns)) (ChangesAre query target marked) = same m
-in_round_keeps m (Asked (Poll asked since patterns)) (ChangesAre query target marked) =
-    taken_keeps (same_query query asked) m (gathers m asked target (distinct (paths_of marked))) (gathers_keeps m asked target (distinct (paths_of marked)))
-in_round_keeps m (Asked (Fetch asked path)) (ChangesAre query target marked) = same m
+in_round_keeps m (Asked (Below asked prefix patterns)) (BasisIs query target paths) = same m
+in_round_keeps m (Asked (Basis asked patterns)) (ChangesAre query target marked prefixes) = same m
+in_round_keeps m (Asked (Poll asked since patterns)) (ChangesAre query target marked prefixes) =
+    taken_keeps (same_query query asked) m (gathers m asked target (distinct (paths_of marked)) (distinct prefixes))
+    (gathers_keeps m asked target (distinct (paths_of marked)) (distinct prefixes))
+in_round_keeps m (Asked (Fetch asked path)) (ChangesAre query target marked prefixes) = same m
+in_round_keeps m (Asked (Below asked prefix patterns)) (ChangesAre query target marked prefixes) = same m
 in_round_keeps m (Asked request) (ContentIs query position path content) = same m
 in_round_keeps m (Asked request) (Refused query cause) = taken_keeps (same_query query (query_of request)) m (refused m cause) (refused_keeps m cause)
-in_round_keeps m (Gathering asked target awaited) (BasisIs query position paths) = same m
-in_round_keeps m (Gathering asked target awaited) (ChangesAre query other marked) = same m
-in_round_keeps m (Gathering asked target awaited) (ContentIs query position path content) =
-    taken_keeps (counts asked target awaited query position path) m (fetched m asked target awaited path content)
-    (over m (record m { files = put_option m.files path content }) (fetched m asked target awaited path content) (record { id = refl; life = refl; patterns = refl })
-    (gathers_keeps (record m { files = put_option m.files path content }) asked target (without path awaited)))
-in_round_keeps m (Gathering asked target awaited) (Refused query cause) = same m
+in_round_keeps m (Asked request) (ListIs query position prefix paths) = same m
+in_round_keeps m (Gathering asked target awaited prefixes) (BasisIs query position paths) = same m
+in_round_keeps m (Gathering asked target awaited prefixes) (ChangesAre query other marked more) = same m
+in_round_keeps m (Gathering asked target awaited prefixes) (ContentIs query position path content) =
+    taken_keeps (counts asked target awaited query position path) m (fetched m asked target awaited prefixes path content)
+    (over m (record m { files = put_option m.files path content }) (fetched m asked target awaited prefixes path content) (record { id = refl; life = refl; patterns = refl })
+    (gathers_keeps (record m { files = put_option m.files path content }) asked target (without path awaited) prefixes))
+in_round_keeps m (Gathering asked target awaited prefixes) (ListIs query position prefix paths) =
+    taken_keeps (counts asked target prefixes query position prefix) m (listed_below m asked target awaited prefixes prefix paths)
+    (over m (record m { files = listed_files m.files prefix paths }) (listed_below m asked target awaited prefixes prefix paths) (record { id = refl; life = refl; patterns = refl })
+    (gathers_keeps (record m { files = listed_files m.files prefix paths }) asked target (distinct (awaited ++ paths)) (without prefix prefixes)))
+in_round_keeps m (Gathering asked target awaited prefixes) (Refused query cause) =
+    taken_keeps (same_query query asked && ends_round prefixes cause) m (record m { round = Idle }, Ended) (record { id = refl; life = refl; patterns = refl })
 
 pub delivered_keeps : (m : MirrorState) (reply : Reply) → KeepsName m (delivered m reply).0
 unfolding delivered

@@ -1,30 +1,35 @@
 -- What a mirror keeps whatever comes to it: each value that it wants stood in a row at its place or after it, and what it asks and awaits
 -- will leave it so.
-use Rattle.std.proofs.Common.{◌≡◌, ℕ, ◌+◌, ◌≤◌, Bool, true, false, cond, not, ◌&&◌, ◌||◌, List, [], ◌∷◌, map, Option, Some, None, refl, sym, ap, subst, ◌∙◌, arith}
+use Rattle.std.proofs.Common.{◌≡◌, ℕ, ◌+◌, ◌≤◌, Bool, true, false, cond, not, ◌&&◌, ◌||◌, List, [], ◌∷◌, ◌++◌, map, Option, Some, None, refl, sym, ap, subst, ◌∙◌, arith}
 use Rattle.std.specs.Prelude.{Contains, if◌then◌else◌}
-use Rattle.std.specs.List.{AllByRecursion}
-use Rattle.std.proofs.lemmas.Bool.{and_parts, eqb-true, leb-true}
+use Rattle.std.specs.List.{All, AllByRecursion}
+use Rattle.std.specs.FinMap as fin
+use Rattle.std.proofs.lemmas.Bool.{and_parts, eqb-true, leb-true, or_from, or_parts}
 use Rattle.std.proofs.lemmas.Map.Views.{any-filter_same}
-use Rattle.std.proofs.lemmas.List.Elements.{All-contains, All-from_recursion}
+use Rattle.std.proofs.lemmas.List.Elements.{All-append, All-contains, All-from_recursion}
+use Rattle.std.proofs.lemmas.List.Folds.{list_any-append}
 use Rattle.eden_ids.specs.declared.content.Content.{Content}
 use Rattle.eden_ids.specs.FileMaps.{file_at, put_option, same_path}
-use Rattle.eden_ids.proofs.FileMapLemmas.{file_at-none, put_option-at, same_path-is}
+use Rattle.eden_ids.specs.Paths.{lies_below}
+use Rattle.eden_ids.proofs.FileMapLemmas.{file_at-none, put_option-at, same_order, same_path-is}
 use Rattle.eden_globs.specs.Filters.{admits}
 use Rattle.eden_messages.specs.declared.message.Cause.{Cause}
 use Rattle.eden_messages.specs.declared.message.Cause.TheVariants.{Stale, Ahead, Truncated, TooLarge}
 use Rattle.eden_messages.specs.declared.message.Query.{Query}
 use Rattle.eden_messages.specs.declared.message.Reply.{Reply}
-use Rattle.eden_messages.specs.declared.message.Reply.TheVariants.{BasisIs, ChangesAre, ContentIs, Refused}
+use Rattle.eden_messages.specs.declared.message.Reply.TheVariants.{BasisIs, ChangesAre, ContentIs, Refused, ListIs}
 use Rattle.eden_messages.specs.declared.message.Request.{Request}
-use Rattle.eden_messages.specs.declared.message.Request.TheVariants.{Basis, Poll, Fetch}
+use Rattle.eden_messages.specs.declared.message.Request.TheVariants.{Basis, Poll, Fetch, List as Below}
 use Rattle.eden_messages.specs.declared.outcome.Outcome.{Outcome}
 use Rattle.eden_history.specs.declared.position.Position.{Position}
+use Rattle.eden_history.specs.Changes.{below_any}
 use Rattle.eden_history.specs.Worlds.{WorldState}
-use Rattle.eden_messages.specs.Mirrors.{MirrorState, Round, new_mirror, begun, counts, delivered, delivered_in, distinct, emptied, fetched, gathers, has_number, is_among, list_request, next_round, query_numbered, query_of, refiltered, refused, requests_in, same_query, taken_if, without}
+use Rattle.eden_messages.specs.Mirrors.{MirrorState, Round, new_mirror, begun, counts, delivered, delivered_in, distinct, emptied, ends_round, fetched, gathers, has_number, is_among, list_request, listed_below, listed_files, next_round, query_numbered, query_of, refiltered, refused, requests_in, same_query, taken_if, without}
 use Rattle.eden_messages.specs.Mirrors.Round.{Idle, Asked, Gathering}
 use Rattle.eden_history.specs.Rows.{IsPlace, Stands}
 use Rattle.eden_messages.specs.Spells.{paths_of}
-use Rattle.eden_headline.proofs.Telling.{BasisTells, IsTrueOf, PollTells}
+use Rattle.eden_history.proofs.Kept.{below_within}
+use Rattle.eden_headline.proofs.Telling.{BasisTells, IsTrueOf, ListTells, PollTells}
 use Rattle.std.proofs.Math.Bool.{and-false}
 use Rattle.eden_messages.proofs.Spelling.{queries_equal}
 
@@ -48,18 +53,21 @@ pub record IsGoodAsk (sent : List Request) (m : MirrorState) (request : Request)
   pub asks : request ≡ list_request (query_numbered m m.last) m.place m.patterns
   pub alone : (other : Request) → Contains sent other → query_of other ≡ query_of request → other ≡ request
 
--- a path that is wanted and not awaited has a value of the target or later
-pub record IsGoodGathering (world : WorldState) (m : MirrorState) (query : Query) (target : Position) (awaited : List (List ℕ)) : Type 0 where
+-- a path that is wanted, and neither awaited nor below a directory whose list is, has a value of the target or later; and under the round's
+-- query lists were asked for with the mirror's filter alone
+pub record IsGoodGathering (world : WorldState) (sent : List Request) (m : MirrorState) (query : Query) (target : Position) (awaited prefixes : List (List ℕ)) : Type 0 where
   pub asks : query ≡ query_numbered m m.last
   pub reached : IsPlace world target
   pub outside : (p : List ℕ) → admits m.patterns p ≡ false → is_among p awaited ≡ false
-  pub gathered : (p : List ℕ) → admits m.patterns p ≡ true → is_among p awaited ≡ false → Stands world target.generation target.sequence p (file_at m.files p)
+  pub gathered : (p : List ℕ) → admits m.patterns p ≡ true → is_among p awaited ≡ false → below_any prefixes p ≡ false
+      → Stands world target.generation target.sequence p (file_at m.files p)
   pub later : (place : Position) → m.place ≡ Some place → (place.generation ≡ target.generation) × (place.sequence ≤ target.sequence)
+  pub lists : (prefix : List ℕ) (patterns : List (List ℕ)) → Contains sent (Below query prefix patterns) → patterns ≡ m.patterns
 
 abbrev pub IsGoodRound : WorldState → List Request → MirrorState → Round → Type 0
 IsGoodRound world sent m Idle = Unit {0}
 IsGoodRound world sent m (Asked request) = IsGoodAsk sent m request
-IsGoodRound world sent m (Gathering query target awaited) = IsGoodGathering world m query target awaited
+IsGoodRound world sent m (Gathering query target awaited prefixes) = IsGoodGathering world sent m query target awaited prefixes
 
 pub record IsSound (world : WorldState) (sent : List Request) (id : ℕ) (m : MirrorState) : Type 0 where
   pub kept : IsKept world sent id m
@@ -75,11 +83,13 @@ patterns_of : Request → List (List ℕ)
 patterns_of (Basis query patterns) = patterns
 patterns_of (Poll query since patterns) = patterns
 patterns_of (Fetch query path) = []
+patterns_of (Below query prefix patterns) = patterns
 
 since_of : Request → Option Position
 since_of (Basis query patterns) = None
 since_of (Poll query since patterns) = Some since
 since_of (Fetch query path) = None
+since_of (Below query prefix patterns) = None
 
 list_patterns : (query : Query) (place : Option Position) (patterns : List (List ℕ)) → patterns_of (list_request query place patterns) ≡ patterns
 unfolding patterns_of
@@ -97,23 +107,48 @@ query_same q r e =
     let first = and_parts _ _ last.0 in
     queries_equal q r (eqb-true _ _ first.0) (eqb-true _ _ first.1) (eqb-true _ _ last.1)
 
-fetches_alike : (query : Query) (ps : List (List ℕ)) → AllByRecursion (λ r. query_of r ≡ query) (map (λ path. Fetch query path) ps)
-fetches_alike query [] = tt
-fetches_alike query (p ∷ ps) = (refl, fetches_alike query ps)
+-- what holds of each list and each content that a gathering round awaits holds of all that it asks
+all_asked : (Holds : Request → Type 0) (patterns : List (List ℕ)) (query : Query) (target : Position) (awaited prefixes : List (List ℕ))
+    → ((prefix : List ℕ) → Holds (Below query prefix patterns)) → ((path : List ℕ) → Holds (Fetch query path))
+    → (request : Request) → Contains (requests_in patterns (Gathering query target awaited prefixes)) request → Holds request
+all_asked Holds patterns query target awaited prefixes list content request there =
+    All-contains Holds (requests_in patterns (Gathering query target awaited prefixes)) request
+    (All-append Holds (map (λ prefix. Below query prefix patterns) prefixes) (map (λ path. Fetch query path) awaited)
+    (each (λ prefix. Below query prefix patterns) list prefixes) (each (λ path. Fetch query path) content awaited)) there
+  where
+    by : (make : List ℕ → Request) → ((p : List ℕ) → Holds (make p)) → (ps : List (List ℕ)) → AllByRecursion Holds (map make ps)
+    by make all [] = tt
+    by make all (p ∷ ps) = (all p, by make all ps)
+
+    each : (make : List ℕ → Request) → ((p : List ℕ) → Holds (make p)) → (ps : List (List ℕ)) → All Holds (map make ps)
+    each make all ps = All-from_recursion Holds (map make ps) (by make all ps)
 
 -- all that a mirror asks is under the number of its last round
-pub own_query : (world : WorldState) (sent : List Request) (m : MirrorState) (request : Request) → (round : Round) → IsGoodRound world sent m round → Contains (requests_in round) request
-    → query_of request ≡ query_numbered m m.last
+pub own_query : (world : WorldState) (sent : List Request) (m : MirrorState) (request : Request) → (round : Round) → IsGoodRound world sent m round
+    → Contains (requests_in m.patterns round) request → query_of request ≡ query_numbered m m.last
 own_query world sent m request Idle good there = All-contains (λ r. query_of r ≡ query_numbered m m.last) [] request (All-from_recursion (λ r. query_of r ≡ query_numbered m m.last) [] tt) there
 own_query world sent m request (Asked asked) good there =
     All-contains (λ r. query_of r ≡ query_numbered m m.last) (asked ∷ []) request
     (All-from_recursion (λ r. query_of r ≡ query_numbered m m.last) (asked ∷ []) (ap query_of good.asks ∙ list_query (query_numbered m m.last) m.place m.patterns, tt)) there
-own_query world sent m request (Gathering query target awaited) good there =
-    All-contains (λ r. query_of r ≡ query) (map (λ path. Fetch query path) awaited) request (All-from_recursion (λ r. query_of r ≡ query) (map (λ path. Fetch query path) awaited) (fetches_alike query awaited)) there ∙ good.asks
+own_query world sent m request (Gathering query target awaited prefixes) good there =
+    all_asked (λ r. query_of r ≡ query) m.patterns query target awaited prefixes (λ prefix. refl) (λ path. refl) request there ∙ good.asks
 
 -- what it asks in a round whose list was not told yet is that list alone
-pub own_request : (asked request : Request) → Contains (requests_in (Asked asked)) request → request ≡ asked
-own_request asked request there = All-contains (λ r. r ≡ asked) (asked ∷ []) request (All-from_recursion (λ r. r ≡ asked) (asked ∷ []) (refl, tt)) there
+pub own_request : (patterns : List (List ℕ)) (asked request : Request) → Contains (requests_in patterns (Asked asked)) request → request ≡ asked
+own_request patterns asked request there = All-contains (λ r. r ≡ asked) (asked ∷ []) request (All-from_recursion (λ r. r ≡ asked) (asked ∷ []) (refl, tt)) there
+
+-- what stands below a directory is asked for with these patterns, if it is
+abbrev AsksWith : List (List ℕ) → Request → Type 0
+AsksWith patterns (Basis query own) = Unit {0}
+AsksWith patterns (Poll query since own) = Unit {0}
+AsksWith patterns (Fetch query path) = Unit {0}
+AsksWith patterns (Below query prefix own) = own ≡ patterns
+
+-- a gathering round asks for lists with the mirror's patterns
+pub own_patterns : (patterns : List (List ℕ)) (query : Query) (target : Position) (awaited prefixes : List (List ℕ)) (other : Query) (prefix : List ℕ) (own : List (List ℕ))
+    → Contains (requests_in patterns (Gathering query target awaited prefixes)) (Below other prefix own) → own ≡ patterns
+own_patterns patterns query target awaited prefixes other prefix own there =
+    all_asked (AsksWith patterns) patterns query target awaited prefixes (λ p. refl) (λ p. tt) (Below other prefix own) there
 
 -- ---- lists of paths
 
@@ -129,6 +164,20 @@ among_distinct p (q ∷ ps) =
     once : (a b : Bool) → (a || (not a && b)) ≡ (a || b)
     once true b = refl
     once false b = refl
+
+-- ---- lists of directories
+
+below_distinct : (p : List ℕ) (ps : List (List ℕ)) → below_any (distinct ps) p ≡ false → below_any ps p ≡ false
+below_distinct p ps = below_within p ps (distinct ps) (λ q e. among_distinct q ps ∙ e)
+
+-- a directory that the path is not below may be left out
+below_without : (p prefix : List ℕ) (ps : List (List ℕ)) → lies_below p prefix ≡ false → below_any (without prefix ps) p ≡ below_any ps p
+below_without p prefix ps apart =
+    any-filter_same (λ q. lies_below p q) (λ q. not (same_path q prefix)) true (λ k e. by k e (same_path k prefix) refl) ps
+  where
+    by : (k : List ℕ) → lies_below p k ≡ true → (b : Bool) → same_path k prefix ≡ b → not b ≡ true
+    by k e true s = absurd (let bad : true ≡ false = sym e ∙ ap (lies_below p) (same_path-is k prefix s) ∙ apart in cc)
+    by k e false s = refl
 
 -- ---- a mirror that begins, is refiltered or is new
 
@@ -198,25 +247,10 @@ sound_begun world sent id m is = by (has_number m)
 
 -- ---- a mirror to which a reply comes
 
--- what gathers is sound, also where nothing is awaited
-gathers_sound : (world : WorldState) (sent : List Request) (id : ℕ) (m : MirrorState) (query : Query) (target : Position) (awaited : List (List ℕ))
-    → IsKept world sent id m → IsGoodGathering world m query target awaited → IsSound world sent id (gathers m query target awaited).0
-gathers_sound world sent id m query target [] kept good =
-    record {
-      kept =
-          record {
-            named = kept.named;
-            numbers = λ request there own. kept.numbers request there (record { mirror = own.mirror; life = own.life });
-            outside = kept.outside;
-            placed = λ place e. subst (IsPlace world) (reached place e) good.reached;
-            values = λ place p e wanted. subst (λ t. Stands world t.generation t.sequence p (file_at m.files p)) (reached place e) (good.gathered p wanted refl);
-          };
-      round = tt;
-    }
-  where
-    reached : (place : Position) → ◌≡◌ {A = Option Position} (Some target) (Some place) → target ≡ place
-    reached place e = cc
-gathers_sound world sent id m query target (p ∷ ps) kept good =
+-- where more is awaited
+awaits : (world : WorldState) (sent : List Request) (id : ℕ) (m : MirrorState) (query : Query) (target : Position) (awaited prefixes : List (List ℕ))
+    → IsKept world sent id m → IsGoodGathering world sent m query target awaited prefixes → IsSound world sent id (record m { round = Gathering query target awaited prefixes })
+awaits world sent id m query target awaited prefixes kept good =
     record {
       kept =
           record {
@@ -227,8 +261,29 @@ gathers_sound world sent id m query target (p ∷ ps) kept good =
             values = kept.values;
           };
       round =
-          record { asks = good.asks; reached = good.reached; outside = good.outside; gathered = good.gathered; later = good.later };
+          record { asks = good.asks; reached = good.reached; outside = good.outside; gathered = good.gathered; later = good.later; lists = good.lists };
     }
+
+-- what gathers is sound, also where nothing is awaited
+gathers_sound : (world : WorldState) (sent : List Request) (id : ℕ) (m : MirrorState) (query : Query) (target : Position) (awaited prefixes : List (List ℕ))
+    → IsKept world sent id m → IsGoodGathering world sent m query target awaited prefixes → IsSound world sent id (gathers m query target awaited prefixes).0
+gathers_sound world sent id m query target [] [] kept good =
+    record {
+      kept =
+          record {
+            named = kept.named;
+            numbers = λ request there own. kept.numbers request there (record { mirror = own.mirror; life = own.life });
+            outside = kept.outside;
+            placed = λ place e. subst (IsPlace world) (reached place e) good.reached;
+            values = λ place p e wanted. subst (λ t. Stands world t.generation t.sequence p (file_at m.files p)) (reached place e) (good.gathered p wanted refl refl);
+          };
+      round = tt;
+    }
+  where
+    reached : (place : Position) → ◌≡◌ {A = Option Position} (Some target) (Some place) → target ≡ place
+    reached place e = cc
+gathers_sound world sent id m query target [] (prefix ∷ prefixes) kept good = awaits world sent id m query target [] (prefix ∷ prefixes) kept good
+gathers_sound world sent id m query target (p ∷ ps) prefixes kept good = awaits world sent id m query target (p ∷ ps) prefixes kept good
 
 taken_sound : (world : WorldState) (sent : List Request) (id : ℕ) (m : MirrorState) (b : Bool) (taken : MirrorState × Outcome) → IsSound world sent id m
     → (b ≡ true → IsSound world sent id taken.0) → IsSound world sent id (taken_if b m taken).0
@@ -238,36 +293,39 @@ taken_sound world sent id m false taken is made = is
 -- the list of all paths
 basis_sound : (world : WorldState) (sent : List Request) (id : ℕ) (m : MirrorState) (asked query : Query) (patterns : List (List ℕ)) (position : Position) (ps : List (List ℕ))
     → IsSound world sent id m → IsGoodAsk sent m (Basis asked patterns) → BasisTells world sent query position ps → query ≡ asked
-    → IsSound world sent id (gathers (emptied m) asked position (distinct ps)).0
+    → IsSound world sent id (gathers (emptied m) asked position (distinct ps) []).0
 unfolding patterns_of
 basis_sound world sent id m asked query patterns position ps is good told same =
-    gathers_sound world sent id (emptied m) asked position (distinct ps) (blank world sent id m is.kept.named is.kept.numbers)
+    gathers_sound world sent id (emptied m) asked position (distinct ps) [] (blank world sent id m is.kept.named is.kept.numbers)
     (record {
       asks = ap query_of good.asks ∙ list_query (query_numbered m m.last) m.place m.patterns;
       reached = told.place;
       outside = λ p out. among_distinct p ps ∙ told.refused p (ap (λ f. admits f p) filters ∙ out);
-      gathered = λ p wanted none.
+      gathered = λ p wanted none outside.
           subst (Stands world position.generation position.sequence p) (sym (file_at-none p)) (told.absent p (ap (λ f. admits f p) filters ∙ wanted) (sym (among_distinct p ps) ∙ none));
       later = λ place e. none_placed place e;
+      lists = λ prefix own there. absurd (let bad : Below asked prefix own ≡ Basis asked patterns = good.alone (Below asked prefix own) there refl in cc);
     })
   where
     filters : told.patterns ≡ m.patterns
     filters = ap patterns_of (good.alone (Basis query told.patterns) told.asked same ∙ good.asks) ∙ list_patterns (query_numbered m m.last) m.place m.patterns
 
 -- the list of what changed
-changes_sound : (world : WorldState) (sent : List Request) (id : ℕ) (m : MirrorState) (asked query : Query) (since : Position) (patterns : List (List ℕ)) (target : Position) (ps : List (List ℕ))
-    → IsSound world sent id m → IsGoodAsk sent m (Poll asked since patterns) → PollTells world sent query target ps → query ≡ asked
-    → IsSound world sent id (gathers m asked target (distinct ps)).0
+changes_sound : (world : WorldState) (sent : List Request) (id : ℕ) (m : MirrorState) (asked query : Query) (since : Position) (patterns : List (List ℕ)) (target : Position) (ps prefixes : List (List ℕ))
+    → IsSound world sent id m → IsGoodAsk sent m (Poll asked since patterns) → PollTells world sent query target ps prefixes → query ≡ asked
+    → IsSound world sent id (gathers m asked target (distinct ps) (distinct prefixes)).0
 unfolding patterns_of since_of
-changes_sound world sent id m asked query since patterns target ps is good told same =
-    gathers_sound world sent id m asked target (distinct ps) is.kept
+changes_sound world sent id m asked query since patterns target ps prefixes is good told same =
+    gathers_sound world sent id m asked target (distinct ps) (distinct prefixes) is.kept
     (record {
       asks = ap query_of good.asks ∙ list_query (query_numbered m m.last) m.place m.patterns;
       reached = told.place;
       outside = λ p out. among_distinct p ps ∙ told.refused p (ap (λ f. admits f p) filters ∙ out);
-      gathered = λ p wanted none.
-          told.stays p (file_at m.files p) (ap (λ f. admits f p) filters ∙ wanted) (sym (among_distinct p ps) ∙ none) (is.kept.values told.since p (sym place_is) wanted);
+      gathered = λ p wanted none outside.
+          told.stays p (file_at m.files p) (ap (λ f. admits f p) filters ∙ wanted) (sym (among_distinct p ps) ∙ none) (below_distinct p prefixes outside)
+          (is.kept.values told.since p (sym place_is) wanted);
       later = λ place e. later place (place_is ∙ e);
+      lists = λ prefix own there. absurd (let bad : Below asked prefix own ≡ Poll asked since patterns = good.alone (Below asked prefix own) there refl in cc);
     })
   where
     one : Poll query told.since told.patterns ≡ list_request (query_numbered m m.last) m.place m.patterns
@@ -289,12 +347,12 @@ since_earlier world generation other number earlier p file same le is =
     record { row = is.row; is_row = is.is_row; alike = is.alike ∙ same; after = let low = is.after in omega arith; value = is.value }
 
 -- a content
-content_sound : (world : WorldState) (sent : List Request) (id : ℕ) (m : MirrorState) (asked : Query) (target position : Position) (awaited : List (List ℕ)) (path : List ℕ) (content : Option Content)
-    → IsSound world sent id m → IsGoodGathering world m asked target awaited → Stands world position.generation position.sequence path content
+content_sound : (world : WorldState) (sent : List Request) (id : ℕ) (m : MirrorState) (asked : Query) (target position : Position) (awaited prefixes : List (List ℕ)) (path : List ℕ) (content : Option Content)
+    → IsSound world sent id m → IsGoodGathering world sent m asked target awaited prefixes → Stands world position.generation position.sequence path content
     → position.generation ≡ target.generation → target.sequence ≤ position.sequence → is_among path awaited ≡ true
-    → IsSound world sent id (fetched m asked target awaited path content).0
-content_sound world sent id m asked target position awaited path content is good told same le there =
-    gathers_sound world sent id (record m { files = put_option m.files path content }) asked target (without path awaited)
+    → IsSound world sent id (fetched m asked target awaited prefixes path content).0
+content_sound world sent id m asked target position awaited prefixes path content is good told same le there =
+    gathers_sound world sent id (record m { files = put_option m.files path content }) asked target (without path awaited) prefixes
     (record {
       named = is.kept.named;
       numbers = λ request sent_it own. is.kept.numbers request sent_it (record { mirror = own.mirror; life = own.life });
@@ -308,10 +366,11 @@ content_sound world sent id m asked target position awaited path content is good
       asks = good.asks;
       reached = good.reached;
       outside = λ p out. among_without p path awaited ∙ ap (λ b. not (same_path p path) && b) (good.outside p out) ∙ and-false (not (same_path p path));
-      gathered = λ p wanted none.
+      gathered = λ p wanted none outside.
           subst (Stands world target.generation target.sequence p) (sym (put_option-at m.files path content p))
-          (by target.generation target.sequence p refl (omega arith) (same_path p path) refl (λ apart. good.gathered p wanted (left p apart none)));
+          (by target.generation target.sequence p refl (omega arith) (same_path p path) refl (λ apart. good.gathered p wanted (left p apart none) outside));
       later = good.later;
+      lists = good.lists;
     })
   where
     unwanted : (p : List ℕ) → admits m.patterns p ≡ false → (b : Bool) → same_path p path ≡ b → cond b content (file_at m.files p) ≡ None
@@ -328,6 +387,65 @@ content_sound world sent id m asked target position awaited path content is good
 
     left : (p : List ℕ) → same_path p path ≡ false → is_among p (without path awaited) ≡ false → is_among p awaited ≡ false
     left p apart none = sym (ap (λ b. not b && is_among p awaited) apart) ∙ sym (among_without p path awaited) ∙ none
+
+-- a list of what stands below a directory
+list_sound : (world : WorldState) (sent : List Request) (id : ℕ) (m : MirrorState) (asked query : Query) (target position : Position) (awaited prefixes : List (List ℕ)) (prefix : List ℕ) (ps : List (List ℕ))
+    → IsSound world sent id m → IsGoodGathering world sent m asked target awaited prefixes → ListTells world sent query position prefix ps → query ≡ asked
+    → position.generation ≡ target.generation → target.sequence ≤ position.sequence
+    → IsSound world sent id (listed_below m asked target awaited prefixes prefix ps).0
+list_sound world sent id m asked query target position awaited prefixes prefix ps is good told same gen le =
+    gathers_sound world sent id (record m { files = listed_files m.files prefix ps }) asked target (distinct (awaited ++ ps)) (without prefix prefixes)
+    (record {
+      named = is.kept.named;
+      numbers = λ request sent_it own. is.kept.numbers request sent_it (record { mirror = own.mirror; life = own.life });
+      outside = λ p out. at p ∙ still_none (stays p) (file_at m.files p) (is.kept.outside p out);
+      placed = is.kept.placed;
+      values = λ place p e wanted.
+          subst (Stands world place.generation place.sequence p) (sym (at p))
+          (by place.generation place.sequence p (let first = (good.later place e).0 in first) (let low = (good.later place e).1 in low) wanted (lies_below p prefix) (is_among p ps) refl refl
+          (λ keeps. is.kept.values place p e wanted));
+    })
+    (record {
+      asks = good.asks;
+      reached = good.reached;
+      outside = λ p out. among_both p ∙ or_from _ _ (good.outside p out) (told.refused p (ap (λ f. admits f p) filters ∙ out));
+      gathered = λ p wanted none outside.
+          let each = or_parts _ _ (sym (among_both p) ∙ none) in
+          subst (Stands world target.generation target.sequence p) (sym (at p))
+          (by target.generation target.sequence p refl (omega arith) wanted (lies_below p prefix) (is_among p ps) refl refl
+          (λ keeps. let apart = beside (lies_below p prefix) (is_among p ps) keeps each.1 in good.gathered p wanted each.0 (sym (below_without p prefix prefixes apart) ∙ outside)));
+      later = good.later;
+      lists = good.lists;
+    })
+  where
+    filters : told.patterns ≡ m.patterns
+    filters = good.lists prefix told.patterns (subst (λ q. Contains sent (Below q prefix told.patterns)) same told.asked)
+
+    stays : List ℕ → Bool
+    stays p = not (lies_below p prefix) || is_among p ps
+
+    at : (p : List ℕ) → file_at (listed_files m.files prefix ps) p ≡ cond (stays p) (file_at m.files p) None
+    at p = fin.get-retain_keys m.files (λ q. not (lies_below q prefix) || is_among q ps) p (λ q e. ap (λ r. not (lies_below r prefix) || is_among r ps) (sym (same_order p q e)))
+
+    still_none : (b : Bool) (file : Option Content) → file ≡ None → cond b file None ≡ None
+    still_none true file e = e
+    still_none false file e = refl
+
+    among_both : (p : List ℕ) → is_among p (distinct (awaited ++ ps)) ≡ (is_among p awaited || is_among p ps)
+    among_both p = among_distinct p (awaited ++ ps) ∙ list_any-append (λ q. same_path p q) awaited ps
+
+    beside : (a b : Bool) → (not a || b) ≡ true → b ≡ false → a ≡ false
+    beside true b e f = sym e ∙ f
+    beside false b e f = refl
+
+    by : (generation number : ℕ) (p : List ℕ) → generation ≡ target.generation → number ≤ target.sequence → admits m.patterns p ≡ true
+        → (under named : Bool) → lies_below p prefix ≡ under → is_among p ps ≡ named
+        → ((not under || named) ≡ true → Stands world generation number p (file_at m.files p)) → Stands world generation number p (cond (not under || named) (file_at m.files p) None)
+    by generation number p first low wanted false named u e old = old refl
+    by generation number p first low wanted true true u e old = old refl
+    by generation number p first low wanted true false u e old =
+        since_earlier world position.generation generation position.sequence number p None (gen ∙ sym first) (omega arith)
+        (told.absent p (ap (λ f. admits f p) filters ∙ wanted) u e)
 
 ended : (world : WorldState) (sent : List Request) (id : ℕ) (m : MirrorState) → IsSound world sent id m → IsSound world sent id (record m { round = Idle })
 ended world sent id m is =
@@ -364,38 +482,43 @@ refused_sound world sent id m (Truncated floor) is = unplaced world sent id m is
 refused_sound world sent id m TooLarge is = ended world sent id m is
 
 counted_parts : (asked : Query) (target : Position) (awaited : List (List ℕ)) (query : Query) (position : Position) (path : List ℕ) → counts asked target awaited query position path ≡ true
-    → (position.generation ≡ target.generation) × (target.sequence ≤ position.sequence) × (is_among path awaited ≡ true)
+    → (query ≡ asked) × (position.generation ≡ target.generation) × (target.sequence ≤ position.sequence) × (is_among path awaited ≡ true)
 counted_parts asked target awaited query position path e =
     let last = and_parts _ _ e in
     let third = and_parts _ _ last.0 in
     let second = and_parts _ _ third.0 in
-    (eqb-true _ _ second.1, leb-true _ _ third.1, last.1)
+    (query_same query asked second.0, eqb-true _ _ second.1, leb-true _ _ third.1, last.1)
 
 delivered_sound : (world : WorldState) (sent : List Request) (id : ℕ) (m : MirrorState) (round : Round) (reply : Reply) → IsSound world sent id m → IsGoodRound world sent m round
     → IsTrueOf world sent reply → IsSound world sent id (delivered_in m round reply).0
-delivered_sound world sent id m Idle (BasisIs query position ps) is good told = is
-delivered_sound world sent id m Idle (ChangesAre query target marked) is good told = is
-delivered_sound world sent id m Idle (ContentIs query position path content) is good told = is
-delivered_sound world sent id m Idle (Refused query cause) is good told = is
+delivered_sound world sent id m Idle reply is good told = is
 delivered_sound world sent id m (Asked (Basis asked patterns)) (BasisIs query position ps) is good told =
     taken_sound world sent id m (same_query query asked) _ is (λ e. basis_sound world sent id m asked query patterns position ps is good told (query_same query asked e))
 delivered_sound world sent id m (Asked (Poll asked since patterns)) (BasisIs query position ps) is good told = is
 delivered_sound world sent id m (Asked (Fetch asked path)) (BasisIs query position ps) is good told = is
-delivered_sound world sent id m (Asked (Basis asked patterns)) (ChangesAre query target marked) is good told = is
-delivered_sound world sent id m (Asked (Poll asked since patterns)) (ChangesAre query target marked) is good told =
+delivered_sound world sent id m (Asked (Below asked prefix patterns)) (BasisIs query position ps) is good told = is
+delivered_sound world sent id m (Asked (Basis asked patterns)) (ChangesAre query target marked prefixes) is good told = is
+delivered_sound world sent id m (Asked (Poll asked since patterns)) (ChangesAre query target marked prefixes) is good told =
     taken_sound world sent id m (same_query query asked) _ is
-    (λ e. changes_sound world sent id m asked query since patterns target (paths_of marked) is good told (query_same query asked e))
-delivered_sound world sent id m (Asked (Fetch asked path)) (ChangesAre query target marked) is good told = is
+    (λ e. changes_sound world sent id m asked query since patterns target (paths_of marked) prefixes is good told (query_same query asked e))
+delivered_sound world sent id m (Asked (Fetch asked path)) (ChangesAre query target marked prefixes) is good told = is
+delivered_sound world sent id m (Asked (Below asked prefix patterns)) (ChangesAre query target marked prefixes) is good told = is
 delivered_sound world sent id m (Asked request) (ContentIs query position path content) is good told = is
 delivered_sound world sent id m (Asked request) (Refused query cause) is good told =
     taken_sound world sent id m (same_query query (query_of request)) _ is (λ e. refused_sound world sent id m cause is)
-delivered_sound world sent id m (Gathering asked target awaited) (BasisIs query position ps) is good told = is
-delivered_sound world sent id m (Gathering asked target awaited) (ChangesAre query other marked) is good told = is
-delivered_sound world sent id m (Gathering asked target awaited) (ContentIs query position path content) is good told =
+delivered_sound world sent id m (Asked request) (ListIs query position prefix ps) is good told = is
+delivered_sound world sent id m (Gathering asked target awaited prefixes) (BasisIs query position ps) is good told = is
+delivered_sound world sent id m (Gathering asked target awaited prefixes) (ChangesAre query other marked more) is good told = is
+delivered_sound world sent id m (Gathering asked target awaited prefixes) (ContentIs query position path content) is good told =
     taken_sound world sent id m (counts asked target awaited query position path) _ is
     (λ e. let parts = counted_parts asked target awaited query position path e in
-    content_sound world sent id m asked target position awaited path content is good told parts.0 parts.1 parts.2)
-delivered_sound world sent id m (Gathering asked target awaited) (Refused query cause) is good told = is
+    content_sound world sent id m asked target position awaited prefixes path content is good told parts.1 parts.2 parts.3)
+delivered_sound world sent id m (Gathering asked target awaited prefixes) (ListIs query position prefix ps) is good told =
+    taken_sound world sent id m (counts asked target prefixes query position prefix) _ is
+    (λ e. let parts = counted_parts asked target prefixes query position prefix e in
+    list_sound world sent id m asked query target position awaited prefixes prefix ps is good told parts.0 parts.1 parts.2)
+delivered_sound world sent id m (Gathering asked target awaited prefixes) (Refused query cause) is good told =
+    taken_sound world sent id m (same_query query asked && ends_round prefixes cause) _ is (λ e. ended world sent id m is)
 
 pub sound_delivered : (world : WorldState) (sent : List Request) (id : ℕ) (m : MirrorState) (reply : Reply) → IsSound world sent id m → IsTrueOf world sent reply
     → IsSound world sent id (delivered m reply).0

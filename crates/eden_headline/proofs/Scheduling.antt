@@ -1,8 +1,8 @@
 -- Every schedule from a fresh beginning keeps what is kept of the world, of all replies and of each mirror, and what that means at its end.
-use Rattle.std.proofs.Common.{◌≡◌, ℕ, ◌<◌, ◌≤◌, ◌⊎◌, inl, inr, Bool, true, false, ◌&&◌, nat_lt, List, [], ◌∷◌, ◌++◌, length, Option, Some, None, refl, sym, ap, subst, ◌∙◌, arith}
+use Rattle.std.proofs.Common.{◌≡◌, ℕ, ◌<◌, ◌≤◌, ◌⊎◌, inl, inr, Bool, true, false, ◌&&◌, ◌||◌, nat_lt, List, [], ◌∷◌, ◌++◌, length, Option, Some, None, refl, sym, ap, subst, ◌∙◌, arith}
 use Rattle.std.specs.Prelude.{Contains, ◌==◌, if◌then◌else◌}
 use Rattle.std.specs.Option.{option_map}
-use Rattle.std.proofs.lemmas.Bool.{eqb-true}
+use Rattle.std.proofs.lemmas.Bool.{eqb-true, or_from}
 use Rattle.std.proofs.lemmas.List.Elements.{Contains-append_cases, Contains-push_cases}
 use Rattle.std.proofs.lemmas.Option.{same_Some}
 use Rattle.eden_ids.specs.declared.content.Content.{Content}
@@ -15,11 +15,12 @@ use Rattle.eden_messages.specs.declared.message.Query.{Query}
 use Rattle.eden_messages.specs.declared.message.Reply.{Reply}
 use Rattle.eden_messages.specs.declared.message.Reply.TheVariants.{ChangesAre, Refused}
 use Rattle.eden_messages.specs.declared.message.Request.{Request}
+use Rattle.eden_messages.specs.declared.message.Request.TheVariants.{List as Below}
 use Rattle.eden_history.specs.declared.position.Position.{Position}
 use Rattle.eden_history.specs.Worlds.{Namer, WorldState, commits_of, now, position_of}
 use Rattle.eden_history.specs.Said.{paths_said}
-use Rattle.eden_history.specs.Changes.{named_since}
-use Rattle.eden_headline.specs.Headline.{AgreeTogether, AgreesAtHead, Differs, HasPlace, HasValues, IsCovered, IsRefused, IsTold, OfMirrors, OfPairs, Tells, changes_after}
+use Rattle.eden_history.specs.Changes.{below_any, is_among, named_since, prefixes_since, prefixes_told}
+use Rattle.eden_headline.specs.Headline.{AgreeTogether, AgreesAtHead, Differs, HasPlace, HasValues, IsCovered, IsRefused, IsTold, OfMirrors, OfPairs, Tells, changes_after, prefixes_after}
 use Rattle.eden_history.specs.Legal.{IsLegal, IsWorld}
 use Rattle.eden_history.specs.Marks.{marked_since}
 use Rattle.eden_messages.specs.Mirrors.{MirrorState, Round, begun, delivered, new_mirror, outstanding_of, query_of, refiltered, requests_in}
@@ -34,10 +35,11 @@ use Rattle.eden_headline.specs.Schedules.Step.{Begins, Changes, Comes, Nothing, 
 use Rattle.eden_messages.specs.Spells.{reply_bytes}
 use Rattle.eden_frames.specs.Frames.{body_limit}
 use Rattle.eden_history.specs.Status.{status_of}
-use Rattle.eden_history.proofs.Following.{none_said}
+use Rattle.eden_history.proofs.Following.{IsNotAfter, none_said}
 use Rattle.eden_history.proofs.Growing.{world_changes}
-use Rattle.eden_headline.proofs.Keeping.{place_in_time, place_on, stands_on, still}
-use Rattle.eden_headline.proofs.Mirroring.{IsGoodRound, IsOwn, IsSound, own_query, own_request, sound_begun, sound_delivered, sound_new, sound_refiltered}
+use Rattle.eden_history.proofs.Kept.{below_listed, none_moved, still}
+use Rattle.eden_headline.proofs.Keeping.{place_in_time, place_on, stands_on}
+use Rattle.eden_headline.proofs.Mirroring.{IsGoodRound, IsOwn, IsSound, own_patterns, own_query, own_request, sound_begun, sound_delivered, sound_new, sound_refiltered}
 use Rattle.eden_headline.proofs.Telling.{IsTrueOf, among_changes, by_status, reply_true, true_of_more, true_on}
 
 -- ---- what holds of all
@@ -110,9 +112,22 @@ more_sent world sent more id m own is =
         asked other same (inr new) =
             let query = same ∙ own_query world sent m request (Asked request) good (0, omega arith, refl) in
             let mine = (own other new (record { mirror = ap (λ q. q.mirror) query; life = ap (λ q. q.life) query })).1 in
-            own_request request other (subst (λ r. Contains (requests_in r) other) at mine)
-    in_round (Gathering query target awaited) at good =
-        record { asks = good.asks; reached = good.reached; outside = good.outside; gathered = good.gathered; later = good.later }
+            own_request m.patterns request other (subst (λ r. Contains (requests_in m.patterns r) other) at mine)
+    in_round (Gathering query target awaited prefixes) at good =
+        record {
+          asks = good.asks;
+          reached = good.reached;
+          outside = good.outside;
+          gathered = good.gathered;
+          later = good.later;
+          lists = λ prefix patterns there. listed prefix patterns (Contains-append_cases sent more (Below query prefix patterns) there);
+        }
+      where
+        listed : (prefix : List ℕ) (patterns : List (List ℕ)) → Contains sent (Below query prefix patterns) ⊎ Contains more (Below query prefix patterns) → patterns ≡ m.patterns
+        listed prefix patterns (inl old) = good.lists prefix patterns old
+        listed prefix patterns (inr new) =
+            let mine = (own (Below query prefix patterns) new (record { mirror = ap (λ q. q.mirror) good.asks; life = ap (λ q. q.life) good.asks })).1 in
+            own_patterns m.patterns query target awaited prefixes query prefix patterns (subst (λ r. Contains (requests_in m.patterns r) (Below query prefix patterns)) at mine)
 
 -- ---- each step
 
@@ -127,13 +142,14 @@ all_changed name s change is =
     in_round : (m : MirrorState) (round : Round) → IsGoodRound s.world s.sent m round → IsGoodRound (world_after name s.world change) s.sent m round
     in_round m Idle good = tt
     in_round m (Asked request) good = good
-    in_round m (Gathering query target awaited) good =
+    in_round m (Gathering query target awaited prefixes) good =
         record {
           asks = good.asks;
           reached = place_on name s.world change target good.reached;
           outside = good.outside;
-          gathered = λ p wanted none. stands_on name s.world change target.generation target.sequence p (file_at m.files p) (good.gathered p wanted none);
+          gathered = λ p wanted none outside. stands_on name s.world change target.generation target.sequence p (file_at m.files p) (good.gathered p wanted none outside);
           later = good.later;
+          lists = good.lists;
         }
 
     sound_on : (id : ℕ) (m : MirrorState) → IsSound s.world s.sent id m → IsSound (world_after name s.world change) s.sent id m
@@ -226,19 +242,19 @@ all_run name s (step ∷ steps) may is = all_run name (happens name s step) step
 
 -- ---- what it means at the end
 
--- where nothing names the path since a place of the present generation, what a mirror holds there is what the working copy does
+-- where the path is not among the changes since a place of the present generation, what a mirror holds there is what the working copy does
 stood : (world : WorldState) (place : Position) (p : List ℕ) (file : Option Content) → IsLegal world → place.generation ≡ (now world).generation
-    → has (changes_after world place) p ≡ false → Stands world place.generation place.sequence p file
+    → is_among (changes_after world place) (prefixes_after world place) p ≡ false → Stands world place.generation place.sequence p file
     → file ≡ file_at (now world).files p
 stood world place p file legal same none is =
     sym is.value
     ∙ still (commits_of world) place.generation place.sequence (now world).sequence world.opening world.past is.row p legal.1 is.is_row is.alike is.after (sym same) (omega arith) none
 
-differs_named : (world : WorldState) (sent : List Request) (id : ℕ) (m : MirrorState) (place : Position) (p : List ℕ) → IsLegal world → IsSound world sent id m → m.place ≡ Some place
-    → Differs world m p → place.generation ≡ (now world).generation → has (changes_after world place) p ≡ true
-differs_named world sent id m place p legal sound at differs same = by (has (changes_after world place) p) refl
+differs_among : (world : WorldState) (sent : List Request) (id : ℕ) (m : MirrorState) (place : Position) (p : List ℕ) → IsLegal world → IsSound world sent id m → m.place ≡ Some place
+    → Differs world m p → place.generation ≡ (now world).generation → is_among (changes_after world place) (prefixes_after world place) p ≡ true
+differs_among world sent id m place p legal sound at differs same = by (is_among (changes_after world place) (prefixes_after world place) p) refl
   where
-    by : (b : Bool) → has (changes_after world place) p ≡ b → b ≡ true
+    by : (b : Bool) → is_among (changes_after world place) (prefixes_after world place) p ≡ b → b ≡ true
     by true e = refl
     by false e = absurd (differs.apart (stood world place p (file_at m.files p) legal same e (sound.kept.values place p at differs.wanted)))
 
@@ -253,12 +269,12 @@ never_ahead world sent id m place legal sound at same = by (place_in_time world 
 
 covered : (name : Namer) (s : Scene) → HoldsAll name s → OfMirrors IsCovered s
 covered name s is id m e place p at differs =
-    by_status (λ fault. status_of s.world place ≡ fault → (has (changes_after s.world place) p ≡ true) ⊎ IsRefused s.world place)
+    by_status (λ fault. status_of s.world place ≡ fault → (is_among (changes_after s.world place) (prefixes_after s.world place) p ≡ true) ⊎ IsRefused s.world place)
     (now s.world).generation (now s.world).sequence (floor_of s.world) place
-    (λ apart found. inr (inl found)) (λ same late found. inl (named same)) (λ same before found. inl (named same)) (λ same before found. inl (named same)) refl
+    (λ apart found. inr (inl found)) (λ same late found. inl (among same)) (λ same before found. inl (among same)) (λ same before found. inl (among same)) refl
   where
-    named : place.generation ≡ (now s.world).generation → has (changes_after s.world place) p ≡ true
-    named = differs_named s.world s.sent id m place p is.world.legal (is.sound id m e) at differs
+    among : place.generation ≡ (now s.world).generation → is_among (changes_after s.world place) (prefixes_after s.world place) p ≡ true
+    among = differs_among s.world s.sent id m place p is.world.legal (is.sound id m e) at differs
 
 bounded_tells : (query : Query) (reply : Reply) (p : List ℕ) → Tells reply p → Tells (bounded query reply) p
 unfolding bounded
@@ -268,25 +284,44 @@ bounded_tells query reply p tells = by (nat_lt body_limit (length (reply_bytes r
     by true = tt
     by false = tells
 
+-- a path that a mirror wants and that is among the changes since its place is told of in the reply to a poll
+poll_tells : (world : WorldState) (place : Position) (patterns : List (List ℕ)) (query : Query) (p : List ℕ) → place.generation ≡ (now world).generation → admits patterns p ≡ true
+    → is_among (changes_after world place) (prefixes_after world place) p ≡ true
+    → Tells (ChangesAre query (position_of (now world)) (admitted patterns (marked_since world place.sequence)) (prefixes_since world place.sequence)) p
+poll_tells world place patterns query p same wanted among =
+    ap (λ b. b || below_any (prefixes_since world place.sequence) p)
+    (among_changes world place.sequence patterns p ∙ ap (λ b. b && has (named_since (now world).generation place.sequence (now world).sequence world.opening world.past) p) wanted)
+    ∙ either _ _ _ (below_listed p (prefixes_told (now world).generation place.sequence (now world).sequence world.past))
+    (ap (λ g. is_among (named_since g place.sequence (now world).sequence world.opening world.past) (prefixes_told g place.sequence (now world).sequence world.past) p) (sym same) ∙ among)
+  where
+    either : (a b c : Bool) → (c ≡ false → b ≡ false) → (a || b) ≡ true → (a || c) ≡ true
+    either true b c within e = refl
+    either false b true within e = refl
+    either false b false within e = sym (within refl) ∙ e
+
 told : (name : Namer) (s : Scene) → HoldsAll name s → OfMirrors IsTold s
 told name s is id m e place p query at differs =
     by_status (λ fault. Tells (polled s.world query place.sequence m.patterns fault) p) (now s.world).generation (now s.world).sequence (floor_of s.world) place
     (λ apart. tt) (λ same late. absurd (let low = never_ahead s.world s.sent id m place is.world.legal (is.sound id m e) at same in omega arith)) (λ same before. tt)
-    (λ same before. bounded_tells query (ChangesAre query (position_of (now s.world)) (admitted m.patterns (marked_since s.world place.sequence))) p
-    (among_changes s.world place.sequence m.patterns p
-    ∙ ap (λ b. b && has (named_since (now s.world).generation place.sequence (now s.world).sequence s.world.opening s.world.past) p) differs.wanted
-    ∙ ap (λ g. has (named_since g place.sequence (now s.world).sequence s.world.opening s.world.past) p) (sym same)
-    ∙ differs_named s.world s.sent id m place p is.world.legal (is.sound id m e) at differs same))
+    (λ same before.
+    bounded_tells query (ChangesAre query (position_of (now s.world)) (admitted m.patterns (marked_since s.world place.sequence)) (prefixes_since s.world place.sequence)) p
+    (poll_tells s.world place m.patterns query p same differs.wanted
+    (differs_among s.world s.sent id m place p is.world.legal (is.sound id m e) at differs same)))
 
 at_head : (name : Namer) (s : Scene) → HoldsAll name s → OfMirrors AgreesAtHead s
 at_head name s is id m e place at head p = by (admits m.patterns p) refl
   where
-    none : has (changes_after s.world place) p ≡ false
+    late : IsNotAfter place.generation place.sequence (now s.world)
+    late = inr (sym head.generation, let last = head.sequence in omega arith)
+
+    none : is_among (changes_after s.world place) (prefixes_after s.world place) p ≡ false
     none =
-        ap (λ list. has (path_set (paths_said list)) p)
-        (none_said (commits_of s.world) place.generation place.sequence (now s.world).sequence s.world.opening s.world.past is.world.legal.1
-        (inr (sym head.generation, let last = head.sequence in omega arith)))
-        ∙ has-none p
+        or_from _ _
+        (ap (λ list. has (path_set (paths_said list)) p)
+        (none_said (commits_of s.world) place.generation place.sequence (now s.world).sequence s.world.opening s.world.past is.world.legal.1 late)
+        ∙ has-none p)
+        (ap (λ prefixes. below_any prefixes p)
+        (none_moved (commits_of s.world) place.generation place.sequence (now s.world).sequence s.world.opening s.world.past is.world.legal.1 late))
 
     by : (b : Bool) → admits m.patterns p ≡ b → file_at m.files p ≡ (if b then file_at (now s.world).files p else None)
     by true wanted = stood s.world place p (file_at m.files p) is.world.legal head.generation none ((is.sound id m e).kept.values place p at wanted)

@@ -1,12 +1,13 @@
 -- What every reply that a mount ever gave goes on to say truly of its world, whenever it comes.
-use Rattle.std.proofs.Common.{◌≡◌, ℕ, ◌<◌, ◌≤◌, ◌⊎◌, inl, inr, Bool, true, false, cond, not, ◌&&◌, nat_lt, List, [], ◌∷◌, ◌++◌, length, map, filter, Option, Some, None, is_some, refl, sym, ap, subst, ◌∙◌, arith}
+use Rattle.std.proofs.Common.{◌≡◌, ℕ, ◌<◌, ◌≤◌, ◌⊎◌, inl, inr, Bool, true, false, not, ◌&&◌, nat_lt, List, ◌++◌, length, filter, Option, Some, None, is_some, refl, sym, ap, subst, ◌∙◌, arith}
 use Rattle.std.specs.Prelude.{Contains, ◌==◌, if◌then◌else◌}
 use Rattle.std.specs.FinMap as fin
-use Rattle.std.proofs.lemmas.Bool.{eqb-false, eqb-true, ltb-false, ltb-true}
+use Rattle.std.proofs.lemmas.Bool.{eqb-false, eqb-true, ltb-false, ltb-true, or_from}
 use Rattle.std.proofs.lemmas.Map.Views.{any-filter_same}
 use Rattle.std.proofs.lemmas.List.Elements.{Contains-append_left}
 use Rattle.eden_ids.specs.declared.content.Content.{Content}
 use Rattle.eden_ids.specs.FileMaps.{file_at, has, path_set, paths, same_path}
+use Rattle.eden_ids.specs.Paths.{lies_below}
 use Rattle.eden_ids.proofs.FileMapLemmas.{has-listing, same_path-is}
 use Rattle.eden_globs.specs.Filters.{admits}
 use Rattle.eden_history.specs.declared.answer.SinceFault.{SinceFault}
@@ -15,14 +16,14 @@ use Rattle.eden_history.specs.declared.change.Change.{Change}
 use Rattle.eden_messages.specs.declared.message.Cause.TheVariants.{TooLarge}
 use Rattle.eden_messages.specs.declared.message.Query.{Query}
 use Rattle.eden_messages.specs.declared.message.Reply.{Reply}
-use Rattle.eden_messages.specs.declared.message.Reply.TheVariants.{BasisIs, ChangesAre, ContentIs, Refused}
+use Rattle.eden_messages.specs.declared.message.Reply.TheVariants.{BasisIs, ChangesAre, ContentIs, Refused, ListIs}
 use Rattle.eden_messages.specs.declared.message.Request.{Request}
-use Rattle.eden_messages.specs.declared.message.Request.TheVariants.{Basis, Poll, Fetch}
+use Rattle.eden_messages.specs.declared.message.Request.TheVariants.{Basis, Poll, Fetch, List as Below}
 use Rattle.eden_history.specs.declared.position.Position.{Position}
 use Rattle.eden_objects.specs.Objects.{Held}
 use Rattle.eden_history.specs.Worlds.{Event, Namer, WorldState, commits_of, now, position_of}
 use Rattle.eden_history.specs.Said.{paths_said}
-use Rattle.eden_history.specs.Changes.{named_since, said_since}
+use Rattle.eden_history.specs.Changes.{below, below_any, named_since, prefixes_since, prefixes_told, said_since}
 use Rattle.eden_history.specs.Legal.{IsLegal}
 use Rattle.eden_history.specs.Marks.{marked_since}
 use Rattle.eden_messages.specs.Mirrors.{is_among}
@@ -39,7 +40,9 @@ use Rattle.eden_history.specs.Status.{status, status_of}
 use Rattle.eden_messages.proofs.Replying.{admitted_listed, marked_paths}
 use Rattle.eden_history.proofs.Following.{Follows, event_follows}
 use Rattle.eden_history.proofs.Growing.{goes_on, grown}
-use Rattle.eden_headline.proofs.Keeping.{now_is_place, now_is_row, place_grown, place_in_time, place_on, place_over, stands_grown, stands_now, stands_on, stands_over, still}
+use Rattle.eden_history.proofs.Kept.{below_listed, still}
+use Rattle.eden_headline.proofs.Keeping.{now_is_place, now_is_row, place_grown, place_in_time, place_on, place_over, stands_grown, stands_now, stands_on, stands_over}
+use Rattle.std.proofs.Math.Bool.{and-false}
 
 -- ---- what is true of a reply
 
@@ -51,9 +54,9 @@ pub record BasisTells (world : WorldState) (sent : List Request) (query : Query)
   pub refused : (p : List ℕ) → admits patterns p ≡ false → is_among p ps ≡ false
   pub absent : (p : List ℕ) → admits patterns p ≡ true → is_among p ps ≡ false → Stands world position.generation position.sequence p None
 
--- it answers some poll that was sent; what stood at an admitted path that is not listed, since the poll's position, stood there at the target
--- or later
-pub record PollTells (world : WorldState) (sent : List Request) (query : Query) (target : Position) (ps : List (List ℕ)) : Type 0 where
+-- it answers some poll that was sent; what stood at an admitted path that is not listed nor below a listed directory, since the poll's
+-- position, stood there at the target or later
+pub record PollTells (world : WorldState) (sent : List Request) (query : Query) (target : Position) (ps prefixes : List (List ℕ)) : Type 0 where
   pub since : Position
   pub patterns : List (List ℕ)
   pub asked : Contains sent (Poll query since patterns)
@@ -61,21 +64,30 @@ pub record PollTells (world : WorldState) (sent : List Request) (query : Query) 
   pub alike : since.generation ≡ target.generation
   pub before : since.sequence ≤ target.sequence
   pub refused : (p : List ℕ) → admits patterns p ≡ false → is_among p ps ≡ false
-  pub stays : (p : List ℕ) (file : Option Content) → admits patterns p ≡ true → is_among p ps ≡ false → Stands world since.generation since.sequence p file
-      → Stands world target.generation target.sequence p file
+  pub stays : (p : List ℕ) (file : Option Content) → admits patterns p ≡ true → is_among p ps ≡ false → below_any prefixes p ≡ false
+      → Stands world since.generation since.sequence p file → Stands world target.generation target.sequence p file
+
+-- it answers some list that was asked for; at its position or later no file stood at an admitted path below the directory that is not listed
+pub record ListTells (world : WorldState) (sent : List Request) (query : Query) (position : Position) (prefix : List ℕ) (ps : List (List ℕ)) : Type 0 where
+  pub patterns : List (List ℕ)
+  pub asked : Contains sent (Below query prefix patterns)
+  pub refused : (p : List ℕ) → admits patterns p ≡ false → is_among p ps ≡ false
+  pub absent : (p : List ℕ) → admits patterns p ≡ true → lies_below p prefix ≡ true → is_among p ps ≡ false
+      → Stands world position.generation position.sequence p None
 
 abbrev pub IsTrueOf : WorldState → List Request → Reply → Type 0
 IsTrueOf world sent (BasisIs query position ps) = BasisTells world sent query position ps
-IsTrueOf world sent (ChangesAre query target marked) = PollTells world sent query target (paths_of marked)
+IsTrueOf world sent (ChangesAre query target marked prefixes) = PollTells world sent query target (paths_of marked) prefixes
 IsTrueOf world sent (ContentIs query position path content) = Stands world position.generation position.sequence path content
 IsTrueOf world sent (Refused query cause) = Unit {0}
+IsTrueOf world sent (ListIs query position prefix ps) = ListTells world sent query position prefix ps
 
 -- ---- it stays true
 
 pub true_of_more : (world : WorldState) (sent more : List Request) (reply : Reply) → IsTrueOf world sent reply → IsTrueOf world (sent ++ more) reply
 true_of_more world sent more (BasisIs query position ps) is =
     record { patterns = is.patterns; asked = Contains-append_left sent more _ is.asked; place = is.place; refused = is.refused; absent = is.absent }
-true_of_more world sent more (ChangesAre query target marked) is =
+true_of_more world sent more (ChangesAre query target marked prefixes) is =
     record {
       since = is.since;
       patterns = is.patterns;
@@ -88,6 +100,8 @@ true_of_more world sent more (ChangesAre query target marked) is =
     }
 true_of_more world sent more (ContentIs query position path content) is = is
 true_of_more world sent more (Refused query cause) is = tt
+true_of_more world sent more (ListIs query position prefix ps) is =
+    record { patterns = is.patterns; asked = Contains-append_left sent more _ is.asked; refused = is.refused; absent = is.absent }
 
 -- a row that is new since a place of its generation comes after it
 new_row : (world : WorldState) (event : Event) (target : Position) (p : List ℕ) (file : Option Content) → IsLegal world → IsPlace world target
@@ -118,9 +132,10 @@ stays_grown world event since target p file legal place made same stays is = by 
         stands_grown world event target.generation target.sequence p file
         (stays (record { row = is.row; is_row = old; alike = is.alike; after = is.after; value = is.value }))
 
-poll_grown : (world : WorldState) (event : Event) (sent : List Request) (query : Query) (target : Position) (ps : List (List ℕ)) → IsLegal world
-    → outcome (commits_of world) (now world) event.change ≡ Next event → PollTells world sent query target ps → PollTells (grown world event) sent query target ps
-poll_grown world event sent query target ps legal made is =
+poll_grown : (world : WorldState) (event : Event) (sent : List Request) (query : Query) (target : Position) (ps prefixes : List (List ℕ))
+    → IsLegal world → outcome (commits_of world) (now world) event.change ≡ Next event → PollTells world sent query target ps prefixes
+    → PollTells (grown world event) sent query target ps prefixes
+poll_grown world event sent query target ps prefixes legal made is =
     record {
       since = is.since;
       patterns = is.patterns;
@@ -129,13 +144,13 @@ poll_grown world event sent query target ps legal made is =
       alike = is.alike;
       before = is.before;
       refused = is.refused;
-      stays = λ p file a none. stays_grown world event is.since target p file legal is.place made is.alike (is.stays p file a none);
+      stays = λ p file a none outside. stays_grown world event is.since target p file legal is.place made is.alike (is.stays p file a none outside);
     }
 
 -- the rows of a world that is given back its objects are its own
-poll_over : (world : WorldState) (held : List Held) (sent : List Request) (query : Query) (target : Position) (ps : List (List ℕ)) → PollTells world sent query target ps
-    → PollTells (over_held world held) sent query target ps
-poll_over world held sent query target ps is =
+poll_over : (world : WorldState) (held : List Held) (sent : List Request) (query : Query) (target : Position) (ps prefixes : List (List ℕ))
+    → PollTells world sent query target ps prefixes → PollTells (over_held world held) sent query target ps prefixes
+poll_over world held sent query target ps prefixes is =
     record {
       since = is.since;
       patterns = is.patterns;
@@ -144,8 +159,8 @@ poll_over world held sent query target ps is =
       alike = is.alike;
       before = is.before;
       refused = is.refused;
-      stays = λ p file a none stood. stands_over world held target.generation target.sequence p file
-          (is.stays p file a none (stands_over (over_held world held) world.held is.since.generation is.since.sequence p file stood));
+      stays = λ p file a none outside stood. stands_over world held target.generation target.sequence p file
+          (is.stays p file a none outside (stands_over (over_held world held) world.held is.since.generation is.since.sequence p file stood));
     }
 
 pub true_on : (name : Namer) (world : WorldState) (sent : List Request) (change : Change) (reply : Reply) → IsLegal world → IsTrueOf world sent reply
@@ -158,16 +173,24 @@ true_on name world sent change (BasisIs query position ps) legal is =
       refused = is.refused;
       absent = λ p a none. stands_on name world change position.generation position.sequence p None (is.absent p a none);
     }
-true_on name world sent change (ChangesAre query target marked) legal is =
-    goes_on (λ w. PollTells w sent query target (paths_of marked)) name world change is
-    (λ event made. poll_grown world event sent query target (paths_of marked) legal made is) (λ held. poll_over world held sent query target (paths_of marked) is)
+true_on name world sent change (ChangesAre query target marked prefixes) legal is =
+    goes_on (λ w. PollTells w sent query target (paths_of marked) prefixes) name world change is
+    (λ event made. poll_grown world event sent query target (paths_of marked) prefixes legal made is)
+    (λ held. poll_over world held sent query target (paths_of marked) prefixes is)
 true_on name world sent change (ContentIs query position path content) legal is = stands_on name world change position.generation position.sequence path content is
 true_on name world sent change (Refused query cause) legal is = tt
+true_on name world sent change (ListIs query position prefix ps) legal is =
+    record {
+      patterns = is.patterns;
+      asked = is.asked;
+      refused = is.refused;
+      absent = λ p a under none. stands_on name world change position.generation position.sequence p None (is.absent p a under none);
+    }
 
 -- ---- lists of paths
 
-among_filter : (patterns : List (List ℕ)) (p : List ℕ) (ps : List (List ℕ)) → is_among p (filter (admits patterns) ps) ≡ (admits patterns p && is_among p ps)
-among_filter patterns p ps = any-filter_same (λ q. same_path p q) (admits patterns) (admits patterns p) (λ k e. ap (admits patterns) (sym (same_path-is p k e))) ps
+among_filter : (test : List ℕ → Bool) (p : List ℕ) (ps : List (List ℕ)) → is_among p (filter test ps) ≡ (test p && is_among p ps)
+among_filter test p ps = any-filter_same (λ q. same_path p q) test (test p) (λ k e. ap test (sym (same_path-is p k e))) ps
 
 -- a path is listed in the reply to a poll where it is admitted and named since
 pub among_changes : (world : WorldState) (since : ℕ) (patterns : List (List ℕ)) (p : List ℕ)
@@ -175,7 +198,7 @@ pub among_changes : (world : WorldState) (since : ℕ) (patterns : List (List �
     ≡ (admits patterns p && has (named_since (now world).generation since (now world).sequence world.opening world.past) p)
 among_changes world since patterns p =
     ap (is_among p) (admitted_listed patterns (marked_since world since))
-    ∙ among_filter patterns p (paths_of (marked_since world since))
+    ∙ among_filter (admits patterns) p (paths_of (marked_since world since))
     ∙ ap (λ ps. admits patterns p && is_among p ps) (marked_paths world since)
     ∙ ap (λ b. admits patterns p && b) (sym (has-listing (path_set (paths_said (said_since world since))) p))
 
@@ -184,8 +207,8 @@ among_changes world since patterns p =
 turned_down : (patterns : List (List ℕ)) (p : List ℕ) (b : Bool) → admits patterns p ≡ false → (admits patterns p && b) ≡ false
 turned_down patterns p b out = ap (λ c. c && b) out
 
-left_over : (patterns : List (List ℕ)) (p : List ℕ) (b : Bool) → admits patterns p ≡ true → (admits patterns p && b) ≡ false → b ≡ false
-left_over patterns p b wanted none = sym (ap (λ c. c && b) wanted) ∙ none
+left_over : (a b : Bool) → a ≡ true → (a && b) ≡ false → b ≡ false
+left_over a b is none = sym (ap (λ c. c && b) is) ∙ none
 
 bounded_true : (world : WorldState) (sent : List Request) (query : Query) (reply : Reply) → IsTrueOf world sent reply → IsTrueOf world sent (bounded query reply)
 unfolding bounded
@@ -195,6 +218,28 @@ bounded_true world sent query reply is = by (nat_lt body_limit (length (reply_by
     by true = tt
     by false = is
 
+-- a path is among those listed of a world where it is admitted and holds a file
+among_admitted : (world : WorldState) (patterns : List (List ℕ)) (p : List ℕ)
+    → is_among p (admitted_paths patterns (now world).files) ≡ (admits patterns p && is_among p (paths (now world).files))
+among_admitted world patterns p = among_filter (admits patterns) p (paths (now world).files)
+
+none_refused : (world : WorldState) (patterns : List (List ℕ)) (p : List ℕ) → admits patterns p ≡ false → is_among p (admitted_paths patterns (now world).files) ≡ false
+none_refused world patterns p out = among_admitted world patterns p ∙ turned_down patterns p (is_among p (paths (now world).files)) out
+
+-- at a path that is admitted and not listed nothing stands now
+absent_now : (world : WorldState) (patterns : List (List ℕ)) (p : List ℕ) → admits patterns p ≡ true → is_among p (admitted_paths patterns (now world).files) ≡ false
+    → Stands world (now world).generation (now world).sequence p None
+absent_now world patterns p wanted none = subst (Stands world (now world).generation (now world).sequence p) nothing (stands_now world p)
+  where
+    none_there : (file : Option Content) → is_some file ≡ false → file ≡ None
+    none_there None e = refl
+    none_there (Some file) e = cc
+
+    nothing : file_at (now world).files p ≡ None
+    nothing =
+        none_there (file_at (now world).files p)
+        (fin.contains_key-keys (now world).files p ∙ left_over (admits patterns p) (is_among p (paths (now world).files)) wanted (sym (among_admitted world patterns p) ∙ none))
+
 basis_true : (world : WorldState) (sent : List Request) (query : Query) (patterns : List (List ℕ)) → Contains sent (Basis query patterns)
     → BasisTells world sent query (position_of (now world)) (admitted_paths patterns (now world).files)
 basis_true world sent query patterns asked =
@@ -202,18 +247,23 @@ basis_true world sent query patterns asked =
       patterns = patterns;
       asked = asked;
       place = now_is_place world;
-      refused = λ p no. among_filter patterns p (paths (now world).files) ∙ turned_down patterns p (is_among p (paths (now world).files)) no;
-      absent = λ p yes none. subst (Stands world (now world).generation (now world).sequence p) (nothing p yes none) (stands_now world p);
+      refused = λ p out. none_refused world patterns p out;
+      absent = λ p wanted none. absent_now world patterns p wanted none;
+    }
+
+list_true : (world : WorldState) (sent : List Request) (query : Query) (prefix : List ℕ) (patterns : List (List ℕ)) → Contains sent (Below query prefix patterns)
+    → ListTells world sent query (position_of (now world)) prefix (below prefix (admitted_paths patterns (now world).files))
+list_true world sent query prefix patterns asked =
+    record {
+      patterns = patterns;
+      asked = asked;
+      refused = λ p out. among_below p ∙ ap (λ b. lies_below p prefix && b) (none_refused world patterns p out) ∙ and-false (lies_below p prefix);
+      absent = λ p wanted under none. absent_now world patterns p wanted
+          (left_over (lies_below p prefix) (is_among p (admitted_paths patterns (now world).files)) under (sym (among_below p) ∙ none));
     }
   where
-    none_there : (file : Option Content) → is_some file ≡ false → file ≡ None
-    none_there None e = refl
-    none_there (Some file) e = cc
-
-    nothing : (p : List ℕ) → admits patterns p ≡ true → is_among p (admitted_paths patterns (now world).files) ≡ false → file_at (now world).files p ≡ None
-    nothing p wanted none =
-        none_there (file_at (now world).files p)
-        (fin.contains_key-keys (now world).files p ∙ left_over patterns p (is_among p (paths (now world).files)) wanted (sym (among_filter patterns p (paths (now world).files)) ∙ none))
+    among_below : (p : List ℕ) → is_among p (below prefix (admitted_paths patterns (now world).files)) ≡ (lies_below p prefix && is_among p (admitted_paths patterns (now world).files))
+    among_below p = among_filter (λ q. lies_below q prefix) p (admitted_paths patterns (now world).files)
 
 -- ---- of positions
 
@@ -241,7 +291,7 @@ poll_true world sent query since patterns legal asked =
     (λ apart. tt) (λ same late. tt) (λ same before. tt) (λ same before. bounded_true world sent query _ (told same before))
   where
     told : since.generation ≡ (now world).generation → since.sequence ≤ (now world).sequence
-        → PollTells world sent query (position_of (now world)) (paths_of (admitted patterns (marked_since world since.sequence)))
+        → PollTells world sent query (position_of (now world)) (paths_of (admitted patterns (marked_since world since.sequence))) (prefixes_since world since.sequence)
     told same before =
         record {
           since = since;
@@ -251,14 +301,15 @@ poll_true world sent query since patterns legal asked =
           alike = same;
           before = before;
           refused = λ p out. among_changes world since.sequence patterns p ∙ turned_down patterns p _ out;
-          stays = λ p file wanted none is.
+          stays = λ p file wanted none outside is.
               record {
                 row = now world;
                 is_row = now_is_row world;
                 alike = refl;
                 after = omega arith;
                 value = sym (still (commits_of world) (now world).generation since.sequence (now world).sequence world.opening world.past is.row p legal.1 is.is_row (is.alike ∙ same) is.after refl (omega arith)
-                    (left_over patterns p _ wanted (sym (among_changes world since.sequence patterns p) ∙ none))) ∙ is.value;
+                    (or_from _ _ (left_over (admits patterns p) _ wanted (sym (among_changes world since.sequence patterns p) ∙ none))
+                    (below_listed p (prefixes_told (now world).generation since.sequence (now world).sequence world.past) outside))) ∙ is.value;
               };
         }
 
@@ -267,3 +318,4 @@ pub reply_true : (world : WorldState) (sent : List Request) (request : Request) 
 reply_true world sent (Basis query patterns) legal asked = bounded_true world sent query _ (basis_true world sent query patterns asked)
 reply_true world sent (Fetch query path) legal asked = bounded_true world sent query _ (stands_now world path)
 reply_true world sent (Poll query since patterns) legal asked = poll_true world sent query since patterns legal asked
+reply_true world sent (Below query prefix patterns) legal asked = bounded_true world sent query _ (list_true world sent query prefix patterns asked)

@@ -1,17 +1,17 @@
 -- What holds of each mirror after every schedule: where it does not hold what the working copy does, the mount tells it so.
-use Rattle.std.specs.Prelude.{◌≡◌, ◌≢◌, ◌≤◌, ◌⊎◌, ℕ, true, if◌then◌else◌, List, Some, None}
-use Rattle.eden_ids.specs.FileMaps.{PathSet, file_at, has}
+use Rattle.std.specs.Prelude.{◌≡◌, ◌≢◌, ◌≤◌, ◌⊎◌, ℕ, true, ◌||◌, if◌then◌else◌, List, Some, None}
+use Rattle.eden_ids.specs.FileMaps.{PathSet, file_at}
 use Rattle.eden_globs.specs.Filters.{admits}
 use Rattle.eden_history.specs.declared.answer.SinceFault.TheVariants as since
 use Rattle.eden_messages.specs.declared.message.Query.{Query}
 use Rattle.eden_messages.specs.declared.message.Reply.{Reply}
-use Rattle.eden_messages.specs.declared.message.Reply.TheVariants.{BasisIs, ChangesAre, ContentIs, Refused}
+use Rattle.eden_messages.specs.declared.message.Reply.TheVariants.{BasisIs, ChangesAre, ContentIs, Refused, ListIs}
 use Rattle.eden_messages.specs.declared.message.Request.TheVariants.{Poll}
 use Rattle.eden_messages.specs.declared.message.Cause.{Cause}
 use Rattle.eden_messages.specs.declared.message.Cause.TheVariants.{Stale, Ahead, Truncated, TooLarge}
 use Rattle.eden_history.specs.declared.position.Position.{Position}
-use Rattle.eden_history.specs.Changes.{named_since}
-use Rattle.eden_messages.specs.Mirrors.{MirrorState, is_among}
+use Rattle.eden_history.specs.Changes.{below_any, is_among, named_since, prefixes_told}
+use Rattle.eden_messages.specs.Mirrors.{MirrorState, is_among as is_listed}
 use Rattle.eden_history.specs.Recorded.{floor_of}
 use Rattle.eden_messages.specs.Replies.{reply_of}
 use Rattle.eden_history.specs.Rows.{IsPlace, Stands}
@@ -29,15 +29,20 @@ pub record Differs (world : WorldState) (m : MirrorState) (path : List ℕ) : Ty
 abbrev pub changes_after : WorldState → Position → PathSet
 changes_after world place = named_since place.generation place.sequence (now world).sequence world.opening world.past
 
+-- the directories that files were moved from or to since a position, up to now
+abbrev pub prefixes_after : WorldState → Position → List (List ℕ)
+prefixes_after world place = prefixes_told place.generation place.sequence (now world).sequence world.past
+
 -- the position is refused: as stale, or as truncated
 abbrev pub IsRefused : WorldState → Position → Type 0
 IsRefused world place =
     (status_of world place ≡ Some (since.Stale (now world).generation)) ⊎ (status_of world place ≡ Some (since.Truncated (floor_of world)))
 
--- each path on which a placed mirror and the working copy differ is among the changes since its place, or the place is refused
+-- each path on which a placed mirror and the working copy differ is among the changes since its place, or the place is refused. It is among
+-- them where it is named, or lies below a directory that files were moved from or to
 abbrev pub IsCovered : WorldState → MirrorState → Type 0
 IsCovered world m = (place : Position) (path : List ℕ) → m.place ≡ Some place → Differs world m path
-    → (has (changes_after world place) path ≡ true) ⊎ IsRefused world place
+    → (is_among (changes_after world place) (prefixes_after world place) path ≡ true) ⊎ IsRefused world place
 
 -- the position is refused as stale or truncated, or the reply as too large
 abbrev pub IsTellingCause : Cause → Type 0
@@ -46,12 +51,13 @@ IsTellingCause (Ahead head) = ⊥
 IsTellingCause (Truncated floor) = Unit {0}
 IsTellingCause TooLarge = Unit {0}
 
--- the reply lists the path among the changes, or is such a refusal
+-- the reply lists the path among the changes, or a directory above it that files were moved from or to, or is such a refusal
 abbrev pub Tells : Reply → List ℕ → Type 0
 Tells (BasisIs query position paths) path = ⊥
-Tells (ChangesAre query target marked) path = is_among path (paths_of marked) ≡ true
+Tells (ChangesAre query target marked prefixes) path = (is_listed path (paths_of marked) || below_any prefixes path) ≡ true
 Tells (ContentIs query position place content) path = ⊥
 Tells (Refused query cause) path = IsTellingCause cause
+Tells (ListIs query position prefix paths) path = ⊥
 
 -- and what the mount replies to a poll since the place tells of each such path
 abbrev pub IsTold : WorldState → MirrorState → Type 0

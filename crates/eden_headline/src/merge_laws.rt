@@ -18,10 +18,10 @@ pub fn merge_law()
     ensures world { OnMerges (λ name world entries m notes. (ending_of name world m entries notes).world ≡ replay name world entries) }
     // And with the follower's mirror.
     ensures mirror { OnMerges (λ name world entries m notes. (ending_of name world m entries notes).mirrors m.id ≡ Some m) }
-    // So each path that the mirror wants, and on which it and the working copy differ, is among the changes since its place, or the
-    // place is refused.
+    // So each path that the mirror wants, and on which it and the working copy differ, is among the changes since its place, by its
+    // name or below a directory that files were moved from or to, or the place is refused.
     ensures covered { OnMerges (λ name world entries m notes. IsCovered (replay name world entries) m) }
-    // A poll since the place lists that path, or refuses the place, or is refused as too large.
+    // A poll since the place lists that path, or such a directory above it, or refuses the place, or is refused as too large.
     ensures told { OnMerges (λ name world entries m notes. IsTold (replay name world entries) m) }
     // At the head the mirror holds what the working copy does on the paths that it wants, and nothing else.
     ensures at_head { OnMerges (λ name world entries m notes. AgreesAtHead (replay name world entries) m) }

@@ -12,9 +12,10 @@ ghost use Rattle.eden_headline.specs.Schedules.{OnFreshRuns};
 /// other client asks under a mirror's name.
 pub fn schedule_law()
     // Each path that the mirror's filter admits, and on which its files and the working copy differ, is among the changes since its
-    // place, or the place is refused as stale or truncated.
+    // place, by its name or below a directory that files were moved from or to, or the place is refused as stale or truncated.
     ensures covered { OnFreshRuns (OfMirrors IsCovered) }
-    // And a poll since the place, served now, lists that path, or refuses the place, or is refused as too large.
+    // And a poll since the place, served now, lists that path, or such a directory above it, or refuses the place, or is refused as too
+    // large.
     ensures told { OnFreshRuns (OfMirrors IsTold) }
     // A mirror at the head holds what the working copy does on the paths that it wants, and nothing else.
     ensures at_head { OnFreshRuns (OfMirrors AgreesAtHead) }

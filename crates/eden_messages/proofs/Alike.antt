@@ -12,9 +12,9 @@ use Rattle.eden_messages.specs.declared.call.Call.TheVariants.{Change, Ask}
 use Rattle.eden_messages.specs.declared.message.Cause.{Cause}
 use Rattle.eden_messages.specs.declared.message.Query.{Query}
 use Rattle.eden_messages.specs.declared.message.Reply.{Reply}
-use Rattle.eden_messages.specs.declared.message.Reply.TheVariants.{BasisIs, ChangesAre, ContentIs, Refused}
+use Rattle.eden_messages.specs.declared.message.Reply.TheVariants.{BasisIs, ChangesAre, ContentIs, Refused, ListIs}
 use Rattle.eden_messages.specs.declared.message.Request.{Request}
-use Rattle.eden_messages.specs.declared.message.Request.TheVariants.{Basis, Poll, Fetch}
+use Rattle.eden_messages.specs.declared.message.Request.TheVariants.{Basis, Poll, Fetch, List as Below}
 use Rattle.eden_messages.specs.contracts.call.AnswerPartialEq.TheImpl as answers
 use Rattle.eden_messages.specs.contracts.call.CallPartialEq.TheImpl as call
 use Rattle.eden_messages.specs.contracts.message.CausePartialEq.TheImpl as cause
@@ -36,19 +36,25 @@ request_decides (Poll q p f) (Poll r o g) =
     (Decides-and _ _ (query_decides q r) (Decides-and _ _ (position_decides p o) (paths_decide f g)))
 request_decides (Fetch q a) (Fetch r b) =
     Decides-like _ (λ (h : (q ≡ r) × (a ≡ b)). λ i. Fetch (h.0 i) (h.1 i)) (λ e. ((cc), (cc))) (Decides-and _ _ (query_decides q r) (bytes_decides a b))
+request_decides (Below q p f) (Below r o g) =
+    Decides-like _ (λ (h : (q ≡ r) × ((p ≡ o) × (f ≡ g))). λ i. Below (h.0 i) (h.1.0 i) (h.1.1 i)) (λ e. ((cc), ((cc), (cc))))
+    (Decides-and _ _ (query_decides q r) (Decides-and _ _ (bytes_decides p o) (paths_decide f g)))
 request_decides a b = search rules
 
 pub reply_decides : (a b : Reply) → Decides (reply.ghosts.eq a b) (a ≡ b)
 reply_decides (BasisIs q p ps) (BasisIs r o os) =
     Decides-like _ (λ (h : (q ≡ r) × ((p ≡ o) × (ps ≡ os))). λ i. BasisIs (h.0 i) (h.1.0 i) (h.1.1 i)) (λ e. ((cc), ((cc), (cc))))
     (Decides-and _ _ (query_decides q r) (Decides-and _ _ (position_decides p o) (paths_decide ps os)))
-reply_decides (ChangesAre q p ms) (ChangesAre r o ns) =
-    Decides-like _ (λ (h : (q ≡ r) × ((p ≡ o) × (ms ≡ ns))). λ i. ChangesAre (h.0 i) (h.1.0 i) (h.1.1 i)) (λ e. ((cc), ((cc), (cc))))
-    (Decides-and _ _ (query_decides q r) (Decides-and _ _ (position_decides p o) (marks_decide ms ns)))
+reply_decides (ChangesAre q p ms ps) (ChangesAre r o ns os) =
+    Decides-like _ (λ (h : (q ≡ r) × ((p ≡ o) × ((ms ≡ ns) × (ps ≡ os)))). λ i. ChangesAre (h.0 i) (h.1.0 i) (h.1.1.0 i) (h.1.1.1 i)) (λ e. ((cc), ((cc), ((cc), (cc)))))
+    (Decides-and _ _ (query_decides q r) (Decides-and _ _ (position_decides p o) (Decides-and _ _ (marks_decide ms ns) (paths_decide ps os))))
 reply_decides (ContentIs q p a c) (ContentIs r o b d) =
     Decides-like _ (λ (h : (q ≡ r) × ((p ≡ o) × ((a ≡ b) × (c ≡ d)))). λ i. ContentIs (h.0 i) (h.1.0 i) (h.1.1.0 i) (h.1.1.1 i)) (λ e. ((cc), ((cc), ((cc), (cc)))))
     (Decides-and _ _ (query_decides q r) (Decides-and _ _ (position_decides p o) (Decides-and _ _ (bytes_decides a b) (found_decides c d))))
 reply_decides (Refused q c) (Refused r d) = search (rules, query_decides, cause_decides)
+reply_decides (ListIs q p a ps) (ListIs r o b os) =
+    Decides-like _ (λ (h : (q ≡ r) × ((p ≡ o) × ((a ≡ b) × (ps ≡ os)))). λ i. ListIs (h.0 i) (h.1.0 i) (h.1.1.0 i) (h.1.1.1 i)) (λ e. ((cc), ((cc), ((cc), (cc)))))
+    (Decides-and _ _ (query_decides q r) (Decides-and _ _ (position_decides p o) (Decides-and _ _ (bytes_decides a b) (paths_decide ps os))))
 reply_decides a b = search rules
 
 pub call_decides : (a b : Call) → Decides (call.ghosts.eq a b) (a ≡ b)

@@ -9,9 +9,9 @@ use Rattle.eden_history.specs.declared.mark.Marked.{Marked}
 use Rattle.eden_history.specs.declared.position.Position.{Position}
 use Rattle.eden_messages.specs.declared.message.Cause.TheVariants.{TooLarge}
 use Rattle.eden_messages.specs.declared.message.Query.{Query}
-use Rattle.eden_messages.specs.declared.message.Request.TheVariants.{Basis, Poll, Fetch}
+use Rattle.eden_messages.specs.declared.message.Request.TheVariants.{Basis, Poll, Fetch, List as Below}
 use Rattle.eden_messages.specs.declared.message.Reply.{Reply}
-use Rattle.eden_messages.specs.declared.message.Reply.TheVariants.{BasisIs, ChangesAre, ContentIs, Refused}
+use Rattle.eden_messages.specs.declared.message.Reply.TheVariants.{BasisIs, ChangesAre, ContentIs, Refused, ListIs}
 use Rattle.eden_messages.specs.Replies.{bounded}
 use Rattle.eden_messages.specs.Spells.{position_bytes, text_bytes, marked_bytes, filter_bytes, content_bytes, request_bytes, reply_bytes, if_small}
 use Rattle.eden_frames.specs.Frames.{body_limit}
@@ -43,17 +43,27 @@ poll_len query since patterns = simp length-append (omega arith)
 pub fetch_len : (query : Query) (path : List ℕ) → length (request_bytes (Fetch query path)) ≡ 26 + length (text_bytes path)
 fetch_len query path = simp length-append (omega arith)
 
+pub list_request_len : (query : Query) (prefix : List ℕ) (patterns : List (List ℕ))
+    → length (request_bytes (Below query prefix patterns)) ≡ 26 + length (text_bytes prefix) + length (filter_bytes patterns)
+list_request_len query prefix patterns = simp length-append (omega arith)
+
 pub basis_len : (query : Query) (position : Position) (paths : List (List ℕ))
     → length (reply_bytes (BasisIs query position paths)) ≡ 30 + length (position_bytes position) + length (flat_map text_bytes paths)
 basis_len query position paths = simp length-append (omega arith)
 
-pub changes_len : (query : Query) (target : Position) (list : List Marked)
-    → length (reply_bytes (ChangesAre query target list)) ≡ 30 + length (position_bytes target) + length (flat_map marked_bytes list)
-changes_len query target list = simp length-append (omega arith)
+pub changes_len : (query : Query) (target : Position) (list : List Marked) (prefixes : List (List ℕ))
+    → length (reply_bytes (ChangesAre query target list prefixes))
+    ≡ 34 + length (position_bytes target) + length (flat_map marked_bytes list) + length (flat_map text_bytes prefixes)
+changes_len query target list prefixes = simp length-append (omega arith)
 
 pub content_len : (query : Query) (position : Position) (path : List ℕ) (content : Option Content)
     → length (reply_bytes (ContentIs query position path content)) ≡ 26 + length (position_bytes position) + length (text_bytes path) + length (content_bytes content)
 content_len query position path content = simp length-append (omega arith)
+
+pub list_len : (query : Query) (position : Position) (prefix : List ℕ) (paths : List (List ℕ))
+    → length (reply_bytes (ListIs query position prefix paths))
+    ≡ 30 + length (position_bytes position) + length (text_bytes prefix) + length (flat_map text_bytes paths)
+list_len query position prefix paths = simp length-append (omega arith)
 
 -- ---- what is replied in its place
 

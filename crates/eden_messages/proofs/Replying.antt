@@ -9,7 +9,8 @@ use Rattle.std.specs.List.{AllByRecursion, flat_map}
 use Rattle.std.specs.List.Sorted.{IsStrictlySortedBy}
 use Rattle.eden_ids.specs.declared.content.Content.{Content}
 use Rattle.eden_ids.specs.declared.id.Id.{Id}
-use Rattle.eden_ids.specs.FileMaps.{FileMap, file_at, listing, path_set, paths}
+use Rattle.eden_ids.specs.FileMaps.{FileMap, PathSet, file_at, listing, path_set, paths}
+use Rattle.eden_ids.specs.Paths.{lies_below}
 use Rattle.eden_ids.specs.Texts.{AreTexts, IsPathText}
 use Rattle.eden_ids.proofs.ByteOrder.{fin_keys_rise, order}
 use Rattle.eden_ids.proofs.TextLemmas.{paths_texts}
@@ -21,7 +22,7 @@ use Rattle.eden_history.specs.declared.mark.Marked.{Marked}
 use Rattle.eden_history.specs.declared.position.Position.{Position}
 use Rattle.eden_history.specs.Worlds.{Row, WorldState, now, position_of}
 use Rattle.eden_history.specs.Said.{Said, ends, paths_said}
-use Rattle.eden_history.specs.Changes.{said_since}
+use Rattle.eden_history.specs.Changes.{below, prefixes_since, prefixes_told, said_since}
 use Rattle.eden_history.specs.Legal.{IsWorld}
 use Rattle.eden_history.specs.Marks.{admitted, mark_said, marked_since}
 use Rattle.eden_history.specs.Recorded.{floor_of}
@@ -29,16 +30,16 @@ use Rattle.eden_history.specs.Spellable.{IsRowText, IsSpellable}
 use Rattle.eden_history.specs.Status.{status, status_of}
 use Rattle.eden_history.proofs.Ends.{ends-paths}
 use Rattle.eden_history.proofs.Floors.{floor_fits}
-use Rattle.eden_history.proofs.Spelled.{named_texts, now_texts}
+use Rattle.eden_history.proofs.Spelled.{named_texts, now_texts, prefixes_texts}
 use Rattle.eden_messages.specs.declared.message.Cause.{Cause}
 use Rattle.eden_messages.specs.declared.message.Cause.TheVariants.{Stale, Ahead, Truncated, TooLarge}
 use Rattle.eden_messages.specs.declared.message.Query.{Query}
-use Rattle.eden_messages.specs.declared.message.Request.TheVariants.{Basis, Poll, Fetch}
+use Rattle.eden_messages.specs.declared.message.Request.TheVariants.{Basis, Poll, Fetch, List as Below}
 use Rattle.eden_messages.specs.declared.message.Reply.{Reply}
-use Rattle.eden_messages.specs.declared.message.Reply.TheVariants.{BasisIs, ChangesAre, ContentIs, Refused}
-use Rattle.eden_messages.specs.Spells.{Ascends, IsCause, IsListing, IsPosition, IsQuery, IsReply, IsValue, SpellsReply, cause_bytes, marked_bytes, paths_of, reply_bytes, text_bytes}
+use Rattle.eden_messages.specs.declared.message.Reply.TheVariants.{BasisIs, ChangesAre, ContentIs, Refused, ListIs}
+use Rattle.eden_messages.specs.Spells.{AreBelow, Ascends, IsCause, IsListing, IsPosition, IsQuery, IsReply, IsValue, SpellsReply, cause_bytes, marked_bytes, paths_of, reply_bytes, text_bytes}
 use Rattle.eden_messages.specs.Replies.{RepliesAreSpelled, admitted_paths, bounded, cause_of, polled, reply_of}
-use Rattle.eden_messages.proofs.BodyLengths.{basis_len, changes_len}
+use Rattle.eden_messages.proofs.BodyLengths.{basis_len, changes_len, list_len}
 use Rattle.eden_messages.proofs.Spelling.{paths_len}
 
 -- ---- refusals, and replies that are refused where they are too long
@@ -93,15 +94,33 @@ ascends [] rise = tt
 ascends (p ∷ []) rise = (tt, tt)
 ascends (p ∷ q ∷ ps) rise = (rise.0.0, ascends (q ∷ ps) rise.1)
 
--- those of a list that a filter admits
-admitted_listing : (patterns ps : List (List ℕ)) → AllByRecursion IsPathText ps → IsStrictlySortedBy order ps → length (filter (admits patterns) ps) < 2 ^ 32
-    → IsListing (filter (admits patterns) ps)
-admitted_listing patterns ps texts rise few =
+-- paths, strictly in byte order
+record AreListed (ps : List (List ℕ)) : Type 0 where
+  pub texts : AllByRecursion IsPathText ps
+  pub rise : IsStrictlySortedBy order ps
+
+-- those of a list that pass a test
+sifted : (test : List ℕ → Bool) (ps : List (List ℕ)) → AreListed ps → AreListed (filter test ps)
+sifted test ps are =
     record {
-      count = few;
-      texts = recursion_from_All IsPathText (filter (admits patterns) ps) (All-filter (admits patterns) IsPathText ps (All-from_recursion IsPathText ps texts));
-      ascends = ascends (filter (admits patterns) ps) (IsStrictlySortedBy-filter order (admits patterns) ps rise);
+      texts = recursion_from_All IsPathText (filter test ps) (All-filter test IsPathText ps (All-from_recursion IsPathText ps are.texts));
+      rise = IsStrictlySortedBy-filter order test ps are.rise;
     }
+
+listed : (ps : List (List ℕ)) → AreListed ps → length ps < 2 ^ 32 → IsListing ps
+listed ps are few = record { count = few; texts = are.texts; ascends = ascends ps are.rise }
+
+-- those of a set
+of_set : (set : PathSet) → AllByRecursion IsPathText (listing set) → AreListed (listing set)
+of_set set texts = record { texts = texts; rise = fin_keys_rise set }
+
+all_below : (prefix : List ℕ) (ps : List (List ℕ)) → AreBelow prefix (below prefix ps)
+all_below prefix [] = tt
+all_below prefix (p ∷ ps) = by (lies_below p prefix) refl (all_below prefix ps)
+  where
+    by : (b : Bool) → lies_below p prefix ≡ b → AreBelow prefix (below prefix ps) → AreBelow prefix (cond b (p ∷ below prefix ps) (below prefix ps))
+    by true e more = (e, more)
+    by false e more = more
 
 -- the paths of marked ones, of which a filter admits some
 pub admitted_listed : (patterns : List (List ℕ)) (marked : List Marked) → paths_of (admitted patterns marked) ≡ filter (admits patterns) (paths_of marked)
@@ -153,6 +172,11 @@ module _ (name : List ℕ → List ℕ → Id) (world : WorldState) (is : IsWorl
   present : IsRowText (now world)
   present = now_texts name world is spellable
 
+  files_listed : (patterns : List (List ℕ)) → AreListed (admitted_paths patterns (now world).files)
+  files_listed patterns =
+      sifted (admits patterns) (paths (now world).files)
+      (record { texts = paths_texts (now world).files present.files; rise = fin_keys_rise (now world).files })
+
   basis_spelled : (query : Query) (patterns : List (List ℕ)) → IsQuery query
       → SpellsReply (reply_bytes (reply_of world (Basis query patterns))) (reply_of world (Basis query patterns))
   basis_spelled query patterns asked =
@@ -162,7 +186,22 @@ module _ (name : List ℕ → List ℕ → Id) (world : WorldState) (is : IsWorl
       let few = paths_few (admitted_paths patterns (now world).files) in (
         asked,
         position_text (now world) present,
-        admitted_listing patterns (paths (now world).files) (paths_texts (now world).files present.files) (fin_keys_rise (now world).files) (omega (arith, small, long, few)),
+        listed (admitted_paths patterns (now world).files) (files_listed patterns) (omega (arith, small, long, few)),
+      ))
+
+  list_spelled : (query : Query) (prefix : List ℕ) (patterns : List (List ℕ)) → IsQuery query → IsPathText prefix
+      → SpellsReply (reply_bytes (reply_of world (Below query prefix patterns))) (reply_of world (Below query prefix patterns))
+  list_spelled query prefix patterns asked text =
+      let paths = below prefix (admitted_paths patterns (now world).files) in
+      bounded_spelled query (ListIs query (position_of (now world)) prefix paths) asked
+      (λ small.
+      let long = list_len query (position_of (now world)) prefix paths in
+      let few = paths_few paths in (
+        asked,
+        position_text (now world) present,
+        text,
+        listed paths (sifted (λ path. lies_below path prefix) (admitted_paths patterns (now world).files) (files_listed patterns)) (omega (arith, small, long, few)),
+        all_below prefix (admitted_paths patterns (now world).files),
       ))
 
   content_spelled : (query : Query) (path : List ℕ) → IsQuery query → IsPathText path
@@ -181,16 +220,26 @@ module _ (name : List ℕ → List ℕ → Id) (world : WorldState) (is : IsWorl
       let count = paths_len (admitted patterns (marked_since world since)) in
       let short : length (filter (admits patterns) named) < 2 ^ 32 = omega (arith, few, count, ap length same) in
       subst IsListing (sym same)
-      (admitted_listing patterns named texts (fin_keys_rise (path_set (paths_said (said_since world since)))) short)
+      (listed (filter (admits patterns) named) (sifted (admits patterns) named (of_set (path_set (paths_said (said_since world since))) texts)) short)
+
+  prefixes_listing : (since : ℕ) → length (prefixes_since world since) < 2 ^ 32 → IsListing (prefixes_since world since)
+  prefixes_listing since few =
+      listed (prefixes_since world since)
+      (of_set (path_set (prefixes_told (now world).generation since (now world).sequence world.past)) (prefixes_texts name world since is spellable)) few
 
   changes_spelled : (query : Query) (since : ℕ) (patterns : List (List ℕ)) → IsQuery query
       → SpellsReply (reply_bytes (polled world query since patterns None)) (polled world query since patterns None)
   changes_spelled query since patterns asked =
-      bounded_spelled query (ChangesAre query (position_of (now world)) (admitted patterns (marked_since world since))) asked
+      bounded_spelled query (ChangesAre query (position_of (now world)) (admitted patterns (marked_since world since)) (prefixes_since world since)) asked
       (λ small.
-      let long = changes_len query (position_of (now world)) (admitted patterns (marked_since world since)) in
+      let long = changes_len query (position_of (now world)) (admitted patterns (marked_since world since)) (prefixes_since world since) in
       let few = marked_few (admitted patterns (marked_since world since)) in
-      (asked, position_text (now world) present, changes_listing since patterns (omega (arith, small, long, few))))
+      let more = paths_few (prefixes_since world since) in (
+        asked,
+        position_text (now world) present,
+        changes_listing since patterns (omega (arith, small, long, few)),
+        prefixes_listing since (omega (arith, small, long, more)),
+      ))
 
   polled_spelled : (query : Query) (since : ℕ) (patterns : List (List ℕ)) (fault : Option SinceFault) → IsQuery query → OfCause fault
       → SpellsReply (reply_bytes (polled world query since patterns fault)) (polled world query since patterns fault)
@@ -206,6 +255,7 @@ module _ (name : List ℕ → List ℕ → Id) (world : WorldState) (is : IsWorl
 pub reply_spelled : RepliesAreSpelled
 reply_spelled name world (Basis query patterns) is spellable asked = basis_spelled name world is spellable query patterns asked.0
 reply_spelled name world (Fetch query path) is spellable asked = content_spelled name world is spellable query path asked.0 asked.1
+reply_spelled name world (Below query prefix patterns) is spellable asked = list_spelled name world is spellable query prefix patterns asked.0 asked.1
 reply_spelled name world (Poll query position patterns) is spellable asked =
     polled_spelled name world is spellable query position.sequence patterns (status_of world position) asked.0 (status_text name world is spellable position)
 

@@ -19,11 +19,11 @@ use Rattle.eden_history.specs.declared.mark.Marked.{Marked}
 use Rattle.eden_history.specs.declared.position.Position.{Position}
 use Rattle.eden_messages.specs.declared.message.Query.{Query}
 use Rattle.eden_messages.specs.declared.message.Request.{Request}
-use Rattle.eden_messages.specs.declared.message.Request.TheVariants.{Basis, Poll, Fetch}
+use Rattle.eden_messages.specs.declared.message.Request.TheVariants.{Basis, Poll, Fetch, List as Below}
 use Rattle.eden_messages.specs.declared.message.Cause.{Cause}
 use Rattle.eden_messages.specs.declared.message.Cause.TheVariants as causes
 use Rattle.eden_messages.specs.declared.message.Reply.{Reply}
-use Rattle.eden_messages.specs.declared.message.Reply.TheVariants.{BasisIs, ChangesAre, ContentIs, Refused}
+use Rattle.eden_messages.specs.declared.message.Reply.TheVariants.{BasisIs, ChangesAre, ContentIs, Refused, ListIs}
 use Rattle.eden_ids.specs.Texts.{IsContentText, IsPathText}
 use Rattle.eden_messages.specs.Spells.{query_bytes, IsQuery, position_bytes, IsPosition, text_bytes, filter_bytes, mark_byte, IsListing, paths_bytes, marked_bytes, list_bytes, paths_of, kind_byte, content_bytes, IsValue, cause_bytes, IsCause, request_bytes, IsRequest, reply_bytes, IsReply}
 use Rattle.eden_ids.proofs.FileMapLemmas.{same_content}
@@ -305,10 +305,10 @@ same_cause c d x y is also e =
 
 -- ---- messages
 
-fields_of : (tag : ℕ) (x y : List ℕ) → 1 ∷ tag ∷ x ≡ 1 ∷ tag ∷ y → x ≡ y
+fields_of : (tag : ℕ) (x y : List ℕ) → 2 ∷ tag ∷ x ≡ 2 ∷ tag ∷ y → x ≡ y
 fields_of tag x y e = cc
 
-other_tag : (s t : ℕ) (x y : List ℕ) → eqb s t ≡ false → 1 ∷ s ∷ x ≡ 1 ∷ t ∷ y → ⊥
+other_tag : (s t : ℕ) (x y : List ℕ) → eqb s t ≡ false → 2 ∷ s ∷ x ≡ 2 ∷ t ∷ y → ⊥
 other_tag s t x y differ e =
     let same : s ≡ t = cc in
     eqb-false s t differ same
@@ -325,6 +325,9 @@ polls_equal p q s t f g one two three = cc
 fetches_equal : (p q : Query) (f g : List ℕ) → p ≡ q → f ≡ g → Fetch p f ≡ Fetch q g
 fetches_equal p q f g one two = cc
 
+lists_equal : (p q : Query) (s t : List ℕ) (f g : List (List ℕ)) → p ≡ q → s ≡ t → f ≡ g → Below p s f ≡ Below q t g
+lists_equal p q s t f g one two three = cc
+
 pub same_request : (x y : Request) → IsRequest x → IsRequest y → request_bytes x ≡ request_bytes y → x ≡ y
 same_request (Basis p f) (Basis q g) is also e =
     let a = same_query p q (filter_bytes f) (filter_bytes g) is.0 also.0 (fields_of 1 _ _ e) in
@@ -332,6 +335,7 @@ same_request (Basis p f) (Basis q g) is also e =
     bases_equal p q f g a.0 b.0
 same_request (Basis p f) (Poll q t g) is also e = absurd (other_tag 1 2 _ _ refl e)
 same_request (Basis p f) (Fetch q g) is also e = absurd (other_tag 1 3 _ _ refl e)
+same_request (Basis p f) (Below q t g) is also e = absurd (other_tag 1 4 _ _ refl e)
 same_request (Poll p s f) (Basis q g) is also e = absurd (other_tag 2 1 _ _ refl e)
 same_request (Poll p s f) (Poll q t g) is also e =
     let a = same_query p q (position_bytes s ++ filter_bytes f) (position_bytes t ++ filter_bytes g) is.0 also.0 (fields_of 2 _ _ e) in
@@ -339,18 +343,28 @@ same_request (Poll p s f) (Poll q t g) is also e =
     let c = same_filter f g [] [] is.2.filter also.2.filter (closed (filter_bytes f) (filter_bytes g) b.1) in
     polls_equal p q s t f g a.0 b.0 c.0
 same_request (Poll p s f) (Fetch q g) is also e = absurd (other_tag 2 3 _ _ refl e)
+same_request (Poll p s f) (Below q t g) is also e = absurd (other_tag 2 4 _ _ refl e)
 same_request (Fetch p f) (Basis q g) is also e = absurd (other_tag 3 1 _ _ refl e)
 same_request (Fetch p f) (Poll q t g) is also e = absurd (other_tag 3 2 _ _ refl e)
 same_request (Fetch p f) (Fetch q g) is also e =
     let a = same_query p q (text_bytes f) (text_bytes g) is.0 also.0 (fields_of 3 _ _ e) in
     let b = same_text f g [] [] (path_short f is.1.path) (path_short g also.1.path) (closed (text_bytes f) (text_bytes g) a.1) in
     fetches_equal p q f g a.0 b.0
+same_request (Fetch p f) (Below q t g) is also e = absurd (other_tag 3 4 _ _ refl e)
+same_request (Below p s f) (Basis q g) is also e = absurd (other_tag 4 1 _ _ refl e)
+same_request (Below p s f) (Poll q t g) is also e = absurd (other_tag 4 2 _ _ refl e)
+same_request (Below p s f) (Fetch q g) is also e = absurd (other_tag 4 3 _ _ refl e)
+same_request (Below p s f) (Below q t g) is also e =
+    let a = same_query p q (text_bytes s ++ filter_bytes f) (text_bytes t ++ filter_bytes g) is.0 also.0 (fields_of 4 _ _ e) in
+    let b = same_text s t (filter_bytes f) (filter_bytes g) (path_short s is.1.path) (path_short t also.1.path) a.1 in
+    let c = same_filter f g [] [] is.2.filter also.2.filter (closed (filter_bytes f) (filter_bytes g) b.1) in
+    lists_equal p q s t f g a.0 b.0 c.0
 
 basis_equal : (p q : Query) (s t : Position) (f g : List (List ℕ)) → p ≡ q → s ≡ t → f ≡ g → BasisIs p s f ≡ BasisIs q t g
 basis_equal p q s t f g one two three = cc
 
-changes_equal : (p q : Query) (s t : Position) (f g : List Marked) → p ≡ q → s ≡ t → f ≡ g → ChangesAre p s f ≡ ChangesAre q t g
-changes_equal p q s t f g one two three = cc
+changes_equal : (p q : Query) (s t : Position) (f g : List Marked) (d u : List (List ℕ)) → p ≡ q → s ≡ t → f ≡ g → d ≡ u → ChangesAre p s f d ≡ ChangesAre q t g u
+changes_equal p q s t f g d u one two three four = cc
 
 content_equal : (p q : Query) (s t : Position) (f g : List ℕ) (c d : Option Content) → p ≡ q → s ≡ t → f ≡ g → c ≡ d → ContentIs p s f c ≡ ContentIs q t g d
 content_equal p q s t f g c d one two three four = cc
@@ -358,25 +372,31 @@ content_equal p q s t f g c d one two three four = cc
 refusals_equal : (p q : Query) (c d : Cause) → p ≡ q → c ≡ d → Refused p c ≡ Refused q d
 refusals_equal p q c d one two = cc
 
+listings_equal : (p q : Query) (s t : Position) (f g : List ℕ) (c d : List (List ℕ)) → p ≡ q → s ≡ t → f ≡ g → c ≡ d → ListIs p s f c ≡ ListIs q t g d
+listings_equal p q s t f g c d one two three four = cc
+
 pub same_reply : (x y : Reply) → IsReply x → IsReply y → reply_bytes x ≡ reply_bytes y → x ≡ y
 same_reply (BasisIs p s f) (BasisIs q t g) is also e =
     let a = same_query p q (position_bytes s ++ paths_bytes f) (position_bytes t ++ paths_bytes g) is.0 also.0 (fields_of 129 _ _ e) in
     let b = same_position s t (paths_bytes f) (paths_bytes g) is.1 also.1 a.1 in
     let c = same_paths f g [] [] is.2 also.2 (closed (paths_bytes f) (paths_bytes g) b.1) in
     basis_equal p q s t f g a.0 b.0 c.0
-same_reply (BasisIs p s f) (ChangesAre q t g) is also e = absurd (other_tag 129 130 _ _ refl e)
+same_reply (BasisIs p s f) (ChangesAre q t g u) is also e = absurd (other_tag 129 130 _ _ refl e)
 same_reply (BasisIs p s f) (ContentIs q t g d) is also e = absurd (other_tag 129 131 _ _ refl e)
 same_reply (BasisIs p s f) (Refused q d) is also e = absurd (other_tag 129 132 _ _ refl e)
-same_reply (ChangesAre p s f) (BasisIs q t g) is also e = absurd (other_tag 130 129 _ _ refl e)
-same_reply (ChangesAre p s f) (ChangesAre q t g) is also e =
-    let a = same_query p q (position_bytes s ++ list_bytes f) (position_bytes t ++ list_bytes g) is.0 also.0 (fields_of 130 _ _ e) in
-    let b = same_position s t (list_bytes f) (list_bytes g) is.1 also.1 a.1 in
-    let c = same_list f g [] [] is.2 also.2 (closed (list_bytes f) (list_bytes g) b.1) in
-    changes_equal p q s t f g a.0 b.0 c.0
-same_reply (ChangesAre p s f) (ContentIs q t g d) is also e = absurd (other_tag 130 131 _ _ refl e)
-same_reply (ChangesAre p s f) (Refused q d) is also e = absurd (other_tag 130 132 _ _ refl e)
+same_reply (BasisIs p s f) (ListIs q t g u) is also e = absurd (other_tag 129 133 _ _ refl e)
+same_reply (ChangesAre p s f d) (BasisIs q t g) is also e = absurd (other_tag 130 129 _ _ refl e)
+same_reply (ChangesAre p s f d) (ChangesAre q t g u) is also e =
+    let a = same_query p q (position_bytes s ++ (list_bytes f ++ paths_bytes d)) (position_bytes t ++ (list_bytes g ++ paths_bytes u)) is.0 also.0 (fields_of 130 _ _ e) in
+    let b = same_position s t (list_bytes f ++ paths_bytes d) (list_bytes g ++ paths_bytes u) is.1 also.1 a.1 in
+    let c = same_list f g (paths_bytes d) (paths_bytes u) is.2 also.2 b.1 in
+    let v = same_paths d u [] [] is.3 also.3 (closed (paths_bytes d) (paths_bytes u) c.1) in
+    changes_equal p q s t f g d u a.0 b.0 c.0 v.0
+same_reply (ChangesAre p s f d) (ContentIs q t g u) is also e = absurd (other_tag 130 131 _ _ refl e)
+same_reply (ChangesAre p s f d) (Refused q u) is also e = absurd (other_tag 130 132 _ _ refl e)
+same_reply (ChangesAre p s f d) (ListIs q t g u) is also e = absurd (other_tag 130 133 _ _ refl e)
 same_reply (ContentIs p s f c) (BasisIs q t g) is also e = absurd (other_tag 131 129 _ _ refl e)
-same_reply (ContentIs p s f c) (ChangesAre q t g) is also e = absurd (other_tag 131 130 _ _ refl e)
+same_reply (ContentIs p s f c) (ChangesAre q t g u) is also e = absurd (other_tag 131 130 _ _ refl e)
 same_reply (ContentIs p s f c) (ContentIs q t g d) is also e =
     let a = same_query p q (position_bytes s ++ (text_bytes f ++ content_bytes c)) (position_bytes t ++ (text_bytes g ++ content_bytes d)) is.0 also.0 (fields_of 131 _ _ e) in
     let b = same_position s t (text_bytes f ++ content_bytes c) (text_bytes g ++ content_bytes d) is.1 also.1 a.1 in
@@ -384,27 +404,41 @@ same_reply (ContentIs p s f c) (ContentIs q t g d) is also e =
     let v = same_value c d [] [] is.3 also.3 (closed (content_bytes c) (content_bytes d) u.1) in
     content_equal p q s t f g c d a.0 b.0 u.0 v.0
 same_reply (ContentIs p s f c) (Refused q d) is also e = absurd (other_tag 131 132 _ _ refl e)
+same_reply (ContentIs p s f c) (ListIs q t g d) is also e = absurd (other_tag 131 133 _ _ refl e)
 same_reply (Refused p c) (BasisIs q t g) is also e = absurd (other_tag 132 129 _ _ refl e)
-same_reply (Refused p c) (ChangesAre q t g) is also e = absurd (other_tag 132 130 _ _ refl e)
+same_reply (Refused p c) (ChangesAre q t g u) is also e = absurd (other_tag 132 130 _ _ refl e)
 same_reply (Refused p c) (ContentIs q t g d) is also e = absurd (other_tag 132 131 _ _ refl e)
 same_reply (Refused p c) (Refused q d) is also e =
     let a = same_query p q (cause_bytes c) (cause_bytes d) is.0 also.0 (fields_of 132 _ _ e) in
     let b = same_cause c d [] [] is.1 also.1 (closed (cause_bytes c) (cause_bytes d) a.1) in
     refusals_equal p q c d a.0 b.0
+same_reply (Refused p c) (ListIs q t g d) is also e = absurd (other_tag 132 133 _ _ refl e)
+same_reply (ListIs p s f c) (BasisIs q t g) is also e = absurd (other_tag 133 129 _ _ refl e)
+same_reply (ListIs p s f c) (ChangesAre q t g u) is also e = absurd (other_tag 133 130 _ _ refl e)
+same_reply (ListIs p s f c) (ContentIs q t g d) is also e = absurd (other_tag 133 131 _ _ refl e)
+same_reply (ListIs p s f c) (Refused q d) is also e = absurd (other_tag 133 132 _ _ refl e)
+same_reply (ListIs p s f c) (ListIs q t g d) is also e =
+    let a = same_query p q (position_bytes s ++ (text_bytes f ++ paths_bytes c)) (position_bytes t ++ (text_bytes g ++ paths_bytes d)) is.0 also.0 (fields_of 133 _ _ e) in
+    let b = same_position s t (text_bytes f ++ paths_bytes c) (text_bytes g ++ paths_bytes d) is.1 also.1 a.1 in
+    let u = same_text f g (paths_bytes c) (paths_bytes d) (path_short f is.2.path) (path_short g also.2.path) b.1 in
+    let v = same_paths c d [] [] is.3 also.3 (closed (paths_bytes c) (paths_bytes d) u.1) in
+    listings_equal p q s t f g c d a.0 b.0 u.0 v.0
 
 -- a request's tag is below every reply's
-request_tag : (x : Request) → (tag : ℕ) × (rest : List ℕ) × (request_bytes x ≡ 1 ∷ tag ∷ rest) × (tag < 4)
+request_tag : (x : Request) → (tag : ℕ) × (rest : List ℕ) × (request_bytes x ≡ 2 ∷ tag ∷ rest) × (tag < 5)
 request_tag (Basis q f) = (1, query_bytes q ++ filter_bytes f, refl, omega arith)
 request_tag (Poll q s f) = (2, query_bytes q ++ (position_bytes s ++ filter_bytes f), refl, omega arith)
 request_tag (Fetch q f) = (3, query_bytes q ++ text_bytes f, refl, omega arith)
+request_tag (Below q s f) = (4, query_bytes q ++ (text_bytes s ++ filter_bytes f), refl, omega arith)
 
-reply_tag : (x : Reply) → (tag : ℕ) × (rest : List ℕ) × (reply_bytes x ≡ 1 ∷ tag ∷ rest) × (128 < tag)
+reply_tag : (x : Reply) → (tag : ℕ) × (rest : List ℕ) × (reply_bytes x ≡ 2 ∷ tag ∷ rest) × (128 < tag)
 reply_tag (BasisIs q s f) = (129, query_bytes q ++ (position_bytes s ++ paths_bytes f), refl, omega arith)
-reply_tag (ChangesAre q s f) = (130, query_bytes q ++ (position_bytes s ++ list_bytes f), refl, omega arith)
+reply_tag (ChangesAre q s f d) = (130, query_bytes q ++ (position_bytes s ++ (list_bytes f ++ paths_bytes d)), refl, omega arith)
 reply_tag (ContentIs q s f c) = (131, query_bytes q ++ (position_bytes s ++ (text_bytes f ++ content_bytes c)), refl, omega arith)
 reply_tag (Refused q c) = (132, query_bytes q ++ cause_bytes c, refl, omega arith)
+reply_tag (ListIs q s f c) = (133, query_bytes q ++ (position_bytes s ++ (text_bytes f ++ paths_bytes c)), refl, omega arith)
 
-tags_same : (s t : ℕ) (x y : List ℕ) → 1 ∷ s ∷ x ≡ 1 ∷ t ∷ y → s ≡ t
+tags_same : (s t : ℕ) (x y : List ℕ) → 2 ∷ s ∷ x ≡ 2 ∷ t ∷ y → s ≡ t
 tags_same s t x y e = cc
 
 pub request_is_no_reply : (x : Request) (y : Reply) → request_bytes x ≡ reply_bytes y → ⊥

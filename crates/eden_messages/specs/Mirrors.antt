@@ -1,28 +1,32 @@
 -- A mirror: a client's copy of the files that its filter admits. It follows a mount by rounds: it asks what changed since its place, and
--- then for the content of each path that was named. Requests and replies may be lost, come twice or in any order; so a reply counts only
--- where it answers the round that is under way, and the place moves with the last content alone.
-use Rattle.std.specs.Prelude.{ℕ, ◌+◌, ◌-◌, ◌^◌, ◌==◌, Bool, true, false, not, ◌&&◌, nat_lt, nat_le, if◌then◌else◌, List, [], ◌∷◌, map, filter, Option, Some, None}
+-- then for what stands below each directory that files were moved from or to, and for the content of each path that was named or listed.
+-- Requests and replies may be lost, come twice or in any order; so a reply counts only where it answers the round that is under way, and
+-- the place moves with the last of them alone.
+use Rattle.std.specs.Prelude.{ℕ, ◌+◌, ◌-◌, ◌^◌, ◌==◌, Bool, true, false, not, ◌&&◌, ◌||◌, nat_lt, nat_le, if◌then◌else◌, List, [], ◌∷◌, ◌++◌, map, filter, Option, Some, None}
+use Rattle.std.specs.FinMap.{retain_keys}
 use Rattle.std.specs.List.{list_any}
 use Rattle.eden_ids.specs.declared.content.Content.{Content}
 use Rattle.eden_ids.specs.FileMaps.{FileMap, no_files, put_option, same_path}
+use Rattle.eden_ids.specs.Paths.{lies_below}
 use Rattle.eden_history.specs.declared.position.Position.{Position}
 use Rattle.eden_messages.specs.declared.message.Query.{Query}
 use Rattle.eden_messages.specs.declared.message.Request.{Request}
-use Rattle.eden_messages.specs.declared.message.Request.TheVariants.{Basis, Poll, Fetch}
+use Rattle.eden_messages.specs.declared.message.Request.TheVariants.{Basis, Poll, Fetch, List as Below}
 use Rattle.eden_messages.specs.declared.message.Cause.{Cause}
 use Rattle.eden_messages.specs.declared.message.Cause.TheVariants.{Stale, Ahead, Truncated, TooLarge}
 use Rattle.eden_messages.specs.declared.message.Reply.{Reply}
-use Rattle.eden_messages.specs.declared.message.Reply.TheVariants.{BasisIs, ChangesAre, ContentIs, Refused}
+use Rattle.eden_messages.specs.declared.message.Reply.TheVariants.{BasisIs, ChangesAre, ContentIs, Refused, ListIs}
 use Rattle.eden_messages.specs.declared.outcome.Outcome.{Outcome}
 use Rattle.eden_messages.specs.declared.outcome.Outcome.TheVariants.{Taken, Placed, Unplaced, Ended, Ignored}
 use Rattle.eden_messages.specs.Spells.{paths_of}
 
--- where a round is: there is none; its list was asked for; or the list has come, and the contents of these paths are awaited, in the
--- order in which they became so. The mirror will be placed at the target, the position that the list was told at
+-- where a round is: there is none; its list was asked for; or the list has come, and the contents of these paths are awaited, and the lists
+-- of what stands below these directories, each in the order in which they became so. The mirror will be placed at the target, the position
+-- that the list was told at
 pub data Round : Type 0 where
   Idle : Round
   Asked : (request : Request) → Round
-  Gathering : (query : Query) (target : Position) (awaited : List (List ℕ)) → Round
+  Gathering : (query : Query) (target : Position) (awaited : List (List ℕ)) (prefixes : List (List ℕ)) → Round
 
 -- who it is, which paths it wants, the number of its last round, the files that it holds, the position that they are of, and its round
 pub record MirrorState : Type 0 where
@@ -61,19 +65,21 @@ begun m = if has_number m then next_round m else m
 
 -- ---- what it asks
 
--- what is still to be answered in a round: its list, or a content for each path that is awaited
-abbrev pub requests_in : Round → List Request
-requests_in Idle = []
-requests_in (Asked request) = request ∷ []
-requests_in (Gathering query target awaited) = map (λ path. Fetch query path) awaited
+-- what is still to be answered in a round: its list; or a list for each directory that is awaited, under the mirror's filter, and a
+-- content for each path that is
+abbrev pub requests_in : List (List ℕ) → Round → List Request
+requests_in patterns Idle = []
+requests_in patterns (Asked request) = request ∷ []
+requests_in patterns (Gathering query target awaited prefixes) =
+    map (λ prefix. Below query prefix patterns) prefixes ++ map (λ path. Fetch query path) awaited
 
 unfoldable pub outstanding_of : MirrorState → List Request
-outstanding_of m = requests_in m.round
+outstanding_of m = requests_in m.patterns m.round
 
 abbrev pub is_idle : Round → Bool
 is_idle Idle = true
 is_idle (Asked request) = false
-is_idle (Gathering query target awaited) = false
+is_idle (Gathering query target awaited prefixes) = false
 
 -- with a round under way: the one there is, or the next
 unfoldable pub stepped : MirrorState → MirrorState
@@ -105,24 +111,28 @@ abbrev pub taken_if : Bool → MirrorState → MirrorState × Outcome → Mirror
 taken_if true m taken = taken
 taken_if false m taken = (m, Ignored)
 
--- these paths are awaited; where there is none the mirror is placed, and the round is over
-abbrev pub gathers : MirrorState → Query → Position → List (List ℕ) → MirrorState × Outcome
-gathers m query target [] = (record m { place = Some target; round = Idle }, Placed)
-gathers m query target (path ∷ paths) = (record m { round = Gathering query target (path ∷ paths) }, Taken)
+-- these paths and directories are awaited; where there is none of either the mirror is placed, and the round is over
+abbrev pub gathers : MirrorState → Query → Position → List (List ℕ) → List (List ℕ) → MirrorState × Outcome
+gathers m query target [] [] = (record m { place = Some target; round = Idle }, Placed)
+gathers m query target [] (prefix ∷ prefixes) = (record m { round = Gathering query target [] (prefix ∷ prefixes) }, Taken)
+gathers m query target (path ∷ paths) prefixes = (record m { round = Gathering query target (path ∷ paths) prefixes }, Taken)
 
 -- a whole list takes the place of all that was held
 abbrev pub emptied : MirrorState → MirrorState
 emptied m = record m { files = no_files; place = None }
 
 abbrev pub listed : MirrorState → Request → Query → Position → List (List ℕ) → MirrorState × Outcome
-listed m (Basis asked patterns) query target paths = taken_if (same_query query asked) m (gathers (emptied m) asked target (distinct paths))
+listed m (Basis asked patterns) query target paths = taken_if (same_query query asked) m (gathers (emptied m) asked target (distinct paths) [])
 listed m (Poll asked since patterns) query target paths = (m, Ignored)
 listed m (Fetch asked path) query target paths = (m, Ignored)
+listed m (Below asked prefix patterns) query target paths = (m, Ignored)
 
-abbrev pub changed : MirrorState → Request → Query → Position → List (List ℕ) → MirrorState × Outcome
-changed m (Basis asked patterns) query target paths = (m, Ignored)
-changed m (Poll asked since patterns) query target paths = taken_if (same_query query asked) m (gathers m asked target (distinct paths))
-changed m (Fetch asked path) query target paths = (m, Ignored)
+abbrev pub changed : MirrorState → Request → Query → Position → List (List ℕ) → List (List ℕ) → MirrorState × Outcome
+changed m (Basis asked patterns) query target paths prefixes = (m, Ignored)
+changed m (Poll asked since patterns) query target paths prefixes =
+    taken_if (same_query query asked) m (gathers m asked target (distinct paths) (distinct prefixes))
+changed m (Fetch asked path) query target paths prefixes = (m, Ignored)
+changed m (Below asked prefix patterns) query target paths prefixes = (m, Ignored)
 
 -- a position from which changes can't be told is given up, with what is held left as it is; a list that is too long leaves it
 abbrev pub refused : MirrorState → Cause → MirrorState × Outcome
@@ -135,24 +145,44 @@ abbrev pub query_of : Request → Query
 query_of (Basis query patterns) = query
 query_of (Poll query since patterns) = query
 query_of (Fetch query path) = query
+query_of (Below query prefix patterns) = query
 
--- whether a content counts: of the round's query, of the target's generation and no older than the target, and at a path that is awaited
+-- whether a content counts, or a list of what stands below a directory: of the round's query, of the target's generation and no older than
+-- the target, and at a path, or of a directory, that is awaited
 abbrev pub counts : Query → Position → List (List ℕ) → Query → Position → List ℕ → Bool
 counts asked target awaited query position path =
     same_query query asked && position.generation == target.generation && nat_le target.sequence position.sequence && is_among path awaited
 
 -- the content stands at its path, which is no longer awaited
-abbrev pub fetched : MirrorState → Query → Position → List (List ℕ) → List ℕ → Option Content → MirrorState × Outcome
-fetched m asked target awaited path content =
-    gathers (record m { files = put_option m.files path content }) asked target (without path awaited)
+abbrev pub fetched : MirrorState → Query → Position → List (List ℕ) → List (List ℕ) → List ℕ → Option Content → MirrorState × Outcome
+fetched m asked target awaited prefixes path content =
+    gathers (record m { files = put_option m.files path content }) asked target (without path awaited) prefixes
+
+-- the files, but those below a directory that aren't among these paths
+abbrev pub listed_files : FileMap → List ℕ → List (List ℕ) → FileMap
+listed_files files prefix paths = retain_keys files (λ path. not (lies_below path prefix) || is_among path paths)
+
+-- what isn't listed below the directory leaves the map, what is becomes awaited where it isn't, and the directory is no longer awaited
+abbrev pub listed_below : MirrorState → Query → Position → List (List ℕ) → List (List ℕ) → List ℕ → List (List ℕ) → MirrorState × Outcome
+listed_below m asked target awaited prefixes prefix paths =
+    gathers (record m { files = listed_files m.files prefix paths }) asked target (distinct (awaited ++ paths)) (without prefix prefixes)
+
+-- a list that would be too long ends the round that awaits one, and leaves the place
+abbrev pub ends_round : List (List ℕ) → Cause → Bool
+ends_round (prefix ∷ prefixes) TooLarge = true
+ends_round prefixes cause = false
 
 -- by the reply and the round
 abbrev pub delivered_in : MirrorState → Round → Reply → MirrorState × Outcome
 delivered_in m (Asked request) (BasisIs query position paths) = listed m request query position paths
-delivered_in m (Asked request) (ChangesAre query target marked) = changed m request query target (paths_of marked)
+delivered_in m (Asked request) (ChangesAre query target marked prefixes) = changed m request query target (paths_of marked) prefixes
 delivered_in m (Asked request) (Refused query cause) = taken_if (same_query query (query_of request)) m (refused m cause)
-delivered_in m (Gathering asked target awaited) (ContentIs query position path content) =
-    taken_if (counts asked target awaited query position path) m (fetched m asked target awaited path content)
+delivered_in m (Gathering asked target awaited prefixes) (ContentIs query position path content) =
+    taken_if (counts asked target awaited query position path) m (fetched m asked target awaited prefixes path content)
+delivered_in m (Gathering asked target awaited prefixes) (ListIs query position prefix paths) =
+    taken_if (counts asked target prefixes query position prefix) m (listed_below m asked target awaited prefixes prefix paths)
+delivered_in m (Gathering asked target awaited prefixes) (Refused query cause) =
+    taken_if (same_query query asked && ends_round prefixes cause) m (record m { round = Idle }, Ended)
 delivered_in m round reply = (m, Ignored)
 
 unfoldable pub delivered : MirrorState → Reply → MirrorState × Outcome

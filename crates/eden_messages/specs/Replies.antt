@@ -9,12 +9,13 @@ use Rattle.eden_messages.specs.declared.message.Cause.{Cause}
 use Rattle.eden_messages.specs.declared.message.Cause.TheVariants.{Stale, Ahead, Truncated, TooLarge}
 use Rattle.eden_messages.specs.declared.message.Query.{Query}
 use Rattle.eden_messages.specs.declared.message.Reply.{Reply}
-use Rattle.eden_messages.specs.declared.message.Reply.TheVariants.{BasisIs, ChangesAre, ContentIs, Refused}
+use Rattle.eden_messages.specs.declared.message.Reply.TheVariants.{BasisIs, ChangesAre, ContentIs, Refused, ListIs}
 use Rattle.eden_messages.specs.declared.message.Request.{Request}
-use Rattle.eden_messages.specs.declared.message.Request.TheVariants.{Basis, Poll, Fetch}
+use Rattle.eden_messages.specs.declared.message.Request.TheVariants.{Basis, Poll, Fetch, List as Below}
 use Rattle.eden_history.specs.Worlds.{WorldState, now, position_of}
 use Rattle.eden_history.specs.Legal.{IsWorld}
 use Rattle.eden_history.specs.Spellable.{IsSpellable}
+use Rattle.eden_history.specs.Changes.{below, prefixes_since}
 use Rattle.eden_history.specs.Status.{status_of}
 use Rattle.eden_history.specs.Marks.{admitted, marked_since}
 use Rattle.eden_frames.specs.Frames.{body_limit}
@@ -45,9 +46,15 @@ abbrev pub content_reply : WorldState → Query → List ℕ → Reply
 content_reply world query path =
     bounded query (ContentIs query (position_of (now world)) path (file_at (now world).files path))
 
+-- the paths below the directory that hold a file now
+abbrev pub list_reply : WorldState → Query → List ℕ → List (List ℕ) → Reply
+list_reply world query prefix patterns =
+    bounded query (ListIs query (position_of (now world)) prefix (below prefix (admitted_paths patterns (now world).files)))
+
+-- what changed since a number: the paths that the patterns admit, and all directories between which files were moved
 abbrev pub changes_reply : WorldState → Query → ℕ → List (List ℕ) → Reply
 changes_reply world query since patterns =
-    bounded query (ChangesAre query (position_of (now world)) (admitted patterns (marked_since world since)))
+    bounded query (ChangesAre query (position_of (now world)) (admitted patterns (marked_since world since)) (prefixes_since world since))
 
 abbrev pub polled : WorldState → Query → ℕ → List (List ℕ) → Option SinceFault → Reply
 polled world query since patterns (Some fault) = Refused query (cause_of fault)
@@ -56,6 +63,7 @@ polled world query since patterns None = changes_reply world query since pattern
 abbrev pub reply_of : WorldState → Request → Reply
 reply_of world (Basis query patterns) = basis_reply world query patterns
 reply_of world (Fetch query path) = content_reply world query path
+reply_of world (Below query prefix patterns) = list_reply world query prefix patterns
 reply_of world (Poll query since patterns) =
     polled world query since.sequence patterns (status_of world since)
 

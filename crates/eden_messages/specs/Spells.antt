@@ -1,6 +1,6 @@
--- Which bytes spell which message. All numbers are unsigned and big-endian. A body is the version 1, a tag, the query and what the
+-- Which bytes spell which message. All numbers are unsigned and big-endian. A body is the version 2, a tag, the query and what the
 -- tag calls for; it stands in a frame (`Rattle.eden_frames.specs.Frames`).
-use Rattle.std.specs.Prelude.{◌≡◌, ℕ, ◌<◌, ◌≤◌, ◌^◌, List, [], ◌∷◌, ◌++◌, length, map, nat_lt, if◌then◌else◌, Option, Some, None}
+use Rattle.std.specs.Prelude.{◌≡◌, true, ℕ, ◌<◌, ◌≤◌, ◌^◌, List, [], ◌∷◌, ◌++◌, length, map, nat_lt, if◌then◌else◌, Option, Some, None}
 use Rattle.std.specs.Int.{w16, w32, w64, to_be_bytes}
 use Rattle.std.specs.List.{flat_map, AllByRecursion}
 use Rattle.std.specs.Ordering.{nat_cmp}
@@ -9,6 +9,7 @@ use Rattle.std.specs.declared.cmp.Ordering.TheVariants.{Less}
 use Rattle.eden_ids.specs.declared.content.Content.{Content}
 use Rattle.eden_ids.specs.declared.content.Kind.{Kind}
 use Rattle.eden_ids.specs.declared.content.Kind.TheVariants.{Plain, Exec, Link}
+use Rattle.eden_ids.specs.Paths.{lies_below}
 use Rattle.eden_ids.specs.Texts.{AreBytes, IsContentText, IsPathText}
 use Rattle.eden_globs.specs.Filters.{IsFilter}
 use Rattle.eden_frames.specs.Frames.{body_limit}
@@ -18,11 +19,11 @@ use Rattle.eden_history.specs.declared.mark.Marked.{Marked}
 use Rattle.eden_history.specs.declared.position.Position.{Position}
 use Rattle.eden_messages.specs.declared.message.Query.{Query}
 use Rattle.eden_messages.specs.declared.message.Request.{Request}
-use Rattle.eden_messages.specs.declared.message.Request.TheVariants.{Basis, Poll, Fetch}
+use Rattle.eden_messages.specs.declared.message.Request.TheVariants.{Basis, Poll, Fetch, List as Below}
 use Rattle.eden_messages.specs.declared.message.Cause.{Cause}
 use Rattle.eden_messages.specs.declared.message.Cause.TheVariants.{Stale, Ahead, Truncated, TooLarge}
 use Rattle.eden_messages.specs.declared.message.Reply.{Reply}
-use Rattle.eden_messages.specs.declared.message.Reply.TheVariants.{BasisIs, ChangesAre, ContentIs, Refused}
+use Rattle.eden_messages.specs.declared.message.Reply.TheVariants.{BasisIs, ChangesAre, ContentIs, Refused, ListIs}
 
 -- ---- fields
 
@@ -71,6 +72,10 @@ pub record IsListing (paths : List (List ℕ)) : Type 0 where
   pub count : length paths < 2 ^ 32
   pub texts : AllByRecursion IsPathText paths
   pub ascends : Ascends paths
+
+-- each path lies below the directory
+abbrev pub AreBelow : List ℕ → List (List ℕ) → Type 0
+AreBelow prefix paths = AllByRecursion (λ path. lies_below path prefix ≡ true) paths
 
 -- four bytes of count, and each path
 abbrev pub paths_bytes : List (List ℕ) → List ℕ
@@ -125,26 +130,30 @@ IsCause TooLarge = Unit {0}
 
 -- the bytes of a request's body, if it has a spelling
 abbrev pub request_bytes : Request → List ℕ
-request_bytes (Basis query filter) = 1 ∷ 1 ∷ query_bytes query ++ filter_bytes filter
-request_bytes (Poll query since filter) = 1 ∷ 2 ∷ query_bytes query ++ (position_bytes since ++ filter_bytes filter)
-request_bytes (Fetch query path) = 1 ∷ 3 ∷ query_bytes query ++ text_bytes path
+request_bytes (Basis query filter) = 2 ∷ 1 ∷ query_bytes query ++ filter_bytes filter
+request_bytes (Poll query since filter) = 2 ∷ 2 ∷ query_bytes query ++ (position_bytes since ++ filter_bytes filter)
+request_bytes (Fetch query path) = 2 ∷ 3 ∷ query_bytes query ++ text_bytes path
+request_bytes (Below query prefix filter) = 2 ∷ 4 ∷ query_bytes query ++ (text_bytes prefix ++ filter_bytes filter)
 
 abbrev pub IsRequest : Request → Type 0
 IsRequest (Basis query filter) = IsQuery query × IsFilterText filter
 IsRequest (Poll query since filter) = IsQuery query × IsPosition since × IsFilterText filter
 IsRequest (Fetch query path) = IsQuery query × IsPathText path
+IsRequest (Below query prefix filter) = IsQuery query × IsPathText prefix × IsFilterText filter
 
 abbrev pub reply_bytes : Reply → List ℕ
-reply_bytes (BasisIs query position paths) = 1 ∷ 129 ∷ query_bytes query ++ (position_bytes position ++ paths_bytes paths)
-reply_bytes (ChangesAre query target marked) = 1 ∷ 130 ∷ query_bytes query ++ (position_bytes target ++ list_bytes marked)
-reply_bytes (ContentIs query position path content) = 1 ∷ 131 ∷ query_bytes query ++ (position_bytes position ++ (text_bytes path ++ content_bytes content))
-reply_bytes (Refused query cause) = 1 ∷ 132 ∷ query_bytes query ++ cause_bytes cause
+reply_bytes (BasisIs query position paths) = 2 ∷ 129 ∷ query_bytes query ++ (position_bytes position ++ paths_bytes paths)
+reply_bytes (ChangesAre query target marked prefixes) = 2 ∷ 130 ∷ query_bytes query ++ (position_bytes target ++ (list_bytes marked ++ paths_bytes prefixes))
+reply_bytes (ContentIs query position path content) = 2 ∷ 131 ∷ query_bytes query ++ (position_bytes position ++ (text_bytes path ++ content_bytes content))
+reply_bytes (Refused query cause) = 2 ∷ 132 ∷ query_bytes query ++ cause_bytes cause
+reply_bytes (ListIs query position prefix paths) = 2 ∷ 133 ∷ query_bytes query ++ (position_bytes position ++ (text_bytes prefix ++ paths_bytes paths))
 
 abbrev pub IsReply : Reply → Type 0
 IsReply (BasisIs query position paths) = IsQuery query × IsPosition position × IsListing paths
-IsReply (ChangesAre query target marked) = IsQuery query × IsPosition target × IsListing (paths_of marked)
+IsReply (ChangesAre query target marked prefixes) = IsQuery query × IsPosition target × IsListing (paths_of marked) × IsListing prefixes
 IsReply (ContentIs query position path content) = IsQuery query × IsPosition position × IsPathText path × IsValue content
 IsReply (Refused query cause) = IsQuery query × IsCause cause
+IsReply (ListIs query position prefix paths) = IsQuery query × IsPosition position × IsPathText prefix × IsListing paths × AreBelow prefix paths
 
 -- a number of bytes, if a body may have so many
 abbrev pub if_small : ℕ → Option ℕ

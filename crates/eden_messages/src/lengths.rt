@@ -95,7 +95,7 @@ fn len_of_filter(filter: &Filter) -> usize
 
 impl Request {
     /// How many bytes the body that spells the request has: 9,344 at the most. This takes no memory.
-    #[tactic(auto, using(crate::proofs::BodyLengths::basis_request_len, crate::proofs::BodyLengths::poll_len, crate::proofs::BodyLengths::fetch_len))]
+    #[tactic(auto, using(crate::proofs::BodyLengths::basis_request_len, crate::proofs::BodyLengths::poll_len, crate::proofs::BodyLengths::fetch_len, crate::proofs::BodyLengths::list_request_len))]
     pub fn body_len(&self) -> u32
         ensures len { result ≡ length (request_bytes self.now) }
         ensures few { result ≤ 9344 }
@@ -106,6 +106,9 @@ impl Request {
                 (26 + len_of_position(since) + len_of_filter(filter)) as u32
             }
             Request::Fetch { path, .. } => (26 + len_of_path(path)) as u32,
+            Request::List { prefix, filter, .. } => {
+                (26 + len_of_path(prefix) + len_of_filter(filter)) as u32
+            }
         }
     }
 }
@@ -113,7 +116,7 @@ impl Request {
 impl Reply {
     /// How many bytes the body that spells the reply has, or `None` where that is more than the 16,777,216 of a body. It is known
     /// before any byte of the body is written, and takes no memory.
-    #[tactic(auto, using(crate::proofs::BodyLengths::basis_len, crate::proofs::BodyLengths::changes_len, crate::proofs::BodyLengths::content_len))]
+    #[tactic(auto, using(crate::proofs::BodyLengths::basis_len, crate::proofs::BodyLengths::changes_len, crate::proofs::BodyLengths::content_len, crate::proofs::BodyLengths::list_len))]
     pub fn body_len(&self) -> Option<u32>
         ensures { result ≡ if_small (length (reply_bytes self.now)) }
     {
@@ -129,10 +132,20 @@ impl Reply {
                     _ => None,
                 }
             }
-            Reply::ChangesAre { target, marked, .. } => {
-                let front = 30 + len_of_position(target);
-                match len_of_list(marked.as_slice()) {
-                    Some(len) if front + len <= BODY_LIMIT => Some((front + len) as u32),
+            Reply::ChangesAre {
+                target,
+                marked,
+                prefixes,
+                ..
+            } => {
+                let front = 34 + len_of_position(target);
+                match (
+                    len_of_list(marked.as_slice()),
+                    len_of_paths(prefixes.as_slice()),
+                ) {
+                    (Some(list), Some(directories)) if front + list + directories <= BODY_LIMIT => {
+                        Some((front + list + directories) as u32)
+                    }
                     _ => None,
                 }
             }
@@ -149,6 +162,18 @@ impl Reply {
                 }
             }
             Reply::Refused { .. } => Some(35),
+            Reply::ListIs {
+                position,
+                prefix,
+                paths,
+                ..
+            } => {
+                let front = 30 + len_of_position(position) + len_of_path(prefix);
+                match len_of_paths(paths.as_slice()) {
+                    Some(len) if front + len <= BODY_LIMIT => Some((front + len) as u32),
+                    _ => None,
+                }
+            }
         }
     }
 }

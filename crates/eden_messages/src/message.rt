@@ -44,6 +44,15 @@ pub enum Request {
         /// The path.
         path: Path,
     },
+    /// Which paths below a directory hold a file.
+    List {
+        /// Whose question it is.
+        query: Query,
+        /// The directory.
+        prefix: Path,
+        /// Which paths are wanted.
+        filter: Filter,
+    },
 }
 
 impl Request {
@@ -55,6 +64,7 @@ impl Request {
             Request::Basis { query, .. } => *query,
             Request::Poll { query, .. } => *query,
             Request::Fetch { query, .. } => *query,
+            Request::List { query, .. } => *query,
         }
     }
 
@@ -99,6 +109,9 @@ pub enum Reply {
         target: Position,
         /// The paths, ascending in byte order, and what became of each.
         marked: Sequence<Marked>,
+        /// The directories between which files were moved, whatever the filter admits; ascending in byte order. What became of the files
+        /// below them is not told path by path.
+        prefixes: Sequence<Path>,
     },
     /// What stands at a path.
     ContentIs {
@@ -117,6 +130,17 @@ pub enum Reply {
         query: Query,
         /// Why.
         cause: Cause,
+    },
+    /// The paths below a directory that hold a file at a position.
+    ListIs {
+        /// Whose question is answered.
+        query: Query,
+        /// The position at which they hold one.
+        position: Position,
+        /// The directory.
+        prefix: Path,
+        /// The paths, each below the directory, ascending in byte order.
+        paths: Sequence<Path>,
     },
 }
 

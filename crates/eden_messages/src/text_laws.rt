@@ -60,5 +60,14 @@ pub fn request_text_law(request: &Request)
             query_law(*query);
             path_law(path);
         }
+        Request::List {
+            query,
+            prefix,
+            filter,
+        } => {
+            query_law(*query);
+            path_law(prefix);
+            filter_law(filter);
+        }
     }
 }

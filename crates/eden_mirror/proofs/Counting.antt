@@ -1,41 +1,47 @@
 -- A round counts down to its place.
-use Rattle.std.proofs.Common.{◌≡◌, ℕ, suc, ◌+◌, ◌==◌, Bool, true, false, ◌&&◌, ◌⊎◌, inl, inr, List, [], ◌∷◌, length, Option, refl, sym, ap, subst, ◌∙◌, arith, if◌then◌else◌, nat_le}
+use Rattle.std.proofs.Common.{◌≡◌, ℕ, suc, ◌+◌, ◌==◌, Bool, true, false, ◌&&◌, ◌||◌, ◌⊎◌, inl, inr, List, [], ◌∷◌, ◌++◌, length, drop, Option, refl, sym, ap, subst, ◌∙◌, arith, if◌then◌else◌, nat_le}
+use Rattle.std.proofs.lemmas.Bool.{or_parts}
+use Rattle.std.proofs.lemmas.List.{length-append}
 use Rattle.eden_ids.specs.FileMaps.{put_option}
 use Rattle.eden_ids.specs.declared.content.Content.{Content}
 use Rattle.eden_history.specs.declared.position.Position.{Position}
 use Rattle.eden_messages.specs.declared.message.Query.{Query}
 use Rattle.eden_messages.specs.declared.message.Reply.{Reply}
-use Rattle.eden_messages.specs.declared.message.Reply.TheVariants.{BasisIs, ChangesAre, ContentIs, Refused}
+use Rattle.eden_messages.specs.declared.message.Reply.TheVariants.{BasisIs, ChangesAre, ContentIs, Refused, ListIs}
 use Rattle.eden_messages.specs.declared.outcome.Outcome.{Outcome}
-use Rattle.eden_messages.specs.declared.outcome.Outcome.TheVariants.{Taken, Placed, Ignored}
-use Rattle.eden_messages.specs.Mirrors.{MirrorState, Round, counts, delivered, delivered_in, fetched, gathers, is_among, same_query, taken_if, without}
+use Rattle.eden_messages.specs.declared.outcome.Outcome.TheVariants.{Taken, Ended, Ignored}
+use Rattle.eden_messages.specs.Mirrors.{MirrorState, Round, counts, delivered, delivered_in, distinct, ends_round, fetched, gathers, is_among, listed_below, listed_files, same_query, taken_if, without}
 use Rattle.eden_messages.specs.Mirrors.Round.{Idle, Asked, Gathering}
-use Rattle.eden_mirror.specs.Counting.{after, awaited_in, counted, counts_in, is_gathering, outcome_at, CountsDown, IgnoresOthers}
+use Rattle.eden_mirror.specs.Counting.{added, added_in, after, awaited_in, content_counts, counted, counts_in, ends_in, is_gathering, left_in, list_counts, outcome_at, outcome_where, paths_listed, prefixes_in, ContentsCountDown, ListsCountDown, IgnoresOthers, PlacesWithNoneLeft}
 use Rattle.eden_mirror.specs.internal.Pending.{AreDistinct}
-use Rattle.eden_mirror.proofs.Pending.{distinct_without, length-without}
+use Rattle.eden_mirror.proofs.Pending.{begins, distinct_distinct, distinct_without, length-without}
 
--- the last content that was awaited has come
-record IsLast (awaited : List (List ℕ)) (made : MirrorState × Outcome) : Type 0 where
-  one : length awaited ≡ 1
-  placed : made.1 ≡ Placed
-  idle : made.0.round ≡ Idle
+-- what is awaited in the round is distinct
+pub record IsDistinctRound (round : Round) : Type 0 where
+  pub paths : AreDistinct (awaited_in round)
+  pub directories : AreDistinct (prefixes_in round)
 
--- another has, and some are awaited still
-record IsBefore (awaited : List (List ℕ)) (made : MirrorState × Outcome) : Type 0 where
-  fewer : length awaited ≡ length (awaited_in made.0.round) + 1
-  some : (n : ℕ) × (length (awaited_in made.0.round) ≡ suc n)
-  taken : made.1 ≡ Taken
-  gathering : is_gathering made.0.round ≡ true
-  distinct : AreDistinct (awaited_in made.0.round)
+-- ---- what is left
 
-abbrev Falls : List (List ℕ) → MirrorState × Outcome → Type 0
-Falls awaited made = IsLast awaited made ⊎ IsBefore awaited made
+-- these paths and directories are left, and the mirror is placed where there is none of either
+record Leaves (paths prefixes : List (List ℕ)) (made : MirrorState × Outcome) : Type 0 where
+  paths_left : awaited_in made.0.round ≡ paths
+  directories_left : prefixes_in made.0.round ≡ prefixes
+  told : made.1 ≡ outcome_where (left_in made.0.round)
+  under : (made.0.round ≡ Idle) ⊎ (is_gathering made.0.round ≡ true)
 
-gathers_falls : (m : MirrorState) (query : Query) (target : Position) (left awaited : List (List ℕ))
-    → AreDistinct left → length awaited ≡ length left + 1 → Falls awaited (gathers m query target left)
-gathers_falls m query target [] awaited d e = inl (record { one = e; placed = refl; idle = refl })
-gathers_falls m query target (path ∷ paths) awaited d e =
-    inr (record { fewer = e; some = (length paths, refl); taken = refl; gathering = refl; distinct = d })
+taken_with : (a b : ℕ) → Taken ≡ outcome_where (suc a + b)
+taken_with a b = grind arith
+
+taken_behind : (b : ℕ) → Taken ≡ outcome_where (0 + suc b)
+taken_behind b = grind arith
+
+leaves : (m : MirrorState) (query : Query) (target : Position) (paths prefixes : List (List ℕ)) → Leaves paths prefixes (gathers m query target paths prefixes)
+leaves m query target [] [] = record { paths_left = refl; directories_left = refl; told = refl; under = inl refl }
+leaves m query target [] (prefix ∷ prefixes) = record { paths_left = refl; directories_left = refl; told = taken_behind (length prefixes); under = inr refl }
+leaves m query target (path ∷ paths) prefixes = record { paths_left = refl; directories_left = refl; told = taken_with (length paths) (length prefixes); under = inr refl }
+
+-- ---- a reply that counts
 
 among_of : (a b c d : Bool) → (a && b && c && d) ≡ true → d ≡ true
 among_of true true true d e = e
@@ -43,41 +49,186 @@ among_of false b c d e = cc
 among_of true false c d e = cc
 among_of true true false d e = cc
 
-content_falls : (m : MirrorState) (asked : Query) (target : Position) (awaited : List (List ℕ)) (query : Query) (position : Position) (path : List ℕ) (content : Option Content)
-    → AreDistinct awaited → counts asked target awaited query position path ≡ true
-    → Falls awaited (taken_if (counts asked target awaited query position path) m (fetched m asked target awaited path content))
-content_falls m asked target awaited query position path content d e =
-    subst (λ b. Falls awaited (taken_if b m (fetched m asked target awaited path content))) (sym e)
-    (gathers_falls (record m { files = put_option m.files path content }) asked target (without path awaited) awaited (distinct_without path awaited d)
-    (length-without path awaited d
-    (among_of (same_query query asked) (position.generation == target.generation) (nat_le target.sequence position.sequence) (is_among path awaited) e)))
+awaited_of : (asked : Query) (target : Position) (awaited : List (List ℕ)) (query : Query) (position : Position) (path : List ℕ)
+    → counts asked target awaited query position path ≡ true → is_among path awaited ≡ true
+awaited_of asked target awaited query position path e =
+    among_of (same_query query asked) (position.generation == target.generation) (nat_le target.sequence position.sequence) (is_among path awaited) e
 
--- of a round and a reply that counts in it
-round_falls : (m : MirrorState) (round : Round) (reply : Reply) → AreDistinct (awaited_in round) → counts_in round reply ≡ true → Falls (awaited_in round) (delivered_in m round reply)
-round_falls m Idle reply d e = cc
-round_falls m (Asked request) reply d e = cc
-round_falls m (Gathering asked target awaited) (BasisIs query position paths) d e = cc
-round_falls m (Gathering asked target awaited) (ChangesAre query position marked) d e = cc
-round_falls m (Gathering asked target awaited) (ContentIs query position path content) d e = content_falls m asked target awaited query position path content d e
-round_falls m (Gathering asked target awaited) (Refused query cause) d e = cc
+-- a content leaves its path out
+record Fetched (round : Round) (made : MirrorState × Outcome) : Type 0 where
+  path : List ℕ
+  was : is_among path (awaited_in round) ≡ true
+  left : Leaves (without path (awaited_in round)) (prefixes_in round) made
 
-falls : (m : MirrorState) (reply : Reply) → AreDistinct (awaited_in m.round) → counts_in m.round reply ≡ true → Falls (awaited_in m.round) (delivered m reply)
+-- a list leaves its directory out, and its paths are left too
+record Listed (round : Round) (reply : Reply) (made : MirrorState × Outcome) : Type 0 where
+  prefix : List ℕ
+  was : is_among prefix (prefixes_in round) ≡ true
+  left : Leaves (distinct (awaited_in round ++ paths_listed reply)) (without prefix (prefixes_in round)) made
+
+content_taken : (m : MirrorState) (asked : Query) (target : Position) (awaited prefixes : List (List ℕ)) (query : Query) (position : Position) (path : List ℕ) (content : Option Content)
+    → counts asked target awaited query position path ≡ true
+    → Leaves (without path awaited) prefixes (taken_if (counts asked target awaited query position path) m (fetched m asked target awaited prefixes path content))
+content_taken m asked target awaited prefixes query position path content e =
+    subst (λ b. Leaves (without path awaited) prefixes (taken_if b m (fetched m asked target awaited prefixes path content))) (sym e)
+    (leaves (record m { files = put_option m.files path content }) asked target (without path awaited) prefixes)
+
+list_taken : (m : MirrorState) (asked : Query) (target : Position) (awaited prefixes : List (List ℕ)) (query : Query) (position : Position) (prefix : List ℕ) (paths : List (List ℕ))
+    → counts asked target prefixes query position prefix ≡ true
+    → Leaves (distinct (awaited ++ paths)) (without prefix prefixes) (taken_if (counts asked target prefixes query position prefix) m (listed_below m asked target awaited prefixes prefix paths))
+list_taken m asked target awaited prefixes query position prefix paths e =
+    subst (λ b. Leaves (distinct (awaited ++ paths)) (without prefix prefixes) (taken_if b m (listed_below m asked target awaited prefixes prefix paths))) (sym e)
+    (leaves (record m { files = listed_files m.files prefix paths }) asked target (distinct (awaited ++ paths)) (without prefix prefixes))
+
+round_fetched : (m : MirrorState) (round : Round) (reply : Reply) → content_counts round reply ≡ true → Fetched round (delivered_in m round reply)
+round_fetched m Idle reply e = cc
+round_fetched m (Asked request) reply e = cc
+round_fetched m (Gathering asked target awaited prefixes) (BasisIs query position paths) e = cc
+round_fetched m (Gathering asked target awaited prefixes) (ChangesAre query position marked moved) e = cc
+round_fetched m (Gathering asked target awaited prefixes) (ContentIs query position path content) e = record {
+  path = path;
+  was = awaited_of asked target awaited query position path e;
+  left = content_taken m asked target awaited prefixes query position path content e;
+}
+round_fetched m (Gathering asked target awaited prefixes) (Refused query cause) e = cc
+round_fetched m (Gathering asked target awaited prefixes) (ListIs query position prefix paths) e = cc
+
+round_listed : (m : MirrorState) (round : Round) (reply : Reply) → list_counts round reply ≡ true → Listed round reply (delivered_in m round reply)
+round_listed m Idle reply e = cc
+round_listed m (Asked request) reply e = cc
+round_listed m (Gathering asked target awaited prefixes) (BasisIs query position paths) e = cc
+round_listed m (Gathering asked target awaited prefixes) (ChangesAre query position marked moved) e = cc
+round_listed m (Gathering asked target awaited prefixes) (ContentIs query position path content) e = cc
+round_listed m (Gathering asked target awaited prefixes) (Refused query cause) e = cc
+round_listed m (Gathering asked target awaited prefixes) (ListIs query position prefix paths) e = record {
+  prefix = prefix;
+  was = awaited_of asked target prefixes query position prefix e;
+  left = list_taken m asked target awaited prefixes query position prefix paths e;
+}
+
+fetched_of : (m : MirrorState) (reply : Reply) → content_counts m.round reply ≡ true → Fetched m.round (delivered m reply)
 unfolding delivered
-falls m reply = round_falls m m.round reply
+fetched_of m reply e = round_fetched m m.round reply e
 
-pub counts_down : (m : MirrorState) → AreDistinct (awaited_in m.round) → CountsDown m
-counts_down m d reply e = elim (falls m reply d e) [
-  | inl last ↦ last.one ∙ sym (ap (λ r. length (awaited_in r) + 1) last.idle)
-  | inr before ↦ before.fewer
-]
+listed_of : (m : MirrorState) (reply : Reply) → list_counts m.round reply ≡ true → Listed m.round reply (delivered m reply)
+unfolding delivered
+listed_of m reply e = round_listed m m.round reply e
 
-round_ignores : (m : MirrorState) (round : Round) (reply : Reply) → is_gathering round ≡ true → counts_in round reply ≡ false → delivered_in m round reply ≡ (m, Ignored)
+pub contents_count_down : (m : MirrorState) → AreDistinct (awaited_in m.round) → ContentsCountDown m
+contents_count_down m d reply e =
+    let got = fetched_of m reply e in
+    record {
+      paths = length-without got.path (awaited_in m.round) d got.was ∙ ap (λ ps. length ps + 1) (sym got.left.paths_left);
+      directories = got.left.directories_left;
+    }
+
+pub lists_count_down : (m : MirrorState) → AreDistinct (prefixes_in m.round) → ListsCountDown m
+lists_count_down m d reply e =
+    let got = listed_of m reply e in
+    record {
+      directories = length-without got.prefix (prefixes_in m.round) d got.was ∙ ap (λ ps. length ps + 1) (sym got.left.directories_left);
+      paths = got.left.paths_left;
+    }
+
+-- ---- either of them
+
+-- what a reply that counts does to the round
+record Counts (round : Round) (reply : Reply) (made : MirrorState × Outcome) : Type 0 where
+  fall : left_in round + added_in round reply ≡ left_in made.0.round + 1
+  told : made.1 ≡ outcome_where (left_in made.0.round)
+  under : (made.0.round ≡ Idle) ⊎ (is_gathering made.0.round ≡ true)
+  distinct_left : IsDistinctRound made.0.round
+
+-- a reply is not both
+no_list : (round : Round) (reply : Reply) → content_counts round reply ≡ true → list_counts round reply ≡ false
+no_list Idle reply e = refl
+no_list (Asked request) reply e = refl
+no_list (Gathering asked target awaited prefixes) (BasisIs query position paths) e = refl
+no_list (Gathering asked target awaited prefixes) (ChangesAre query position marked moved) e = refl
+no_list (Gathering asked target awaited prefixes) (ContentIs query position path content) e = refl
+no_list (Gathering asked target awaited prefixes) (Refused query cause) e = refl
+no_list (Gathering asked target awaited prefixes) (ListIs query position prefix paths) e = cc
+
+adds_if : (b : Bool) (n : ℕ) → b ≡ false → (if b then n else 0) ≡ 0
+adds_if b n e = ap (λ c. if c then n else 0) e
+
+adds_so : (b : Bool) (n : ℕ) → b ≡ true → (if b then n else 0) ≡ n
+adds_so b n e = ap (λ c. if c then n else 0) e
+
+none_added : (round : Round) (reply : Reply) → list_counts round reply ≡ false → added_in round reply ≡ 0
+none_added round reply e = adds_if (list_counts round reply) _ e
+
+dropped_front : (ps qs : List (List ℕ)) → drop (length ps) (ps ++ qs) ≡ qs
+dropped_front [] qs = refl
+dropped_front (p ∷ ps) qs = dropped_front ps qs
+
+-- what stands behind distinct paths once others are awaited too
+behind : (ps qs : List (List ℕ)) → AreDistinct ps → length ps + length (drop (length ps) (distinct (ps ++ qs))) ≡ length (distinct (ps ++ qs))
+behind ps qs d =
+    let got = begins ps qs d in
+    ap (λ rs. length ps + length (drop (length ps) rs)) got.1 ∙ ap (λ rs. length ps + length rs) (dropped_front ps got.0)
+    ∙ sym (length-append ps got.0) ∙ ap length (sym got.1)
+
+content_counted : (m : MirrorState) (reply : Reply) → IsDistinctRound m.round → content_counts m.round reply ≡ true → Counts m.round reply (delivered m reply)
+content_counted m reply d e =
+    let got = fetched_of m reply e in
+    let down = contents_count_down m d.paths reply e in
+    let same = ap length down.directories in
+    let none = none_added m.round reply (no_list m.round reply e) in
+    record {
+      fall = omega (arith, down.paths, same, none);
+      told = got.left.told;
+      under = got.left.under;
+      distinct_left = record {
+        paths = subst AreDistinct (sym got.left.paths_left) (distinct_without got.path (awaited_in m.round) d.paths);
+        directories = subst AreDistinct (sym got.left.directories_left) d.directories;
+      };
+    }
+
+list_counted : (m : MirrorState) (reply : Reply) → IsDistinctRound m.round → list_counts m.round reply ≡ true → Counts m.round reply (delivered m reply)
+list_counted m reply d e =
+    let got = listed_of m reply e in
+    let down = lists_count_down m d.directories reply e in
+    let more : added_in m.round reply ≡ length (drop (length (awaited_in m.round)) (distinct (awaited_in m.round ++ paths_listed reply))) = adds_so (list_counts m.round reply) _ e in
+    let all = behind (awaited_in m.round) (paths_listed reply) d.paths in
+    let same = ap length down.paths in
+    record {
+      fall = omega (arith, down.directories, same, more, all);
+      told = got.left.told;
+      under = got.left.under;
+      distinct_left = record {
+        paths = subst AreDistinct (sym got.left.paths_left) (distinct_distinct (awaited_in m.round ++ paths_listed reply));
+        directories = subst AreDistinct (sym got.left.directories_left) (distinct_without got.prefix (prefixes_in m.round) d.directories);
+      };
+    }
+
+counts_so : (m : MirrorState) (reply : Reply) → IsDistinctRound m.round → counts_in m.round reply ≡ true → Counts m.round reply (delivered m reply)
+counts_so m reply d e = by (content_counts m.round reply) refl e
+  where
+    by : (b : Bool) → content_counts m.round reply ≡ b → (b || list_counts m.round reply) ≡ true → Counts m.round reply (delivered m reply)
+    by true f g = content_counted m reply d f
+    by false f g = list_counted m reply d g
+
+pub places_with_none_left : (m : MirrorState) → IsDistinctRound m.round → PlacesWithNoneLeft m
+places_with_none_left m d reply e = (counts_so m reply d e).told
+
+-- ---- a reply that does not
+
+round_ignores : (m : MirrorState) (round : Round) (reply : Reply) → is_gathering round ≡ true → counts_in round reply ≡ false
+    → delivered_in m round reply ≡ (if ends_in round reply then (record m { round = Idle }, Ended) else (m, Ignored))
 round_ignores m Idle reply g e = cc
 round_ignores m (Asked request) reply g e = cc
-round_ignores m (Gathering asked target awaited) (BasisIs query position paths) g e = refl
-round_ignores m (Gathering asked target awaited) (ChangesAre query position marked) g e = refl
-round_ignores m (Gathering asked target awaited) (ContentIs query position path content) g e = ap (λ b. taken_if b m (fetched m asked target awaited path content)) e
-round_ignores m (Gathering asked target awaited) (Refused query cause) g e = refl
+round_ignores m (Gathering asked target awaited prefixes) (BasisIs query position paths) g e = refl
+round_ignores m (Gathering asked target awaited prefixes) (ChangesAre query position marked moved) g e = refl
+round_ignores m (Gathering asked target awaited prefixes) (ContentIs query position path content) g e =
+    ap (λ b. taken_if b m (fetched m asked target awaited prefixes path content)) (or_parts _ _ e).0
+round_ignores m (Gathering asked target awaited prefixes) (Refused query cause) g e = by (same_query query asked && ends_round prefixes cause)
+  where
+    by : (b : Bool) → taken_if b m (record m { round = Idle }, Ended) ≡ (if b then (record m { round = Idle }, Ended) else (m, Ignored))
+    by true = refl
+    by false = refl
+round_ignores m (Gathering asked target awaited prefixes) (ListIs query position prefix paths) g e =
+    ap (λ b. taken_if b m (listed_below m asked target awaited prefixes prefix paths)) e
 
 pub ignores_others : (m : MirrorState) → IgnoresOthers m
 unfolding delivered
@@ -85,22 +236,23 @@ ignores_others m g reply e = round_ignores m m.round reply g e
 
 -- whatever the round is, a content that does not count does nothing
 pub content_ignored : (m : MirrorState) (query : Query) (position : Position) (path : List ℕ) (content : Option Content)
-    → counts_in m.round (ContentIs query position path content) ≡ false → (m, Ignored) ≡ delivered m (ContentIs query position path content)
+    → content_counts m.round (ContentIs query position path content) ≡ false → (m, Ignored) ≡ delivered m (ContentIs query position path content)
 unfolding delivered
 content_ignored m query position path content e = by m.round e
   where
-    by : (round : Round) → counts_in round (ContentIs query position path content) ≡ false → (m, Ignored) ≡ delivered_in m round (ContentIs query position path content)
+    by : (round : Round) → content_counts round (ContentIs query position path content) ≡ false → (m, Ignored) ≡ delivered_in m round (ContentIs query position path content)
     by Idle e = refl
     by (Asked request) e = refl
-    by (Gathering asked target awaited) e = sym (ap (λ b. taken_if b m (fetched m asked target awaited path content)) e)
+    by (Gathering asked target awaited prefixes) e = sym (ap (λ b. taken_if b m (fetched m asked target awaited prefixes path content)) e)
 
 idle_ignores : (m : MirrorState) (round : Round) (reply : Reply) → round ≡ Idle → delivered_in m round reply ≡ (m, Ignored)
 idle_ignores m Idle (BasisIs query position paths) e = refl
-idle_ignores m Idle (ChangesAre query position marked) e = refl
+idle_ignores m Idle (ChangesAre query position marked moved) e = refl
 idle_ignores m Idle (ContentIs query position path content) e = refl
 idle_ignores m Idle (Refused query cause) e = refl
+idle_ignores m Idle (ListIs query position prefix paths) e = refl
 idle_ignores m (Asked request) reply e = cc
-idle_ignores m (Gathering asked target awaited) reply e = cc
+idle_ignores m (Gathering asked target awaited prefixes) reply e = cc
 
 idle_delivered : (m : MirrorState) (reply : Reply) → m.round ≡ Idle → delivered m reply ≡ (m, Ignored)
 unfolding delivered
@@ -114,43 +266,81 @@ idle_after m (reply ∷ replies) e = ap (λ made. after made.0 replies) (idle_de
 idle_counts : (round : Round) (reply : Reply) → round ≡ Idle → counts_in round reply ≡ false
 idle_counts Idle reply e = refl
 idle_counts (Asked request) reply e = cc
-idle_counts (Gathering asked target awaited) reply e = cc
+idle_counts (Gathering asked target awaited prefixes) reply e = cc
 
-more_taken : (n : ℕ) → (if 1 == suc n + 1 then Placed else Taken) ≡ Taken
-more_taken n = grind arith
+none_after : (m : MirrorState) (replies : List Reply) (reply : Reply) → m.round ≡ Idle → counts_in (after m replies).round reply ≡ true → ⊥
+none_after m replies reply idle e =
+    let none : counts_in (after m replies).round reply ≡ false = idle_counts _ reply (ap (λ n. n.round) (idle_after m replies idle) ∙ idle) in
+    let bad : true ≡ false = sym e ∙ none in cc
 
-same_place : (k a b : ℕ) → a ≡ b + 1 → outcome_at (1 + k + 1) a ≡ outcome_at (k + 1) b
-same_place k a b e = grind (arith, e)
+-- ---- whole rounds
 
-none_more : (k n : ℕ) → outcome_at (k + 1) n ≡ outcome_at (0 + k + 1) n
-none_more k n = grind arith
+-- what is left once k of n have counted
+last_of : (k n left : ℕ) → n ≡ left + k → outcome_where left ≡ outcome_at k n
+last_of k n left e = grind (arith, e)
 
-pub places : (m : MirrorState) → AreDistinct (awaited_in m.round) → is_gathering m.round ≡ true → (replies : List Reply) (reply : Reply) → counts_in (after m replies).round reply ≡ true
-    → (delivered (after m replies) reply).1 ≡ outcome_at (counted m replies + 1) (length (awaited_in m.round))
-places m d g [] reply e = elim (falls m reply d e) [
-  | inl last ↦ last.placed ∙ sym (ap (λ n. outcome_at 1 n) last.one)
-  | inr before ↦ before.taken ∙ sym (ap (λ n. outcome_at 1 n) (before.fewer ∙ ap (λ n. n + 1) before.some.1) ∙ more_taken before.some.0)
-]
-places m d g (first ∷ replies) reply e = by (counts_in m.round first) refl (places m d g replies reply) (λ d2 g2. places (delivered m first).0 d2 g2 replies reply)
+none_more : (k left more rest : ℕ) → outcome_at (k + 1) (left + more + rest) ≡ outcome_at (0 + k + 1) (left + (0 + more) + rest)
+none_more k left more rest = grind arith
+
+one_more : (k was left new more rest : ℕ) → was + new ≡ left + 1 → outcome_at (k + 1) (left + more + rest) ≡ outcome_at (1 + k + 1) (was + (new + more) + rest)
+one_more k was left new more rest e = grind (arith, e)
+
+-- the reply, where it counts after those, is answered as the k-th of n
+abbrev Places : MirrorState → List Reply → Reply → Type 0
+Places m replies reply =
+    counts_in (after m replies).round reply ≡ true
+    → (delivered (after m replies) reply).1 ≡ outcome_at (counted m replies + 1) (left_in m.round + added m replies + added_in (after m replies).round reply)
+
+-- the same, where one came before them that counted or did not, and added so much to what was left
+abbrev PlacesBehind : ℕ → ℕ → ℕ → MirrorState → List Reply → Reply → Type 0
+PlacesBehind one left new m replies reply =
+    counts_in (after m replies).round reply ≡ true
+    → (delivered (after m replies) reply).1 ≡ outcome_at (one + counted m replies + 1) (left + (new + added m replies) + added_in (after m replies).round reply)
+
+behind_none : (m : MirrorState) (replies : List Reply) (reply : Reply) → Places m replies reply → PlacesBehind 0 (left_in m.round) 0 m replies reply
+behind_none m replies reply places e =
+    places e ∙ none_more (counted m replies) (left_in m.round) (added m replies) (added_in (after m replies).round reply)
+
+behind_one : (was new : ℕ) (m : MirrorState) (replies : List Reply) (reply : Reply) → was + new ≡ left_in m.round + 1 → Places m replies reply
+    → PlacesBehind 1 was new m replies reply
+behind_one was new m replies reply fall places e =
+    places e ∙ one_more (counted m replies) was (left_in m.round) new (added m replies) (added_in (after m replies).round reply) fall
+
+behind_idle : (one left new : ℕ) (m : MirrorState) (replies : List Reply) (reply : Reply) → m.round ≡ Idle → PlacesBehind one left new m replies reply
+behind_idle one left new m replies reply idle e = absurd (none_after m replies reply idle e)
+
+-- after one that did not count
+behind_other : (m : MirrorState) (first : Reply) (replies : List Reply) (reply : Reply) → is_gathering m.round ≡ true → counts_in m.round first ≡ false
+    → Places m replies reply → PlacesBehind 0 (left_in m.round) (added_in m.round first) (delivered m first).0 replies reply
+behind_other m first replies reply g f places =
+    subst (λ n. PlacesBehind 0 (left_in m.round) n (delivered m first).0 replies reply) (sym (none_added m.round first (or_parts _ _ f).1))
+    (by (ends_in m.round first) refl)
   where
-    by : (b : Bool) → counts_in m.round first ≡ b
-        → (counts_in (after m replies).round reply ≡ true → (delivered (after m replies) reply).1 ≡ outcome_at (counted m replies + 1) (length (awaited_in m.round)))
-        → (AreDistinct (awaited_in (delivered m first).0.round) → is_gathering (delivered m first).0.round ≡ true → counts_in (after (delivered m first).0 replies).round reply ≡ true
-        → (delivered (after (delivered m first).0 replies) reply).1 ≡ outcome_at (counted (delivered m first).0 replies + 1) (length (awaited_in (delivered m first).0.round)))
-        → (delivered (after (delivered m first).0 replies) reply).1 ≡ outcome_at ((if counts_in m.round first then 1 else 0) + counted (delivered m first).0 replies + 1) (length (awaited_in m.round))
+    now : (b : Bool) → ends_in m.round first ≡ b → delivered m first ≡ (if b then (record m { round = Idle }, Ended) else (m, Ignored))
+    now b h = ignores_others m g first f ∙ ap (λ c. if c then (record m { round = Idle }, Ended) else (m, Ignored)) h
+
+    by : (b : Bool) → ends_in m.round first ≡ b → PlacesBehind 0 (left_in m.round) 0 (delivered m first).0 replies reply
+    by true h = behind_idle 0 (left_in m.round) 0 (delivered m first).0 replies reply (ap (λ made. made.0.round) (now true h))
+    by false h =
+        subst (λ n. PlacesBehind 0 (left_in m.round) 0 n replies reply) (sym (ap (λ made. made.0) (now false h))) (behind_none m replies reply places)
+
+pub places : (m : MirrorState) → IsDistinctRound m.round → is_gathering m.round ≡ true → (replies : List Reply) (reply : Reply) → Places m replies reply
+places m d g [] reply e =
+    let c = counts_so m reply d e in
+    c.told ∙ last_of (0 + 1) (left_in m.round + 0 + added_in m.round reply) (left_in (delivered m reply).0.round) (omega (arith, c.fall))
+places m d g (first ∷ replies) reply e =
+    by (counts_in m.round first) refl (places m d g replies reply) (λ d2 g2. places (delivered m first).0 d2 g2 replies reply) e
+  where
+    by : (b : Bool) → counts_in m.round first ≡ b → Places m replies reply
+        → (IsDistinctRound (delivered m first).0.round → is_gathering (delivered m first).0.round ≡ true → Places (delivered m first).0 replies reply)
+        → PlacesBehind (if counts_in m.round first then 1 else 0) (left_in m.round) (added_in m.round first) (delivered m first).0 replies reply
     by false f same next =
-        let stays : (delivered m first).0 ≡ m = ap (λ made. made.0) (ignores_others m g first f) in
-        let h : counts_in (after m replies).round reply ≡ true = subst (λ n. counts_in (after n replies).round reply ≡ true) stays e in
-        ap (λ n. (delivered (after n replies) reply).1) stays ∙ same h
-        ∙ none_more (counted m replies) (length (awaited_in m.round))
-        ∙ sym (ap (λ b. outcome_at ((if b then 1 else 0) + counted (delivered m first).0 replies + 1) (length (awaited_in m.round))) f
-        ∙ ap (λ n. outcome_at (0 + counted n replies + 1) (length (awaited_in m.round))) stays)
-    by true f same next = elim (falls m first d f) [
-      | inl last ↦
-          let none : counts_in (after (delivered m first).0 replies).round reply ≡ false = idle_counts _ reply (ap (λ n. n.round) (idle_after (delivered m first).0 replies last.idle) ∙ last.idle) in
-          let bad : true ≡ false = sym e ∙ none in cc
-      | inr before ↦
-          next before.distinct before.gathering e
-          ∙ sym (ap (λ b. outcome_at ((if b then 1 else 0) + counted (delivered m first).0 replies + 1) (length (awaited_in m.round))) f
-          ∙ same_place (counted (delivered m first).0 replies) _ _ before.fewer)
-    ]
+        subst (λ b. PlacesBehind (if b then 1 else 0) (left_in m.round) (added_in m.round first) (delivered m first).0 replies reply) (sym f)
+        (behind_other m first replies reply g f same)
+    by true f same next =
+        let c = counts_so m first d f in
+        subst (λ b. PlacesBehind (if b then 1 else 0) (left_in m.round) (added_in m.round first) (delivered m first).0 replies reply) (sym f)
+        (elim c.under [
+          | inl idle ↦ behind_idle 1 (left_in m.round) (added_in m.round first) (delivered m first).0 replies reply idle
+          | inr gathering ↦ behind_one (left_in m.round) (added_in m.round first) (delivered m first).0 replies reply c.fall (next c.distinct_left gathering)
+        ])

@@ -1,2 +1,4 @@
 pub mod Pending
 pub mod Counting
+pub mod Unlisted
+pub mod Delivering

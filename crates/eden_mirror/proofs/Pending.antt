@@ -1,7 +1,7 @@
 -- What the table of awaited paths says as it is filled, marked and swept.
-use Rattle.std.proofs.Common.{◌≡◌, ℕ, suc, Bool, true, false, cond, not, ◌||◌, List, [], ◌∷◌, ◌++◌, map, filter, length, Option, Some, None, is_some, refl, sym, ap, subst, ◌∙◌, ◌+◌, arith}
-use Rattle.std.proofs.lemmas.Bool.{or_parts}
-use Rattle.std.proofs.lemmas.List.{append-nil}
+use Rattle.std.proofs.Common.{◌≡◌, ℕ, suc, Bool, true, false, cond, not, ◌||◌, List, [], ◌∷◌, ◌++◌, filter, length, take, Option, Some, None, is_some, refl, sym, ap, subst, ◌∙◌, ◌+◌, ◌≤◌, arith}
+use Rattle.std.proofs.lemmas.Bool.{or_parts, or_from}
+use Rattle.std.proofs.lemmas.List.{append-nil, map-append}
 use Rattle.std.specs.List.{AllByRecursion, IsDistinct, position}
 use Rattle.std.specs.Map.{keys_of, lookup, set_value}
 use Rattle.indexmap.specs.IndexMap.{insert_entry, set_value_at}
@@ -12,7 +12,7 @@ use Rattle.eden_ids.proofs.FileMapLemmas.{same_path-is, same_path-bytes, same_pa
 use Rattle.eden_history.specs.declared.mark.Marked.{Marked}
 use Rattle.eden_messages.specs.Mirrors.{distinct, is_among, without}
 use Rattle.eden_messages.specs.Spells.{paths_of}
-use Rattle.eden_mirror.specs.internal.Pending.{AreDistinct, pending}
+use Rattle.eden_mirror.specs.internal.Pending.{AreDistinct, IsCounted, fresh, pending}
 
 abbrev pub Entries : Type 0
 Entries = List (List ℕ × Bool)
@@ -25,14 +25,11 @@ tests = λ i p q. sym (same_path-bytes p q) i
 abbrev pub IsAbsent : List ℕ → List (List ℕ) → Type 0
 IsAbsent k ps = AllByRecursion (λ p. same_path k p ≡ false) ps
 
-false_or : (a b : Bool) → a ≡ false → b ≡ false → (a || b) ≡ false
-false_or a b e f = ap (λ c. c || b) e ∙ f
-
 -- ---- lists without a path
 
 not_among : (k : List ℕ) (ps : List (List ℕ)) → IsAbsent k ps → is_among k ps ≡ false
 not_among k [] h = refl
-not_among k (p ∷ ps) h = false_or (same_path k p) _ h.0 (not_among k ps h.1)
+not_among k (p ∷ ps) h = or_from (same_path k p) _ h.0 (not_among k ps h.1)
 
 absent : (k : List ℕ) (ps : List (List ℕ)) → is_among k ps ≡ false → IsAbsent k ps
 absent k [] h = tt
@@ -196,10 +193,6 @@ pending-swept (e ∷ es) = by e.1 (pending-swept es)
 
 -- ---- filling it
 
--- a table of these paths, none of them answered
-abbrev pub fresh : List (List ℕ) → Entries
-fresh ps = map (λ p. (p, false)) ps
-
 pub pending-fresh : (ps : List (List ℕ)) → pending (fresh ps) ≡ ps
 pending-fresh [] = refl
 pending-fresh (p ∷ ps) = ap (λ qs. p ∷ qs) (pending-fresh ps)
@@ -288,3 +281,91 @@ fresh-more ps k = ap (λ t. insert_entry t (fresh (distinct ps)) k false) tests 
 pub paths_of-more : (ms : List Marked) (m : Marked) → paths_of (ms ++ m ∷ []) ≡ paths_of ms ++ m.path ∷ []
 paths_of-more [] m = refl
 paths_of-more (n ∷ ms) m = ap (λ ps. n.path ∷ ps) (paths_of-more ms m)
+
+-- ---- more of them
+
+pub distinct-itself : (ps : List (List ℕ)) → AreDistinct ps → distinct ps ≡ ps
+unfolding IsDistinct
+distinct-itself [] h = refl
+distinct-itself (p ∷ ps) h = ap (λ qs. p ∷ without p qs) (distinct-itself ps h.1) ∙ ap (λ qs. p ∷ qs) (without-absent p ps h.0)
+
+-- distinct paths stand first once others are put behind them
+pub begins : (ps qs : List (List ℕ)) → AreDistinct ps → (rest : List (List ℕ)) × (distinct (ps ++ qs) ≡ ps ++ rest)
+unfolding IsDistinct
+begins [] qs h = (distinct qs, refl)
+begins (p ∷ ps) qs h = by (begins ps qs h.1)
+  where
+    by : (rest : List (List ℕ)) × (distinct (ps ++ qs) ≡ ps ++ rest) → (rest : List (List ℕ)) × (p ∷ without p (distinct (ps ++ qs)) ≡ p ∷ ps ++ rest)
+    by got = (
+      without p got.0,
+      ap (λ rs. p ∷ without p rs) got.1
+          ∙ ap (λ rs. p ∷ rs) (without-append p ps got.0 ∙ ap (λ rs. rs ++ without p got.0) (without-absent p ps h.0)),
+    )
+
+pub is_among-distinct : (k : List ℕ) (ps : List (List ℕ)) → is_among k (distinct ps) ≡ is_among k ps
+is_among-distinct k [] = refl
+is_among-distinct k (p ∷ ps) = by (same_path k p) refl (is_among-distinct k ps)
+  where
+    by : (b : Bool) → same_path k p ≡ b → is_among k (distinct ps) ≡ is_among k ps
+        → (same_path k p || is_among k (without p (distinct ps))) ≡ (same_path k p || is_among k ps)
+    by true f rest = ap (λ b. b || is_among k (without p (distinct ps))) f ∙ sym (ap (λ b. b || is_among k ps) f)
+    by false f rest = ap (λ b. same_path k p || b) (is_among-without p k (distinct ps) f ∙ rest)
+
+taken_front : (es fs : Entries) → take (length es) (es ++ fs) ≡ es
+taken_front [] fs = refl
+taken_front (e ∷ es) fs = ap (λ gs. e ∷ gs) (taken_front es fs)
+
+-- a table of which none is answered, as it is before others are added
+pub fresh-none : (es : Entries) → IsDistinct same_bytes (keys_of es) → es ≡ fresh (pending es) → es ≡ fresh (distinct (pending es ++ []))
+fresh-none es h all = all ∙ ap fresh (sym (ap distinct (append-nil (pending es)) ∙ distinct-itself (pending es) (pending_distinct es h)))
+
+-- and once those are taken off again
+pub fresh-back : (es : Entries) (qs : List (List ℕ)) → IsDistinct same_bytes (keys_of es) → es ≡ fresh (pending es) → take (length es) (fresh (distinct (pending es ++ qs))) ≡ es
+fresh-back es qs h all =
+    let got = begins (pending es) qs (pending_distinct es h) in
+    ap (λ ps. take (length es) (fresh ps)) got.1
+    ∙ ap (take (length es)) (map-append (λ p. (p, false)) (pending es) got.0 ∙ ap (λ fs. fs ++ fresh got.0) (sym all))
+    ∙ taken_front es (fresh got.0)
+
+-- where marked paths are taken out, and where there are none, no path of the table is answered
+pub swept-fresh : (es : Entries) → filter (λ e. not e.1) es ≡ fresh (pending es)
+swept-fresh [] = refl
+swept-fresh (e ∷ es) = by e.1 (swept-fresh es)
+  where
+    by : (b : Bool) → filter (λ f. not f.1) es ≡ fresh (pending es)
+        → cond (not b) ((e.0, b) ∷ filter (λ f. not f.1) es) (filter (λ f. not f.1) es) ≡ fresh (cond b (pending es) (e.0 ∷ pending es))
+    by true rest = rest
+    by false rest = ap (λ fs. (e.0, false) ∷ fs) rest
+
+few : (es : Entries) → length (pending es) ≤ length es
+few [] = omega arith
+few (e ∷ es) = by e.1 (few es)
+  where
+    by : (b : Bool) → length (pending es) ≤ length es → length (cond b (pending es) (e.0 ∷ pending es)) ≤ suc (length es)
+    by true rest = omega arith
+    by false rest = omega arith
+
+pub whole-fresh : (es : Entries) → length es ≤ length (pending es) → es ≡ fresh (pending es)
+whole-fresh [] all = refl
+whole-fresh (e ∷ es) all = by e.1 all (whole-fresh es)
+  where
+    by : (b : Bool) → suc (length es) ≤ length (cond b (pending es) (e.0 ∷ pending es)) → (length es ≤ length (pending es) → es ≡ fresh (pending es))
+        → (e.0, b) ∷ es ≡ fresh (cond b (pending es) (e.0 ∷ pending es))
+    by true all rest = absurd (let most = few es in omega (arith, most, all))
+    by false all rest = ap (λ fs. (e.0, false) ∷ fs) (rest (omega (arith, all)))
+
+keys-fresh : (ps : List (List ℕ)) → keys_of (fresh ps) ≡ ps
+keys-fresh [] = refl
+keys-fresh (p ∷ ps) = ap (λ qs. p ∷ qs) (keys-fresh ps)
+
+-- a table of the paths that are awaited is one, and none of them is answered
+pub fresh_counted : (left : ℕ) (es fs : Entries) → IsCounted left es → fs ≡ fresh (pending es) → IsCounted left fs
+fresh_counted left es fs counted e = record {
+  distinct =
+      subst (λ ks. IsDistinct same_bytes ks) (sym (ap keys_of e ∙ keys-fresh (pending es)))
+      (subst (λ t. IsDistinct t (pending es)) (sym tests) (pending_distinct es counted.distinct));
+  count = counted.count ∙ ap length (sym (ap pending e ∙ pending-fresh (pending es)));
+}
+
+pub fresh_again : (es fs : Entries) → fs ≡ fresh (pending es) → fs ≡ fresh (pending fs)
+fresh_again es fs e = e ∙ ap fresh (sym (ap pending e ∙ pending-fresh (pending es)))

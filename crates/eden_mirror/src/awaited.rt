@@ -1,16 +1,17 @@
-//! The paths whose contents are awaited.
+//! The paths that are awaited in a round: those of contents, and those of directories.
 
-ghost use Rattle.std.specs.Prelude.{◌≡◌, false, if◌then◌else◌, length, map, nat_eq, is_some, Some, IfSome, IfOk, OnOk, OnErr};
+ghost use Rattle.std.specs.Prelude.{◌≡◌, ◌++◌, [], false, if◌then◌else◌, length, map, nat_eq, is_some, Some, IfSome, IfOk, OnOk, OnErr};
 ghost use Rattle.std.specs.List.{IsDistinct};
 ghost use Rattle.std.specs.Map.{keys_of};
 ghost use Rattle.indexmap.specs.IndexMap.{index_of_by, insert_entry};
 ghost use Rattle.eden_ids.specs.FileMaps.{put_option};
 ghost use Rattle.eden_ids.specs.Sameness.{same_bytes};
-ghost use Rattle.eden_mirror.specs.internal.Pending.{AreDistinct, pending};
-ghost use Rattle.eden_messages.specs.declared.message.Request.TheVariants.{Fetch};
+ghost use Rattle.eden_mirror.specs.internal.Pending.{AreDistinct, fresh, pending};
+ghost use Rattle.eden_messages.specs.declared.message.Request.TheVariants.{Fetch, List as Below};
 ghost use Rattle.eden_messages.specs.Mirrors.{distinct, is_among, without};
 ghost use Rattle.eden_messages.specs.Spells.{paths_of};
 
+use eden_globs::Filter;
 use eden_history::Marked;
 use eden_ids::{Content, Files, NoMemory, Path};
 use eden_messages::{Query, Request};
@@ -22,7 +23,8 @@ use std::marker::Model;
 ///
 /// An answered path is only marked, so that none behind it moves. Once more than half of the paths are marked these are taken out together,
 /// which costs each of them once; so to go over what is awaited costs no more than twice what is found, and n answers in any order
-/// cost a search and a constant each.
+/// cost a search and a constant each. Paths that become awaited later stand behind all others: marked ones are taken out before, since one
+/// of them may be awaited again.
 #[derive(Drop)]
 pub(crate) struct Awaited {
     /// Each path, and whether it is answered.
@@ -42,12 +44,29 @@ impl Model for Awaited {
     ghost invariant = { λ a. IsCounted a.left a.paths.entries };
 }
 
-/// Adds a path that may be there.
+/// Adds a path that may be there. `NoMemory` changes nothing.
 fn add(paths: &mut IndexMap<Path, bool>, path: &Path) -> Result<(), NoMemory>
-    ensures { OnOk result (paths.new.entries ≡ insert_entry same_bytes paths.old.entries path.now false) }
+    ensures ok { OnOk result (paths.new.entries ≡ insert_entry same_bytes paths.old.entries path.now false) }
+    ensures err { OnErr result (paths.new.entries ≡ paths.old.entries) }
 {
     let path = path.copy()?;
     paths.insert(path, false)?;
+    Ok(())
+}
+
+/// Adds paths that may be there to a table of which none is answered. `NoMemory` changes nothing.
+fn add_all(paths: &mut IndexMap<Path, bool>, listed: &[Path]) -> Result<(), NoMemory>
+    requires { paths.old.entries ≡ fresh (pending paths.old.entries) }
+    ensures ok { OnOk result (paths.new.entries ≡ fresh (distinct (pending paths.old.entries ++ listed.now))) }
+    ensures err { OnErr result (paths.new.entries ≡ paths.old.entries) }
+{
+    let len = paths.len();
+    for path in listed {
+        if add(paths, path).is_err() {
+            paths.truncate(len);
+            return Err(NoMemory);
+        }
+    }
     Ok(())
 }
 
@@ -59,6 +78,16 @@ fn place(paths: &IndexMap<Path, bool>, path: &Path) -> Option<usize>
 {
     let (at, _, answered) = paths.get_full(path)?;
     if *answered { None } else { Some(at) }
+}
+
+/// Takes the answered paths out of a table of which so many are not.
+fn take_answered_out(paths: &mut IndexMap<Path, bool>, left: usize)
+    requires { left ≡ length (pending paths.old.entries) }
+    ensures { paths.new.entries ≡ fresh (pending paths.old.entries) }
+{
+    if left < paths.len() {
+        paths.retain(|_, answered| !*answered);
+    }
 }
 
 /// Puts a file at a path that is given away, or takes the one there away. `NoMemory` changes nothing.
@@ -76,16 +105,23 @@ fn put(files: &mut Files, path: Path, file: Option<Content>) -> Result<(), NoMem
 }
 
 impl Awaited {
+    /// No path. It takes no memory.
+    pub(crate) fn new(alloc: Global) -> Awaited
+        ensures { result ≡ [] }
+    {
+        Awaited {
+            paths: IndexMap::new(alloc),
+            left: 0,
+        }
+    }
+
     /// All paths of a list, each where it stands first.
     pub(crate) fn of_paths(alloc: Global, listed: &[Path]) -> Result<Awaited, NoMemory>
         ensures { IfOk result (λ awaited. awaited ≡ distinct listed.now) }
     {
-        let mut paths = IndexMap::new(alloc);
-        for path in listed {
-            add(&mut paths, path)?;
-        }
-        let left = paths.len();
-        Ok(Awaited { paths, left })
+        let mut awaited = Awaited::new(alloc);
+        awaited.extend(listed)?;
+        Ok(awaited)
     }
 
     /// All paths of a list of marked ones, each where it stands first.
@@ -138,6 +174,29 @@ impl Awaited {
         Ok(true)
     }
 
+    /// Takes a path out, if it is awaited.
+    pub(crate) fn take_out(&mut self, path: &Path)
+        ensures { self.new ≡ without path.now self.old }
+    {
+        let Some(at) = place(&self.paths, path) else {
+            return;
+        };
+        self.paths[at] = true;
+        self.left -= 1;
+        self.sweep();
+    }
+
+    /// Awaits the paths of a list too, behind the others, but for those that are awaited. `NoMemory` changes nothing.
+    pub(crate) fn extend(&mut self, listed: &[Path]) -> Result<(), NoMemory>
+        ensures ok { OnOk result (self.new ≡ distinct (self.old ++ listed.now)) }
+        ensures err { OnErr result (self.new ≡ self.old) }
+    {
+        take_answered_out(&mut self.paths, self.left);
+        add_all(&mut self.paths, listed)?;
+        self.left = self.paths.len();
+        Ok(())
+    }
+
     /// Takes the marked paths out of the table where they are more than half of it.
     fn sweep(&mut self)
         ensures { self.new ≡ self.old }
@@ -154,17 +213,41 @@ impl Awaited {
         let _ = &self.paths;
     }
 
-    /// The question for the content of each path.
-    pub(crate) fn fetches(&self, query: Query) -> Result<Vec<Request>, NoMemory>
-        ensures { IfOk result (λ requests. requests.items ≡ map (λ path. Fetch query path) self.now) }
+    /// Adds the question for the content of each path to a list.
+    pub(crate) fn push_fetches(
+        &self,
+        requests: &mut Vec<Request>,
+        query: Query,
+    ) -> Result<(), NoMemory>
+        ensures { OnOk result (requests.new.items ≡ requests.old.items ++ map (λ path. Fetch query path) self.now) }
     {
-        let mut requests = Vec::new(*self.paths.allocator());
         for (path, answered) in self.paths.iter() {
             if !*answered {
                 let path = path.copy()?;
                 requests.push(Request::Fetch { query, path })?;
             }
         }
-        Ok(requests)
+        Ok(())
+    }
+
+    /// Adds the question what stands below each directory to a list.
+    pub(crate) fn push_lists(
+        &self,
+        requests: &mut Vec<Request>,
+        query: Query,
+        filter: &Filter,
+    ) -> Result<(), NoMemory>
+        ensures { OnOk result (requests.new.items ≡ requests.old.items ++ map (λ prefix. Below query prefix filter.now) self.now) }
+    {
+        for (path, answered) in self.paths.iter() {
+            if !*answered {
+                requests.push(Request::List {
+                    query,
+                    prefix: path.copy()?,
+                    filter: filter.copy()?,
+                })?;
+            }
+        }
+        Ok(())
     }
 }

@@ -2,18 +2,20 @@
 
 ghost use Rattle.std.specs.Prelude.{◌≡◌, ◌==◌, ◌&&◌, nat_le, Option, Some, IfOk, OnErr};
 ghost use Rattle.eden_ids.specs.declared.content.Content.{Content};
-ghost use Rattle.eden_messages.specs.declared.message.Reply.TheVariants.{BasisIs, ChangesAre, ContentIs, Refused};
+ghost use Rattle.eden_messages.specs.declared.message.Reply.TheVariants.{BasisIs, ChangesAre, ContentIs, ListIs, Refused};
 ghost use Rattle.eden_messages.specs.Mirrors.{delivered, gathers, query_numbered, same_query};
 ghost use Rattle.eden_messages.specs.Mirrors.Round.{Idle};
-ghost use Rattle.eden_mirror.specs.Counting.{counts_in};
+ghost use Rattle.eden_mirror.specs.Counting.{content_counts};
+ghost use Rattle.eden_mirror.specs.internal.Rounds.{settled_in};
 
 use crate::awaited::Awaited;
+use crate::listing::{remove_all, unlisted};
 use crate::mirror::{Mirror, Round};
 use eden_history::{Marked, Position};
 use eden_ids::{Content, Files, NoMemory, Path};
 use eden_messages::{Cause, Outcome, Query, Reply};
 
-/// Whether a content under a question and at a position is one for the round that asked a question and has a target.
+/// Whether a content or a list under a question and at a position is one for the round that asked a question and has a target.
 fn is_of_round(asked: Query, target: Position, query: Query, position: Position) -> bool
     ensures { result ≡ (same_query query asked && position.generation == target.generation && nat_le target.sequence position.sequence) }
 {
@@ -33,15 +35,35 @@ impl Mirror {
         Outcome::Placed
     }
 
-    /// Awaits the contents of these paths, or is placed where there is none.
-    fn await_contents(&mut self, target: Position, awaited: Awaited) -> Outcome
-        ensures { (self.new, result) ≡ gathers self.old (query_numbered self.old self.old.last) target awaited }
+    /// What a reply that counted comes to: the mirror is placed where neither a path nor a directory is awaited any more.
+    fn settle(&mut self) -> Outcome
+        ensures { (self.new, result) ≡ settled_in self.old self.old.round }
     {
-        if awaited.is_empty() {
-            return self.place_at(target);
+        let Round::Gathering {
+            target,
+            awaited,
+            prefixes,
+        } = &self.round
+        else {
+            return Outcome::Taken;
+        };
+        if !awaited.is_empty() || !prefixes.is_empty() {
+            return Outcome::Taken;
         }
-        self.round = Round::Gathering { target, awaited };
-        Outcome::Taken
+        let target = *target;
+        self.place_at(target)
+    }
+
+    /// Awaits the contents of these paths and lists of what stands below these directories, or is placed where there is none of either.
+    fn gather(&mut self, target: Position, awaited: Awaited, prefixes: Awaited) -> Outcome
+        ensures { (self.new, result) ≡ gathers self.old (query_numbered self.old self.old.last) target awaited prefixes }
+    {
+        self.round = Round::Gathering {
+            target,
+            awaited,
+            prefixes,
+        };
+        self.settle()
     }
 
     /// Takes the list of all paths.
@@ -63,18 +85,20 @@ impl Mirror {
         }
         let awaited = Awaited::of_paths(self.alloc(), paths)?;
         self.files = Files::new(self.alloc());
-        Ok(self.await_contents(target, awaited))
+        let prefixes = Awaited::new(self.alloc());
+        Ok(self.gather(target, awaited, prefixes))
     }
 
-    /// Takes the list of the paths that changed.
+    /// Takes the list of the paths that changed, and of the directories that files were moved between.
     #[tactic(auto, unfolding(eden_messages::specs::Mirrors::delivered))]
     fn take_changes(
         &mut self,
         query: Query,
         target: Position,
         marked: &[Marked],
+        prefixes: &[Path],
     ) -> Result<Outcome, NoMemory>
-        ensures ok { IfOk result (λ outcome. (self.new, outcome) ≡ delivered self.old (ChangesAre query target marked.now)) }
+        ensures ok { IfOk result (λ outcome. (self.new, outcome) ≡ delivered self.old (ChangesAre query target marked.now prefixes.now)) }
         ensures err { OnErr result (self.new ≡ self.old) }
     {
         let Round::Asked = &self.round else {
@@ -84,17 +108,20 @@ impl Mirror {
             return Ok(Outcome::Ignored);
         }
         let awaited = Awaited::of_marked(self.alloc(), marked)?;
-        Ok(self.await_contents(target, awaited))
+        let prefixes = Awaited::of_paths(self.alloc(), prefixes)?;
+        Ok(self.gather(target, awaited, prefixes))
     }
 
     /// Whether a content counts in the round that is under way.
     fn counts(&self, query: Query, position: Position, path: &Path) -> bool
-        ensures { (content : Option Content) → result ≡ counts_in self.now.round (ContentIs query position path.now content) }
+        ensures { (content : Option Content) → result ≡ content_counts self.now.round (ContentIs query position path.now content) }
     {
         match &self.round {
-            Round::Gathering { target, awaited } => {
-                is_of_round(self.query(), *target, query, position) && awaited.has(path)
-            }
+            Round::Gathering {
+                target,
+                awaited,
+                ..
+            } => { is_of_round(self.query(), *target, query, position) && awaited.has(path) }
             _ => false,
         }
     }
@@ -112,20 +139,21 @@ impl Mirror {
         ensures err { OnErr result (self.new ≡ self.old) }
     {
         let asked = self.query();
-        let Round::Gathering { target, awaited } = &mut self.round else {
+        let Round::Gathering {
+            target,
+            awaited,
+            ..
+        } = &mut self.round
+        else {
             return Ok(Outcome::Ignored);
         };
-        let target = *target;
-        if !is_of_round(asked, target, query, position) {
+        if !is_of_round(asked, *target, query, position) {
             return Ok(Outcome::Ignored);
         }
         if !awaited.answer(&mut self.files, path, content)? {
             return Ok(Outcome::Ignored);
         }
-        if awaited.is_empty() {
-            return Ok(self.place_at(target));
-        }
-        Ok(Outcome::Taken)
+        Ok(self.settle())
     }
 
     /// Takes the content of a path that is lent, of which a copy is made where it counts.
@@ -147,15 +175,57 @@ impl Mirror {
         self.take_content(query, position, path.copy()?, content)
     }
 
-    /// Takes a refusal of the list. It takes no memory.
+    /// Takes the list of what stands below a directory. All that can be refused memory comes before anything changes.
+    #[tactic(auto, unfolding(eden_messages::specs::Mirrors::delivered))]
+    fn take_list(
+        &mut self,
+        query: Query,
+        position: Position,
+        prefix: &Path,
+        paths: &[Path],
+    ) -> Result<Outcome, NoMemory>
+        ensures ok { IfOk result (λ outcome. (self.new, outcome) ≡ delivered self.old (ListIs query position prefix.now paths.now)) }
+        ensures err { OnErr result (self.new ≡ self.old) }
+    {
+        let asked = self.query();
+        let alloc = self.alloc();
+        let Round::Gathering {
+            target,
+            awaited,
+            prefixes,
+        } = &mut self.round
+        else {
+            return Ok(Outcome::Ignored);
+        };
+        if !is_of_round(asked, *target, query, position) || !prefixes.has(prefix) {
+            return Ok(Outcome::Ignored);
+        }
+        let gone = unlisted(alloc, &self.files, prefix, paths)?;
+        awaited.extend(paths)?;
+        prefixes.take_out(prefix);
+        remove_all(&mut self.files, gone.as_slice());
+        Ok(self.settle())
+    }
+
+    /// Takes a refusal of a list: of the round's, or of what stands below a directory, where only one that would be too long counts. It
+    /// takes no memory.
     #[tactic(auto, unfolding(eden_messages::specs::Mirrors::delivered))]
     fn take_refusal(&mut self, query: Query, cause: Cause) -> Outcome
         ensures { (self.new, result) ≡ delivered self.old (Refused query cause) }
     {
-        let Round::Asked = &self.round else {
-            return Outcome::Ignored;
-        };
-        if query != self.query() {
+        let asked = self.query();
+        match &self.round {
+            Round::Idle => return Outcome::Ignored,
+            Round::Asked => {}
+            Round::Gathering { prefixes, .. } => {
+                if query != asked || prefixes.is_empty() || !matches!(cause, Cause::TooLarge) {
+                    return Outcome::Ignored;
+                }
+                self.round = Round::Idle;
+                return Outcome::Ended;
+            }
+        }
+        if query != asked {
             return Outcome::Ignored;
         }
         self.round = Round::Idle;
@@ -171,9 +241,14 @@ impl Mirror {
     /// Takes a reply, whoever it was for and however late it comes.
     ///
     /// A list counts where it answers the round that awaits it, a content where it answers the question of the round that is under way, is
-    /// of the generation of the round's target and no older than that, and stands at a path that is awaited; the last one places the mirror
-    /// at the target. A refusal ends the round that awaits a list. Any other reply is `Ignored` and changes nothing. `NoMemory` comes where
-    /// a growth was refused, and changes nothing: the reply can be delivered again.
+    /// of the generation of the round's target and no older than that, and stands at a path that is awaited; a list of what stands below a
+    /// directory counts as a content does, where the directory is awaited. With it the files below the directory that are not listed leave
+    /// the mirror, and the listed paths become awaited. The last of these places the mirror at the target. A refusal ends the round that
+    /// awaits a list; where what stands below a directory is awaited, only one of a list that would be too long does. Any other reply is
+    /// `Ignored` and changes nothing. `NoMemory` comes where a growth was refused, and changes nothing: the reply can be delivered again.
+    ///
+    /// A list of what stands below a directory costs a step for each path of it, and for each file of the mirror, with a search by halves
+    /// for each that stands below; where contents came before it, also a step for each path that is awaited.
     pub fn deliver(&mut self, reply: &Reply) -> Result<Outcome, NoMemory>
         ensures ok { IfOk result (λ outcome. (self.new, outcome) ≡ delivered self.old reply.now) }
         ensures err { OnErr result (self.new ≡ self.old) }
@@ -188,7 +263,8 @@ impl Mirror {
                 query,
                 target,
                 marked,
-            } => self.take_changes(*query, *target, marked.as_slice()),
+                prefixes,
+            } => self.take_changes(*query, *target, marked.as_slice(), prefixes.as_slice()),
             Reply::ContentIs {
                 query,
                 position,
@@ -196,6 +272,12 @@ impl Mirror {
                 content,
             } => self.take_lent(*query, *position, path, content),
             Reply::Refused { query, cause } => Ok(self.take_refusal(*query, *cause)),
+            Reply::ListIs {
+                query,
+                position,
+                prefix,
+                paths,
+            } => self.take_list(*query, *position, prefix, paths.as_slice()),
         }
     }
 

@@ -20,4 +20,5 @@ pub use eden_messages::Outcome;
 mod awaited;
 mod deliver;
 mod laws;
+mod listing;
 mod mirror;

@@ -27,12 +27,14 @@ pub(crate) enum Round {
     Idle,
     /// The list is awaited.
     Asked,
-    /// The list has come, and contents are awaited.
+    /// The list has come, and contents are awaited, and lists of what stands below directories.
     Gathering {
         /// The position that the list was told at.
         target: Position,
-        /// The paths.
+        /// The paths of the contents.
         awaited: Awaited,
+        /// The directories.
+        prefixes: Awaited,
     },
 }
 
@@ -40,10 +42,10 @@ pub(crate) enum Round {
 ///
 /// It follows the mount by rounds. `begin` begins one; `outstanding` says what to ask, as often as one likes, for what is sent may be
 /// lost; `deliver` takes each reply that comes, in any order, also again. A round asks for a list first, of all paths or of those that
-/// changed since the mirror's position, and then for the content of each; with the last of these the position moves to where the list was
-/// told. In between the mirror holds contents of the new position beside others of the old one, so two paths of it may clash, of which one
-/// stands below the other. Whatever comes, and in whatever order, what a mirror with a position holds at a path that it wants stood there
-/// at that position or after it.
+/// changed since the mirror's position, and then for the content of each, and for what stands below each directory that files were moved
+/// from or to; with the last of these the position moves to where the list was told. In between the mirror holds contents of the new
+/// position beside others of the old one, so two paths of it may clash, of which one stands below the other. Whatever comes, and in
+/// whatever order, what a mirror with a position holds at a path that it wants stood there at that position or after it.
 #[derive(Drop)]
 pub struct Mirror {
     alloc: Global,
@@ -219,9 +221,9 @@ impl Mirror {
         Ok(())
     }
 
-    /// What is still to be answered in the round that is under way: the request for its list; or one for the content of each path that is
-    /// awaited, in the order in which they became so; or nothing where there is no round. It costs what it lists. `NoMemory` comes where
-    /// a growth was refused.
+    /// What is still to be answered in the round that is under way: the request for its list; or one for what stands below each directory
+    /// that is awaited and then one for the content of each path that is, in the order in which they became so; or nothing where there is
+    /// no round. It costs what it lists. `NoMemory` comes where a growth was refused.
     #[tactic(auto, unfolding(eden_messages::specs::Mirrors::outstanding_of))]
     pub fn outstanding(&self) -> Result<Vec<Request>, NoMemory>
         ensures { IfOk result (λ requests. requests.items ≡ outstanding_of self.now) }
@@ -229,7 +231,16 @@ impl Mirror {
         match &self.round {
             Round::Idle => Ok(Vec::new(self.alloc)),
             Round::Asked => self.list_alone(self.query()),
-            Round::Gathering { awaited, .. } => awaited.fetches(self.query()),
+            Round::Gathering {
+                awaited,
+                prefixes,
+                ..
+            } => {
+                let mut requests = Vec::new(self.alloc);
+                prefixes.push_lists(&mut requests, self.query(), &self.filter)?;
+                awaited.push_fetches(&mut requests, self.query())?;
+                Ok(requests)
+            }
         }
     }
 

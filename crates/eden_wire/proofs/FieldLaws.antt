@@ -1,5 +1,5 @@
 -- A field that is read is the field that was written, and what was written is read again.
-use Rattle.std.proofs.Common.{◌≡◌, ℕ, zero, suc, ◌^◌, ◌<◌, ◌≤◌, Bool, true, false, ◌||◌, cond, ltb, eqb, List, [], ◌∷◌, ◌++◌, length, take, drop, Option, Some, None, Ok, Err, refl, sym, ap, subst, ◌∙◌, append_assoc, arith, inl, inr, ◌⊎◌}
+use Rattle.std.proofs.Common.{◌≡◌, ℕ, zero, suc, ◌^◌, ◌<◌, ◌≤◌, Bool, true, false, ◌&&◌, ◌||◌, cond, ltb, eqb, List, [], ◌∷◌, ◌++◌, length, take, drop, Option, Some, None, Ok, Err, refl, sym, ap, subst, ◌∙◌, append_assoc, arith, inl, inr, ◌⊎◌}
 use Rattle.std.specs.Prelude.{is_none, map, Result}
 use Rattle.std.specs.declared.cmp.Ordering.{Ordering}
 use Rattle.std.specs.declared.cmp.Ordering.TheVariants.{Less, Equal, Greater}
@@ -7,7 +7,7 @@ use Rattle.std.specs.Int.{w32, w64, to_be_bytes}
 use Rattle.std.specs.List.{flat_map, AllByRecursion}
 use Rattle.std.specs.Ordering.{nat_cmp, is_lt}
 use Rattle.std.specs.Cmp.Lexicographic.{slice_cmp}
-use Rattle.std.proofs.lemmas.Bool.{ltb-false, le-ltb, eqb-false, eqb-true, or_parts}
+use Rattle.std.proofs.lemmas.Bool.{ltb-false, le-ltb, eqb-false, eqb-true, or_parts, and_parts, and_from}
 use Rattle.std.proofs.lemmas.List.{take_at, drop_at, take-append-drop, length-append, length-take}
 use Rattle.std.proofs.lemmas.List.Concat.{flat_map-cons}
 use Rattle.eden_ids.specs.declared.content.Content.{Content}
@@ -29,7 +29,7 @@ use Rattle.eden_messages.specs.Spells.{query_bytes, IsQuery, position_bytes, IsP
 use Rattle.eden_messages.proofs.Spelling.{IsText, path_text, filter_fits}
 use Rattle.eden_wire.specs.declared.fault.DecodeFault.{DecodeFault}
 use Rattle.eden_wire.specs.declared.fault.DecodeFault.TheVariants.{CutShort, BadField}
-use Rattle.eden_wire.specs.Reading.{◌>>=◌, byte_at, number_at, text_at, query_at, root_at, position_at, path_of, path_at, patterns_at, filter_of, filter_at, mark_of_byte, mark_at, is_above, next_at, items_at, path_listing_at, marked_at, listing_at, kind_of_byte, bytes_at, content_at, cause_of, cause_at}
+use Rattle.eden_wire.specs.Reading.{◌>>=◌, byte_at, number_at, text_at, query_at, root_at, position_at, path_of, path_at, patterns_at, filter_of, filter_at, mark_of_byte, mark_at, is_above, is_within, next_at, items_at, path_listing_at, marked_at, listing_at, kind_of_byte, bytes_at, content_at, cause_of, cause_at}
 use Rattle.eden_wire.proofs.Numbers.{IsBytes, IsBytes-take, IsBytes-drop, bind_ok, guard_ok, held_ok, ok_is, along, Takes, Takes-then, byte_takes, wide32, wide64, number_takes, number_again, text_takes, text_again}
 
 -- ---- queries
@@ -246,27 +246,34 @@ marked_takes last bytes x fits e =
     along (λ (y : Marked × List ℕ). Takes bytes (marked_bytes y.0) y.1 × IsPathText y.0.path × IsAbove last y.0.path) made x h.1
     (both, t1.1, above_is last b.0.0 h.0)
 
-pub marked_again : (last : Option (List ℕ)) (marked : Marked) (rest : List ℕ) → IsPath marked.path → IsAbove last marked.path
+pub marked_again : (last : Option (List ℕ)) (marked : Marked) (rest : List ℕ) → IsPathText marked.path → IsAbove last marked.path
     → marked_at last (marked_bytes marked ++ rest) ≡ Ok (marked, rest)
 unfolding marked_at
 marked_again last marked rest is above =
-    rw (mark_again marked.mark (text_bytes marked.path ++ rest), path_again marked.path rest is, is_above_again last marked.path above) refl
+    rw (mark_again marked.mark (text_bytes marked.path ++ rest), path_again marked.path rest is.path, is_above_again last marked.path above) refl
+
+-- a path that may stand in a list of what lies below a directory, if there is one
+record IsListed (prefix : Option (List ℕ)) (path : List ℕ) : Type 0 where
+  text : IsPathText path
+  within : is_within prefix path ≡ true
 
 -- a path that may come after a last one
-pub next_takes : (last : Option (List ℕ)) (bytes : List ℕ) (x : List ℕ × List ℕ) → IsBytes bytes → next_at last bytes ≡ Ok x
-    → Takes bytes (text_bytes x.0) x.1 × IsPathText x.0 × IsAbove last x.0
+next_takes : (prefix last : Option (List ℕ)) (bytes : List ℕ) (x : List ℕ × List ℕ) → IsBytes bytes → next_at prefix last bytes ≡ Ok x
+    → Takes bytes (text_bytes x.0) x.1 × IsListed prefix x.0 × IsAbove last x.0
 unfolding next_at
-next_takes last bytes x fits e =
-    let a = bind_ok (path_at bytes) (λ p. cond (is_above last p.0) (Ok p) (Err BadField)) x e in
+next_takes prefix last bytes x fits e =
+    let a = bind_ok (path_at bytes) (λ p. cond (is_above last p.0 && is_within prefix p.0) (Ok p) (Err BadField)) x e in
     let t = path_takes bytes a.0 fits a.1 in
-    let h = held_ok (is_above last a.0.0) (Ok a.0) BadField x a.2 in
-    along (λ (y : List ℕ × List ℕ). Takes bytes (text_bytes y.0) y.1 × IsPathText y.0 × IsAbove last y.0) a.0 x h.1
-    (t.0, t.1, above_is last a.0.0 h.0)
+    let h = held_ok (is_above last a.0.0 && is_within prefix a.0.0) (Ok a.0) BadField x a.2 in
+    let both = and_parts (is_above last a.0.0) (is_within prefix a.0.0) h.0 in
+    along (λ (y : List ℕ × List ℕ). Takes bytes (text_bytes y.0) y.1 × IsListed prefix y.0 × IsAbove last y.0) a.0 x h.1
+    (t.0, record { text = t.1; within = both.1 }, above_is last a.0.0 both.0)
 
-pub next_again : (last : Option (List ℕ)) (path : List ℕ) (rest : List ℕ) → IsPath path → IsAbove last path
-    → next_at last (text_bytes path ++ rest) ≡ Ok (path, rest)
+next_again : (prefix last : Option (List ℕ)) (path : List ℕ) (rest : List ℕ) → IsListed prefix path → IsAbove last path
+    → next_at prefix last (text_bytes path ++ rest) ≡ Ok (path, rest)
 unfolding next_at
-next_again last path rest is above = rw (path_again path rest is, is_above_again last path above) refl
+next_again prefix last path rest is above =
+    rw (path_again path rest is.text.path, and_from (is_above last path) (is_within prefix path) (is_above_again last path above) is.within) refl
 
 -- paths that ascend from a last one on
 abbrev pub AscendsFrom : Option (List ℕ) → List (List ℕ) → Type 0
@@ -289,42 +296,42 @@ ascends_again : (paths : List (List ℕ)) → Ascends paths → AscendsFrom None
 ascends_again [] is = tt
 ascends_again (path ∷ paths) is = (tt, after_again path paths is.0 is.1)
 
--- items with a path each, of which one is read and written as here
-record ItemLaws (A : Type 0) (path : A → List ℕ) (item_at : Option (List ℕ) → List ℕ → Result (A × List ℕ) DecodeFault) (spell : A → List ℕ) : Type 0 where
+-- items with a path each that may stand there, of which one is read and written as here
+record ItemLaws (A : Type 0) (path : A → List ℕ) (May : List ℕ → Type 0) (item_at : Option (List ℕ) → List ℕ → Result (A × List ℕ) DecodeFault) (spell : A → List ℕ) : Type 0 where
   takes : (last : Option (List ℕ)) (bytes : List ℕ) (x : A × List ℕ) → IsBytes bytes → item_at last bytes ≡ Ok x
-      → Takes bytes (spell x.0) x.1 × IsPathText (path x.0) × IsAbove last (path x.0)
-  again : (last : Option (List ℕ)) (item : A) (rest : List ℕ) → IsPath (path item) → IsAbove last (path item)
+      → Takes bytes (spell x.0) x.1 × May (path x.0) × IsAbove last (path x.0)
+  again : (last : Option (List ℕ)) (item : A) (rest : List ℕ) → May (path item) → IsAbove last (path item)
       → item_at last (spell item ++ rest) ≡ Ok (item, rest)
 
-items_take : {A : Type 0} (path : A → List ℕ) (item_at : Option (List ℕ) → List ℕ → Result (A × List ℕ) DecodeFault) (spell : A → List ℕ)
-    → ItemLaws A path item_at spell → (count : ℕ) (last : Option (List ℕ)) (bytes : List ℕ) (x : List A × List ℕ) → IsBytes bytes
+items_take : {A : Type 0} (path : A → List ℕ) (May : List ℕ → Type 0) (item_at : Option (List ℕ) → List ℕ → Result (A × List ℕ) DecodeFault) (spell : A → List ℕ)
+    → ItemLaws A path May item_at spell → (count : ℕ) (last : Option (List ℕ)) (bytes : List ℕ) (x : List A × List ℕ) → IsBytes bytes
     → items_at path item_at count last bytes ≡ Ok x
-    → Takes bytes (flat_map spell x.0) x.1 × (length x.0 ≡ count) × AllByRecursion IsPathText (map path x.0) × AscendsFrom last (map path x.0)
+    → Takes bytes (flat_map spell x.0) x.1 × (length x.0 ≡ count) × AllByRecursion May (map path x.0) × AscendsFrom last (map path x.0)
 unfolding items_at
-items_take {A} path item_at spell laws zero last bytes x fits e =
-    along (λ (y : List A × List ℕ). Takes bytes (flat_map spell y.0) y.1 × (length y.0 ≡ 0) × AllByRecursion IsPathText (map path y.0) × AscendsFrom last (map path y.0)) ([], bytes) x e
+items_take {A} path May item_at spell laws zero last bytes x fits e =
+    along (λ (y : List A × List ℕ). Takes bytes (flat_map spell y.0) y.1 × (length y.0 ≡ 0) × AllByRecursion May (map path y.0) × AscendsFrom last (map path y.0)) ([], bytes) x e
     (record { parts = refl; rest_fits = fits }, refl, tt, tt)
-items_take {A} path item_at spell laws (suc count) last bytes x fits e =
+items_take {A} path May item_at spell laws (suc count) last bytes x fits e =
     let a = bind_ok (item_at last bytes) (λ first. items_at path item_at count (Some (path first.0)) first.1 >>= λ others. Ok (first.0 ∷ others.0, others.1)) x e in
     let b = bind_ok (items_at path item_at count (Some (path a.0.0)) a.0.1) (λ others. Ok (a.0.0 ∷ others.0, others.1)) x a.2 in
     let first = laws.takes last bytes a.0 fits a.1 in
-    let others = items_take path item_at spell laws count (Some (path a.0.0)) a.0.1 b.0 first.0.rest_fits b.1 in
+    let others = items_take path May item_at spell laws count (Some (path a.0.0)) a.0.1 b.0 first.0.rest_fits b.1 in
     let both = Takes-then bytes (spell a.0.0) a.0.1 (flat_map spell b.0.0) b.0.1 first.0 others.0 in
     let made : List A × List ℕ = (a.0.0 ∷ b.0.0, b.0.1) in
-    along (λ (y : List A × List ℕ). Takes bytes (flat_map spell y.0) y.1 × (length y.0 ≡ suc count) × AllByRecursion IsPathText (map path y.0) × AscendsFrom last (map path y.0)) made x b.2
+    along (λ (y : List A × List ℕ). Takes bytes (flat_map spell y.0) y.1 × (length y.0 ≡ suc count) × AllByRecursion May (map path y.0) × AscendsFrom last (map path y.0)) made x b.2
     (rw flat_map-cons both, ap suc others.1, (first.1, others.2), (first.2, others.3))
 
-items_again : {A : Type 0} (path : A → List ℕ) (item_at : Option (List ℕ) → List ℕ → Result (A × List ℕ) DecodeFault) (spell : A → List ℕ)
-    → ItemLaws A path item_at spell → (list : List A) (last : Option (List ℕ)) (rest : List ℕ)
-    → AllByRecursion IsPathText (map path list) → AscendsFrom last (map path list)
+items_again : {A : Type 0} (path : A → List ℕ) (May : List ℕ → Type 0) (item_at : Option (List ℕ) → List ℕ → Result (A × List ℕ) DecodeFault) (spell : A → List ℕ)
+    → ItemLaws A path May item_at spell → (list : List A) (last : Option (List ℕ)) (rest : List ℕ)
+    → AllByRecursion May (map path list) → AscendsFrom last (map path list)
     → items_at path item_at (length list) last (flat_map spell list ++ rest) ≡ Ok (list, rest)
 unfolding items_at
-items_again path item_at spell laws [] last rest is above = refl
-items_again path item_at spell laws (m ∷ ms) last rest is above =
+items_again path May item_at spell laws [] last rest is above = refl
+items_again path May item_at spell laws (m ∷ ms) last rest is above =
     let regrouped : flat_map spell (m ∷ ms) ++ rest ≡ spell m ++ (flat_map spell ms ++ rest) =
     ap (λ (x : List ℕ). x ++ rest) (flat_map-cons spell m ms) ∙ append_assoc (spell m) (flat_map spell ms) rest in
     ap (items_at path item_at (suc (length ms)) last) regrouped
-    ∙ rw (laws.again last m (flat_map spell ms ++ rest) is.0.path above.0, items_again path item_at spell laws ms (Some (path m)) rest is.1 above.1) refl
+    ∙ rw (laws.again last m (flat_map spell ms ++ rest) is.0 above.0, items_again path May item_at spell laws ms (Some (path m)) rest is.1 above.1) refl
 
 map_length : {A : Type 0} (path : A → List ℕ) (list : List A) → length (map path list) ≡ length list
 map_length path [] = refl
@@ -335,28 +342,32 @@ map_same [] = refl
 map_same (path ∷ paths) = ap (λ (ps : List (List ℕ)). path ∷ ps) (map_same paths)
 
 -- what a list of items takes, and what is known of its paths
-items_counted : {A : Type 0} (path : A → List ℕ) (item_at : Option (List ℕ) → List ℕ → Result (A × List ℕ) DecodeFault) (spell : A → List ℕ)
-    → ItemLaws A path item_at spell → (bytes : List ℕ) (x : List A × List ℕ) → IsBytes bytes
+items_counted : {A : Type 0} (path : A → List ℕ) (May : List ℕ → Type 0) (item_at : Option (List ℕ) → List ℕ → Result (A × List ℕ) DecodeFault) (spell : A → List ℕ)
+    → ItemLaws A path May item_at spell → (bytes : List ℕ) (x : List A × List ℕ) → IsBytes bytes
     → (number_at w32 bytes >>= λ n. items_at path item_at n.0 None n.1) ≡ Ok x
-    → Takes bytes (to_be_bytes w32 (length x.0) ++ flat_map spell x.0) x.1 × IsListing (map path x.0)
-items_counted path item_at spell laws bytes x fits e =
+    → Takes bytes (to_be_bytes w32 (length x.0) ++ flat_map spell x.0) x.1 × (length (map path x.0) < 2 ^ 32) × AllByRecursion May (map path x.0) × Ascends (map path x.0)
+items_counted path May item_at spell laws bytes x fits e =
     let a = bind_ok (number_at w32 bytes) (λ n. items_at path item_at n.0 None n.1) x e in
     let t0 = number_takes w32 (2 ^ 32) wide32 bytes a.0 fits a.1 in
-    let t1 = items_take path item_at spell laws a.0.0 None a.0.1 x t0.0.rest_fits a.2 in
+    let t1 = items_take path May item_at spell laws a.0.0 None a.0.1 x t0.0.rest_fits a.2 in
     let both = Takes-then bytes (to_be_bytes w32 a.0.0) a.0.1 (flat_map spell x.0) x.1 t0.0 t1.0 in (
       subst (λ (k : ℕ). Takes bytes (to_be_bytes w32 k ++ flat_map spell x.0) x.1) (sym t1.1) both,
-      record { count = omega (arith, t1.1, t0.1, map_length path x.0); texts = t1.2; ascends = ascends_is (map path x.0) t1.3 },
+      omega (arith, t1.1, t0.1, map_length path x.0),
+      t1.2,
+      ascends_is (map path x.0) t1.3,
     )
 
-marked_laws : ItemLaws Marked (λ marked. marked.path) marked_at marked_bytes
+marked_laws : ItemLaws Marked (λ marked. marked.path) IsPathText marked_at marked_bytes
 marked_laws = record { takes = marked_takes; again = marked_again }
 
-next_laws : ItemLaws (List ℕ) (λ path. path) next_at text_bytes
-next_laws = record { takes = next_takes; again = next_again }
+next_laws : (prefix : Option (List ℕ)) → ItemLaws (List ℕ) (λ path. path) (IsListed prefix) (next_at prefix) text_bytes
+next_laws prefix = record { takes = next_takes prefix; again = next_again prefix }
 
 pub listing_takes : (bytes : List ℕ) (x : List Marked × List ℕ) → IsBytes bytes → listing_at bytes ≡ Ok x → Takes bytes (list_bytes x.0) x.1 × IsListing (paths_of x.0)
 unfolding listing_at
-listing_takes bytes x fits e = items_counted (λ marked. marked.path) marked_at marked_bytes marked_laws bytes x fits e
+listing_takes bytes x fits e =
+    let t = items_counted (λ marked. marked.path) IsPathText marked_at marked_bytes marked_laws bytes x fits e in
+    (t.0, record { count = t.1; texts = t.2; ascends = t.3 })
 
 pub listing_again : (list : List Marked) (rest : List ℕ) → IsListing (paths_of list) → listing_at (list_bytes list ++ rest) ≡ Ok (list, rest)
 unfolding listing_at
@@ -364,21 +375,48 @@ listing_again list rest is =
     let few : length list < 2 ^ 32 = omega (arith, is.count, map_length (λ (marked : Marked). marked.path) list) in
     ap listing_at (append_assoc (to_be_bytes w32 (length list)) (flat_map marked_bytes list) rest)
     ∙ rw (number_again w32 (2 ^ 32) wide32 (length list) (flat_map marked_bytes list ++ rest) few)
-    (items_again (λ marked. marked.path) marked_at marked_bytes marked_laws list None rest is.texts (ascends_again (paths_of list) is.ascends))
+    (items_again (λ marked. marked.path) IsPathText marked_at marked_bytes marked_laws list None rest is.texts (ascends_again (paths_of list) is.ascends))
 
-pub path_listing_takes : (bytes : List ℕ) (x : List (List ℕ) × List ℕ) → IsBytes bytes → path_listing_at bytes ≡ Ok x → Takes bytes (paths_bytes x.0) x.1 × IsListing x.0
-unfolding path_listing_at
-path_listing_takes bytes x fits e =
-    let t = items_counted (λ path. path) next_at text_bytes next_laws bytes x fits e in
-    (t.0, subst IsListing (map_same x.0) t.1)
+-- each path lies below the directory, if there is one
+abbrev AreWithin : Option (List ℕ) → List (List ℕ) → Type 0
+AreWithin prefix paths = AllByRecursion (λ path. is_within prefix path ≡ true) paths
 
-pub path_listing_again : (paths : List (List ℕ)) (rest : List ℕ) → IsListing paths → path_listing_at (paths_bytes paths ++ rest) ≡ Ok (paths, rest)
+listed_parts : (prefix : Option (List ℕ)) (paths : List (List ℕ)) → AllByRecursion (IsListed prefix) paths → AllByRecursion IsPathText paths × AreWithin prefix paths
+listed_parts prefix [] are = (tt, tt)
+listed_parts prefix (path ∷ paths) are =
+    let others = listed_parts prefix paths are.1 in
+    ((are.0.text, others.0), (are.0.within, others.1))
+
+listed_from : (prefix : Option (List ℕ)) (paths : List (List ℕ)) → AllByRecursion IsPathText paths → AreWithin prefix paths → AllByRecursion (IsListed prefix) paths
+listed_from prefix [] texts within = tt
+listed_from prefix (path ∷ paths) texts within = (record { text = texts.0; within = within.0 }, listed_from prefix paths texts.1 within.1)
+
+pub path_listing_takes : (prefix : Option (List ℕ)) (bytes : List ℕ) (x : List (List ℕ) × List ℕ) → IsBytes bytes → path_listing_at prefix bytes ≡ Ok x
+    → Takes bytes (paths_bytes x.0) x.1 × IsListing x.0 × AreWithin prefix x.0
 unfolding path_listing_at
-path_listing_again paths rest is =
-    ap path_listing_at (append_assoc (to_be_bytes w32 (length paths)) (flat_map text_bytes paths) rest)
+path_listing_takes prefix bytes x fits e =
+    let t = items_counted (λ path. path) (IsListed prefix) (next_at prefix) text_bytes (next_laws prefix) bytes x fits e in
+    let same = map_same x.0 in
+    let parts = listed_parts prefix x.0 (subst (AllByRecursion (IsListed prefix)) same t.2) in
+    (t.0, record { count = subst (λ (paths : List (List ℕ)). length paths < 2 ^ 32) same t.1; texts = parts.0; ascends = subst Ascends same t.3 }, parts.1)
+
+pub path_listing_again : (prefix : Option (List ℕ)) (paths : List (List ℕ)) (rest : List ℕ) → IsListing paths → AreWithin prefix paths
+    → path_listing_at prefix (paths_bytes paths ++ rest) ≡ Ok (paths, rest)
+unfolding path_listing_at
+path_listing_again prefix paths rest is within =
+    ap (path_listing_at prefix) (append_assoc (to_be_bytes w32 (length paths)) (flat_map text_bytes paths) rest)
     ∙ rw (number_again w32 (2 ^ 32) wide32 (length paths) (flat_map text_bytes paths ++ rest) is.count)
-    (items_again (λ path. path) next_at text_bytes next_laws paths None rest
-    (subst (AllByRecursion IsPathText) (sym (map_same paths)) is.texts) (subst (AscendsFrom None) (sym (map_same paths)) (ascends_again paths is.ascends)))
+    (items_again (λ path. path) (IsListed prefix) (next_at prefix) text_bytes (next_laws prefix) paths None rest
+    (subst (AllByRecursion (IsListed prefix)) (sym (map_same paths)) (listed_from prefix paths is.texts within))
+    (subst (AscendsFrom None) (sym (map_same paths)) (ascends_again paths is.ascends)))
+
+-- a list of any paths is read again
+pub any_listing_again : (paths : List (List ℕ)) (rest : List ℕ) → IsListing paths → path_listing_at None (paths_bytes paths ++ rest) ≡ Ok (paths, rest)
+any_listing_again paths rest is = path_listing_again None paths rest is (anywhere paths)
+  where
+    anywhere : (paths : List (List ℕ)) → AreWithin None paths
+    anywhere [] = tt
+    anywhere (path ∷ paths) = (refl, anywhere paths)
 
 -- ---- contents
 

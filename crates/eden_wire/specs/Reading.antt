@@ -1,5 +1,5 @@
 -- Reading a body from left to right: what it holds, or the first fault that is met. A field is a value and the bytes after it.
-use Rattle.std.specs.Prelude.{◌≡◌, ◌≢◌, ℕ, zero, suc, Bool, true, ◌||◌, List, [], ◌∷◌, length, take, drop, Option, Some, None, is_none, Result, Ok, Err, nat_lt, ◌==◌, if◌then◌else◌}
+use Rattle.std.specs.Prelude.{◌≡◌, ◌≢◌, ℕ, zero, suc, Bool, true, ◌&&◌, ◌||◌, List, [], ◌∷◌, length, take, drop, Option, Some, None, is_none, Result, Ok, Err, nat_lt, ◌==◌, if◌then◌else◌}
 use Rattle.std.specs.Int.{Width, w16, w32, w64, byte_len, from_be_bytes}
 use Rattle.std.specs.Ordering.{nat_cmp, is_lt}
 use Rattle.std.specs.Cmp.Lexicographic.{slice_cmp}
@@ -7,7 +7,7 @@ use Rattle.eden_ids.specs.declared.content.Content.{Content}
 use Rattle.eden_ids.specs.declared.content.Kind.{Kind}
 use Rattle.eden_ids.specs.declared.content.Kind.TheVariants.{Plain, Exec, Link}
 use Rattle.eden_ids.specs.declared.id.Id.{Id}
-use Rattle.eden_ids.specs.Paths.{path_fault}
+use Rattle.eden_ids.specs.Paths.{path_fault, lies_below}
 use Rattle.eden_globs.specs.Filters.{filter_fault}
 use Rattle.eden_history.specs.declared.mark.Mark.{Mark}
 use Rattle.eden_history.specs.declared.mark.Mark.TheVariants.{Created, Removed, Changed, Root}
@@ -15,11 +15,11 @@ use Rattle.eden_history.specs.declared.mark.Marked.{Marked}
 use Rattle.eden_history.specs.declared.position.Position.{Position}
 use Rattle.eden_messages.specs.declared.message.Query.{Query}
 use Rattle.eden_messages.specs.declared.message.Request.{Request}
-use Rattle.eden_messages.specs.declared.message.Request.TheVariants.{Basis, Poll, Fetch}
+use Rattle.eden_messages.specs.declared.message.Request.TheVariants.{Basis, Poll, Fetch, List as Below}
 use Rattle.eden_messages.specs.declared.message.Cause.{Cause}
 use Rattle.eden_messages.specs.declared.message.Cause.TheVariants as causes
 use Rattle.eden_messages.specs.declared.message.Reply.{Reply}
-use Rattle.eden_messages.specs.declared.message.Reply.TheVariants.{BasisIs, ChangesAre, ContentIs, Refused}
+use Rattle.eden_messages.specs.declared.message.Reply.TheVariants.{BasisIs, ChangesAre, ContentIs, Refused, ListIs}
 use Rattle.eden_wire.specs.declared.fault.DecodeFault.{DecodeFault}
 use Rattle.eden_wire.specs.declared.fault.DecodeFault.TheVariants.{CutShort, TooLarge, BadTag, BadField, Trailing, Version, NoMemory}
 
@@ -113,10 +113,16 @@ abbrev pub is_above : Option (List ℕ) → List ℕ → Bool
 is_above None path = true
 is_above (Some last) path = is_lt (slice_cmp nat_cmp last path)
 
-unfoldable pub next_at : Option (List ℕ) → List ℕ → Result (List ℕ × List ℕ) DecodeFault
-next_at last bytes = do
+-- the path lies below the directory, if there is one
+abbrev pub is_within : Option (List ℕ) → List ℕ → Bool
+is_within None path = true
+is_within (Some prefix) path = lies_below path prefix
+
+-- a path that may come after a last one, in a list of what lies below a directory or of any paths
+unfoldable pub next_at : Option (List ℕ) → Option (List ℕ) → List ℕ → Result (List ℕ × List ℕ) DecodeFault
+next_at prefix last bytes = do
   path ← path_at bytes
-  if is_above last path.0 then Ok path else Err BadField
+  if is_above last path.0 && is_within prefix path.0 then Ok path else Err BadField
 
 -- so many items, each read by what it may come after: the path of the one before it, or a last path
 unfoldable pub items_at : {A : Type 0} → (A → List ℕ) → (Option (List ℕ) → List ℕ → Result (A × List ℕ) DecodeFault) → ℕ → Option (List ℕ) → List ℕ
@@ -127,14 +133,14 @@ items_at path item_at (suc count) last bytes = do
   others ← items_at path item_at count (Some (path first.0)) first.1
   Ok (first.0 ∷ others.0, others.1)
 
--- so many paths that ascend
-abbrev pub paths_at : ℕ → Option (List ℕ) → List ℕ → Result (List (List ℕ) × List ℕ) DecodeFault
-paths_at count last bytes = items_at (λ path. path) next_at count last bytes
+-- so many paths that ascend, each below the directory if there is one
+abbrev pub paths_at : Option (List ℕ) → ℕ → Option (List ℕ) → List ℕ → Result (List (List ℕ) × List ℕ) DecodeFault
+paths_at prefix count last bytes = items_at (λ path. path) (next_at prefix) count last bytes
 
-unfoldable pub path_listing_at : List ℕ → Result (List (List ℕ) × List ℕ) DecodeFault
-path_listing_at bytes = do
+unfoldable pub path_listing_at : Option (List ℕ) → List ℕ → Result (List (List ℕ) × List ℕ) DecodeFault
+path_listing_at prefix bytes = do
   count ← number_at w32 bytes
-  paths_at count.0 None count.1
+  paths_at prefix count.0 None count.1
 
 unfoldable pub marked_at : Option (List ℕ) → List ℕ → Result (Marked × List ℕ) DecodeFault
 marked_at last bytes = do
@@ -190,12 +196,12 @@ cause_at bytes = do
 
 -- ---- bodies
 
--- the version is 1, and the tag stands behind it; a body has 16,777,216 bytes at the most
+-- the version is 2, and the tag stands behind it; a body has 16,777,216 bytes at the most
 unfoldable pub tag_at : List ℕ → Result (ℕ × List ℕ) DecodeFault
 tag_at body =
     if nat_lt 16777216 (length body) then Err TooLarge else do
       version ← byte_at body
-      if version.0 == 1 then byte_at version.1 else Err Version
+      if version.0 == 2 then byte_at version.1 else Err Version
 
 -- no byte may stand after the last field
 abbrev pub ended : {A : Type 0} → A → List ℕ → Result A DecodeFault
@@ -220,19 +226,27 @@ poll_at bytes = do
   filter ← filter_at since.1
   ended (Poll query.0 since.0 filter.0) filter.1
 
+unfoldable pub list_request_at : List ℕ → Result Request DecodeFault
+list_request_at bytes = do
+  query ← query_at bytes
+  prefix ← path_at query.1
+  filter ← filter_at prefix.1
+  ended (Below query.0 prefix.0 filter.0) filter.1
+
 -- the request that a body spells, or the first fault
 unfoldable pub read_request : List ℕ → Result Request DecodeFault
 read_request body = do
   tag ← tag_at body
   if tag.0 == 1 then basis_at tag.1 else
       if tag.0 == 2 then poll_at tag.1 else
-      if tag.0 == 3 then fetch_at tag.1 else Err BadTag
+      if tag.0 == 3 then fetch_at tag.1 else
+      if tag.0 == 4 then list_request_at tag.1 else Err BadTag
 
 unfoldable pub basis_is_at : List ℕ → Result Reply DecodeFault
 basis_is_at bytes = do
   query ← query_at bytes
   position ← position_at query.1
-  paths ← path_listing_at position.1
+  paths ← path_listing_at None position.1
   ended (BasisIs query.0 position.0 paths.0) paths.1
 
 unfoldable pub content_is_at : List ℕ → Result Reply DecodeFault
@@ -248,13 +262,23 @@ changes_are_at bytes = do
   query ← query_at bytes
   target ← position_at query.1
   marked ← listing_at target.1
-  ended (ChangesAre query.0 target.0 marked.0) marked.1
+  prefixes ← path_listing_at None marked.1
+  ended (ChangesAre query.0 target.0 marked.0 prefixes.0) prefixes.1
 
 unfoldable pub refused_at : List ℕ → Result Reply DecodeFault
 refused_at bytes = do
   query ← query_at bytes
   cause ← cause_at query.1
   ended (Refused query.0 cause.0) cause.1
+
+-- each of the paths lies below the prefix that was read before them
+unfoldable pub list_is_at : List ℕ → Result Reply DecodeFault
+list_is_at bytes = do
+  query ← query_at bytes
+  position ← position_at query.1
+  prefix ← path_at position.1
+  paths ← path_listing_at (Some prefix.0) prefix.1
+  ended (ListIs query.0 position.0 prefix.0 paths.0) paths.1
 
 -- the reply that a body spells, or the first fault
 unfoldable pub read_reply : List ℕ → Result Reply DecodeFault
@@ -263,4 +287,5 @@ read_reply body = do
   if tag.0 == 129 then basis_is_at tag.1 else
       if tag.0 == 130 then changes_are_at tag.1 else
       if tag.0 == 131 then content_is_at tag.1 else
-      if tag.0 == 132 then refused_at tag.1 else Err BadTag
+      if tag.0 == 132 then refused_at tag.1 else
+      if tag.0 == 133 then list_is_at tag.1 else Err BadTag

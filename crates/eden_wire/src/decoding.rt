@@ -5,7 +5,7 @@ ghost use Rattle.std.specs.Option.{option_copied};
 ghost use Rattle.eden_messages.specs.declared.message.Request.{Request};
 ghost use Rattle.eden_messages.specs.declared.message.Reply.{Reply};
 ghost use Rattle.eden_messages.specs.Spells.{SpellsRequest, SpellsReply};
-ghost use Rattle.eden_wire.specs.Reading.{Gives, tag_at, next_at, paths_at, path_listing_at, marked_at, list_at, listing_at, basis_at, poll_at, ended, fetch_at, basis_is_at, changes_are_at, content_is_at, refused_at, read_request, read_reply};
+ghost use Rattle.eden_wire.specs.Reading.{Gives, tag_at, next_at, paths_at, path_listing_at, marked_at, list_at, listing_at, basis_at, poll_at, ended, fetch_at, list_request_at, basis_is_at, changes_are_at, content_is_at, refused_at, list_is_at, read_request, read_reply};
 ghost use Rattle.eden_wire.specs.Reading as reading;
 ghost use Rattle.eden_wire.specs.internal.Listing.{last_marked, last_path};
 
@@ -28,7 +28,7 @@ fn tag_of(body: &[u8]) -> Result<(u8, &[u8]), DecodeFault>
         return Err(DecodeFault::TooLarge);
     }
     let (version, rest) = byte_of(body)?;
-    if version != 1 {
+    if version != 2 {
         return Err(DecodeFault::Version);
     }
     byte_of(rest)
@@ -44,30 +44,47 @@ fn is_above(last: Option<&Path>, path: &Path) -> bool
     }
 }
 
-/// A path that may come after these.
+/// Whether the path lies below the directory, if there is one.
+fn is_within(prefix: Option<&Path>, path: &Path) -> bool
+    ensures { result ≡ reading.is_within (option_copied prefix.entry) path.now }
+{
+    match prefix {
+        None => true,
+        Some(prefix) => path.is_below(prefix),
+    }
+}
+
+/// A path that may come after these, in a list of what lies below a directory or of any paths.
 #[tactic(auto, unfolding(crate::specs::Reading::next_at))]
 fn next_of<'a>(
     alloc: Global,
+    prefix: Option<&Path>,
     before: &[Path],
     bytes: &'a [u8],
 ) -> Result<(Path, &'a [u8]), DecodeFault>
-    ensures { Gives (λ x. (x.0, x.1.now)) result (next_at (last_path before.now) bytes.now) }
+    ensures { Gives (λ x. (x.0, x.1.now)) result (next_at (option_copied prefix.entry) (last_path before.now) bytes.now) }
 {
     let (path, rest) = path_of(alloc, bytes)?;
-    if !is_above(before.last(), &path) {
+    if !is_above(before.last(), &path) || !is_within(prefix, &path) {
         return Err(DecodeFault::BadField);
     }
     Ok((path, rest))
 }
 
-/// So many paths, of which each is above the one before it. No room is kept for a count that was only read.
-fn paths_of(alloc: Global, count: u32, bytes: &[u8]) -> Result<(Vec<Path>, &[u8]), DecodeFault>
-    ensures { Gives (λ x. (x.0.items, x.1.now)) result (paths_at count None bytes.now) }
+/// So many paths, of which each is above the one before it, and below the directory if there is one. No room is kept for a count
+/// that was only read.
+fn paths_of<'a>(
+    alloc: Global,
+    prefix: Option<&Path>,
+    count: u32,
+    bytes: &'a [u8],
+) -> Result<(Vec<Path>, &'a [u8]), DecodeFault>
+    ensures { Gives (λ x. (x.0.items, x.1.now)) result (paths_at (option_copied prefix.entry) count None bytes.now) }
 {
     let mut list = Vec::new(alloc);
     let mut rest = bytes;
     for _ in 0..count {
-        let (path, after) = next_of(alloc, list.as_slice(), rest)?;
+        let (path, after) = next_of(alloc, prefix, list.as_slice(), rest)?;
         list.push(path)?;
         rest = after;
     }
@@ -75,11 +92,15 @@ fn paths_of(alloc: Global, count: u32, bytes: &[u8]) -> Result<(Vec<Path>, &[u8]
 }
 
 #[tactic(auto, unfolding(crate::specs::Reading::path_listing_at))]
-fn path_listing_of(alloc: Global, bytes: &[u8]) -> Result<(Sequence<Path>, &[u8]), DecodeFault>
-    ensures { Gives (λ x. (x.0, x.1.now)) result (path_listing_at bytes.now) }
+fn path_listing_of<'a>(
+    alloc: Global,
+    prefix: Option<&Path>,
+    bytes: &'a [u8],
+) -> Result<(Sequence<Path>, &'a [u8]), DecodeFault>
+    ensures { Gives (λ x. (x.0, x.1.now)) result (path_listing_at (option_copied prefix.entry) bytes.now) }
 {
     let (count, rest) = u32_of(bytes)?;
-    let (list, rest) = paths_of(alloc, count, rest)?;
+    let (list, rest) = paths_of(alloc, prefix, count, rest)?;
     Ok((Sequence::from_vec(list), rest))
 }
 
@@ -167,13 +188,28 @@ fn poll_of(alloc: Global, bytes: &[u8]) -> Result<Request, DecodeFault>
     whole(message, rest)
 }
 
+#[tactic(auto, unfolding(crate::specs::Reading::list_request_at))]
+fn list_request_of(alloc: Global, bytes: &[u8]) -> Result<Request, DecodeFault>
+    ensures { Gives (λ request. request) result (list_request_at bytes.now) }
+{
+    let (query, rest) = query_of(bytes)?;
+    let (prefix, rest) = path_of(alloc, rest)?;
+    let (filter, rest) = filter_of(alloc, rest)?;
+    let message = Request::List {
+        query,
+        prefix,
+        filter,
+    };
+    whole(message, rest)
+}
+
 #[tactic(auto, unfolding(crate::specs::Reading::basis_is_at))]
 fn basis_is_of(alloc: Global, bytes: &[u8]) -> Result<Reply, DecodeFault>
     ensures { Gives (λ reply. reply) result (basis_is_at bytes.now) }
 {
     let (query, rest) = query_of(bytes)?;
     let (position, rest) = position_of(rest)?;
-    let (paths, rest) = path_listing_of(alloc, rest)?;
+    let (paths, rest) = path_listing_of(alloc, None, rest)?;
     let message = Reply::BasisIs {
         query,
         position,
@@ -206,10 +242,12 @@ fn changes_are_of(alloc: Global, bytes: &[u8]) -> Result<Reply, DecodeFault>
     let (query, rest) = query_of(bytes)?;
     let (target, rest) = position_of(rest)?;
     let (marked, rest) = listing_of(alloc, rest)?;
+    let (prefixes, rest) = path_listing_of(alloc, None, rest)?;
     let message = Reply::ChangesAre {
         query,
         target,
         marked,
+        prefixes,
     };
     whole(message, rest)
 }
@@ -223,6 +261,23 @@ fn refused_of(bytes: &[u8]) -> Result<Reply, DecodeFault>
     whole(Reply::Refused { query, cause }, rest)
 }
 
+#[tactic(auto, unfolding(crate::specs::Reading::list_is_at))]
+fn list_is_of(alloc: Global, bytes: &[u8]) -> Result<Reply, DecodeFault>
+    ensures { Gives (λ reply. reply) result (list_is_at bytes.now) }
+{
+    let (query, rest) = query_of(bytes)?;
+    let (position, rest) = position_of(rest)?;
+    let (prefix, rest) = path_of(alloc, rest)?;
+    let (paths, rest) = path_listing_of(alloc, Some(&prefix), rest)?;
+    let message = Reply::ListIs {
+        query,
+        position,
+        prefix,
+        paths,
+    };
+    whole(message, rest)
+}
+
 #[tactic(auto, unfolding(crate::specs::Reading::read_request))]
 fn request_of(alloc: Global, body: &[u8]) -> Result<Request, DecodeFault>
     ensures { Gives (λ request. request) result (read_request body.now) }
@@ -232,6 +287,7 @@ fn request_of(alloc: Global, body: &[u8]) -> Result<Request, DecodeFault>
         0x01 => basis_of(alloc, rest),
         0x02 => poll_of(alloc, rest),
         0x03 => fetch_of(alloc, rest),
+        0x04 => list_request_of(alloc, rest),
         _ => Err(DecodeFault::BadTag),
     }
 }
@@ -246,6 +302,7 @@ fn reply_of(alloc: Global, body: &[u8]) -> Result<Reply, DecodeFault>
         0x82 => changes_are_of(alloc, rest),
         0x83 => content_is_of(alloc, rest),
         0x84 => refused_of(rest),
+        0x85 => list_is_of(alloc, rest),
         _ => Err(DecodeFault::BadTag),
     }
 }
@@ -266,7 +323,8 @@ pub fn decode_request(alloc: Global, body: &[u8]) -> Result<Request, DecodeFault
 
 /// Reads the body of a reply: exactly the bodies that spell one are read.
 ///
-/// The faults are those of `decode_request`, in the same order. A path that isn't above the one before it is `BadField`.
+/// The faults are those of `decode_request`, in the same order. A path that isn't above the one before it is `BadField`, and so is a
+/// path that is told to lie below a directory and doesn't.
 pub fn decode_reply(alloc: Global, body: &[u8]) -> Result<Reply, DecodeFault>
     ensures spelled { IfOk result (λ reply. SpellsReply body.now reply) }
     ensures all { (reply : Reply) → SpellsReply body.now reply → Gives (λ r. r) result (Ok reply) }

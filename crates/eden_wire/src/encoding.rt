@@ -154,10 +154,10 @@ fn put_cause(out: &mut Vec<u8>, cause: Cause) -> Result<(), AllocError>
 /// What each body begins with: the version, the tag and the query.
 #[tactic(auto, using(eden_ids::proofs::Fronts::grown_keeps))]
 fn put_head(out: &mut Vec<u8>, tag: u8, query: &Query) -> Result<(), AllocError>
-    ensures told { OnOk result (out.new.items ≡ out.old.items ++ (1 ∷ tag ∷ query_bytes query.now)) }
+    ensures told { OnOk result (out.new.items ≡ out.old.items ++ (2 ∷ tag ∷ query_bytes query.now)) }
     ensures front { KeepsFront out.old.items out.new.items }
 {
-    out.put_u8(1)?;
+    out.put_u8(2)?;
     out.put_u8(tag)?;
     put_query(out, query)?;
     Ok(())
@@ -187,6 +187,16 @@ fn put_request(out: &mut Vec<u8>, request: &Request) -> Result<(), AllocError>
             put_path(out, path)?;
             Ok(())
         }
+        Request::List {
+            query,
+            prefix,
+            filter,
+        } => {
+            put_head(out, 0x04, query)?;
+            put_path(out, prefix)?;
+            put_filter(out, filter)?;
+            Ok(())
+        }
     }
 }
 
@@ -210,10 +220,12 @@ fn put_reply(out: &mut Vec<u8>, reply: &Reply) -> Result<(), AllocError>
             query,
             target,
             marked,
+            prefixes,
         } => {
             put_head(out, 0x82, query)?;
             put_position(out, target)?;
             put_list(out, marked.as_slice())?;
+            put_paths(out, prefixes.as_slice())?;
             Ok(())
         }
         Reply::ContentIs {
@@ -231,6 +243,18 @@ fn put_reply(out: &mut Vec<u8>, reply: &Reply) -> Result<(), AllocError>
         Reply::Refused { query, cause } => {
             put_head(out, 0x84, query)?;
             put_cause(out, *cause)?;
+            Ok(())
+        }
+        Reply::ListIs {
+            query,
+            position,
+            prefix,
+            paths,
+        } => {
+            put_head(out, 0x85, query)?;
+            put_position(out, position)?;
+            put_path(out, prefix)?;
+            put_paths(out, paths.as_slice())?;
             Ok(())
         }
     }
@@ -275,8 +299,8 @@ pub fn append_reply(text: &mut Vec<u8>, reply: &Reply) -> Result<(), AllocError>
 /// The frame of a reply: four bytes of length, and the body that spells it.
 ///
 /// `TooLarge` comes exactly where the body would be longer than 16,777,216 bytes, and before any memory is taken; `NoMemory`
-/// where a growth was refused. A reply whose paths don't ascend has a frame too, but no body spells it, and it isn't read
-/// again.
+/// where a growth was refused. A reply whose paths don't ascend, or don't lie below the directory that they are told of, has a
+/// frame too, but no body spells it, and it isn't read again.
 pub fn encode_reply(alloc: Global, reply: &Reply) -> Result<Vec<u8>, EncodeFault>
     ensures spelled { (body : List ℕ) → SpellsReply body reply.now → IfOk result (λ bytes. bytes.items ≡ frame body) }
     ensures exact { IfOk result (λ bytes. bytes.items ≡ frame (reply_bytes reply.now)) }

@@ -8,8 +8,8 @@ pub fn request_law()
     ensures encoded { ReadRequestsAreSpelled }
 {}
 
-/// The body that spells a reply is decoded to it, and a body that was decoded to a reply spells it. A reply with paths out of order has no
-/// spelling: it is encoded, and not decoded again.
+/// The body that spells a reply is decoded to it, and a body that was decoded to a reply spells it. A reply with paths out of order, or
+/// beside the directory that they are told of, has no spelling: it is encoded, and not decoded again.
 pub fn reply_law()
     ensures decoded { RepliesAreReadBack }
     ensures encoded { ReadRepliesAreSpelled }

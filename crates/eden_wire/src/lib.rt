@@ -19,7 +19,7 @@
 //! assert_eq!(rt; frame.len(), 4 + 29);
 //! let request = decode_request(alloc, &frame.as_slice()[4..])?;
 //! assert!(rt; matches!(request, Request::Fetch { .. }));
-//! let fault = decode_request(alloc, b"\x02\x03".as_slice());
+//! let fault = decode_request(alloc, b"\x01\x03".as_slice());
 //! assert!(rt; matches!(fault, Err(DecodeFault::Version)));
 //! ```
 #![tactic(auto)]

@@ -5,15 +5,16 @@ use Rattle.std.specs.List.Sorted.{IsSortedBy}
 use Rattle.std.specs.Ordering.{is_lt, nat_cmp, on, then_cmp}
 use Rattle.std.specs.declared.cmp.Ordering.{Ordering}
 use Rattle.eden_messages.specs.declared.message.Request.{Request}
-use Rattle.eden_messages.specs.declared.message.Request.TheVariants.{Basis, Poll, Fetch}
+use Rattle.eden_messages.specs.declared.message.Request.TheVariants.{Basis, Poll, Fetch, List as Below}
 use Rattle.eden_messages.specs.Mirrors.{query_of}
 use Rattle.eden_follow.specs.declared.rows.Asked.{Asked}
 
--- the path of which a content is asked
+-- the path of which a content is asked, or what stands below it
 abbrev pub path_in : Request → List ℕ
 path_in (Basis query patterns) = []
 path_in (Poll query since patterns) = []
 path_in (Fetch query path) = path
+path_in (Below query prefix patterns) = prefix
 
 -- by mirror, life and number, and then by path
 abbrev pub question_cmp : Request → Request → Ordering

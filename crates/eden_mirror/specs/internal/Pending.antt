@@ -1,5 +1,5 @@
 -- The table of the paths of a round, of which some are answered.
-use Rattle.std.specs.Prelude.{◌≡◌, ℕ, Bool, cond, List, [], ◌∷◌, length}
+use Rattle.std.specs.Prelude.{◌≡◌, ℕ, Bool, false, cond, List, [], ◌∷◌, length, map}
 use Rattle.std.specs.Map.{keys_of}
 use Rattle.std.specs.List.{IsDistinct}
 use Rattle.eden_ids.specs.Sameness.{same_bytes}
@@ -18,3 +18,7 @@ AreDistinct ps = IsDistinct same_path ps
 pub record IsCounted (left : ℕ) (es : List (List ℕ × Bool)) : Type 0 where
   pub distinct : IsDistinct same_bytes (keys_of es)
   pub count : left ≡ length (pending es)
+
+-- a table of these paths, none of them answered
+abbrev pub fresh : List (List ℕ) → List (List ℕ × Bool)
+fresh ps = map (λ p. (p, false)) ps

@@ -1,5 +1,5 @@
 use Rattle.std.proofs.Common.{◌∷◌, ◌++◌}
-use Rattle.eden_messages.specs.Spells.{filter_bytes, position_bytes, query_bytes}
+use Rattle.eden_messages.specs.Spells.{filter_bytes, position_bytes, query_bytes, text_bytes}
 use Rattle.eden_wire.proofs.Written.{behind}
 use Rattle.eden_wire.proofs.encoding.put_request.Goals as goal
 
@@ -10,4 +10,13 @@ returns-in_ok-put_filter-in-Poll c =
     let filter = filter_bytes poll.filter in
     let new = c.put_filter-in-Poll.new.out.items in
     let rest = behind c.put_head-in-Poll.new.out.items since filter c.put_position.new.out.items new c.in_ok-put_position-in-Poll.ensures.told c.in_ok-put_filter-in-Poll.ensures in
-    rw poll.is (behind c.args.out.now.items (1 ∷ 2 ∷ query_bytes poll.query) (since ++ filter) c.put_head-in-Poll.new.out.items new c.in_ok-put_head-in-Poll.ensures.told rest)
+    rw poll.is (behind c.args.out.now.items (2 ∷ 2 ∷ query_bytes poll.query) (since ++ filter) c.put_head-in-Poll.new.out.items new c.in_ok-put_head-in-Poll.ensures.told rest)
+
+pub returns-in_ok-put_filter-in-List : goal.returns-in_ok-put_filter-in-List
+returns-in_ok-put_filter-in-List c =
+    let list = c.in-List in
+    let prefix = text_bytes list.prefix in
+    let filter = filter_bytes list.filter in
+    let new = c.put_filter-in-List.new.out.items in
+    let rest = behind c.put_head-in-List.new.out.items prefix filter c.put_path-in-List.new.out.items new c.in_ok-put_path-in-List.ensures.told c.in_ok-put_filter-in-List.ensures in
+    rw list.is (behind c.args.out.now.items (2 ∷ 4 ∷ query_bytes list.query) (prefix ++ filter) c.put_head-in-List.new.out.items new c.in_ok-put_head-in-List.ensures.told rest)

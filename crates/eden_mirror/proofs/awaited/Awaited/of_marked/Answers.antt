@@ -4,14 +4,14 @@ use Rattle.indexmap.specs.IndexMap.{insert_entry}
 use Rattle.eden_ids.specs.Sameness.{same_bytes}
 use Rattle.eden_messages.specs.Mirrors.{distinct}
 use Rattle.eden_messages.specs.Spells.{paths_of}
-use Rattle.eden_mirror.specs.internal.Pending.{pending}
-use Rattle.eden_mirror.proofs.Pending.{fresh, fresh-more, length-pending-fresh, pending-fresh, paths_of-more}
+use Rattle.eden_mirror.specs.internal.Pending.{fresh, pending}
+use Rattle.eden_mirror.proofs.Pending.{fresh-more, length-pending-fresh, pending-fresh, paths_of-more}
 use Rattle.eden_mirror.proofs.awaited.Awaited.of_marked.Goals as goal
 
 pub loop-marked-preserved : goal.loop-marked-preserved
 loop-marked-preserved c =
     let came = take c.loop-marked.marked-index c.args.listed.now in
-    c.in_ok-add.ensures
+    c.in_ok-add.ensures.ok
     ∙ ap (λ es. insert_entry same_bytes es c.marked-item.result.path false) c.loop-marked.invariant
     ∙ fresh-more (paths_of came) c.marked-item.result.path
     ∙ ap (λ ps. fresh (distinct ps)) (sym (paths_of-more came c.marked-item.result))

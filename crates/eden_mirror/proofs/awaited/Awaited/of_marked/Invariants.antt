@@ -1,7 +1,7 @@
 use Rattle.std.proofs.Common.{◌≡◌, take}
 use Rattle.eden_messages.specs.Mirrors.{distinct}
 use Rattle.eden_messages.specs.Spells.{paths_of}
-use Rattle.eden_mirror.proofs.Pending.{fresh}
+use Rattle.eden_mirror.specs.internal.Pending.{fresh}
 use Rattle.eden_mirror.proofs.awaited.Awaited.of_marked.Given as goal
 
 -- the table has the distinct paths of those that came, none of them answered
