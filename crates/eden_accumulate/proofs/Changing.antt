@@ -6,7 +6,7 @@ use Rattle.eden_ids.specs.declared.content.Content.{Content}
 use Rattle.eden_ids.specs.declared.content.Kind.{Kind}
 use Rattle.eden_ids.specs.FileMaps.{FileMap, file_at}
 use Rattle.eden_ids.proofs.FileMapLemmas.{file_at-insert_here, file_at-insert_other, file_at-remove_here}
-use Rattle.eden_journal.specs.FilesChanged.{FilesChanged}
+use Rattle.eden_journal.specs.FilesChanged.{FilesChanged, Touched}
 use Rattle.eden_journal.specs.declared.delta.Delta.TheVariants.{File}
 use Rattle.eden_journal.specs.Deltas.{touch, touched_at, moved_over}
 use Rattle.eden_objects.specs.Objects.{Held}
@@ -26,7 +26,8 @@ use Rattle.eden_ids.specs.Sameness.{same_bytes}
 use Rattle.eden_history.specs.Outcome.{event_at, is_event, next_files, next_root, next_row, refusal, row_after, takes_number}
 use Rattle.eden_history.specs.Spellable.{IsChange}
 use Rattle.eden_history.proofs.RenameLaws.{first-none}
-use Rattle.eden_accumulate.specs.Mounts.{IsRefusal, State, StandsFor, files_of, number_fault}
+use Rattle.eden_accumulate.specs.Mounts.{State, StandsFor, files_of}
+use Rattle.eden_accumulate.specs.internal.Refusals.{IsRefusal, number_fault}
 use Rattle.eden_accumulate.specs.internal.Rows.{Follows, Refuses}
 use Rattle.eden_accumulate.proofs.Histories.{answer-refused, event_of, grown, history-flushed, history-remounted}
 use Rattle.eden_accumulate.proofs.Standing.{IsPresent, has_number, number-left, number-out, refusal-free, refusal-numbered, log_recorded, made_stands}
@@ -181,7 +182,7 @@ delta-renamed commits row old new other apart here =
     ap (λ (m : FileMap). is_some (file_at m old)) after ∙ moved-old row.files old new (file_at row.files old) apart here in
     let to : is_some (file_at (renamed row.files old new) new) ≡ true =
     ap (λ (m : FileMap). is_some (file_at m new)) after ∙ moved-new row.files old new (file_at row.files old) here in
-    λ i. File (record { touches = touch old (sym here i) (sym from i) ∷ touch new (is_some (file_at row.files new)) (sym to i) ∷ [] })
+    λ i. File (Touched (touch old (sym here i) (sym from i) ∷ touch new (is_some (file_at row.files new)) (sym to i) ∷ []))
 
 files-renamed : (commits : Commits) (row : Row) (old new : List ℕ) → renamed row.files old new ≡ next_files commits row (Rename old new)
 unfolding next_files

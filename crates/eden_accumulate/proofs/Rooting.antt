@@ -6,7 +6,7 @@ use Rattle.eden_ids.specs.FileMaps.{FileMap, listing}
 use Rattle.eden_journal.specs.declared.delta.Delta.TheVariants.{Root}
 use Rattle.eden_objects.specs.Objects.{Held}
 use Rattle.eden_objects.specs.Commits.{commit_map}
-use Rattle.eden_objects.specs.Files.{commit_files}
+use Rattle.eden_objects.specs.Files.{commit_files, files_of}
 use Rattle.eden_journal.specs.Histories as journal
 use Rattle.eden_journal.specs.Histories.{History, recorded}
 use Rattle.eden_ranges.specs.Histories.{history_of}
@@ -21,13 +21,13 @@ use Rattle.eden_history.specs.declared.change.ChangeFault.{ChangeFault}
 use Rattle.eden_history.specs.declared.change.ChangeFault.TheVariants.{NoCommit}
 use Rattle.eden_history.specs.declared.position.Position.{Position}
 use Rattle.eden_history.specs.Checkouts.{checked_out, conflicts, is_dry, unclean}
-use Rattle.eden_history.specs.Named.{held_files}
 use Rattle.eden_history.specs.Spellable.{IsChange}
 use Rattle.eden_ids.specs.Texts.{IsIdText}
 use Rattle.eden_history.specs.Worlds.{Row, Commits, WorldState, commits_of, now}
 use Rattle.eden_history.specs.Recorded.{delta_of, starts}
 use Rattle.eden_history.specs.Outcome.{answer_at, change_fault, commit_fault, event_at, is_event, next_files, next_root, next_row, refusal, row_after}
-use Rattle.eden_accumulate.specs.Mounts.{IsRefusal, State, StandsFor}
+use Rattle.eden_accumulate.specs.Mounts.{State, StandsFor}
+use Rattle.eden_accumulate.specs.internal.Refusals.{IsRefusal}
 use Rattle.eden_accumulate.specs.internal.Rows.{Follows}
 use Rattle.eden_accumulate.proofs.Histories.{event_of}
 use Rattle.eden_accumulate.proofs.Standing.{IsPresent, log_recorded, made_stands}
@@ -98,12 +98,12 @@ reset_follows {held} {old} {new} {log} {other} {more} {mount} commit view judged
 -- ---- checkout
 
 files-checked : (commits : Commits) (row : Row) (commit : Id) (mode : Mode)
-    → checked_out mode row.files (held_files commits row.root) (held_files commits commit) ≡ next_files commits row (Checkout commit mode)
+    → checked_out mode row.files (files_of (commits row.root)) (files_of (commits commit)) ≡ next_files commits row (Checkout commit mode)
 unfolding next_files
 files-checked commits row commit mode = refl
 
 delta-checked : (commits : Commits) (row : Row) (commit : Id) (mode : Mode)
-    → Root row.root (listing (unclean row.files (held_files commits row.root) (checked_out mode row.files (held_files commits row.root) (held_files commits commit)) (held_files commits commit)))
+    → Root row.root (listing (unclean row.files (files_of (commits row.root)) (checked_out mode row.files (files_of (commits row.root)) (files_of (commits commit))) (files_of (commits commit))))
     ≡ delta_of row (event_at commits row (Checkout commit mode) (next_row commits row (Checkout commit mode)))
 unfolding next_row next_files
 delta-checked commits row commit mode = refl
@@ -112,7 +112,7 @@ delta-checked commits row commit mode = refl
 pub three : {X : Type 0} (f : FileMap → FileMap → FileMap → X) (held : List Held) (old : WorkCopy) (log : journal.Log) (mount : State) → state held old log ≡ mount
     → (world : WorldState) → StandsFor mount world → (commit : Id)
     → f (means held old) (root_files held old) (commit_files held commit)
-    ≡ f (now world).files (held_files (commits_of world) (now world).root) (held_files (commits_of world) commit)
+    ≡ f (now world).files (files_of (commits_of world (now world).root)) (files_of (commits_of world commit))
 three f held old log mount view world h commit =
     let h-old : StandsFor (state held old log) world = subst (λ m. StandsFor m world) (sym view) h in
     λ i. f (h-old.files i) (commit_files (h-old.held i) (h-old.root i)) (commit_files (h-old.held i) commit)

@@ -1,5 +1,5 @@
 -- A snapshot shows the paths of the files that a mount holds.
-use Rattle.std.proofs.Common.{◌≡◌, ◌≢◌, ℕ, Bool, List, Option, Some, None, true, is_some, Err, refl, sym, ap, ◌∙◌}
+use Rattle.std.proofs.Common.{◌≡◌, ◌≢◌, ℕ, Bool, List, [], ◌∷◌, Option, Some, None, true, false, cond, is_some, Err, refl, sym, ap, ◌∙◌}
 use Rattle.std.specs.Prelude.{filter, IsSome}
 use Rattle.eden_globs.specs.Filters.{admits}
 use Rattle.eden_ids.specs.declared.id.Id.{Id}
@@ -38,6 +38,42 @@ pub unlisted : (held : List Held) (root : Id) (test : List ℕ → Bool) (fault 
     → commit_map held root ≡ None
 unlisted held root test NoCommit is other = no_rows held root test is
 unlisted held root test NoMemory is other = absurd (other refl)
+
+-- and so does one that passes one test after another
+pub below_there : (held : List Held) (root : Id) (wanted test : List ℕ → Bool) (rows : List Row) → rows_where wanted (rows_where test (commit_rows held root)) ≡ Some rows
+    → IsSome (commit_map held root)
+below_there held root wanted test rows is = by (rows_where test (commit_rows held root)) refl is
+  where
+    by : (found : Option (List Row)) → rows_where test (commit_rows held root) ≡ found → rows_where wanted found ≡ Some rows → IsSome (commit_map held root)
+    by None e is = absurd (cc)
+    by (Some all) e is = rows_there held root test all e
+
+pub unlisted_below : (held : List Held) (root : Id) (wanted test : List ℕ → Bool) (fault : CommitFault)
+    → Lists (Err fault) (rows_where wanted (rows_where test (commit_rows held root))) → fault ≢ NoMemory → commit_map held root ≡ None
+unlisted_below held root wanted test NoMemory is other = absurd (other refl)
+unlisted_below held root wanted test NoCommit is other = by (rows_where test (commit_rows held root)) refl is
+  where
+    by : (found : Option (List Row)) → rows_where test (commit_rows held root) ≡ found → rows_where wanted found ≡ None → commit_map held root ≡ None
+    by None e is = no_rows held root test e
+    by (Some all) e is = absurd (cc)
+
+-- of two tests either may come first
+pub filters_turned : (s t : List ℕ → Bool) (ps : List (List ℕ)) → filter s (filter t ps) ≡ filter t (filter s ps)
+filters_turned s t [] = refl
+filters_turned s t (p ∷ ps) = by (s p) (t p) refl refl (filters_turned s t ps)
+  where
+    last : List (List ℕ)
+    last = filter s (filter t ps)
+
+    first : List (List ℕ)
+    first = filter t (filter s ps)
+
+    by : (a b : Bool) → s p ≡ a → t p ≡ b → last ≡ first → filter s (cond b (p ∷ filter t ps) (filter t ps)) ≡ filter t (cond a (p ∷ filter s ps) (filter s ps))
+    by true true sa tb more =
+        ap (λ c. cond c (p ∷ last) last) sa ∙ ap (λ (qs : List (List ℕ)). p ∷ qs) more ∙ sym (ap (λ c. cond c (p ∷ first) first) tb)
+    by true false sa tb more = more ∙ sym (ap (λ c. cond c (p ∷ first) first) tb)
+    by false true sa tb more = ap (λ c. cond c (p ∷ last) last) sa ∙ more
+    by false false sa tb more = more
 
 -- the paths that a snapshot of a working copy shows are those of its files
 pub shows : (held : List Held) (work : WorkCopy) (root : Id) (touched : List Mark) (patterns : List (List ℕ)) (files : FileMap)

@@ -29,7 +29,8 @@ use Rattle.eden_history.specs.Spellable.{IsChange}
 use Rattle.eden_history.proofs.Steps.{has-number}
 use Rattle.eden_history.proofs.LegalFiles.{world_opens, next_row_files}
 use Rattle.eden_history.proofs.Spelled.{spellable_grows, spellable_opens}
-use Rattle.eden_accumulate.specs.Mounts.{begun_at, IsRefusal, State, StandsFor, files_of, number_fault}
+use Rattle.eden_accumulate.specs.Mounts.{begun_at, State, StandsFor, files_of}
+use Rattle.eden_accumulate.specs.internal.Refusals.{IsRefusal, number_fault}
 use Rattle.eden_accumulate.specs.internal.Rows.{Follows, Refuses}
 use Rattle.eden_accumulate.proofs.Histories.{after-event, after-nothing, answer-allowed, answer-refused, event_of, generation-kept, grown, grown_world, head_is, history-recorded, root-made}
 

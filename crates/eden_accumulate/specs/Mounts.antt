@@ -1,5 +1,5 @@
 -- What a mount holds, and of which history of changes it is the present.
-use Rattle.std.specs.Prelude.{◌≡◌, ℕ, ◌-◌, ◌^◌, nat_lt, if◌then◌else◌, List, [], Option, Some, None}
+use Rattle.std.specs.Prelude.{◌≡◌, ◌-◌, List, []}
 use Rattle.eden_ids.specs.FileMaps.{FileMap}
 use Rattle.eden_objects.specs.Objects.{Held}
 use Rattle.eden_objects.specs.Closed.{AllNamed, IsClosed}
@@ -13,10 +13,9 @@ use Rattle.eden_history.specs.declared.answer.Answer.{Answer}
 use Rattle.eden_history.specs.declared.answer.Answer.TheVariants.{Refused}
 use Rattle.eden_history.specs.declared.change.Change.{Change}
 use Rattle.eden_history.specs.declared.change.ChangeFault.{ChangeFault}
-use Rattle.eden_history.specs.declared.change.ChangeFault.TheVariants.{SequenceExhausted}
-use Rattle.eden_history.specs.Worlds.{Namer, WorldState, commits_of, now}
+use Rattle.eden_history.specs.Worlds.{Namer, WorldState, now}
 use Rattle.eden_history.specs.Imports.{over_held}
-use Rattle.eden_history.specs.Outcome.{answer_of, refusal, world_after}
+use Rattle.eden_history.specs.Outcome.{answer_of, world_after}
 use Rattle.eden_history.specs.Legal.{IsSomeWorld}
 use Rattle.eden_history.specs.Spellable.{IsSpellable}
 
@@ -56,14 +55,6 @@ Follows name mount change after = (world : WorldState) → StandsFor mount world
 
 abbrev pub Refuses : Namer → State → Change → ChangeFault → Type 0
 Refuses name mount change fault = Answers name mount change (Refused fault)
-
--- why a change is refused, or that it is not, in each world for which the mount stands
-abbrev pub IsRefusal : State → Change → Option ChangeFault → Type 0
-IsRefusal mount change fault = (world : WorldState) → StandsFor mount world → fault ≡ refusal (commits_of world) (now world) change
-
--- that no number is left for one more event
-abbrev pub number_fault : ℕ → Option ChangeFault
-number_fault head = if nat_lt head (2 ^ 64 - 1) then None else Some SequenceExhausted
 
 -- the world that begins with a mount as it is
 abbrev pub begun_at : State → WorldState

@@ -3,6 +3,7 @@
 ghost use Rattle.std.specs.Prelude.{◌≡◌, ◌≢◌, None, Some, true, IfOk, IfErr};
 ghost use Rattle.eden_objects.specs.Commits.{commit_map};
 ghost use Rattle.eden_history.specs.Worlds.{WorldState, now, position_of};
+ghost use Rattle.eden_history.specs.Changes.{prefixes_since};
 ghost use Rattle.eden_history.specs.Marks.{marked_since};
 ghost use Rattle.eden_ranges.specs.Expanded.{are_commits, are_comparable};
 ghost use Rattle.eden_ranges.specs.WorldRanges.{changes_since, roots_since, unclean_since};
@@ -12,9 +13,10 @@ ghost use Rattle.eden_accumulate.specs.Ranges.{EndsNow, IsStatus, Tells};
 use crate::mount::Mount;
 use eden_globs::Filter;
 use eden_history::{Marked, Position, SinceFault};
-use eden_ids::Naming;
+use eden_ids::{Naming, Path, Sequence};
 use eden_objects::CommitFault;
 use eden_ranges::{Range, accumulate, expand_owned};
+use std::mem;
 
 /// What changed since a position, told path by path.
 #[derive(Drop)]
@@ -23,6 +25,8 @@ pub struct Changes {
     pub to: Position,
     /// The paths, in byte order, each with what became of it.
     pub marked: Vec<Marked>,
+    /// The directories that were renamed, before and after, each once and in byte order: any path below one of them may have changed.
+    pub prefixes: Sequence<Path>,
 }
 
 impl<N: Naming + Drop> Mount<N> {
@@ -39,6 +43,8 @@ impl<N: Naming + Drop> Mount<N> {
         ensures ends { IfOk result (λ range. EndsNow self.now range) }
         ensures changes { IfOk result (λ range. (world : WorldState) → StandsFor self.now world
             → range.changes ≡ changes_since world position.now.sequence) }
+        ensures prefixes { IfOk result (λ range. (world : WorldState) → StandsFor self.now world
+            → range.prefixes ≡ prefixes_since world position.now.sequence) }
         ensures unclean { IfOk result (λ range. (world : WorldState) → StandsFor self.now world
             → range.unclean ≡ unclean_since world position.now.sequence) }
         ensures roots { IfOk result (λ range. (world : WorldState) → StandsFor self.now world
@@ -57,7 +63,8 @@ impl<N: Naming + Drop> Mount<N> {
         }
     }
 
-    /// The same, expanded at once: the paths that changed since a position, each with what became of it, and the present position.
+    /// The same, expanded at once: the paths that changed since a position, each with what became of it, the directories that were
+    /// renamed, and the present position.
     ///
     /// A position is refused as by `range_since`, and `NoMemory` may stand in place of any answer where a growth was refused. Commits that
     /// the mount left or reached since the position are compared.
@@ -66,16 +73,23 @@ impl<N: Naming + Drop> Mount<N> {
         ensures to { IfOk result (λ changes. (world : WorldState) → StandsFor self.now world → changes.to ≡ position_of (now world)) }
         ensures marked { IfOk result (λ changes. (world : WorldState) → StandsFor self.now world
             → changes.marked.items ≡ marked_since world position.now.sequence) }
+        ensures prefixes { IfOk result (λ changes. (world : WorldState) → StandsFor self.now world
+            → changes.prefixes ≡ prefixes_since world position.now.sequence) }
         ensures refuses { IfErr result (λ fault. fault ≢ SinceFault.NoMemory → IsStatus self.now position.now (Some fault)) }
     {
-        let range = match self.range_since(position) {
+        let mut range = match self.range_since(position) {
             Ok(range) => range,
             Err(fault) => return Err(fault),
         };
         let to = range.to;
         let alloc = self.store.allocator();
+        let prefixes = mem::replace(&mut range.prefixes, Sequence::new(alloc));
         match expand_owned(alloc, &self.store, range, &Filter::all(alloc)) {
-            Ok(marked) => Ok(Changes { to, marked }),
+            Ok(marked) => Ok(Changes {
+                to,
+                marked,
+                prefixes,
+            }),
             // Each root of a mount's range is a commit.
             Err(CommitFault::NoCommit) => unreachable!(),
             Err(CommitFault::NoMemory) => Err(SinceFault::NoMemory),

@@ -6,7 +6,8 @@ ghost use Rattle.eden_history.specs.declared.answer.Answer.TheVariants as answer
 ghost use Rattle.eden_history.specs.declared.change.Change.TheVariants.{Checkout, Reset};
 ghost use Rattle.eden_history.specs.Checkouts as checkouts;
 ghost use Rattle.eden_history.specs.Outcome as outcome;
-ghost use Rattle.eden_accumulate.specs.Mounts.{Answers, Follows, IsRefusal, Refuses};
+ghost use Rattle.eden_accumulate.specs.Mounts.{Answers, Follows, Refuses};
+ghost use Rattle.eden_accumulate.specs.internal.Refusals.{IsRefusal};
 
 use crate::mount::Mount;
 use eden_checkout::plan;

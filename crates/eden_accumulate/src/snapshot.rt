@@ -6,13 +6,14 @@ ghost use Rattle.eden_objects.specs.Commits.{commit_map};
 ghost use Rattle.eden_workcopy.specs.Layers.{by_bytes};
 ghost use Rattle.eden_workcopy.specs.Listings.{admitted};
 ghost use Rattle.eden_workcopy.specs.Meanings.{touched_of};
+ghost use Rattle.eden_history.specs.Changes.{below};
 ghost use Rattle.eden_history.specs.Worlds.{WorldState, now, position_of};
 ghost use Rattle.eden_accumulate.specs.Mounts.{StandsFor};
 
 use crate::mount::Mount;
 use eden_globs::Filter;
 use eden_history::Position;
-use eden_ids::{Naming, NoMemory, Path, Sequence};
+use eden_ids::{Naming, NoMemory, Path, Sequence, paths_below};
 use eden_objects::{CommitFault, Store};
 use eden_workcopy::woven;
 
@@ -51,6 +52,27 @@ impl Snapshot {
         store.closed_law();
         let rows = store.list(self.position.root, filter)?;
         let touched = self.touched.as_slice();
+        Ok(woven(store.allocator(), rows, touched, filter)?)
+    }
+
+    /// The paths of the files below a directory that a filter admits, in byte order, over a store that has the position's commit. The path
+    /// need not be a directory's: then there are none.
+    ///
+    /// `NoCommit` comes where the store hasn't that commit, and `NoMemory` may stand in place of any answer where a growth was refused. Of
+    /// the commit only the directories on the way are searched, and those below are read below which the filter may admit something.
+    pub fn files_below<N: Naming + Drop>(
+        &self,
+        store: &Store<N>,
+        prefix: &Path,
+        filter: &Filter,
+    ) -> Result<Vec<Path>, CommitFault>
+        ensures files { IfOk result (λ paths. paths.items ≡ below prefix.now (shown_to filter.now store.now self.now)) }
+        ensures accepts { IfOk result (λ _. IsSome (commit_map store.now self.now.position.root)) }
+        ensures refuses { IfErr result (λ fault. fault ≢ CommitFault.NoMemory → commit_map store.now self.now.position.root ≡ None) }
+    {
+        store.closed_law();
+        let rows = store.list_below(self.position.root, prefix, filter)?;
+        let touched = paths_below(self.touched.as_slice(), prefix.as_bytes());
         Ok(woven(store.allocator(), rows, touched, filter)?)
     }
 }

@@ -1,9 +1,10 @@
 -- Files that are put where a rule says another file than the one that stands there.
-use Rattle.std.proofs.Common.{◌≡◌, ℕ, suc, zero, ◌+◌, ◌<◌, Bool, true, false, cond, not, ◌||◌, List, [], ◌∷◌, take, length, Option, Some, None, refl, sym, ap, ◌∙◌, arith, add-one}
+use Rattle.std.proofs.Common.{◌≡◌, ℕ, suc, zero, ◌+◌, ◌<◌, Bool, true, false, cond, ◌||◌, List, [], ◌∷◌, take, length, Option, refl, sym, ap, ◌∙◌, arith, add-one}
 use Rattle.std.specs.List.{list_any, slice_index_or}
 use Rattle.eden_ids.specs.declared.content.Content.{Content}
 use Rattle.eden_ids.specs.FileMaps.{FileMap, file_at, has, listing, differ, put_option, same_file, same_path}
-use Rattle.eden_ids.proofs.FileMapLemmas.{file_at-insert, file_at-remove, has-differ, has-listing, same_file-is, same_file_map, same_path-is, put_option-at}
+use Rattle.eden_ids.proofs.FileMapLemmas.{has-differ, has-listing, same_file-is, same_file_map, same_path-is, put_option-at}
+use Rattle.eden_ids.proofs.Bools.{or_turned}
 use Rattle.eden_history.specs.Checkouts.{checked_out, conflicts, is_clean, rule_of}
 use Rattle.eden_history.proofs.CheckoutLaws.{file_at-checked_out, force_elsewhere, has-conflicts, normal_elsewhere}
 use Rattle.eden_history.specs.declared.change.Mode.{Mode}
@@ -28,12 +29,7 @@ settled_nothing rule m q = refl
 pub any_suc : (test : List ℕ → Bool) (ps : List (List ℕ)) (i : ℕ) (p : List ℕ) → i < length ps → p ≡ slice_index_or ps i p → list_any test (take (suc i) ps) ≡ (test p || list_any test (take i ps))
 any_suc test [] i p within is = absurd (omega arith)
 any_suc test (x ∷ ps) zero p within is = ap (λ q. test q || false) (sym is)
-any_suc test (x ∷ ps) (suc i) p within is = ap (λ b. test x || b) (any_suc test ps i p (omega arith) is) ∙ swapped (test x) (test p) _
-  where
-    swapped : (a b c : Bool) → (a || (b || c)) ≡ (b || (a || c))
-    swapped true true c = refl
-    swapped true false c = refl
-    swapped false b c = refl
+any_suc test (x ∷ ps) (suc i) p within is = ap (λ b. test x || b) (any_suc test ps i p (omega arith) is) ∙ or_turned (test x) (test p) _
 
 pub settled_more : (rule : List ℕ → Option Content) (old m n : FileMap) (ps : List (List ℕ)) (i : ℕ) (p : List ℕ) (f : Option Content) → i < length ps → p ≡ slice_index_or ps i p
     → n ≡ put_option m p f → f ≡ rule p → Settled rule old (take i ps) m → Settled rule old (take (i + 1) ps) n

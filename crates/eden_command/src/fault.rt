@@ -1,3 +1,5 @@
+//! Why a program did not end well, and the status that it then ends with.
+
 ghost use Rattle.std.specs.Prelude.{◌≡◌};
 ghost use Rattle.eden_command.specs.Statuses.{status_of};
 

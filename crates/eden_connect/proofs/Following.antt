@@ -2,15 +2,16 @@
 use Rattle.std.proofs.Common.{◌≡◌, ℕ, ◌+◌, ◌≤◌, ◌^◌, ◌<◌, Bool, true, false, ◌||◌, List, [], ◌∷◌, ◌++◌, length, length-append, Option, refl, sym, ap, ◌∙◌, if◌then◌else◌, ◌-◌, arith}
 use Rattle.std.specs.Prelude.{OnOk, Result, Ok, Err}
 use Rattle.std.specs.Io.KnownBytes.{Appends}
+use Rattle.std.proofs.Math.Bool.{or-false, or_assoc}
 use Rattle.eden_ids.specs.FileMaps.{put_option}
 use Rattle.eden_history.specs.declared.position.Position.{Position}
 use Rattle.eden_messages.specs.declared.message.Query.{Query}
-use Rattle.eden_messages.specs.declared.message.Request.TheVariants.{Basis, Poll, Fetch}
+use Rattle.eden_messages.specs.declared.message.Request.TheVariants.{Basis, Poll, Fetch, List as Below}
 use Rattle.eden_messages.specs.declared.message.Cause.TheVariants.{Stale, Ahead, Truncated, TooLarge}
 use Rattle.eden_messages.specs.declared.message.Reply.{Reply}
-use Rattle.eden_messages.specs.declared.message.Reply.TheVariants.{BasisIs, ChangesAre, ContentIs, Refused}
+use Rattle.eden_messages.specs.declared.message.Reply.TheVariants.{BasisIs, ChangesAre, ContentIs, Refused, ListIs}
 use Rattle.eden_messages.specs.declared.outcome.Outcome.{Outcome}
-use Rattle.eden_messages.specs.Mirrors.{MirrorState, Round, begun, delivered, delivered_in, distinct, emptied, gathers, has_number, next_round, taken_if, without}
+use Rattle.eden_messages.specs.Mirrors.{MirrorState, Round, begun, delivered, delivered_in, distinct, emptied, gathers, has_number, listed_files, next_round, taken_if, without}
 use Rattle.eden_messages.specs.Mirrors.Round.{Idle, Asked, Gathering}
 use Rattle.eden_messages.specs.Spells.{paths_of}
 use Rattle.eden_mirror.specs.Counting.{after}
@@ -22,20 +23,12 @@ pub after-append : (m : MirrorState) (replies more : List Reply) → after m (re
 after-append m [] more = refl
 after-append m (reply ∷ replies) more = after-append (delivered m reply).0 replies more
 
-or_assoc : (a b c : Bool) → (a || (b || c)) ≡ ((a || b) || c)
-or_assoc true b c = refl
-or_assoc false b c = refl
-
-or_false : (a : Bool) → (a || false) ≡ a
-or_false true = refl
-or_false false = refl
-
 pub any_counts-snoc : (m : MirrorState) (replies : List Reply) (reply : Reply)
     → any_counts m (replies ++ reply ∷ []) ≡ (any_counts m replies || counts (delivered (after m replies) reply).1)
-any_counts-snoc m [] reply = or_false (counts (delivered m reply).1)
+any_counts-snoc m [] reply = or-false (counts (delivered m reply).1)
 any_counts-snoc m (first ∷ replies) reply =
     ap (λ b. counts (delivered m first).1 || b) (any_counts-snoc (delivered m first).0 replies reply)
-    ∙ or_assoc (counts (delivered m first).1) (any_counts (delivered m first).0 replies) (counts (delivered (after (delivered m first).0 replies) reply).1)
+    ∙ sym (or_assoc (counts (delivered m first).1) (any_counts (delivered m first).0 replies) (counts (delivered (after (delivered m first).0 replies) reply).1))
 
 pub hears_none : (m : MirrorState) → Hears m m
 hears_none m = record { replies = []; taken = refl }
@@ -48,9 +41,10 @@ hears_more m n o past next = record {
 
 -- ---- the number of the last round is none of a reply's business
 
-gathers_last : (m : MirrorState) (query : Query) (target : Position) (paths : List (List ℕ)) → (gathers m query target paths).0.last ≡ m.last
-gathers_last m query target [] = refl
-gathers_last m query target (path ∷ paths) = refl
+gathers_last : (m : MirrorState) (query : Query) (target : Position) (paths prefixes : List (List ℕ)) → (gathers m query target paths prefixes).0.last ≡ m.last
+gathers_last m query target [] [] = refl
+gathers_last m query target [] (prefix ∷ prefixes) = refl
+gathers_last m query target (path ∷ paths) prefixes = refl
 
 taken_last : (b : Bool) (m : MirrorState) (made : MirrorState × Outcome) → made.0.last ≡ m.last → (taken_if b m made).0.last ≡ m.last
 taken_last true m made e = e
@@ -58,24 +52,32 @@ taken_last false m made e = refl
 
 in_last : (m : MirrorState) (round : Round) (reply : Reply) → (delivered_in m round reply).0.last ≡ m.last
 in_last m Idle (BasisIs query position paths) = refl
-in_last m Idle (ChangesAre query target marked) = refl
+in_last m Idle (ChangesAre query target marked prefixes) = refl
 in_last m Idle (ContentIs query position path content) = refl
 in_last m Idle (Refused query cause) = refl
-in_last m (Asked (Basis asked patterns)) (BasisIs query position paths) = taken_last _ m _ (gathers_last (emptied m) asked position (distinct paths))
+in_last m Idle (ListIs query position prefix paths) = refl
+in_last m (Asked (Basis asked patterns)) (BasisIs query position paths) = taken_last _ m _ (gathers_last (emptied m) asked position (distinct paths) [])
 in_last m (Asked (Poll asked since patterns)) (BasisIs query position paths) = refl
 in_last m (Asked (Fetch asked path)) (BasisIs query position paths) = refl
-in_last m (Asked (Basis asked patterns)) (ChangesAre query target marked) = refl
-in_last m (Asked (Poll asked since patterns)) (ChangesAre query target marked) = taken_last _ m _ (gathers_last m asked target (distinct (paths_of marked)))
-in_last m (Asked (Fetch asked path)) (ChangesAre query target marked) = refl
+in_last m (Asked (Below asked prefix patterns)) (BasisIs query position paths) = refl
+in_last m (Asked (Basis asked patterns)) (ChangesAre query target marked prefixes) = refl
+in_last m (Asked (Poll asked since patterns)) (ChangesAre query target marked prefixes) =
+    taken_last _ m _ (gathers_last m asked target (distinct (paths_of marked)) (distinct prefixes))
+in_last m (Asked (Fetch asked path)) (ChangesAre query target marked prefixes) = refl
+in_last m (Asked (Below asked prefix patterns)) (ChangesAre query target marked prefixes) = refl
 in_last m (Asked request) (ContentIs query position path content) = refl
 in_last m (Asked request) (Refused query (Stale generation)) = taken_last _ m _ refl
 in_last m (Asked request) (Refused query (Ahead head)) = taken_last _ m _ refl
 in_last m (Asked request) (Refused query (Truncated floor)) = taken_last _ m _ refl
 in_last m (Asked request) (Refused query TooLarge) = taken_last _ m _ refl
-in_last m (Gathering asked target awaited) (BasisIs query position paths) = refl
-in_last m (Gathering asked target awaited) (ChangesAre query position marked) = refl
-in_last m (Gathering asked target awaited) (ContentIs query position path content) = taken_last _ m _ (gathers_last (record m { files = put_option m.files path content }) asked target (without path awaited))
-in_last m (Gathering asked target awaited) (Refused query cause) = refl
+in_last m (Asked request) (ListIs query position prefix paths) = refl
+in_last m (Gathering asked target awaited prefixes) (BasisIs query position paths) = refl
+in_last m (Gathering asked target awaited prefixes) (ChangesAre query position marked others) = refl
+in_last m (Gathering asked target awaited prefixes) (ContentIs query position path content) =
+    taken_last _ m _ (gathers_last (record m { files = put_option m.files path content }) asked target (without path awaited) prefixes)
+in_last m (Gathering asked target awaited prefixes) (Refused query cause) = taken_last _ m _ refl
+in_last m (Gathering asked target awaited prefixes) (ListIs query position prefix paths) =
+    taken_last _ m _ (gathers_last (record m { files = listed_files m.files prefix paths }) asked target (distinct (awaited ++ paths)) (without prefix prefixes))
 
 delivered_last : (m : MirrorState) (reply : Reply) → (delivered m reply).0.last ≡ m.last
 unfolding delivered

@@ -62,9 +62,13 @@ impl Collector {
         };
     }
 
-    /// How many contents the list of the round named, where these requests are those that are outstanding.
+    /// How many contents the lists of the round have named so far, where these requests are those that are outstanding.
     pub(crate) fn named(&self, requests: &[Request]) -> u64 {
-        self.came.saturating_add(requests.len() as u64)
+        let fetches = requests
+            .iter()
+            .filter(|request| matches!(request, Request::Fetch { .. }))
+            .count();
+        self.came.saturating_add(fetches as u64)
     }
 
     /// Delivers a reply, and tells whether it counted. Of a content that counted `progress` is told, and of how many contents it is one.

@@ -80,7 +80,7 @@ fn follow_round<I: Read, O: Write, P: Progress>(
             return Ok(());
         }
     }
-    // Each step between the first and the last brings a content that counts, and no list names so many paths.
+    // Each step between the first and the last brings a content or a list of a directory that counts, and no round awaits so many of them.
     Err(LinkFault::Lost)
 }
 

@@ -5,6 +5,7 @@ use Rattle.std.proofs.lemmas.List.Folds.{list_any-append}
 use Rattle.std.proofs.Math.Seq.{take-append_seam, take-length}
 use Rattle.std.specs.Map.{lookup}
 use Rattle.std.specs.Prelude.{find}
+use Rattle.std.proofs.lemmas.Bool.{or_parts}
 use Rattle.eden_ids.specs.declared.id.Id.{Id}
 use Rattle.eden_ids.specs.Sameness.{same_id}
 use Rattle.eden_objects.proofs.Lookup.{turn}
@@ -69,21 +70,17 @@ firsts_noted old new made id firsts noted =
 none_left : (bindings : List Binding) (id : Id) (b : Binding) → same_id b.id id ≡ false → still_binds bindings id b ≡ false
 none_left bindings id b other = ap (λ t. t && is_id (newest bindings b.label) id) other
 
-or_false : (a b : Bool) → (a || b) ≡ false → (a ≡ false) × (b ≡ false)
-or_false true b h = cc h
-or_false false b h = (refl, h)
-
 pub none_found : (bindings : List Binding) (id : Id) (made : List Binding) → binds_any id made ≡ false → find (still_binds bindings id) made ≡ None
 none_found bindings id [] none = refl
 none_found bindings id (b ∷ made) none =
-    let parts = or_false (same_id b.id id) (binds_any id made) none in
+    let parts = or_parts (same_id b.id id) (binds_any id made) none in
     ap (λ t. cond t (Some b) (find (still_binds bindings id) made)) (none_left bindings id b parts.0) ∙ none_found bindings id made parts.1
 
 found_behind : (bindings : List Binding) (id : Id) (front made : List Binding) → binds_any id front ≡ false
     → find (still_binds bindings id) (front ++ made) ≡ find (still_binds bindings id) made
 found_behind bindings id [] made none = refl
 found_behind bindings id (b ∷ front) made none =
-    let parts = or_false (same_id b.id id) (binds_any id front) none in
+    let parts = or_parts (same_id b.id id) (binds_any id front) none in
     ap (λ t. cond t (Some b) (find (still_binds bindings id) (front ++ made))) (none_left bindings id b parts.0) ∙ found_behind bindings id front made parts.1
 
 pub found_from : (bindings : List Binding) (id : Id) (made : List Binding) (at : ℕ) → binds_any id (take at made) ≡ false

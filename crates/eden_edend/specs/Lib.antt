@@ -1,4 +1,3 @@
-pub mod Changing
 pub mod Openings
 pub mod OwnLabels
 pub mod internal

@@ -5,7 +5,7 @@ ghost use Rattle.eden_history.specs.declared.change.Change.{Change};
 ghost use Rattle.eden_script.specs.ScriptLines.{command_of};
 ghost use Rattle.eden_script.specs.Sessions.{change_of};
 ghost use Rattle.eden_script.specs.Words.{words_of};
-ghost use Rattle.eden_edend.specs.Changing.{Makes, change_in};
+ghost use Rattle.eden_edend.specs.internal.Changing.{Makes, change_in};
 
 use crate::changes::change_of;
 use crate::input::LineInput;

@@ -103,6 +103,7 @@ fn since(mount: &Mount<GitNaming>, generation: u64, sequence: u64) -> Result<Tol
     match mount.changes_since(&position) {
         Ok(changes) => Ok(Told::Changes {
             marked: Sequence::from_vec(changes.marked),
+            prefixes: changes.prefixes,
             to: changes.to,
         }),
         Err(SinceFault::NoMemory) => Err(NoMemory),

@@ -2,11 +2,11 @@
 
 ghost use Rattle.std.specs.Prelude.{◌≡◌, ◌++◌, OnOk};
 ghost use Rattle.eden_ids.specs.Fronts.{KeepsFront};
-ghost use Rattle.eden_script.specs.ToldText.{root_text, position_text, at_text, changes_text, answer_text, told_text};
+ghost use Rattle.eden_script.specs.ToldText.{root_text, position_text, at_text, prefixes_text, changes_text, answer_text, told_text};
 
 use crate::labels::Labels;
 use eden_history::{Answer, Marked, Position};
-use eden_ids::Id;
+use eden_ids::{Id, Path};
 use eden_script::{
     Refusal, Told, push_all_marked, push_bytes, push_content, push_id, push_id_line, push_listed,
     push_number, push_ok, push_refusal,
@@ -64,14 +64,26 @@ fn push_answer(text: &mut Vec<u8>, labels: &Labels, answer: &Answer) -> Result<(
     }
 }
 
+/// The lines of the directories that were renamed, where there are some: how many, and then each of them.
+fn push_prefixes(text: &mut Vec<u8>, prefixes: &[Path]) -> Result<(), AllocError>
+    ensures told { OnOk result (text.new.items ≡ text.old.items ++ prefixes_text prefixes.now) }
+    ensures front { KeepsFront text.old.items text.new.items }
+{
+    if prefixes.is_empty() {
+        return Ok(());
+    }
+    push_listed(text, b"prefixes ".as_slice(), prefixes)
+}
+
 /// The lines of what changed since a position: how many paths up to which position, and then each of them.
 fn push_changes(
     text: &mut Vec<u8>,
     labels: &Labels,
     marked: &[Marked],
+    prefixes: &[Path],
     position: &Position,
 ) -> Result<(), AllocError>
-    ensures told { OnOk result (text.new.items ≡ text.old.items ++ changes_text labels.now marked.now position.now) }
+    ensures told { OnOk result (text.new.items ≡ text.old.items ++ changes_text labels.now marked.now prefixes.now position.now) }
     ensures front { KeepsFront text.old.items text.new.items }
 {
     push_bytes(text, b"changes ".as_slice())?;
@@ -79,7 +91,8 @@ fn push_changes(
     push_bytes(text, b" to ".as_slice())?;
     push_position(text, labels, position)?;
     push_bytes(text, b"\n".as_slice())?;
-    push_all_marked(text, marked)
+    push_all_marked(text, marked)?;
+    push_prefixes(text, prefixes)
 }
 
 /// Prints what a line came to, by the labels after it. Where memory runs out a part may stand behind what stood there.
@@ -99,6 +112,10 @@ pub(crate) fn push_told(
         Told::Files(paths) => push_listed(text, b"files ".as_slice(), paths.as_slice()),
         Told::Dirty(paths) => push_listed(text, b"dirty ".as_slice(), paths.as_slice()),
         Told::File { kind, bytes } => push_content(text, *kind, bytes.as_slice()),
-        Told::Changes { marked, to } => push_changes(text, labels, marked.as_slice(), to),
+        Told::Changes {
+            marked,
+            prefixes,
+            to,
+        } => push_changes(text, labels, marked.as_slice(), prefixes.as_slice(), to),
     }
 }

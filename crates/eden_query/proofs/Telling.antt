@@ -15,10 +15,11 @@ use Rattle.eden_accumulate.specs.Ranges.{EndsNow, IsStatus, Tells}
 use Rattle.eden_history.specs.declared.answer.SinceFault.{SinceFault}
 use Rattle.eden_messages.specs.declared.message.Cause.{Cause}
 use Rattle.eden_messages.specs.declared.message.Query.{Query}
-use Rattle.eden_messages.specs.declared.message.Reply.TheVariants.{BasisIs, ChangesAre, ContentIs, Refused}
-use Rattle.eden_messages.specs.declared.message.Request.TheVariants.{Basis, Poll, Fetch}
+use Rattle.eden_messages.specs.declared.message.Reply.TheVariants.{BasisIs, ChangesAre, ContentIs, Refused, ListIs}
+use Rattle.eden_messages.specs.declared.message.Request.TheVariants.{Basis, Poll, Fetch, List as Below}
 use Rattle.eden_history.specs.declared.position.Position.{Position}
 use Rattle.eden_history.specs.Worlds.{Commits, WorldState, now, position_of}
+use Rattle.eden_history.specs.Changes.{below, prefixes_since}
 use Rattle.eden_history.specs.Status.{status_of}
 use Rattle.eden_history.specs.Marks.{admitted}
 use Rattle.eden_messages.specs.Replies.{admitted_paths, bounded, cause_of, polled, reply_of}
@@ -29,10 +30,11 @@ use Rattle.eden_logs.specs.Histories.{settled_by, settled_of}
 use Rattle.eden_query.specs.Settled.{settled}
 
 pub ranged_tells : (mount : State) (query : Query) (since : Position) (patterns : List (List ℕ)) (range : Range)
-    → IsStatus mount since None → EndsNow mount range → Tells mount since range → (world : WorldState) → StandsFor mount world
+    → IsStatus mount since None → EndsNow mount range → Tells mount since range
+    → ((world : WorldState) → StandsFor mount world → range.prefixes ≡ prefixes_since world since.sequence) → (world : WorldState) → StandsFor mount world
     → told mount.held patterns (raw.Ranged query range) ≡ reply_of world (Poll query since patterns)
-ranged_tells mount query since patterns range good ends tells world h =
-    (λ i. bounded query (ChangesAre query (ends world h i) (admitted patterns (tells world h i))))
+ranged_tells mount query since patterns range good ends tells prefixes world h =
+    (λ i. bounded query (ChangesAre query (ends world h i) (admitted patterns (tells world h i)) (prefixes world h i)))
     ∙ sym (ap (polled world query since.sequence patterns) (good world h))
 
 pub refused_tells : (mount : State) (query : Query) (since : Position) (patterns : List (List ℕ)) (fault : SinceFault) (cause : Cause)
@@ -47,6 +49,14 @@ pub based_tells : (mount : State) (query : Query) (patterns : List (List ℕ)) (
     → (world : WorldState) → StandsFor mount world
     → told mount.held patterns (raw.Based query snapshot) ≡ reply_of world (Basis query patterns)
 based_tells mount query patterns snapshot place files world h = λ i. bounded query (BasisIs query (place world h i) (files world h patterns i))
+
+pub listed_tells : (mount : State) (query : Query) (prefix : List ℕ) (patterns : List (List ℕ)) (snapshot : Snapshot)
+    → ((world : WorldState) → StandsFor mount world → snapshot.position ≡ position_of (now world))
+    → ((world : WorldState) → StandsFor mount world → (ps : List (List ℕ)) → shown_to ps mount.held snapshot ≡ admitted_paths ps (now world).files)
+    → (world : WorldState) → StandsFor mount world
+    → told mount.held patterns (raw.Listed query snapshot prefix) ≡ reply_of world (Below query prefix patterns)
+listed_tells mount query prefix patterns snapshot place files world h =
+    λ i. bounded query (ListIs query (place world h i) prefix (below prefix (files world h patterns i)))
 
 pub held_tells : (mount : State) (query : Query) (patterns : List (List ℕ)) (position : Position) (path : List ℕ) (content : Option Content)
     → ((world : WorldState) → StandsFor mount world → position ≡ position_of (now world)) → content ≡ file_at (files_of mount) path
@@ -79,11 +89,17 @@ pub held_commits : (mount : State) (query : Query) (position : Position) (path :
     → (world : WorldState) × StandsFor mount world → NamesCommits (commit_map mount.held) (raw.Held query position path content)
 held_commits mount query position path content place some = present_there mount position place some
 
+pub listed_commits : (mount : State) (query : Query) (snapshot : Snapshot) (prefix : List ℕ)
+    → ((world : WorldState) → StandsFor mount world → snapshot.position ≡ position_of (now world))
+    → (world : WorldState) × StandsFor mount world → NamesCommits (commit_map mount.held) (raw.Listed query snapshot prefix)
+listed_commits mount query snapshot prefix place some = present_there mount snapshot.position place some
+
 -- what names commits alone can be answered
 pub named_answerable : (commits : Commits) (raw : Raw) → NamesCommits commits raw → is_answerable commits raw ≡ true
 named_answerable commits (raw.Ranged query range) names = commits_are_comparable commits range.roots names.0
 named_answerable commits (raw.Based query snapshot) names = names
 named_answerable commits (raw.Held query position path content) names = refl
+named_answerable commits (raw.Listed query snapshot prefix) names = names
 named_answerable commits (raw.Refused query cause) names = refl
 
 -- ---- where it is answered
@@ -104,6 +120,11 @@ pub based_settled : (mount : State) (query : Query) (snapshot : Snapshot)
     → ((world : WorldState) → StandsFor mount world → snapshot.position ≡ position_of (now world))
     → (world : WorldState) → StandsFor mount world → settled (raw.Based query snapshot) ≡ Ok (position_of (now world))
 based_settled mount query snapshot place world h = λ i. Ok (place world h i)
+
+pub listed_settled : (mount : State) (query : Query) (snapshot : Snapshot) (prefix : List ℕ)
+    → ((world : WorldState) → StandsFor mount world → snapshot.position ≡ position_of (now world))
+    → (world : WorldState) → StandsFor mount world → settled (raw.Listed query snapshot prefix) ≡ Ok (position_of (now world))
+listed_settled mount query snapshot prefix place world h = λ i. Ok (place world h i)
 
 pub held_settled : (mount : State) (query : Query) (position : Position) (path : List ℕ) (content : Option Content)
     → ((world : WorldState) → StandsFor mount world → position ≡ position_of (now world))

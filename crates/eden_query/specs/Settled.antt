@@ -10,4 +10,5 @@ abbrev pub settled : Raw → Result Position Cause
 settled (raw.Ranged query range) = Ok range.to
 settled (raw.Based query snapshot) = Ok snapshot.position
 settled (raw.Held query position path content) = Ok position
+settled (raw.Listed query snapshot prefix) = Ok snapshot.position
 settled (raw.Refused query cause) = Err cause

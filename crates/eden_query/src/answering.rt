@@ -16,6 +16,7 @@ use eden_messages::{Query, Reply, Request};
 use eden_objects::{CommitFault, Store};
 use eden_ranges::{expand_admitted, expand_owned};
 use std::alloc::Global;
+use std::mem;
 
 /// The reply that tells a file, or the lack of one.
 fn content_reply(query: Query, position: Position, path: Path, content: Option<Content>) -> Reply
@@ -60,6 +61,7 @@ pub fn answer<N: Naming + Drop>(
                 query: *query,
                 target: range.to,
                 marked: Sequence::from_vec(expand_admitted(alloc, store, range, filter)?),
+                prefixes: range.prefixes.clone()?,
             };
             Ok(reply.bounded(*query))
         }
@@ -74,6 +76,16 @@ pub fn answer<N: Naming + Drop>(
         Raw::Held(query, position, path, content) => {
             let content = Content::copy_of(content)?;
             Ok(content_reply(*query, *position, path.copy()?, content))
+        }
+        Raw::Listed(query, snapshot, prefix) => {
+            let paths = snapshot.files_below(store, prefix, filter)?;
+            let reply = Reply::ListIs {
+                query: *query,
+                position: snapshot.position(),
+                prefix: prefix.copy()?,
+                paths: Sequence::from_vec(paths),
+            };
+            Ok(reply.bounded(*query))
         }
         Raw::Refused(query, cause) => Ok(Reply::Refused {
             query: *query,
@@ -99,12 +111,14 @@ fn answered<N: Naming + Drop>(
         Raw::Held(query, position, path, content) => {
             Ok(content_reply(query, position, path, content))
         }
-        Raw::Ranged(query, range) => {
+        Raw::Ranged(query, mut range) => {
             let target = range.to;
+            let prefixes = mem::replace(&mut range.prefixes, Sequence::new(alloc));
             let reply = Reply::ChangesAre {
                 query,
                 target,
                 marked: Sequence::from_vec(expand_owned(alloc, store, range, filter)?),
+                prefixes,
             };
             Ok(reply.bounded(query))
         }
@@ -121,6 +135,7 @@ fn filter_of<'a>(request: &'a Request, everything: &'a Filter) -> &'a Filter
         Request::Basis { filter, .. } => filter,
         Request::Poll { filter, .. } => filter,
         Request::Fetch { .. } => everything,
+        Request::List { filter, .. } => filter,
     }
 }
 

@@ -32,6 +32,23 @@ fn hold_basis<N: Naming + Drop>(mount: &Mount<N>, query: Query) -> Result<Raw, N
     Ok(Raw::Based(query, snapshot))
 }
 
+/// Which files are held, as a list of those below a directory asks for them.
+#[tactic(auto, using(crate::proofs::Telling::listed_tells, crate::proofs::Telling::listed_commits, crate::proofs::Telling::listed_settled))]
+fn hold_list<N: Naming + Drop>(
+    mount: &Mount<N>,
+    query: Query,
+    prefix: &Path,
+) -> Result<Raw, NoMemory>
+    ensures replies { IfOk result (λ raw. (world : WorldState) → StandsFor mount.now world → (patterns : List (List ℕ))
+        → told mount.now.held patterns raw ≡ reply_of world (Request.List query prefix.now patterns)) }
+    ensures settled { IfOk result (λ raw. (world : WorldState) → StandsFor mount.now world → settled raw ≡ Ok (position_of (now world))) }
+    ensures commits { IfOk result (λ raw. NamesCommits (commit_map mount.now.held) raw) }
+{
+    mount.stands_law();
+    let snapshot = mount.snapshot()?;
+    Ok(Raw::Listed(query, snapshot, prefix.copy()?))
+}
+
 /// What changed since a position, as it is asked for.
 #[tactic(auto, using(crate::proofs::Telling::ranged_tells, crate::proofs::Telling::refused_tells, crate::proofs::Telling::ranged_commits, crate::proofs::Telling::ranged_settled, crate::proofs::Telling::refused_settled))]
 fn hold_poll<N: Naming + Drop>(
@@ -76,6 +93,7 @@ fn hold<N: Naming + Drop>(mount: &Mount<N>, request: &Request) -> Result<Raw, No
             let content = content_at(mount, path)?;
             Ok(Raw::Held(*query, mount.position(), path.copy()?, content))
         }
+        Request::List { query, prefix, .. } => hold_list(mount, *query, prefix),
     }
 }
 

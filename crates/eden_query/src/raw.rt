@@ -15,6 +15,8 @@ pub enum Raw {
     Based(Query, Snapshot),
     /// Which question it is, the position, the path, and the file that stood there, if one did.
     Held(Query, Position, Path, Option<Content>),
+    /// Which question it is, which files were held, without their contents, and the directory below which they are asked for.
+    Listed(Query, Snapshot, Path),
     /// Which question it is, and why it can't be answered.
     Refused(Query, Cause),
 }

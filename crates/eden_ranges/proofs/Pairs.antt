@@ -9,8 +9,9 @@ use Rattle.eden_ids.specs.FileMaps.{FileMap, PathSet, differ, file_at, has, same
 use Rattle.eden_ids.proofs.FileMapLemmas.{has-differ, has-union, same_file-is, same_file-refl, same_path_set}
 use Rattle.eden_ids.specs.Sameness.{same_id}
 use Rattle.eden_objects.proofs.Lookup.{turn}
+use Rattle.eden_objects.specs.Files.{files_of}
 use Rattle.eden_history.specs.Worlds.{Commits}
-use Rattle.eden_history.specs.Named.{commits_differ, held_files}
+use Rattle.eden_history.specs.Named.{commits_differ}
 use Rattle.eden_ranges.specs.Expanded.{is_comparable}
 use Rattle.eden_ranges.specs.internal.Wanted.{only}
 use Rattle.eden_ranges.specs.internal.Pairs.{AreCovered, IsCovered, has_pair, same_pair}
@@ -37,7 +38,7 @@ differ-turned f g = same_path_set _ _ (λ p.
 turned : (patterns : List (List ℕ)) (commits : Commits) (paths : PathSet) (left reached : Id) → IsCovered patterns commits paths left reached
     → IsCovered patterns commits paths reached left
 turned patterns commits paths left reached covered = record {
-  among = ap (λ set. union (only patterns set) paths) (differ-turned (held_files commits reached) (held_files commits left)) ∙ covered.among;
+  among = ap (λ set. union (only patterns set) paths) (differ-turned (files_of (commits reached)) (files_of (commits left))) ∙ covered.among;
   comparable = (λ i. turn reached.0 left.0 i || and_comm (is_some (commits reached)) (is_some (commits left)) i) ∙ covered.comparable;
 }
 

@@ -1,4 +1,4 @@
--- The unclean paths and the roots of a journal's range are those of the world's events since a number.
+-- The renamed directories, the unclean paths and the roots of a journal's range are those of the world's events since a number.
 use Rattle.std.proofs.Common.{◌≡◌, ℕ, ◌<◌, ◌≤◌, inr, Bool, true, false, cond, ◌&&◌, List, [], ◌∷◌, ◌++◌, map, reverse, refl, sym, ap, ◌∙◌, arith}
 use Rattle.std.specs.Prelude.{◌==◌, filter, if◌then◌else◌, nat_eq}
 use Rattle.std.specs.List.{flat_map}
@@ -7,26 +7,27 @@ use Rattle.std.proofs.lemmas.List.{map-append, reverse-append, append-nil}
 use Rattle.std.proofs.lemmas.List.Elements.{filter-append}
 use Rattle.eden_ids.specs.declared.id.Id.{Id}
 use Rattle.eden_journal.specs.declared.file_touch.FileTouch.{FileTouch}
+use Rattle.eden_journal.specs.FilesChanged.{Touched}
 use Rattle.eden_journal.specs.declared.delta.Delta.{Delta}
 use Rattle.eden_journal.specs.declared.delta.Delta.TheVariants.{File, Root}
 use Rattle.eden_history.specs.declared.change.Change.{Change}
 use Rattle.eden_history.specs.declared.change.Change.TheVariants.{Write, Remove, Rename, Checkout, Reset, Flush, Remount, Import}
 use Rattle.eden_history.specs.Worlds.{Row, Event, Commits, last_row}
-use Rattle.eden_history.specs.Named.{unclean_paths}
+use Rattle.eden_history.specs.Named.{moved_prefixes, unclean_paths}
 use Rattle.eden_history.specs.Outcome.{next_row}
 use Rattle.eden_history.specs.Legal.{AreMade}
-use Rattle.eden_history.specs.Changes.{is_in_range}
+use Rattle.eden_history.specs.Changes.{events_in, is_in_range}
 use Rattle.eden_history.specs.Recorded.{delta_of, moves_root, start, starts, touches_of}
-use Rattle.eden_history.proofs.Steps.{is_made}
+use Rattle.eden_history.proofs.Steps.{Makes, is_made}
 use Rattle.eden_history.proofs.Following.{IsNotAfter}
-use Rattle.eden_ranges.specs.Gathered.{left_by, roots_by, unclean_in}
-use Rattle.eden_ranges.specs.WorldRanges.{events_in, row_at}
+use Rattle.eden_ranges.specs.Gathered.{left_by, prefixes_in, roots_by, unclean_in}
+use Rattle.eden_ranges.specs.WorldRanges.{row_at}
 use Rattle.eden_ranges.proofs.Numbered.{none_counted}
 use Rattle.eden_ranges.proofs.Along.{along, newer, none_newer, one_newer}
 use Rattle.eden_ranges.proofs.Named.{plain_root}
 use Rattle.std.proofs.Math.Bool.{and-false}
 
--- ---- unclean paths
+-- ---- the two kinds of events
 
 -- only a change of the root has unclean paths
 plain_unclean : (commits : Commits) (before : Row) (change : Change) (after : Row) → moves_root change ≡ false → unclean_paths commits before change after ≡ []
@@ -39,46 +40,59 @@ plain_unclean commits before Flush after e = refl
 plain_unclean commits before (Remount generation) after e = refl
 plain_unclean commits before (Import objects) after e = refl
 
-delta_file : (before : Row) (event : Event) → moves_root event.change ≡ false → delta_of before event ≡ File (record { touches = touches_of before event })
-delta_file before event e = ap (λ b. if b then Root before.root event.unclean else File (record { touches = touches_of before event })) e
+delta_file : (before : Row) (event : Event) → moves_root event.change ≡ false → delta_of before event ≡ File (Touched (touches_of before event))
+delta_file before event e = ap (λ b. if b then Root before.root event.unclean else File (Touched (touches_of before event))) e
 
 delta_root : (before : Row) (event : Event) → moves_root event.change ≡ true → delta_of before event ≡ Root before.root event.unclean
-delta_root before event e = ap (λ b. if b then Root before.root event.unclean else File (record { touches = touches_of before event })) e
+delta_root before event e = ap (λ b. if b then Root before.root event.unclean else File (Touched (touches_of before event))) e
 
 -- one more event is the newest of those that count
 counted_more : (generation since until : ℕ) (event : Event) (past : List Event) → is_in_range generation since until event.row ≡ true
     → events_in generation since until (event ∷ past) ≡ event ∷ events_in generation since until past
 counted_more generation since until event past e = ap (λ b. cond b (event ∷ events_in generation since until past) (events_in generation since until past)) e
 
--- the deltas after a number tell the unclean paths of the events
-abbrev TellsUnclean : ℕ → ℕ → ℕ → Row → List Event → Type 0
-TellsUnclean generation since until opening past =
-    flat_map unclean_in (newer opening past since) ≡ flat_map (λ event. event.unclean) (events_in generation since until past)
+-- ---- lists of paths
 
-late_unclean : (commits : Commits) (generation since until : ℕ) (opening : Row) (past : List Event) → AreMade commits opening past
-    → (last_row opening past).generation ≡ generation → (last_row opening past).sequence ≡ since → TellsUnclean generation since until opening past
-late_unclean commits generation since until opening past made g at =
-    ap (flat_map unclean_in) (none_newer opening past since (omega arith))
-    ∙ sym (ap (flat_map (λ event. event.unclean))
+-- the deltas after a number tell the paths that the events have
+abbrev TellsPaths : (Delta → List (List ℕ)) → (Event → List (List ℕ)) → ℕ → ℕ → ℕ → Row → List Event → Type 0
+TellsPaths told had generation since until opening past = flat_map told (newer opening past since) ≡ flat_map had (events_in generation since until past)
+
+-- the delta of an event tells the paths that it has
+abbrev TellsEach : (Delta → List (List ℕ)) → (Event → List (List ℕ)) → Commits → Type 0
+TellsEach told had commits = (before : Row) (event : Event) → Makes commits before event → told (delta_of before event) ≡ had event
+
+late_paths : (told : Delta → List (List ℕ)) (had : Event → List (List ℕ)) (commits : Commits) (generation since until : ℕ) (opening : Row) (past : List Event)
+    → AreMade commits opening past → (last_row opening past).generation ≡ generation → (last_row opening past).sequence ≡ since
+    → TellsPaths told had generation since until opening past
+late_paths told had commits generation since until opening past made g at =
+    ap (flat_map told) (none_newer opening past since (omega arith))
+    ∙ sym (ap (flat_map had)
     (none_counted commits generation since until opening past made (let late : IsNotAfter generation since (last_row opening past) = inr (g, omega arith) in late)))
 
-more_unclean : (commits : Commits) (generation since until : ℕ) (opening : Row) (event : Event) (past : List Event) → AreMade commits opening (event ∷ past)
+more_paths : (told : Delta → List (List ℕ)) (had : Event → List (List ℕ)) (commits : Commits) → TellsEach told had commits
+    → (generation since until : ℕ) (opening : Row) (event : Event) (past : List Event) → AreMade commits opening (event ∷ past)
     → starts event.change ≡ false → is_in_range generation since until event.row ≡ true → since < event.row.sequence
-    → TellsUnclean generation since until opening past → TellsUnclean generation since until opening (event ∷ past)
-more_unclean commits generation since until opening event past made plain counts lt older =
-    ap (flat_map unclean_in) (one_newer commits opening past event since made plain lt)
-    ∙ (λ i. one i ++ older i)
-    ∙ sym (ap (flat_map (λ event. event.unclean)) (counted_more generation since until event past counts))
-  where
-    by : (b : Bool) → moves_root event.change ≡ b → unclean_in (delta_of (last_row opening past) event) ≡ event.unclean
-    by true e = ap unclean_in (delta_root (last_row opening past) event e)
-    by false e =
-        ap unclean_in (delta_file (last_row opening past) event e)
-        ∙ sym ((λ i. ((is_made commits (last_row opening past) event made.0).made i).unclean)
-        ∙ plain_unclean commits (last_row opening past) event.change (next_row commits (last_row opening past) event.change) e)
+    → TellsPaths told had generation since until opening past → TellsPaths told had generation since until opening (event ∷ past)
+more_paths told had commits each generation since until opening event past made plain counts lt older =
+    ap (flat_map told) (one_newer commits opening past event since made plain lt)
+    ∙ (λ i. each (last_row opening past) event (is_made commits (last_row opening past) event made.0) i ++ older i)
+    ∙ sym (ap (flat_map had) (counted_more generation since until event past counts))
 
-    one : unclean_in (delta_of (last_row opening past) event) ≡ event.unclean
-    one = by (moves_root event.change) refl
+each_prefix : (commits : Commits) → TellsEach prefixes_in (λ event. event.prefixes) commits
+each_prefix commits before event one = by (moves_root event.change) refl ∙ sym (λ i. (one.made i).prefixes)
+  where
+    by : (b : Bool) → moves_root event.change ≡ b → prefixes_in (delta_of before event) ≡ moved_prefixes event.change
+    by true e = ap prefixes_in (delta_root before event e)
+    by false e = ap prefixes_in (delta_file before event e)
+
+each_unclean : (commits : Commits) → TellsEach unclean_in (λ event. event.unclean) commits
+each_unclean commits before event one = by (moves_root event.change) refl
+  where
+    by : (b : Bool) → moves_root event.change ≡ b → unclean_in (delta_of before event) ≡ event.unclean
+    by true e = ap unclean_in (delta_root before event e)
+    by false e =
+        ap unclean_in (delta_file before event e)
+        ∙ sym ((λ i. (one.made i).unclean) ∙ plain_unclean commits before event.change (next_row commits before event.change) e)
 
 -- ---- roots
 
@@ -93,7 +107,7 @@ lefts-none : left_by [] ≡ []
 unfolding left_by
 lefts-none = refl
 
-lefts-file : (touches : List FileTouch) (ds : List Delta) → left_by (File (record { touches = touches }) ∷ ds) ≡ left_by ds
+lefts-file : (touches : List FileTouch) (ds : List Delta) → left_by (File (Touched touches) ∷ ds) ≡ left_by ds
 unfolding left_by
 lefts-file touches ds = refl
 
@@ -177,12 +191,23 @@ more_roots commits generation since until opening event past made plain counts l
 
 -- ---- all events
 
+paths_told : (told : Delta → List (List ℕ)) (had : Event → List (List ℕ)) (commits : Commits) → TellsEach told had commits
+    → (generation since until : ℕ) (opening : Row) (past : List Event) → AreMade commits opening past
+    → start opening past ≤ since → since ≤ (last_row opening past).sequence → (last_row opening past).sequence ≤ until
+    → (last_row opening past).generation ≡ generation → TellsPaths told had generation since until opening past
+paths_told told had commits each generation since until opening =
+    along commits generation since until opening (TellsPaths told had generation since until opening)
+    (late_paths told had commits generation since until opening) (more_paths told had commits each generation since until opening)
+
+pub directories_told : (commits : Commits) (generation since until : ℕ) (opening : Row) (past : List Event) → AreMade commits opening past
+    → start opening past ≤ since → since ≤ (last_row opening past).sequence → (last_row opening past).sequence ≤ until
+    → (last_row opening past).generation ≡ generation → TellsPaths prefixes_in (λ event. event.prefixes) generation since until opening past
+directories_told commits = paths_told prefixes_in (λ event. event.prefixes) commits (each_prefix commits)
+
 pub unclean_told : (commits : Commits) (generation since until : ℕ) (opening : Row) (past : List Event) → AreMade commits opening past
     → start opening past ≤ since → since ≤ (last_row opening past).sequence → (last_row opening past).sequence ≤ until
-    → (last_row opening past).generation ≡ generation → TellsUnclean generation since until opening past
-unclean_told commits generation since until opening =
-    along commits generation since until opening (TellsUnclean generation since until opening)
-    (late_unclean commits generation since until opening) (more_unclean commits generation since until opening)
+    → (last_row opening past).generation ≡ generation → TellsPaths unclean_in (λ event. event.unclean) generation since until opening past
+unclean_told commits = paths_told unclean_in (λ event. event.unclean) commits (each_unclean commits)
 
 pub roots_told : (commits : Commits) (generation since until : ℕ) (opening : Row) (past : List Event) → AreMade commits opening past
     → start opening past ≤ since → since ≤ (last_row opening past).sequence → (last_row opening past).sequence ≤ until

@@ -3,6 +3,7 @@ use Rattle.std.specs.Prelude.{◌≡◌, ℕ, true, List, [], ◌∷◌, ◌++�
 use Rattle.eden_ids.specs.declared.id.Id.{Id}
 use Rattle.eden_ids.specs.FileMaps.{same_path}
 use Rattle.eden_journal.specs.declared.file_touch.FileTouch.{FileTouch}
+use Rattle.eden_journal.specs.FilesChanged.{touches_of}
 use Rattle.eden_journal.specs.declared.delta.Delta.{Delta}
 use Rattle.eden_journal.specs.declared.delta.Delta.TheVariants.{File, Root}
 use Rattle.eden_history.specs.declared.touches.Touch.{Touch}
@@ -47,7 +48,7 @@ CommitsAreComparable = (commits : Commits) (roots : List Id) → are_commits com
 -- all changes of files at a path, the oldest first
 abbrev pub touches_at : List ℕ → List Delta → List FileTouch
 touches_at path [] = []
-touches_at path (File files ∷ older) = touches_at path older ++ filter (λ touch. same_path path touch.path) files.touches
+touches_at path (File files ∷ older) = touches_at path older ++ filter (λ touch. same_path path touch.path) (touches_of files)
 touches_at path (Root left unclean ∷ older) = touches_at path older
 
 abbrev pub last_of : FileTouch → List FileTouch → FileTouch

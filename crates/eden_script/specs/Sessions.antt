@@ -14,6 +14,7 @@ use Rattle.eden_objects.specs.declared.import.Object.{Object}
 use Rattle.eden_objects.specs.Imports as imports
 use Rattle.eden_objects.specs.Objects.{Held}
 use Rattle.eden_objects.specs.Puts.{Outcome}
+use Rattle.eden_objects.specs.Files.{files_of}
 use Rattle.eden_history.specs.declared.answer.Answer.TheVariants.{At}
 use Rattle.eden_history.specs.declared.change.Change.{Change}
 use Rattle.eden_history.specs.declared.change.Change.TheVariants as change
@@ -21,9 +22,9 @@ use Rattle.eden_history.specs.declared.change.ChangeFault.TheVariants.{NoEntry}
 use Rattle.eden_history.specs.declared.position.Position.{Position}
 use Rattle.eden_history.specs.Worlds.{WorldState, commits_of, now, position_of, opened}
 use Rattle.eden_history.specs.Imports.{over_held}
-use Rattle.eden_history.specs.Named.{held_files}
 use Rattle.eden_history.specs.Renames.{absent_fault}
 use Rattle.eden_history.specs.Outcome.{answer_of, world_after}
+use Rattle.eden_history.specs.Changes.{prefixes_since}
 use Rattle.eden_history.specs.Status.{status_of}
 use Rattle.eden_history.specs.Marks.{marked_since}
 use Rattle.eden_script.specs.declared.command.Command.{Command}
@@ -187,14 +188,14 @@ abbrev pub asked : WorldState → AskLine → Told
 asked world asking.Position = told.Answer (At (position_of (now world)))
 asked world (asking.ListFiles patterns) =
     unless (option_map refusal.Patterns (globs.filter_fault patterns)) (told.Files (filter (globs.admits patterns) (paths (now world).files)))
-asked world asking.Dirty = told.Dirty (listing (differ (now world).files (held_files (commits_of world) (now world).root)))
+asked world asking.Dirty = told.Dirty (listing (differ (now world).files (files_of (commits_of world (now world).root))))
 asked world (asking.Read path) =
     unless (path_refusal path) (
     unless (option_map refusal.File (absent_fault (now world).files path)) (
     file_told (file_at (now world).files path)))
 asked world (asking.Since generation sequence) =
     unless (option_map refusal.Since (status_of world (position_asked generation sequence))) (
-    told.Changes (marked_since world sequence) (position_of (now world)))
+    told.Changes (marked_since world sequence) (prefixes_since world sequence) (position_of (now world)))
 
 -- ---- every line
 

@@ -1,5 +1,5 @@
 -- What a line came to, as it is printed. Bytes: 10 is LF, 32 a space.
-use Rattle.std.specs.Prelude.{ℕ, if◌then◌else◌, List, [], ◌∷◌, ◌++◌, length, codes, Option, Some, None}
+use Rattle.std.specs.Prelude.{ℕ, ◌==◌, if◌then◌else◌, List, [], ◌∷◌, ◌++◌, length, codes, Option, Some, None}
 use Rattle.std.specs.Fmt.{decimal}
 use Rattle.std.specs.List.{flat_map}
 use Rattle.hex.specs.Hex.{encode_lower}
@@ -162,9 +162,14 @@ id_text id = codes "id " ++ encode_lower id.0 ++ (10 ∷ [])
 abbrev pub content_text : Kind → List ℕ → List ℕ
 content_text kind bytes = kind_text kind ++ (32 ∷ escaped bytes) ++ (10 ∷ [])
 
-abbrev pub changes_text : List Binding → List Marked → Position → List ℕ
-changes_text bindings marked position =
-    codes "changes " ++ decimal (length marked) ++ codes " to " ++ position_text bindings position ++ (10 ∷ []) ++ flat_map marked_text marked
+-- the directories that were renamed, before and after, where there are some
+abbrev pub prefixes_text : List (List ℕ) → List ℕ
+prefixes_text prefixes = if length prefixes == 0 then [] else paths_text (codes "prefixes ") prefixes
+
+abbrev pub changes_text : List Binding → List Marked → List (List ℕ) → Position → List ℕ
+changes_text bindings marked prefixes position =
+    codes "changes " ++ decimal (length marked) ++ codes " to " ++ position_text bindings position ++ (10 ∷ [])
+    ++ flat_map marked_text marked ++ prefixes_text prefixes
 
 abbrev pub told_text : List Binding → Told → List ℕ
 told_text bindings told.Done = ok_text
@@ -174,4 +179,4 @@ told_text bindings (told.Refused cause) = refused_text (refusal_name cause) (ref
 told_text bindings (told.Files paths) = paths_text (codes "files ") paths
 told_text bindings (told.Dirty paths) = paths_text (codes "dirty ") paths
 told_text bindings (told.File kind bytes) = content_text kind bytes
-told_text bindings (told.Changes marked to) = changes_text bindings marked to
+told_text bindings (told.Changes marked prefixes to) = changes_text bindings marked prefixes to

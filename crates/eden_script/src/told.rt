@@ -87,6 +87,8 @@ pub enum Told<'a> {
     Changes {
         /// The paths, in byte order, each with what became of it.
         marked: Sequence<Marked>,
+        /// The directories that were renamed, before and after, in byte order.
+        prefixes: Sequence<Path>,
         /// The present position.
         to: Position,
     },

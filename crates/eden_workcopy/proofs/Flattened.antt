@@ -15,7 +15,8 @@ use Rattle.std.specs.Option.{is_none}
 use Rattle.eden_ids.specs.FileMaps.{same_path}
 use Rattle.eden_ids.specs.declared.content.Content.{Content}
 use Rattle.eden_ids.proofs.ByteOrder.{both, first, less, second}
-use Rattle.eden_workcopy.specs.Layers.{Entry, by_bytes, place}
+use Rattle.eden_workcopy.specs.Layers.{Entry, by_bytes}
+use Rattle.eden_workcopy.specs.internal.Places.{place}
 use Rattle.eden_workcopy.specs.internal.Blocks.{flat, AllFilled, begins_at_or_before, begun, block_for}
 use Rattle.eden_workcopy.proofs.Placing.{is_less, turned, trans, below_later, none_above, without, without_none}
 

@@ -7,6 +7,7 @@ pub mod Touched
 pub mod Walked
 pub mod Marked
 pub mod WovenRows
+pub mod WovenBelow
 pub mod Rerooted
 pub mod Reverted
 pub mod Within

@@ -13,7 +13,8 @@ use Rattle.std.specs.FinMap.{find, put, is_sorted}
 use Rattle.std.specs.FinMap.Entries.{below_all, by_order, is_sorted-put, is_sorted-where_key, find-where_key}
 use Rattle.std.specs.Cmp.Lexicographic.{pointwise}
 use Rattle.std.proofs.lemmas.Slice.Eq.{bytes_eq-Decides}
-use Rattle.eden_workcopy.specs.Layers.{by_bytes, place, Entry, IsThere}
+use Rattle.eden_workcopy.specs.Layers.{by_bytes, Entry}
+use Rattle.eden_workcopy.specs.internal.Places.{place, IsThere}
 use Rattle.eden_ids.specs.FileMaps.{same_path}
 use Rattle.eden_ids.proofs.FileMapLemmas.{same_path-turned}
 use Rattle.eden_ids.proofs.ByteOrder.{both, first, less, second}

@@ -6,7 +6,8 @@ use Rattle.std.specs.FinMap as fin
 use Rattle.std.specs.FinMap.Entries.{below_all}
 use Rattle.eden_ids.specs.Paths.{lies_below}
 use Rattle.eden_ids.proofs.ByteOrder.{below_between, first, from, less, second, upto}
-use Rattle.eden_workcopy.specs.Layers.{Entry, by_bytes, place}
+use Rattle.eden_workcopy.specs.Layers.{Entry, by_bytes}
+use Rattle.eden_workcopy.specs.internal.Places.{place}
 use Rattle.eden_workcopy.specs.internal.Blocks.{before}
 use Rattle.eden_workcopy.proofs.Placing.{trans}
 use Rattle.eden_workcopy.proofs.Touched.{kept}

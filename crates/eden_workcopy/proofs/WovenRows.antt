@@ -6,6 +6,7 @@ use Rattle.std.specs.Ordering.{is_lt}
 use Rattle.std.specs.List.{AllByRecursion, list_any}
 use Rattle.std.specs.FinMap as fin
 use Rattle.std.specs.FinMap.Entries.{below_all}
+use Rattle.std.proofs.Math.Bool.{or_assoc, or-true}
 use Rattle.eden_globs.specs.Filters.{admits}
 use Rattle.eden_ids.specs.FileMaps.{FileMap, file_at, has, listing, path_set, paths, same_path}
 use Rattle.eden_ids.specs.Sameness.{same_bytes}
@@ -19,10 +20,12 @@ use Rattle.eden_objects.specs.Commits.{Row, commit_map, commit_rows, rows_where}
 use Rattle.eden_objects.specs.Files.{commit_files}
 use Rattle.eden_objects.proofs.CommitLaws.{rows_listed}
 use Rattle.eden_workcopy.proofs.Works.{some_rows}
-use Rattle.eden_workcopy.specs.Layers.{Layer, Mark, by_bytes, marked, marks, over, place}
+use Rattle.eden_workcopy.specs.Layers.{Layer, Mark, by_bytes, marked, marks, over}
+use Rattle.eden_workcopy.specs.internal.Places.{place}
 use Rattle.eden_workcopy.specs.Listings.{admitted, shown_over}
 use Rattle.eden_workcopy.specs.internal.Woven.{behind, first_before, first_of, front, is_shown, kept, starts_at}
 use Rattle.eden_ids.proofs.Sifted.{listing_of}
+use Rattle.eden_ids.proofs.Bools.{or_turned}
 use Rattle.eden_workcopy.proofs.Placing.{turned, below_later, not_itself, trans}
 use Rattle.eden_workcopy.proofs.Shifted.{other_path, same_bytes_are}
 use Rattle.eden_workcopy.proofs.Touched.{seen_keys, touched_elsewhere, touched_listed, touched_present}
@@ -104,15 +107,6 @@ still_rising n es left h is = subst (λ fs. T (fin.is_sorted by_bytes fs)) (sym 
 
 -- ---- its members
 
-assoc : (a b c : Bool) → (a || (b || c)) ≡ ((a || b) || c)
-assoc true b c = refl
-assoc false b c = refl
-
-turn : (a b c : Bool) → (a || (b || c)) ≡ (b || (a || c))
-turn true true c = refl
-turn true false c = refl
-turn false b c = refl
-
 any_own : (q : List ℕ → Bool) (b : Bool) (u : List ℕ) (ws : List (List ℕ)) → list_any q (cond b (u ∷ ws) ws) ≡ ((b && q u) || list_any q ws)
 any_own q true u ws = refl
 any_own q false u ws = refl
@@ -121,17 +115,17 @@ any_ahead : (mine : List ℕ → Bool) (shown : Mark → Bool) (q : List ℕ →
     → ((zs : List Mark) → list_any q (rest zs) ≡ (b || list_any q (kept shown zs))) → (es : List Mark)
     → list_any q (ahead mine shown u rest es) ≡ (((mine u && q u) || b) || list_any q (kept shown es))
 unfolding ahead
-any_ahead mine shown q u rest b h [] = any_own q (mine u) u (rest []) ∙ ap (λ c. (mine u && q u) || c) (h []) ∙ assoc (mine u && q u) b false
+any_ahead mine shown q u rest b h [] = any_own q (mine u) u (rest []) ∙ ap (λ c. (mine u && q u) || c) (h []) ∙ sym (or_assoc (mine u && q u) b false)
 any_ahead mine shown q u rest b h (e ∷ es) =
     let later = any_ahead mine shown q u rest b h es in
     elim (is_lt (by_bytes e.0 u)) as (λ t. list_any q (cond t (cond (shown e) (e.0 ∷ ahead mine shown u rest es) (ahead mine shown u rest es)) (own mine u (rest (e ∷ es))))
     ≡ (((mine u && q u) || b) || list_any q (kept shown (e ∷ es)))) [
       | true ↦ elim (shown e) as (λ t. list_any q (cond t (e.0 ∷ ahead mine shown u rest es) (ahead mine shown u rest es))
           ≡ (((mine u && q u) || b) || list_any q (map {A = Mark} (λ e. e.0) (cond t (e ∷ filter shown es) (filter shown es))))) [
-            | true ↦ ap (λ c. q e.0 || c) later ∙ turn (q e.0) ((mine u && q u) || b) (list_any q (kept shown es))
+            | true ↦ ap (λ c. q e.0 || c) later ∙ or_turned (q e.0) ((mine u && q u) || b) (list_any q (kept shown es))
             | false ↦ later
           ]
-      | false ↦ any_own q (mine u) u (rest (e ∷ es)) ∙ ap (λ c. (mine u && q u) || c) (h (e ∷ es)) ∙ assoc (mine u && q u) b (list_any q (kept shown (e ∷ es)))
+      | false ↦ any_own q (mine u) u (rest (e ∷ es)) ∙ ap (λ c. (mine u && q u) || c) (h (e ∷ es)) ∙ sym (or_assoc (mine u && q u) b (list_any q (kept shown (e ∷ es))))
     ]
 
 any_woven : (mine : List ℕ → Bool) (shown : Mark → Bool) (q : List ℕ → Bool) (rs : List Row) (es : List Mark)
@@ -459,11 +453,11 @@ before_none k (x ∷ xs) e =
 -- ---- what it lists, and its order
 
 -- the paths at which a file stands, or none does
-abbrev is : Bool → Bool → Bool
+abbrev pub is : Bool → Bool → Bool
 is true answer = answer
 is false answer = not answer
 
-abbrev said : Bool → List Mark → List (List ℕ)
+abbrev pub said : Bool → List Mark → List (List ℕ)
 said wanted ms = map (λ m. m.0) (filter (λ m. is wanted m.1) ms)
 
 shown_said : (wanted : List (List ℕ)) (ms : List Mark) → kept (is_shown wanted) ms ≡ filter (admits wanted) (said true ms)
@@ -480,11 +474,6 @@ shown_said wanted (m ∷ ms) =
       | false ↦ rest
     ]
 
-turn_any : (a b c : Bool) → (a || (b || c)) ≡ (b || (a || c))
-turn_any true true c = refl
-turn_any true false c = refl
-turn_any false b c = refl
-
 -- a path is marked where it is said to stand, or not to
 marked_said : (p : List ℕ) (ms : List Mark) → among p (marked ms) ≡ (among p (said true ms) || among p (said false ms))
 marked_said p [] = refl
@@ -493,15 +482,15 @@ marked_said p (m ∷ ms) =
     elim m.1 as (λ b. (same_path p m.0 || among p (marked ms))
     ≡ (among p (map {A = Mark} (λ m. m.0) (cond b (m ∷ filter (λ m. m.1) ms) (filter (λ m. m.1) ms)))
     || among p (map {A = Mark} (λ m. m.0) (cond (not b) (m ∷ filter (λ m. not m.1) ms) (filter (λ m. not m.1) ms))))) [
-      | true ↦ ap (λ b. same_path p m.0 || b) rest ∙ assoc (same_path p m.0) (among p (said true ms)) (among p (said false ms))
-      | false ↦ ap (λ b. same_path p m.0 || b) rest ∙ turn_any (same_path p m.0) (among p (said true ms)) (among p (said false ms))
+      | true ↦ ap (λ b. same_path p m.0 || b) rest ∙ sym (or_assoc (same_path p m.0) (among p (said true ms)) (among p (said false ms)))
+      | false ↦ ap (λ b. same_path p m.0 || b) rest ∙ or_turned (same_path p m.0) (among p (said true ms)) (among p (said false ms))
     ]
 
 -- of a path: whether it is below, whether it is said not to stand, and whether to stand
-abbrev is_there : Bool → Bool → Bool → Bool
+abbrev pub is_there : Bool → Bool → Bool → Bool
 is_there below absent present = not absent && below || present
 
-has-shown_over : (base : FileMap) (ms : List Mark) (p : List ℕ) → has (shown_over base ms) p ≡ is_there (is_some (file_at base p)) (among p (said false ms)) (among p (said true ms))
+pub has-shown_over : (base : FileMap) (ms : List Mark) (p : List ℕ) → has (shown_over base ms) p ≡ is_there (is_some (file_at base p)) (among p (said false ms)) (among p (said true ms))
 has-shown_over base ms p =
     has-union _ _ p
     ∙ ap (λ b. b || has (path_set (said true ms)) p)
@@ -533,10 +522,6 @@ members wanted base ms rs rows p =
     ∙ ap (λ b. (not b && (admits wanted p && is_some (file_at base p))) || (admits wanted p && among p (said true ms))) (marked_said p ms)
     ∙ by_marks (admits wanted p) (among p (said true ms)) (among p (said false ms)) (is_some (file_at base p))
     ∙ ap (λ b. admits wanted p && b) (sym (has-shown_over base ms p))
-
-or-true : (b : Bool) → (b || true) ≡ true
-or-true true = refl
-or-true false = refl
 
 none_mine : (all ms : List Mark) → ((q : List ℕ) → among q (marked ms) ≡ true → among q (marked all) ≡ true) → NotMine (untouched all) ms
 none_mine all [] sub = tt
@@ -639,7 +624,7 @@ layer_shown base layer = listing-same (shown_over base ms) (over base layer) mem
 
 -- ---- the rows of a commit that a filter admits
 
-filtered : (t : List ℕ → Bool) (rs : List Row) → map (λ r. r.0) (filter (λ r. t r.0) rs) ≡ filter t (map (λ r. r.0) rs)
+pub filtered : (t : List ℕ → Bool) (rs : List Row) → map (λ r. r.0) (filter (λ r. t r.0) rs) ≡ filter t (map (λ r. r.0) rs)
 filtered t [] = refl
 filtered t (r ∷ rs) =
     let rest = filtered t rs in

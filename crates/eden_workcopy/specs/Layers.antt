@@ -1,9 +1,8 @@
 -- An overlay: some paths, each with the file that is to stand there, or with none. Laid over a file map it gives another one.
-use Rattle.std.specs.Prelude.{◌≡◌, ◌≢◌, ℕ, suc, Bool, true, false, if◌then◌else◌, List, [], ◌∷◌, ◌++◌, map, Option, Some, None, is_some}
+use Rattle.std.specs.Prelude.{ℕ, Bool, List, ◌++◌, map, Option, Some, None, is_some}
 use Rattle.std.specs.declared.cmp.Ordering.{Ordering}
-use Rattle.std.specs.Ordering.{nat_cmp, is_lt}
+use Rattle.std.specs.Ordering.{nat_cmp}
 use Rattle.std.specs.Cmp.Lexicographic.{slice_cmp}
-use Rattle.std.specs.List.{slice_get}
 use Rattle.std.specs.FinMap as fin
 use Rattle.eden_ids.specs.declared.content.Content.{Content}
 use Rattle.eden_ids.specs.FileMaps.{FileMap, file_at, paths, tabulate}
@@ -28,18 +27,8 @@ over base layer = tabulate (paths base ++ fin.keys layer) (over_rule base layer)
 abbrev pub by_bytes : List ℕ → List ℕ → Ordering
 by_bytes = slice_cmp nat_cmp
 
--- how many entries at the front have lesser paths
-abbrev pub place : {X : Type 0} → List ℕ → List (List ℕ × X) → ℕ
-place path [] = 0
-place path (e ∷ es) = if is_lt (by_bytes e.0 path) then suc (place path es) else 0
-
 abbrev pub Entry : Type 0
 Entry = List ℕ × Option Content
-
--- whether the entry at a place is that of a path
-abbrev pub IsThere : Bool → List ℕ → List Entry → ℕ → Type 0
-IsThere true path es at = (file : Option Content) × (slice_get es at ≡ Some (path, file))
-IsThere false path es at = (file : Option Content) → slice_get es at ≢ Some (path, file)
 
 -- a touched path, and whether a file stands there
 abbrev pub Mark : Type 0

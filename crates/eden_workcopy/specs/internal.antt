@@ -1,4 +1,5 @@
 -- What only this crate's functions speak of.
 pub mod Agreements
 pub mod Blocks
+pub mod Places
 pub mod Woven

@@ -4,7 +4,8 @@ ghost use Rattle.std.specs.Prelude.{◌≡◌, ◌∷◌, ◌<◌, ◌≤◌, []
 ghost use Rattle.std.specs.FinMap.{is_sorted, put, find};
 ghost use Rattle.std.specs.Option.{is_none, option_copied};
 ghost use Rattle.eden_ids.specs.FileMaps.{same_path};
-ghost use Rattle.eden_workcopy.specs.Layers.{by_bytes, place};
+ghost use Rattle.eden_workcopy.specs.Layers.{by_bytes};
+ghost use Rattle.eden_workcopy.specs.internal.Places.{place};
 ghost use Rattle.eden_workcopy.specs.internal.Blocks.{flat, block_for, begins_at_or_before, AllFilled};
 
 use crate::entries;

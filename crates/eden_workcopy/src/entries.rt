@@ -5,7 +5,8 @@ ghost use Rattle.std.specs.Option.{is_none};
 ghost use Rattle.std.specs.Ordering.{is_lt};
 ghost use Rattle.std.specs.FinMap.{is_sorted, put, find};
 ghost use Rattle.eden_ids.specs.FileMaps.{same_path};
-ghost use Rattle.eden_workcopy.specs.Layers.{by_bytes, place, IsThere, Entry};
+ghost use Rattle.eden_workcopy.specs.Layers.{by_bytes, Entry};
+ghost use Rattle.eden_workcopy.specs.internal.Places.{place, IsThere};
 
 use eden_ids::{Content, NoMemory, Path};
 
@@ -68,9 +69,7 @@ pub(crate) fn put(
         entries[at] = (path, file);
         return Ok(false);
     }
-    let Ok(_) = entries.insert(at, (path, file)) else {
-        return Err(NoMemory);
-    };
+    entries.insert(at, (path, file))?;
     Ok(true)
 }
 

@@ -3,7 +3,8 @@
 ghost use Rattle.std.specs.Prelude.{◌≡◌, ◌∷◌, ◌++◌, T, IfSome, IfNone};
 ghost use Rattle.std.specs.Iterator.{item_count, YieldsFirstRef};
 ghost use Rattle.std.specs.Ordering.{is_lt};
-ghost use Rattle.eden_workcopy.specs.Layers.{by_bytes, place};
+ghost use Rattle.eden_workcopy.specs.Layers.{by_bytes};
+ghost use Rattle.eden_workcopy.specs.internal.Places.{place};
 ghost use Rattle.eden_workcopy.specs.internal.Blocks.{flat, AllFilled};
 
 use crate::blocks::Block;

@@ -4,7 +4,8 @@ ghost use Rattle.std.specs.Prelude.{◌≡◌, ◌++◌, ◌∷◌, [], T, ◌&&
 ghost use Rattle.std.specs.FinMap.{is_sorted};
 ghost use Rattle.eden_globs.specs.Filters.{admits};
 ghost use Rattle.eden_ids.specs.FileMaps.{FileMap, listing};
-ghost use Rattle.eden_workcopy.specs.Layers.{by_bytes, place};
+ghost use Rattle.eden_workcopy.specs.Layers.{by_bytes};
+ghost use Rattle.eden_workcopy.specs.internal.Places.{place};
 ghost use Rattle.eden_workcopy.specs.Listings.{admitted, shown_over};
 ghost use Rattle.eden_workcopy.specs.internal.Woven.{first_before, front, is_shown, kept, pointed, starts_at};
 

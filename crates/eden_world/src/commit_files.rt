@@ -43,19 +43,6 @@ fn paths_of_commit<N: Naming + Drop>(
     Ok(list)
 }
 
-/// A file in memory of its own, or none.
-pub(crate) fn copied(
-    alloc: Global,
-    file: Option<(Kind, &[u8])>,
-) -> Result<Option<Content>, NoMemory>
-    ensures { IfOk result (λ copy. copy ≡ lent file.entry) }
-{
-    match file {
-        Some((kind, bytes)) => Ok(Some(Content::from_bytes(alloc, kind, bytes)?)),
-        None => Ok(None),
-    }
-}
-
 /// What a tree holds at some paths. The last path is looked at first.
 #[tactic(auto, using(crate::proofs::Tabulating::begins, crate::proofs::Tabulating::goes_on))]
 pub(crate) fn files_at<T: FileTree>(
@@ -68,7 +55,7 @@ pub(crate) fn files_at<T: FileTree>(
     let mut files = Files::new(alloc);
     for place in (0..paths.len()).rev() {
         let path = &paths[place];
-        let file = copied(alloc, tree.file(path.as_bytes()))?;
+        let file = Content::of_lent(alloc, tree.file(path.as_bytes()))?;
         files.put(path, file)?;
     }
     Ok(files)

@@ -30,6 +30,7 @@ pub use eden_messages::{Answer, Call, Cause, Query, Reply, Request};
 pub use eden_stream::{Counted, Faults};
 
 mod commit_files;
+mod directories;
 mod events;
 mod marks;
 mod recorded;

@@ -6,10 +6,10 @@ ghost use Rattle.eden_objects.specs.Files.{commit_files};
 ghost use Rattle.eden_history.specs.Checkouts.{checked_out, conflicts, paths_of_all, unclean};
 ghost use Rattle.eden_history.specs.DirtyFiles.{dirty_files};
 
-use crate::commit_files::{copied, files_at, files_of_commit};
+use crate::commit_files::{files_at, files_of_commit};
 use crate::row::Row;
 use eden_history::{Mode, Sides};
-use eden_ids::{Files, Id, Naming, NoMemory, Path, PathTable, is_same_at};
+use eden_ids::{Content, Files, Id, Naming, NoMemory, Path, PathTable, is_same_at, push_where};
 use eden_objects::Store;
 use std::alloc::Global;
 
@@ -36,11 +36,9 @@ pub(crate) fn differing(alloc: Global, one: &Files, other: &Files) -> Result<Vec
 {
     let all = paths_of_all(alloc, one, other, other)?;
     let mut list = Vec::new(alloc);
-    for path in all.iter() {
-        if !is_same_at(one, other, path.as_bytes()) {
-            list.push(path.copy()?)?;
-        }
-    }
+    push_where(&mut list, &all, |path| {
+        !is_same_at(one, other, path.as_bytes())
+    })?;
     Ok(list)
 }
 
@@ -125,7 +123,7 @@ impl SideMaps {
         let mut files = Files::new(alloc);
         for place in (0..all.len()).rev() {
             let path = &all[place];
-            let file = copied(alloc, sides.file_after(mode, path))?;
+            let file = Content::of_lent(alloc, sides.file_after(mode, path))?;
             files.put(path, file)?;
         }
         Ok(files)
@@ -138,11 +136,7 @@ impl SideMaps {
         let sides = self.sides();
         let all = paths_of_all(alloc, &self.work, &self.root, &self.target)?;
         let mut list = Vec::new(alloc);
-        for path in all.iter() {
-            if sides.is_conflict(path) {
-                list.push(path.copy()?)?;
-            }
-        }
+        push_where(&mut list, &all, |path| sides.is_conflict(path))?;
         Ok(list)
     }
 

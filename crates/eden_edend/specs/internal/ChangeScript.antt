@@ -7,7 +7,7 @@ use Rattle.eden_script.specs.ScriptLines.{command_of}
 use Rattle.eden_script.specs.ScriptText.{is_skipped}
 use Rattle.eden_script.specs.declared.command.ChangeLine.{ChangeLine}
 use Rattle.eden_stream.specs.Scripts.{IsScript}
-use Rattle.eden_edend.specs.Changing.{change_in}
+use Rattle.eden_edend.specs.internal.Changing.{change_in}
 use Rattle.eden_edend.specs.internal.SessionScript.{skips, speaks}
 
 -- what a line changes, or none where it is no such line

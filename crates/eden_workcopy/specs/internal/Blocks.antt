@@ -2,7 +2,8 @@
 use Rattle.std.specs.Prelude.{ℕ, suc, ◌<◌, Bool, false, if◌then◌else◌, List, [], ◌∷◌, ◌++◌, length, take}
 use Rattle.std.specs.Global.{Vec}
 use Rattle.std.specs.Ordering.{is_le}
-use Rattle.eden_workcopy.specs.Layers.{Entry, by_bytes, place}
+use Rattle.eden_workcopy.specs.Layers.{Entry, by_bytes}
+use Rattle.eden_workcopy.specs.internal.Places.{place}
 
 -- the entries of the blocks, one block behind the other
 abbrev pub flat : List (Vec Entry) → List Entry

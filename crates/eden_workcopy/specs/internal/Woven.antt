@@ -4,7 +4,8 @@ use Rattle.std.specs.Borrow.{Bor}
 use Rattle.std.specs.Ordering.{is_lt}
 use Rattle.eden_globs.specs.Filters.{admits}
 use Rattle.eden_ids.specs.Sameness.{same_bytes}
-use Rattle.eden_workcopy.specs.Layers.{Mark, by_bytes, place}
+use Rattle.eden_workcopy.specs.Layers.{Mark, by_bytes}
+use Rattle.eden_workcopy.specs.internal.Places.{place}
 
 -- a mark whose path is lent
 abbrev pub pointed : Option (Bor (List ℕ) × Bool) → Option Mark

@@ -2,7 +2,8 @@ use Rattle.std.proofs.Common.{◌≡◌, ◌++◌, T, drop, length, suc, sym, ap
 use Rattle.std.proofs.lemmas.List.{take_rest}
 use Rattle.std.specs.List.{slice_index_or}
 use Rattle.std.specs.FinMap.{is_sorted}
-use Rattle.eden_workcopy.specs.Layers.{by_bytes, place}
+use Rattle.eden_workcopy.specs.Layers.{by_bytes}
+use Rattle.eden_workcopy.specs.internal.Places.{place}
 use Rattle.eden_workcopy.specs.internal.Blocks.{flat, AllFilled, block_for}
 use Rattle.eden_workcopy.proofs.Flattened.{rising_block, from_flat, filled_from, nothing_flat, first_left, none_left}
 use Rattle.eden_workcopy.proofs.blocks.walk_from.Goals as goal

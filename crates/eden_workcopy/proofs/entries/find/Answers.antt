@@ -1,5 +1,5 @@
 use Rattle.std.proofs.Common.{subst}
-use Rattle.eden_workcopy.specs.Layers.{IsThere}
+use Rattle.eden_workcopy.specs.internal.Places.{IsThere}
 use Rattle.eden_workcopy.proofs.Placing.{told_is}
 use Rattle.eden_workcopy.proofs.entries.find.Goals as goal
 

@@ -1,5 +1,5 @@
 use Rattle.std.proofs.Common.{rules, arith, ◌≡◌, subst, sym, nat_lt, false, length}
-use Rattle.eden_workcopy.specs.Layers.{IsThere}
+use Rattle.eden_workcopy.specs.internal.Places.{IsThere}
 use Rattle.eden_workcopy.proofs.Placing.{nothing_there, judged_there}
 use Rattle.eden_workcopy.proofs.entries.is_there.Goals as goal
 

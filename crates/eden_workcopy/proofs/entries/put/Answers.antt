@@ -1,6 +1,6 @@
 use Rattle.std.proofs.Common.{◌≡◌, true, false, subst, sym, ap, ◌∙◌, arith}
 use Rattle.std.specs.Option.{is_none}
-use Rattle.eden_workcopy.specs.Layers.{place, IsThere}
+use Rattle.eden_workcopy.specs.internal.Places.{place, IsThere}
 use Rattle.eden_workcopy.proofs.Placing.{put_over, put_beside, place_within, still_sorted, told_there, not_told}
 use Rattle.eden_workcopy.proofs.entries.put.Goals as goal
 
@@ -53,7 +53,7 @@ returns-clause-ok c =
     subst (λ b. IsThere b c.args.path c.args.entries.now.items c.place-at.result) c.if-is_there.false
     (subst (λ p. IsThere c.is_there.result p c.args.entries.now.items c.place-at.result) path
     (subst (λ es. IsThere c.is_there.result c.as_bytes-2.result.now es c.place-at.result) c.deref-2.ensures.value c.is_there.ensures)) in
-    c.in-Ok.ensures.items
+    c.in_ok-insert.ensures.items
     ∙ put_beside c.args.path c.args.file c.args.entries.now.items c.place-at.result c.requires
     (c.place-at.ensures ∙ ap (λ p. place p c.deref.result.now) place_path ∙ ap (place c.args.path) c.deref.ensures.value) apart
 

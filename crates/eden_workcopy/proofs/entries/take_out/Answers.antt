@@ -1,5 +1,5 @@
 use Rattle.std.proofs.Common.{true, false, is_some, subst, sym, ap, ◌∙◌}
-use Rattle.eden_workcopy.specs.Layers.{place, IsThere}
+use Rattle.eden_workcopy.specs.internal.Places.{place, IsThere}
 use Rattle.eden_workcopy.proofs.Placing.{out_there, not_there, sorted_without, told_there, not_told}
 use Rattle.eden_workcopy.proofs.entries.take_out.Goals as goal
 

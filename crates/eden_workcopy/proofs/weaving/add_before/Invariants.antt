@@ -1,5 +1,5 @@
 use Rattle.std.proofs.Common.{◌≡◌, ◌++◌, drop, length}
-use Rattle.eden_workcopy.specs.Layers.{place}
+use Rattle.eden_workcopy.specs.internal.Places.{place}
 use Rattle.eden_workcopy.specs.internal.Woven.{front, is_shown, kept}
 use Rattle.eden_workcopy.proofs.weaving.add_before.Given as goal
 

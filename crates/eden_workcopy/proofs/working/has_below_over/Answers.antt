@@ -5,7 +5,8 @@ use Rattle.std.specs.FinMap as fin
 use Rattle.eden_ids.specs.FileMaps.{file_at, paths}
 use Rattle.eden_ids.specs.Paths.{lies_below}
 use Rattle.eden_ids.proofs.ByteOrder.{upto}
-use Rattle.eden_workcopy.specs.Layers.{Entry, place}
+use Rattle.eden_workcopy.specs.Layers.{Entry}
+use Rattle.eden_workcopy.specs.internal.Places.{place}
 use Rattle.eden_workcopy.specs.internal.Blocks.{before}
 use Rattle.eden_workcopy.proofs.Walked.{below_from}
 use Rattle.eden_workcopy.proofs.Within.{any_below, each_below}

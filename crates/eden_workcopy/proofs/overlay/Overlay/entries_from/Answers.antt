@@ -1,7 +1,8 @@
 use Rattle.std.proofs.Common.{drop, length, ap, sym, ◌∙◌, arith}
 use Rattle.std.proofs.lemmas.List.{length-drop}
 use Rattle.std.specs.FinMap as fin
-use Rattle.eden_workcopy.specs.Layers.{by_bytes, place}
+use Rattle.eden_workcopy.specs.Layers.{by_bytes}
+use Rattle.eden_workcopy.specs.internal.Places.{place}
 use Rattle.eden_workcopy.specs.internal.Blocks.{flat}
 use Rattle.eden_workcopy.proofs.overlay.Overlay.entries_from.Goals as goal
 

@@ -1,6 +1,6 @@
-use Rattle.std.proofs.Common.{ap, ◌∙◌, arith}
+use Rattle.std.proofs.Common.{rules, of_calls, ◌++◌, ap, ◌∙◌}
 use Rattle.std.specs.Prelude.{filter}
-use Rattle.std.proofs.lemmas.List.{take_all}
+use Rattle.std.proofs.lemmas.Fn.{always_returns_same}
 use Rattle.eden_history.specs.Checkouts.{is_conflict}
 use Rattle.eden_world.proofs.SideLaws.{conflicts_listed}
 use Rattle.eden_world.proofs.sides.SideMaps.conflicts.Goals as goal
@@ -10,6 +10,6 @@ returns c =
     let work = c.args.self.now.work in
     let root = c.args.self.now.root in
     let target = c.args.self.now.target in
-    c.loop-path.invariant
-    ∙ ap (filter (is_conflict work root target)) (take_all c.loop-path.path-index c.deref-path-items.result.now (omega arith))
-    ∙ conflicts_listed work root target c.deref-path-items.result.now (c.deref-path-items.ensures.value ∙ c.in_ok-all.ensures)
+    c.in_ok-push_where.ensures (is_conflict work root target) (always_returns_same _ _ _ (λ a r f k. search (rules, of_calls)))
+    ∙ ap (λ ps. ps ++ filter (is_conflict work root target) c.deref.result.now) c.new-list.ensures.items
+    ∙ conflicts_listed work root target c.deref.result.now (c.deref.ensures.value ∙ c.in_ok-all.ensures)
