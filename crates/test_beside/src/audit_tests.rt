@@ -84,6 +84,18 @@ impl Scribes {
         self.note(caller, Call::Ask(request), Answer::Replied(reply))
     }
 
+    /// The log of a caller, with this entry in place of the one under the same ticket.
+    fn log(&self, alloc: Global, caller: u64, other: Option<&LogEntry>) -> Result<CallLog, Fail> {
+        let mut entries = Vec::new(alloc);
+        for (by, entry) in &self.notes {
+            if *by == caller {
+                entries.push(copy_of(chosen(entry, other))?)?;
+            }
+        }
+        let entries = Sequence::from_vec(entries);
+        Ok(CallLog { caller, entries })
+    }
+
     /// What an audit says of all that is noted, with this entry in place of the one under the same ticket.
     fn said(
         &mut self,
@@ -92,14 +104,7 @@ impl Scribes {
     ) -> Result<Result<(), AuditFault>, Fail> {
         let mut logs = Vec::new(alloc);
         for caller in 0..CALLERS {
-            let mut entries = Vec::new(alloc);
-            for (by, entry) in &self.notes {
-                if *by == caller {
-                    entries.push(copy_of(chosen(entry, other))?)?;
-                }
-            }
-            let entries = Sequence::from_vec(entries);
-            logs.push(CallLog { caller, entries })?;
+            logs.push(self.log(alloc, caller, other)?)?;
         }
         Ok(audit(alloc, &mut self.audited, logs.as_slice()))
     }
@@ -109,17 +114,27 @@ impl Scribes {
         let mut wrong = Vec::new(alloc);
         for (_, entry) in &self.notes {
             if let Call::Change(Change::Import { .. }) = &entry.call {
-                let mut other = copy_of(entry)?;
-                other.answer = Answer::Refused(ChangeFault::TooLarge);
-                wrong.push((other, AuditFault::WrongReply))?;
-                let mut other = copy_of(entry)?;
-                let objects = Sequence::new(alloc);
-                other.call = Call::Change(Change::Import { objects });
-                wrong.push((other, AuditFault::UnknownCall))?;
+                wrong.push((otherwise_answered(entry)?, AuditFault::WrongReply))?;
+                wrong.push((of_nothing(alloc, entry)?, AuditFault::UnknownCall))?;
             }
         }
         Ok(wrong)
     }
+}
+
+/// The entry with another answer.
+fn otherwise_answered(entry: &LogEntry) -> Result<LogEntry, Fail> {
+    let mut other = copy_of(entry)?;
+    other.answer = Answer::Refused(ChangeFault::TooLarge);
+    Ok(other)
+}
+
+/// The entry with an import of no object as its call.
+fn of_nothing(alloc: Global, entry: &LogEntry) -> Result<LogEntry, Fail> {
+    let mut other = copy_of(entry)?;
+    let objects = Sequence::new(alloc);
+    other.call = Call::Change(Change::Import { objects });
+    Ok(other)
 }
 
 /// The entry, or the other one under the same ticket.

@@ -2,8 +2,9 @@
 
 use crate::comparing::{Pair, Step};
 use crate::stores::{path, sharing, two_commits};
+use eden_accumulate::Mount;
 use eden_history::{Change, Mode};
-use eden_ids::{Id, Kind, Sequence};
+use eden_ids::{GitNaming, Id, Kind, Sequence};
 use std::alloc::Global;
 use std::test::Fail;
 
@@ -47,20 +48,19 @@ const OF_FILES: &[(&str, Act)] = &[
     ("b", Act::Remove),
 ];
 
-/// Changes of the root and of the mount, of each kind and of each refusal but that of the last number.
-fn of_roots(alloc: Global, commits: &[Id; 2]) -> Result<Vec<Change>, Fail> {
+/// Adds changes of the root and of the mount, of each kind and of each refusal but that of the last number.
+fn add_of_roots(changes: &mut Vec<Change>, commits: &[Id; 2]) -> Result<(), Fail> {
     let checkout = |commit, mode| Change::Checkout { commit, mode };
     let [first, second] = *commits;
-    Ok(vec![in alloc;
-        checkout(second, Mode::Dry),
-        checkout(second, Mode::Normal),
-        checkout(Id([7; 20]), Mode::Force),
-        Change::Reset { commit: first },
-        Change::Flush,
-        Change::Remount { generation: 7 },
-        Change::Remount { generation: 8 },
-        checkout(second, Mode::Force),
-    ]?)
+    changes.push(checkout(second, Mode::Dry))?;
+    changes.push(checkout(second, Mode::Normal))?;
+    changes.push(checkout(Id([7; 20]), Mode::Force))?;
+    changes.push(Change::Reset { commit: first })?;
+    changes.push(Change::Flush)?;
+    changes.push(Change::Remount { generation: 7 })?;
+    changes.push(Change::Remount { generation: 8 })?;
+    changes.push(checkout(second, Mode::Force))?;
+    Ok(())
 }
 
 /// All of these, one after another, and then the removal of a file of the second commit.
@@ -69,11 +69,21 @@ fn changes(alloc: Global, commits: &[Id; 2]) -> Result<Vec<Change>, Fail> {
     for (at, act) in OF_FILES {
         changes.push(change_of(alloc, at, *act)?)?;
     }
-    for change in of_roots(alloc, commits)? {
-        changes.push(change)?;
-    }
+    add_of_roots(&mut changes, commits)?;
     changes.push(change_of(alloc, "c", Act::Remove)?)?;
     Ok(changes)
+}
+
+/// The floor and the head of a mount's journal, and how many runs it holds.
+fn extent(mount: &Mount<GitNaming>) -> (u64, u64, usize) {
+    let journal = mount.journal();
+    (journal.floor(), journal.head(), journal.held())
+}
+
+/// Makes a change on both, and compares their files.
+fn go_on(alloc: Global, pair: &mut Pair, step: &Step) -> Result<(), Fail> {
+    let _ = pair.apply(step)?;
+    pair.same_files(alloc, step)
 }
 
 #[test]
@@ -88,15 +98,10 @@ fn beside_world(rt: HostRuntime) -> Result<(), Fail> {
             number,
             change,
         };
-        let _ = pair.apply(&step)?;
-        pair.same_files(alloc, &step)?;
+        go_on(alloc, &mut pair, &step)?;
     }
-    let journal = pair.mount.journal();
-    assert_eq!(rt;
-        (journal.floor(), journal.head(), journal.held()),
-        (1, 3, 2)
-    );
-    assert_eq!(rt; pair.mount.work().root(), commits.ids[1]);
+    assert!(rt; extent(&pair.mount) == (1, 3, 2));
+    assert!(rt; pair.mount.work().root() == commits.ids[1]);
     Ok(())
 }
 

@@ -5,7 +5,7 @@ use crate::stores::path;
 use eden_accumulate::{Mount, expand};
 use eden_globs::Filter;
 use eden_history::{Answer, Change, Marked, Position, SinceFault};
-use eden_ids::{Content, GitNaming, Id, Kind, Sequence};
+use eden_ids::{Content, GitNaming, Id, Kind, Path, Sequence};
 use eden_objects::Store;
 use eden_world::World;
 use std::alloc::Global;
@@ -43,6 +43,21 @@ fn seen(file: Option<&Content>) -> Option<(Kind, &[u8])> {
     Some((content.kind, content.bytes.as_slice()))
 }
 
+/// The file that a mount reads at a path.
+fn read<'a>(mount: &'a Mount<GitNaming>, path: &Path) -> Option<(Kind, &'a [u8])> {
+    mount.read(path).ok()
+}
+
+/// The file that stands at a path of a world.
+fn file<'a>(world: &'a World<GitNaming>, path: &Path) -> Option<&'a Content> {
+    world.now().files().get(path)
+}
+
+/// The paths of the files that a mount lists.
+fn listed(alloc: Global, mount: &Mount<GitNaming>) -> Result<Vec<Path>, Fail> {
+    Ok(mount.snapshot()?.files(mount.store(), &Filter::all(alloc))?)
+}
+
 /// A mount and a world over copies of one store.
 #[derive(Drop)]
 pub(crate) struct Pair {
@@ -72,29 +87,35 @@ impl Pair {
         Ok(told)
     }
 
+    /// Both have the same file at a path.
+    fn same_file(&self, step: &Step, path: &Path) -> Result<(), Fail> {
+        let expected = seen(file(&self.world, path));
+        step.alike((path, read(&self.mount, path)), (path, expected))
+    }
+
     /// The mount lists just the world's files, and reads each of them.
     pub(crate) fn same_files(&self, alloc: Global, step: &Step) -> Result<(), Fail> {
-        let all = Filter::parse(alloc, &[])?;
-        let listed = self.mount.snapshot()?.files(self.mount.store(), &all)?;
-        let files = self.world.now().files();
-        step.alike(listed.len(), files.paths().count())?;
+        let listed = listed(alloc, &self.mount)?;
+        step.alike(listed.len(), self.world.now().files().paths().count())?;
         for path in &listed {
-            step.alike(
-                (path, self.mount.read(path).ok()),
-                (path, seen(files.get(path))),
-            )?;
+            self.same_file(step, path)?;
         }
         Ok(())
     }
 
+    /// A world of the mount's root.
+    fn clean(&mut self, alloc: Global) -> Result<World<GitNaming>, Fail> {
+        let store = self.mount.share()?;
+        Ok(World::mount(alloc, store, self.mount.work().root(), 1, 0)?)
+    }
+
     /// Of all paths that are used, just those are dirty on which the world differs from a world of its root.
     pub(crate) fn same_dirty(&mut self, alloc: Global, step: &Step) -> Result<(), Fail> {
-        let store = self.mount.share()?;
-        let clean = World::mount(alloc, store, self.mount.work().root(), 1, 0)?;
+        let clean = self.clean(alloc)?;
         let dirty = self.mount.work().dirty(self.mount.store())?;
-        for text in PATHS {
+        for text in &PATHS {
             let path = path(alloc, text)?;
-            let differs = self.world.now().files().get(&path) != clean.now().files().get(&path);
+            let differs = file(&self.world, &path) != file(&clean, &path);
             step.alike((text, dirty.contains(&path)), (text, differs))?;
         }
         Ok(())

@@ -73,30 +73,39 @@ fn split<'a>(alloc: Global, bytes: &'a [u8]) -> Result<Vec<&'a [u8]>, Fail> {
     Ok(parts)
 }
 
+fn admits(filter: &Filter, path: &Path) -> bool {
+    filter.admits(path)
+}
+
+/// Whether a filter says of a directory what the plain matcher says; and it enters each directory above a path that it admits.
+fn same_entry(
+    filter: &Filter,
+    directory: &[u8],
+    parts: &[&[u8]],
+    names: &[&[u8]],
+    admitted: bool,
+) -> bool {
+    let told = filter.admits_below(directory);
+    told == is_entered(parts, names) && (told || !admitted)
+}
+
 /// That the filter of this pattern says of the path, and of each directory above it, what the plain matcher says.
 fn same_answers(alloc: Global, pattern: &[u8], path: &Path) -> Result<bool, Fail> {
     let filter = Filter::parse(alloc, &[pattern])?;
     let parts = split(alloc, pattern)?;
-    let names = split(alloc, path.as_bytes())?;
+    let bytes = path.as_bytes();
+    let names = split(alloc, bytes)?;
     let admitted = is_matched(parts.as_slice(), names.as_slice());
-    if filter.admits(path) != admitted {
-        return Ok(false);
-    }
+    let mut same = admits(&filter, path) == admitted;
     let mut above: usize = 0;
-    for (place, byte) in path.as_bytes().iter().enumerate() {
+    for (place, byte) in bytes.iter().enumerate() {
         if *byte == b'/' {
             above = above.min(63) + 1;
-            let Some(front) = names.get(..above) else {
-                return Ok(false);
-            };
-            let entered = is_entered(parts.as_slice(), front);
-            let told = filter.admits_below(&path.as_bytes()[..place]);
-            if told != entered || admitted && !told {
-                return Ok(false);
-            }
+            let front = names.get(..above).ok_or("a name is missing")?;
+            same = same && same_entry(&filter, &bytes[..place], parts.as_slice(), front, admitted);
         }
     }
-    Ok(true)
+    Ok(same)
 }
 
 /// Patterns of each kind.
@@ -137,6 +146,10 @@ fn same_at_all(alloc: Global, pattern: &str) -> Result<bool, Fail> {
     Ok(true)
 }
 
+fn is_admitted(alloc: Global, pattern: &[u8], path: &Path) -> Result<bool, Fail> {
+    Ok(Filter::parse(alloc, &[pattern])?.admits(path))
+}
+
 #[test]
 fn known_pairs(rt: HostRuntime) -> Result<(), Fail> {
     for pattern in PATTERNS {
@@ -155,8 +168,7 @@ fn generated_pairs(rt: HostRuntime) -> Result<(), Fail> {
         let path = lot.long_path(alloc)?;
         let same = same_answers(alloc, pattern.as_slice(), &path)?;
         assert!(rt; same, "pair {pair}: {pattern:?} at {path:?}");
-        let filter = Filter::parse(alloc, &[pattern.as_slice()])?;
-        if filter.admits(&path) {
+        if is_admitted(alloc, pattern.as_slice(), &path)? {
             admitted = pair.min(admitted) + 1;
         }
     }

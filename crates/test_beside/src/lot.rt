@@ -75,20 +75,21 @@ impl Lot {
                 .saturating_sub(self.below(16) as u64),
             root: now.root,
         };
-        let basis = Request::Basis {
+        let mut requests = Vec::new(alloc);
+        requests.push(Request::Basis {
             query,
             filter: filter.copy()?,
-        };
-        let poll = Request::Poll {
+        })?;
+        requests.push(Request::Poll {
             query,
             since,
             filter: filter.copy()?,
-        };
-        let fetch = Request::Fetch {
+        })?;
+        requests.push(Request::Fetch {
             query,
             path: self.path(alloc)?,
-        };
-        Ok(vec![in alloc; basis, poll, fetch]?)
+        })?;
+        Ok(requests)
     }
 
     /// One to three of these.

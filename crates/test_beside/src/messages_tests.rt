@@ -4,7 +4,7 @@ use crate::comparing::{Pair, Step};
 use crate::frames::replied;
 use crate::imports::{Imported, Roots};
 use crate::lot::Lot;
-use crate::stores::{Commits, family};
+use crate::stores::{Commits, family, path};
 use eden_globs::Filter;
 use eden_history::Change;
 use eden_ids::GitNaming;
@@ -13,6 +13,9 @@ use eden_objects::Store;
 use eden_query::{Raw, Served, answer};
 use std::alloc::Global;
 use std::test::Fail;
+
+/// The directories of which lists are asked.
+const PREFIXES: [&str; 4] = ["a", "d", "a/b", "b"];
 
 /// What a mount held for a request, with the objects that it had then, and what it was to reply then.
 #[derive(Drop)]
@@ -108,7 +111,7 @@ impl Replies {
         Ok(self.kept.push(held)?)
     }
 
-    /// Three requests by a filter drawn by lot.
+    /// Four requests by a filter drawn by lot.
     fn draw(&mut self, alloc: Global, step: &Step) -> Result<(Vec<Request>, Filter), Fail> {
         let query = Query {
             mirror: 1,
@@ -117,11 +120,16 @@ impl Replies {
         };
         let filter = self.lot.filter(alloc)?;
         let now = self.pair.mount.position();
-        let requests = self.lot.requests(alloc, query, &now, &filter)?;
+        let mut requests = self.lot.requests(alloc, query, &now, &filter)?;
+        requests.push(Request::List {
+            query,
+            prefix: path(alloc, PREFIXES[step.number % 4])?,
+            filter: filter.copy()?,
+        })?;
         Ok((requests, filter))
     }
 
-    /// Asks three requests by a filter drawn by lot, and keeps what is held for them.
+    /// Asks four requests by a filter drawn by lot, and keeps what is held for them.
     fn ask(&mut self, alloc: Global, step: &Step) -> Result<(), Fail> {
         let (requests, filter) = self.draw(alloc, step)?;
         for request in &requests {

@@ -25,11 +25,11 @@ fn last(alloc: Global, commits: &mut Commits<2>, root: Id) -> Result<Mount<GitNa
 
 /// A file that no commit has.
 fn file(alloc: Global) -> Result<Vec<Object>, Fail> {
-    let object = Object {
-        word: Word::Blob,
-        payload: Sequence::from_vec(b"z".as_slice().to_vec(alloc)?),
-    };
-    Ok(vec![in alloc; object]?)
+    let mut objects = Vec::new(alloc);
+    let payload = Sequence::from_vec(b"z".as_slice().to_vec(alloc)?);
+    let word = Word::Blob;
+    objects.push(Object { word, payload })?;
+    Ok(objects)
 }
 
 /// One call of a mount.
@@ -38,8 +38,9 @@ enum Act {
     Write(&'static str),
     Remove(&'static str),
     Rename(&'static str, &'static str),
-    Reset(Id),
-    Checkout(Id, Mode),
+    /// To a commit that is given, as the next one.
+    Reset,
+    Checkout(Mode),
     Flush,
     /// Of a file that no commit has.
     Import,
@@ -77,10 +78,11 @@ fn make(
     alloc: Global,
     mount: &mut Mount<GitNaming>,
     act: Act,
+    commit: Id,
 ) -> Result<Result<Position, ChangeFault>, Fail> {
     Ok(match act {
-        Act::Reset(commit) => mount.reset(commit),
-        Act::Checkout(commit, mode) => check_out(mount, commit, mode),
+        Act::Reset => mount.reset(commit),
+        Act::Checkout(mode) => check_out(mount, commit, mode),
         Act::Flush => mount.flush(),
         Act::Import => mount.import(file(alloc)?.as_slice()),
         Act::Remount(generation) => mount.remount(generation),
@@ -98,18 +100,36 @@ fn tells_nothing(alloc: Global, mount: &Mount<GitNaming>) -> Result<bool, Fail> 
     Ok(none && files.is_empty() && fault == Some(SinceFault::Truncated(u64::MAX)))
 }
 
+/// Whether a mount reads no file at a path.
+fn has_none(alloc: Global, mount: &Mount<GitNaming>, at: &str) -> Result<bool, Fail> {
+    Ok(mount.read(&path(alloc, at)?) == Err(ChangeFault::NoEntry))
+}
+
 #[test]
 fn sequence_exhausted(rt: HostRuntime) -> Result<(), Fail> {
     let alloc = rt.alloc();
     let mut commits = two_commits(alloc)?;
     let mut mount = last(alloc, &mut commits, Id::ZERO)?;
-    let answer = make(alloc, &mut mount, Act::Write("a"))?;
+    let answer = make(alloc, &mut mount, Act::Write("a"), Id::ZERO)?;
     assert!(rt; answer == Err(ChangeFault::SequenceExhausted));
-    assert!(rt; mount.read(&path(alloc, "a")?) == Err(ChangeFault::NoEntry));
+    assert!(rt; has_none(alloc, &mount, "a")?);
     assert!(rt; mount.position().sequence == u64::MAX);
     assert!(rt; tells_nothing(alloc, &mount)?);
     Ok(())
 }
+
+/// Calls at the last number, and whether they are made. An import takes no number.
+const AT_LAST: [(Act, bool); 9] = [
+    (Act::Write("a"), false),
+    (Act::Remove("a"), false),
+    (Act::Rename("a", "n"), false),
+    (Act::Rename("a", "a"), true),
+    (Act::Reset, false),
+    (Act::Checkout(Mode::Force), false),
+    (Act::Checkout(Mode::Dry), true),
+    (Act::Flush, false),
+    (Act::Import, true),
+];
 
 #[test]
 fn sequence_exhausted_over_files(rt: HostRuntime) -> Result<(), Fail> {
@@ -118,37 +138,19 @@ fn sequence_exhausted_over_files(rt: HostRuntime) -> Result<(), Fail> {
     let [first, second] = commits.ids;
     let mut mount = last(alloc, &mut commits, first)?;
     let now = mount.position();
-    for (call, made) in &[
-        (Act::Write("a"), false),
-        (Act::Remove("a"), false),
-        (Act::Rename("a", "n"), false),
-        (Act::Rename("a", "a"), true),
-        (Act::Reset(second), false),
-        (Act::Checkout(second, Mode::Force), false),
-        (Act::Checkout(second, Mode::Dry), true),
-        (Act::Flush, false),
-        // An import takes no number.
-        (Act::Import, true),
-    ] {
-        let answer = make(alloc, &mut mount, *call)?;
-        let expected = if *made {
-            Ok(now)
-        } else {
-            Err(ChangeFault::SequenceExhausted)
-        };
-        assert!(rt; answer == expected);
+    for (act, made) in &AT_LAST {
+        let answer = make(alloc, &mut mount, *act, second)?;
+        let refused = Err(ChangeFault::SequenceExhausted);
+        assert!(rt; answer == if *made { Ok(now) } else { refused });
         assert!(rt; mount.position() == now);
     }
     assert!(rt; holds(alloc, &mount, "a", (Kind::Plain, b"x".as_slice()))?);
-    let answer = make(alloc, &mut mount, Act::Remount(8))?;
-    assert!(rt;
-        answer
-            == Ok(Position {
-                generation: 8,
-                sequence: 1,
-                root: first
-            })
-    );
+    let opening = Position {
+        generation: 8,
+        sequence: 1,
+        root: first,
+    };
+    assert!(rt; make(alloc, &mut mount, Act::Remount(8), second)? == Ok(opening));
     Ok(())
 }
 

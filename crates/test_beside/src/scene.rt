@@ -7,7 +7,7 @@ use crate::past::Past;
 use crate::stores::path;
 use eden_accumulate::Mount;
 use eden_globs::Filter;
-use eden_history::{Change, Position, SinceFault};
+use eden_history::{Change, Marked, Position, SinceFault};
 use eden_ids::{Content, GitNaming, Kind, Path};
 use eden_messages::{Cause, Query, Reply, Request};
 use eden_mirror::Mirror;
@@ -76,10 +76,19 @@ fn seen(file: Option<&Content>) -> Seen<'_> {
     Some((content.kind, content.bytes.as_slice()))
 }
 
+/// Whether a path is one of those that changed, or lies below one of the directories that files were moved between.
+fn is_among(path: &Path, marked: &[Marked], prefixes: &[Path]) -> bool {
+    marked.iter().any(|m| m.path == *path) || prefixes.iter().any(|prefix| path.is_below(prefix))
+}
+
 /// Whether a reply to a poll lists a path, or refuses what was asked in a way by which the client learns that it is behind.
 fn tells(reply: &Reply, path: &Path) -> bool {
     match reply {
-        Reply::ChangesAre { marked, .. } => marked.as_slice().iter().any(|m| m.path == *path),
+        Reply::ChangesAre {
+            marked,
+            prefixes,
+            ..
+        } => is_among(path, marked.as_slice(), prefixes.as_slice()),
         Reply::Refused { cause, .. } => match cause {
             Cause::Stale(_) | Cause::Truncated(_) | Cause::TooLarge => true,
             Cause::Ahead(_) => false,
@@ -92,9 +101,9 @@ fn tells(reply: &Reply, path: &Path) -> bool {
 fn is_covered(mount: &Mount<GitNaming>, place: &Position, behind: &[Path]) -> Result<bool, Fail> {
     match mount.changes_since(place) {
         Ok(changes) => Ok(
-            behind
-                .iter()
-                .all(|path| changes.marked.iter().any(|m| m.path == *path)),
+            behind.iter().all(|path| {
+                is_among(path, changes.marked.as_slice(), changes.prefixes.as_slice())
+            }),
         ),
         Err(SinceFault::Stale(_) | SinceFault::Truncated(_)) => Ok(true),
         Err(SinceFault::Ahead(_)) => Ok(false),
@@ -166,6 +175,11 @@ impl Tally {
     }
 }
 
+/// The file that a mount reads at a path.
+fn read<'a>(mount: &'a Mount<GitNaming>, path: &Path) -> Seen<'a> {
+    mount.read(path).ok()
+}
+
 impl Follower {
     fn new(alloc: Global, id: u64, life: u64, filter: Filter) -> Result<Follower, Fail> {
         let kept = filter.copy()?;
@@ -173,6 +187,15 @@ impl Follower {
             mirror: Mirror::new(alloc, id, life, filter),
             filter: kept,
         })
+    }
+
+    fn wants(&self, path: &Path) -> bool {
+        self.filter.admits(path)
+    }
+
+    /// The file that it holds at a path.
+    fn held(&self, path: &Path) -> Option<&Content> {
+        self.mirror.get(path)
     }
 
     /// Those of the paths that it wants and at which it holds something else than the mount.
@@ -184,8 +207,7 @@ impl Follower {
     ) -> Result<Vec<Path>, Fail> {
         let mut list = Vec::new(alloc);
         for path in paths {
-            let held = seen(self.mirror.get(path));
-            if self.filter.admits(path) && held != mount.read(path).ok() {
+            if self.wants(path) && seen(self.held(path)) != read(mount, path) {
                 list.push(path.copy()?)?;
             }
         }
@@ -197,7 +219,7 @@ impl Follower {
     fn is_of(&self, past: &Past, place: &Position, paths: &[Path]) -> bool {
         past.has(place)
             && paths.iter().all(|path| {
-                !self.filter.admits(path) || past.stood(place, path, self.mirror.get(path))
+                !self.wants(path) || past.stood(place, path, self.held(path))
             })
     }
 
@@ -212,11 +234,11 @@ impl Follower {
     /// Whether both hold the same at each of the paths that both want. The files that they hold there are counted.
     fn agrees_with(&self, other: &Follower, paths: &[Path], tally: &mut Tally) -> bool {
         for path in paths {
-            if !self.filter.admits(path) || !other.filter.admits(path) {
+            if !self.wants(path) || !other.wants(path) {
                 continue;
             }
-            let held = self.mirror.get(path);
-            if held != other.mirror.get(path) {
+            let held = self.held(path);
+            if held != other.held(path) {
                 return false;
             }
             count(&mut tally.together, held.is_some());
@@ -226,12 +248,10 @@ impl Follower {
 
     /// That it holds as many files as the mount does at those of the paths that it wants.
     fn as_many(&self, mount: &Mount<GitNaming>, paths: &[Path]) -> Result<bool, Fail> {
-        let mut wanted = 0usize;
-        for path in paths {
-            if self.filter.admits(path) && mount.read(path).is_ok() {
-                wanted = wanted.saturating_add(1);
-            }
-        }
+        let wanted = paths
+            .iter()
+            .filter(|path| self.wants(path) && read(mount, path).is_some())
+            .count();
         Ok(self.mirror.files()?.len() == wanted)
     }
 }
@@ -325,6 +345,33 @@ impl Scene {
         Ok(())
     }
 
+    /// The mirror begins a round, if it is there.
+    fn begin(&mut self, mirror: usize) -> Result<(), Fail> {
+        if let Some(follower) = self.followers.get_mut(mirror) {
+            follower.mirror.begin()?;
+        }
+        Ok(())
+    }
+
+    /// The mirror wants other paths.
+    fn refilter(&mut self, mirror: usize, filter: &Filter) -> Result<(), Fail> {
+        if let Some(follower) = self.followers.get_mut(mirror) {
+            follower.mirror.refilter(filter.copy()?);
+            follower.filter = filter.copy()?;
+        }
+        Ok(())
+    }
+
+    /// The mirror begins anew.
+    fn restart(&mut self, alloc: Global, mirror: usize, filter: &Filter) -> Result<(), Fail> {
+        if let Some(follower) = self.followers.get_mut(mirror) {
+            let id = follower.mirror.id();
+            let life = follower.mirror.life().saturating_add(1);
+            *follower = Follower::new(alloc, id, life, filter.copy()?)?;
+        }
+        Ok(())
+    }
+
     /// What the step says happens.
     pub(crate) fn happen(
         &mut self,
@@ -334,34 +381,18 @@ impl Scene {
         tally: &mut Tally,
     ) -> Result<(), Fail> {
         match step {
-            Step::Change(change) => self.change(change, roots, tally)?,
-            Step::Begin(mirror) => {
-                if let Some(follower) = self.followers.get_mut(*mirror) {
-                    follower.mirror.begin()?;
-                }
-            }
-            Step::Send(mirror) => self.ask(alloc, *mirror)?,
-            Step::Serve(place) => self.serve(alloc, *place)?,
-            Step::Come { reply, mirror } => self.come(alloc, *reply, *mirror)?,
-            Step::Refilter(mirror, filter) => {
-                if let Some(follower) = self.followers.get_mut(*mirror) {
-                    follower.mirror.refilter(filter.copy()?);
-                    follower.filter = filter.copy()?;
-                }
-            }
-            Step::Restart(mirror, filter) => {
-                if let Some(follower) = self.followers.get_mut(*mirror) {
-                    let id = follower.mirror.id();
-                    let life = follower.mirror.life().saturating_add(1);
-                    *follower = Follower::new(alloc, id, life, filter.copy()?)?;
-                }
-            }
+            Step::Change(change) => self.change(change, roots, tally),
+            Step::Begin(mirror) => self.begin(*mirror),
+            Step::Send(mirror) => self.ask(alloc, *mirror),
+            Step::Serve(place) => self.serve(alloc, *place),
+            Step::Come { reply, mirror } => self.come(alloc, *reply, *mirror),
+            Step::Refilter(mirror, filter) => self.refilter(*mirror, filter),
+            Step::Restart(mirror, filter) => self.restart(alloc, *mirror, filter),
             Step::Strange(request) => {
                 let nobody = self.followers.len();
-                self.send(alloc, nobody, request)?;
+                self.send(alloc, nobody, request)
             }
         }
-        Ok(())
     }
 
     /// Whether each two mirrors at the head hold the same at the paths that both want.
@@ -388,36 +419,68 @@ impl Scene {
         alloc: Global,
         tally: &mut Tally,
     ) -> Result<Option<&'static str>, Fail> {
+        let paths = self.paths.as_slice();
         for follower in &self.followers {
             let Some(place) = follower.mirror.position() else {
                 continue;
             };
-            if !follower.is_of(&self.past, &place, self.paths.as_slice()) {
+            if !follower.is_of(&self.past, &place, paths) {
                 return Ok(Some("a place or a file that the mount never had"));
             }
-            let behind = follower.behind(alloc, &self.mount, self.paths.as_slice())?;
-            // Where it is behind nowhere, nothing is promised of what is told.
-            if !behind.is_empty() {
-                if !is_covered(&self.mount, &place, behind.as_slice())? {
-                    return Ok(Some("a path is not covered"));
-                }
-                let reply = polled(alloc, &mut self.mount, place, &follower.filter)?;
-                if !behind.iter().all(|path| tells(&reply, path)) {
-                    return Ok(Some("a path is not told"));
-                }
-                tally.count_reply(&reply);
+            let broken = broken_of(alloc, &mut self.mount, follower, place, paths, tally)?;
+            if broken.is_some() {
+                return Ok(broken);
             }
-            let at_head = follower.is_at(&self.mount.position());
-            let as_many = follower.as_many(&self.mount, self.paths.as_slice())?;
-            if at_head && !(behind.is_empty() && as_many) {
-                return Ok(Some("a mirror at the head holds other files"));
-            }
-            count(&mut tally.placed, true);
-            count(&mut tally.at_head, at_head);
         }
         if !self.agree_at_head(tally) {
             return Ok(Some("two mirrors at the head hold other files"));
         }
         Ok(None)
     }
+}
+
+/// What does not hold of the paths at which a mirror is behind. Where that is none, nothing is promised of what is told.
+fn broken_behind(
+    alloc: Global,
+    mount: &mut Mount<GitNaming>,
+    follower: &Follower,
+    place: Position,
+    behind: &[Path],
+    tally: &mut Tally,
+) -> Result<Option<&'static str>, Fail> {
+    if behind.is_empty() {
+        return Ok(None);
+    }
+    if !is_covered(mount, &place, behind)? {
+        return Ok(Some("a path is not covered"));
+    }
+    let reply = polled(alloc, mount, place, &follower.filter)?;
+    if !behind.iter().all(|path| tells(&reply, path)) {
+        return Ok(Some("a path is not told"));
+    }
+    tally.count_reply(&reply);
+    Ok(None)
+}
+
+/// What does not hold of a mirror that has a place.
+fn broken_of(
+    alloc: Global,
+    mount: &mut Mount<GitNaming>,
+    follower: &Follower,
+    place: Position,
+    paths: &[Path],
+    tally: &mut Tally,
+) -> Result<Option<&'static str>, Fail> {
+    let behind = follower.behind(alloc, mount, paths)?;
+    let broken = broken_behind(alloc, mount, follower, place, behind.as_slice(), tally)?;
+    if broken.is_some() {
+        return Ok(broken);
+    }
+    let at_head = follower.is_at(&mount.position());
+    if at_head && !(behind.is_empty() && follower.as_many(mount, paths)?) {
+        return Ok(Some("a mirror at the head holds other files"));
+    }
+    count(&mut tally.placed, true);
+    count(&mut tally.at_head, at_head);
+    Ok(None)
 }

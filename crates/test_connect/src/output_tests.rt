@@ -110,7 +110,7 @@ where
 #[test]
 fn first_request_asks_for_all_paths(rt: HostRuntime) -> Result<(), Fail> {
     let wanted =
-        b"\0\0\0\x21\x01\x01\0\0\0\0\0\0\0\x05\0\0\0\0\0\0\0\x06\0\0\0\0\0\0\0\x01\x01\0\x04d/**";
+        b"\0\0\0\x21\x02\x01\0\0\0\0\0\0\0\x05\0\0\0\0\0\0\0\x06\0\0\0\0\0\0\0\x01\x01\0\x04d/**";
     let Some(request) = asked(&rt, rt.alloc())? else {
         return Err(Fail::new("nothing is asked"));
     };

@@ -17,30 +17,30 @@ const UNPLACED: Result<(), ProgramFault> = Err(ProgramFault::Unplaced);
 
 /// To the first question: the position is of another generation than 8.
 const STALE: Act = Act::Say(
-    b"\0\0\0\x23\x01\x84\0\0\0\0\0\0\0\x01\0\0\0\0\0\0\0\x01\0\0\0\0\0\0\0\x01\x01\0\0\0\0\0\0\0\x08",
+    b"\0\0\0\x23\x02\x84\0\0\0\0\0\0\0\x01\0\0\0\0\0\0\0\x01\0\0\0\0\0\0\0\x01\x01\0\0\0\0\0\0\0\x08",
 );
 
 /// To the first question: the reply would be too large.
 const TOO_LARGE: Act = Act::Say(
-    b"\0\0\0\x23\x01\x84\0\0\0\0\0\0\0\x01\0\0\0\0\0\0\0\x01\0\0\0\0\0\0\0\x01\x04\0\0\0\0\0\0\0\0",
+    b"\0\0\0\x23\x02\x84\0\0\0\0\0\0\0\x01\0\0\0\0\0\0\0\x01\0\0\0\0\0\0\0\x01\x04\0\0\0\0\0\0\0\0",
 );
 
 /// The same to the first question of mirror 2.
 const OTHER_MIRROR: Act = Act::Say(
-    b"\0\0\0\x23\x01\x84\0\0\0\0\0\0\0\x02\0\0\0\0\0\0\0\x01\0\0\0\0\0\0\0\x01\x04\0\0\0\0\0\0\0\0",
+    b"\0\0\0\x23\x02\x84\0\0\0\0\0\0\0\x02\0\0\0\0\0\0\0\x01\0\0\0\0\0\0\0\x01\x04\0\0\0\0\0\0\0\0",
 );
 
 /// And to that of the mirror's second life.
 const OTHER_LIFE: Act = Act::Say(
-    b"\0\0\0\x23\x01\x84\0\0\0\0\0\0\0\x01\0\0\0\0\0\0\0\x02\0\0\0\0\0\0\0\x01\x04\0\0\0\0\0\0\0\0",
+    b"\0\0\0\x23\x02\x84\0\0\0\0\0\0\0\x01\0\0\0\0\0\0\0\x02\0\0\0\0\0\0\0\x01\x04\0\0\0\0\0\0\0\0",
 );
 
 /// A length of nearly 4 GiB, one byte more than a body may have, and as many as it may, which don't come.
-const LONG: Act = Act::Say(b"\xff\xff\xff\xff\x01\x84");
+const LONG: Act = Act::Say(b"\xff\xff\xff\xff\x02\x84");
 
-const LONGER: Act = Act::Say(b"\x01\0\0\x01\x01\x84");
+const LONGER: Act = Act::Say(b"\x01\0\0\x01\x02\x84");
 
-const LONGEST: Act = Act::Say(b"\x01\0\0\0\x01\x84");
+const LONGEST: Act = Act::Say(b"\x01\0\0\0\x02\x84");
 
 /// A part of a length, no body, and bodies that can't be read: of another version, with a tag of a request, that end inside a field, and with
 /// a byte after the last field.
@@ -48,14 +48,14 @@ const PART: Act = Act::Say(b"\0\0");
 
 const EMPTY: Act = Act::Say(b"\0\0\0\0");
 
-const VERSION: Act = Act::Say(b"\0\0\0\x04\x02\x84\0\0");
+const VERSION: Act = Act::Say(b"\0\0\0\x04\x01\x84\0\0");
 
-const TAG: Act = Act::Say(b"\0\0\0\x04\x01\x03\0\0");
+const TAG: Act = Act::Say(b"\0\0\0\x04\x02\x03\0\0");
 
-const SHORT: Act = Act::Say(b"\0\0\0\x04\x01\x84\0\0");
+const SHORT: Act = Act::Say(b"\0\0\0\x04\x02\x84\0\0");
 
 const TRAILING: Act = Act::Say(
-    b"\0\0\0\x24\x01\x84\0\0\0\0\0\0\0\x01\0\0\0\0\0\0\0\x01\0\0\0\0\0\0\0\x01\x04\0\0\0\0\0\0\0\0\0",
+    b"\0\0\0\x24\x02\x84\0\0\0\0\0\0\0\x01\0\0\0\0\0\0\0\x01\0\0\0\0\0\0\0\x01\x04\0\0\0\0\0\0\0\0\0",
 );
 
 /// Bytes that were drawn by lot.

@@ -1,3 +1,5 @@
+//! A writer for tests.
+
 use std::alloc::Global;
 use std::io;
 use std::io::{ErrorKind, Write};

@@ -1,3 +1,5 @@
+//! Readers for tests.
+
 use std::io;
 use std::io::{ErrorKind, Read};
 

@@ -1,3 +1,5 @@
+//! What the devices give and take, and where they fail.
+
 use super::{Endless, Sink, Source};
 use std::io::{ErrorKind, Read, Write};
 use std::test::Fail;

@@ -1,3 +1,5 @@
+//! The examples at the heads of the libraries, each of which runs.
+
 // The body of each function but its last line is the text of the example at the head of that crate's lib.rt, and must stay so:
 // docs/examples.py, which `./test` runs, compares them.
 
@@ -295,7 +297,7 @@ fn eden_wire_example(rt: &impl Abort, alloc: Global) -> Result<(), Fail> {
     assert_eq!(rt; frame.len(), 4 + 29);
     let request = decode_request(alloc, &frame.as_slice()[4..])?;
     assert!(rt; matches!(request, Request::Fetch { .. }));
-    let fault = decode_request(alloc, b"\x02\x03".as_slice());
+    let fault = decode_request(alloc, b"\x01\x03".as_slice());
     assert!(rt; matches!(fault, Err(DecodeFault::Version)));
     Ok(())
 }

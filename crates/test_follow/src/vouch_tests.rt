@@ -51,6 +51,7 @@ fn changed(alloc: Global) -> Result<Reply, Fail> {
         query: query(1, 2),
         target: position(2),
         marked,
+        prefixes: Sequence::new(alloc),
     })
 }
 

@@ -1,3 +1,5 @@
+//! Columns of ids, and the words that make up an id.
+
 use eden_ids::{Id, IdColumn};
 use std::test::Fail;
 
@@ -19,25 +21,53 @@ const IDS: [(Id, [u32; 5]); 2] = [
     ),
 ];
 
+/// The words of an id.
+fn words_of(id: Id) -> [u32; 5] {
+    [id.word(0), id.word(1), id.word(2), id.word(3), id.word(4)]
+}
+
+/// The words at a row of a column, if the column reaches it.
+fn words_at(column: &IdColumn, row: usize) -> Option<[u32; 5]> {
+    Some([
+        *column.words(0).get(row)?,
+        *column.words(1).get(row)?,
+        *column.words(2).get(row)?,
+        *column.words(3).get(row)?,
+        *column.words(4).get(row)?,
+    ])
+}
+
+/// How many ids a column has, and how many words stand at each of their five places.
+fn lengths(column: &IdColumn) -> (usize, [usize; 5]) {
+    let words = [
+        column.words(0).len(),
+        column.words(1).len(),
+        column.words(2).len(),
+        column.words(3).len(),
+        column.words(4).len(),
+    ];
+    (column.len(), words)
+}
+
+/// The id at a row of a column.
+fn id_at(column: &IdColumn, row: usize) -> Option<Id> {
+    column.get(row)
+}
+
 #[test]
 fn columns_give_back_their_ids_and_words(rt: HostRuntime) -> Result<(), Fail> {
-    let alloc = rt.alloc();
-    let mut column = IdColumn::new(alloc);
-    assert_eq!(rt; (column.len(), column.get(0)), (0, None));
-    for place in 0..5_usize {
-        assert_eq!(rt; column.words(place).len(), 0);
+    let mut column = IdColumn::new(rt.alloc());
+    assert!(rt; lengths(&column) == (0, [0; 5]));
+    assert!(rt; id_at(&column, 0).is_none());
+    for (id, _) in &IDS {
+        column.push(*id)?;
     }
-    for (id, _) in IDS {
-        column.push(id)?;
-    }
-    assert_eq!(rt; column.len(), 2);
+    assert!(rt; lengths(&column) == (2, [2; 5]));
     for (row, (id, words)) in IDS.iter().enumerate() {
-        assert_eq!(rt; column.get(row), Some(*id));
-        for place in 0..5_usize {
-            assert_eq!(rt; id.word(place), words[place]);
-            assert_eq!(rt; column.words(place).get(row), Some(&words[place]));
-        }
+        assert!(rt; id_at(&column, row) == Some(*id));
+        assert!(rt; words_of(*id) == *words);
+        assert!(rt; words_at(&column, row) == Some(*words));
     }
-    assert_eq!(rt; (column.get(2), column.get(usize::MAX)), (None, None));
+    assert!(rt; id_at(&column, 2).is_none() && id_at(&column, usize::MAX).is_none());
     Ok(())
 }

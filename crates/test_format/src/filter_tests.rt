@@ -1,4 +1,6 @@
-use eden_globs::{Filter, FilterFault};
+//! Filters: which paths they admit, which directories they enter, and which patterns are refused.
+
+use eden_globs::{Filter, FilterFault, Front};
 use eden_ids::Path;
 use std::alloc::Global;
 use std::test::Fail;
@@ -8,9 +10,13 @@ fn fault_of(alloc: Global, patterns: &[&[u8]]) -> Option<FilterFault> {
     Filter::parse(alloc, patterns).err()
 }
 
-fn is_admitted(alloc: Global, pattern: &str, at: &str) -> Result<bool, Fail> {
-    let filter = Filter::parse(alloc, &[pattern.as_bytes()])?;
-    Ok(filter.admits(&path(alloc, at)?))
+fn is_admitted(alloc: Global, pattern: &[u8], path: &[u8]) -> Result<bool, Fail> {
+    let filter = Filter::parse(alloc, &[pattern])?;
+    Ok(filter.admits(&Path::parse(alloc, path)?))
+}
+
+fn is_entered(alloc: Global, patterns: &[&[u8]], directory: &[u8]) -> Result<bool, Fail> {
+    Ok(Filter::parse(alloc, patterns)?.admits_below(directory))
 }
 
 #[test]
@@ -28,149 +34,187 @@ fn no_pattern_admits_every_path(rt: HostRuntime) -> Result<(), Fail> {
     Ok(())
 }
 
+/// A pattern, a path, and whether the one admits the other.
+const PATTERNS: [(&str, &str, bool); 33] = [
+    ("**/x", "x", true),
+    ("**/x", "a/x", true),
+    ("**/x", "a/b/x", true),
+    ("**/x", ".h", false),
+    ("a/**", "x", false),
+    ("a/**", "a/x", true),
+    ("a/**", "a/b/x", true),
+    ("a/**", ".h", false),
+    ("a/**", "a", true),
+    ("*", "x", true),
+    ("*", "a/x", false),
+    ("*", "a/b/x", false),
+    ("*", ".h", true),
+    ("a/*", "x", false),
+    ("a/*", "a/x", true),
+    ("a/*", "a/b/x", false),
+    ("a/*", ".h", false),
+    ("**", "a/b/x", true),
+    ("a/**/x", "a/x", true),
+    ("a/**/x", "a/b/c/x", true),
+    ("a/**/x", "a/b/c", false),
+    ("a**b", "ab", true),
+    ("a**b", "a/b", false),
+    ("?", "x", true),
+    ("?", "xy", false),
+    ("a?b", "a/b", false),
+    ("\\*", "*", true),
+    ("\\*", "x", false),
+    ("\\[a]", "[a]", true),
+    ("}]", "}]", true),
+    ("a*b*c", "aXbXbc", true),
+    ("a*b*c", "aXbXbd", false),
+    ("x", "x/y", false),
+];
+
 #[test]
 fn pattern_table(rt: HostRuntime) -> Result<(), Fail> {
-    let alloc = rt.alloc();
-    for (pattern, path, wanted) in [
-        ("**/x", "x", true),
-        ("**/x", "a/x", true),
-        ("**/x", "a/b/x", true),
-        ("**/x", ".h", false),
-        ("a/**", "x", false),
-        ("a/**", "a/x", true),
-        ("a/**", "a/b/x", true),
-        ("a/**", ".h", false),
-        ("a/**", "a", true),
-        ("*", "x", true),
-        ("*", "a/x", false),
-        ("*", "a/b/x", false),
-        ("*", ".h", true),
-        ("a/*", "x", false),
-        ("a/*", "a/x", true),
-        ("a/*", "a/b/x", false),
-        ("a/*", ".h", false),
-        ("**", "a/b/x", true),
-        ("a/**/x", "a/x", true),
-        ("a/**/x", "a/b/c/x", true),
-        ("a/**/x", "a/b/c", false),
-        ("a**b", "ab", true),
-        ("a**b", "a/b", false),
-        ("?", "x", true),
-        ("?", "xy", false),
-        ("a?b", "a/b", false),
-        ("\\*", "*", true),
-        ("\\*", "x", false),
-        ("\\[a]", "[a]", true),
-        ("}]", "}]", true),
-        ("a*b*c", "aXbXbc", true),
-        ("a*b*c", "aXbXbd", false),
-        ("x", "x/y", false),
-    ] {
-        let admitted = is_admitted(alloc, pattern, path)?;
-        assert_eq!(rt; admitted, wanted, "{pattern} at {path}");
+    for (pattern, path, wanted) in &PATTERNS {
+        let admitted = is_admitted(rt.alloc(), pattern.as_bytes(), path.as_bytes())?;
+        assert!(rt; admitted == *wanted, "{pattern} at {path}");
     }
     Ok(())
 }
 
-fn is_entered(alloc: Global, patterns: &[&[u8]], directory: &[u8]) -> Result<bool, Fail> {
-    Ok(Filter::parse(alloc, patterns)?.admits_below(directory))
-}
+/// Patterns, a directory, and whether it is entered. One that is longer than a path is always entered.
+const DIRECTORIES: [(&[&[u8]], &[u8], bool); 31] = [
+    (&[b"a/b"], b"", true),
+    (&[b"a/b"], b"a", true),
+    (&[b"a/b"], b"a/b", false),
+    (&[b"a/b"], b"b", false),
+    (&[b"a/b"], b"a/b/c", false),
+    (&[b"a/**"], b"a", true),
+    (&[b"a/**"], b"a/b/c", true),
+    (&[b"a/**"], b"b", false),
+    (&[b"a/**"], b"ab", false),
+    (&[b"**"], b"a/b", true),
+    (&[b"**/x"], b"a/b", true),
+    (&[b"**/x"], b"x", true),
+    (&[b"a/**/x"], b"a/x", true),
+    (&[b"a/**/x"], b"b/a", false),
+    (&[b"*"], b"", true),
+    (&[b"*"], b"a", false),
+    (&[b"*/x"], b"a", true),
+    (&[b"*/x"], b".h", true),
+    (&[b"*/x"], b"a/b", false),
+    (&[b"a**b/x"], b"a-b", true),
+    (&[b"a**b/x"], b"a", false),
+    (&[b"?/x"], b"a", true),
+    (&[b"?/x"], b"aa", false),
+    (&[b"\\*/x"], b"*", true),
+    (&[b"\\*/x"], b"a", false),
+    (&[b"a/x", b"b/*/x"], b"b/c", true),
+    (&[b"a/x", b"b/*/x"], b"a/c", false),
+    (&[], b"a/c", true),
+    (&[b"a*/x"], &[b'a'; 1024], true),
+    (&[b"b*/x"], &[b'a'; 1024], false),
+    (&[b"b*/x"], &[b'a'; 1025], true),
+];
 
 #[test]
 fn directories(rt: HostRuntime) -> Result<(), Fail> {
-    let alloc = rt.alloc();
-    for (pattern, directory, wanted) in [
-        ("a/b", "", true),
-        ("a/b", "a", true),
-        ("a/b", "a/b", false),
-        ("a/b", "b", false),
-        ("a/b", "a/b/c", false),
-        ("a/**", "a", true),
-        ("a/**", "a/b/c", true),
-        ("a/**", "b", false),
-        ("a/**", "ab", false),
-        ("**", "a/b", true),
-        ("**/x", "a/b", true),
-        ("**/x", "x", true),
-        ("a/**/x", "a/x", true),
-        ("a/**/x", "b/a", false),
-        ("*", "", true),
-        ("*", "a", false),
-        ("*/x", "a", true),
-        ("*/x", ".h", true),
-        ("*/x", "a/b", false),
-        ("a**b/x", "a-b", true),
-        ("a**b/x", "a", false),
-        ("?/x", "a", true),
-        ("?/x", "aa", false),
-        ("\\*/x", "*", true),
-        ("\\*/x", "a", false),
-    ] {
-        let entered = is_entered(alloc, &[pattern.as_bytes()], directory.as_bytes())?;
-        assert_eq!(rt; entered, wanted, "{pattern} at {directory}");
+    for (row, (patterns, directory, wanted)) in DIRECTORIES.iter().enumerate() {
+        let entered = is_entered(rt.alloc(), patterns, directory)?;
+        assert!(rt; entered == *wanted, "row {row}");
     }
-    let two = [b"a/x".as_slice(), b"b/*/x".as_slice()];
-    assert!(rt; is_entered(alloc, &two, b"b/c".as_slice())?);
-    assert!(rt; !is_entered(alloc, &two, b"a/c".as_slice())?);
-    assert!(rt; is_entered(alloc, &[], b"a/c".as_slice())?);
-    let longest = vec![in alloc; b'a'; 1024]?;
-    assert!(rt; is_entered(alloc, &[b"a*/x".as_slice()], longest.as_slice())?);
-    assert!(rt; !is_entered(alloc, &[b"b*/x".as_slice()], longest.as_slice())?);
-    let longer = vec![in alloc; b'a'; 1025]?;
-    assert!(rt; is_entered(alloc, &[b"b*/x".as_slice()], longer.as_slice())?);
     Ok(())
 }
 
+/// Two patterns: one admits what is below `src`, and one names at the root alone.
+fn filter_of_two(alloc: Global) -> Result<Filter, Fail> {
+    Ok(Filter::parse(alloc, &[b"src/**".as_slice(), b"*.md".as_slice()])?)
+}
+
+/// Names of directories, each below the one before if that was entered, and how long the front was before, if it is entered.
+const ENTERED: [(&str, Option<usize>); 4] = [
+    ("docs", None),
+    ("src", Some(0)),
+    ("a", Some(4)),
+    ("b", Some(6)),
+];
+
+#[test]
+fn fronts_of_directories(rt: HostRuntime) -> Result<(), Fail> {
+    let alloc = rt.alloc();
+    let filter = filter_of_two(alloc)?;
+    let mut front = Front::new(alloc);
+    for (name, length) in &ENTERED {
+        let entered = front.enter(&filter, name.as_bytes())?;
+        assert!(rt; entered == *length, "{name}");
+    }
+    // Back in `src`, from where `c` is entered as `a` was.
+    front.leave(4);
+    assert!(rt; front.enter(&filter, b"c".as_slice())? == Some(4));
+    Ok(())
+}
+
+/// Whether a walk of the root wants a file, and its path is the file's name.
+fn is_wanted(alloc: Global, name: &str) -> Result<bool, Fail> {
+    let path = path(alloc, name)?;
+    let mut front = Front::new(alloc);
+    let wanted = front.path_if_wanted(&filter_of_two(alloc)?, path.as_bytes())?;
+    Ok(wanted == Some(path))
+}
+
+#[test]
+fn fronts_of_files(rt: HostRuntime) -> Result<(), Fail> {
+    assert!(rt; is_wanted(rt.alloc(), "README.md")?);
+    assert!(rt; !is_wanted(rt.alloc(), "README")?);
+    Ok(())
+}
+
+/// Some bytes so many times over, and last others.
+fn repeated(alloc: Global, part: &[u8], times: usize, last: &[u8]) -> Result<Vec<u8>, Fail> {
+    let mut bytes = Vec::new(alloc);
+    for _ in 0..times {
+        bytes.extend_from_slice(part)?;
+    }
+    bytes.extend_from_slice(last)?;
+    Ok(bytes)
+}
+
+// Each star may match in very many ways.
 #[test]
 fn hostile_patterns(rt: HostRuntime) -> Result<(), Fail> {
     let alloc = rt.alloc();
-    let mut stars = Vec::new(alloc);
-    for _ in 0..127 {
-        stars.extend_from_slice(b"*a".as_slice())?;
-    }
-    stars.push(b'b')?;
-    let name = vec![in alloc; b'a'; 255]?;
-    let path = Path::parse(alloc, name.as_slice())?;
-    let filter = Filter::parse(alloc, &[stars.as_slice()])?;
-    assert!(rt; !filter.admits(&path));
-    let mut deep = Vec::new(alloc);
-    for _ in 0..50 {
-        deep.extend_from_slice(b"**/a/".as_slice())?;
-    }
-    deep.push(b'b')?;
-    let mut names = Vec::new(alloc);
-    for _ in 0..63 {
-        names.extend_from_slice(b"a/".as_slice())?;
-    }
-    names.push(b'a')?;
-    let path = Path::parse(alloc, names.as_slice())?;
-    let filter = Filter::parse(alloc, &[deep.as_slice()])?;
-    assert!(rt; !filter.admits(&path));
+    let stars = repeated(alloc, b"*a", 127, b"b")?;
+    let name = repeated(alloc, b"a", 254, b"a")?;
+    assert!(rt; !is_admitted(alloc, stars.as_slice(), name.as_slice())?);
+    let deep = repeated(alloc, b"**/a/", 50, b"b")?;
+    let names = repeated(alloc, b"a/", 63, b"a")?;
+    assert!(rt; !is_admitted(alloc, deep.as_slice(), names.as_slice())?);
     Ok(())
 }
 
+const EMPTY: &[u8] = b"";
+
+const X: &[u8] = b"x";
+
+/// Patterns, and why they are refused, if they are.
+const REFUSALS: [(&[&[u8]], Option<FilterFault>); 14] = [
+    (&[X, b""], Some(FilterFault::BadPattern(1))),
+    (&[X, b"/"], Some(FilterFault::BadPattern(1))),
+    (&[X, b"a//b"], Some(FilterFault::BadPattern(1))),
+    (&[X, b"/a"], Some(FilterFault::BadPattern(1))),
+    (&[X, b"a/"], Some(FilterFault::BadPattern(1))),
+    (&[X, b"[a]"], Some(FilterFault::BadPattern(1))),
+    (&[X, b"a{"], Some(FilterFault::BadPattern(1))),
+    (&[X, br"a\"], Some(FilterFault::BadPattern(1))),
+    (&[X, br"a\/b"], Some(FilterFault::BadPattern(1))),
+    (&[EMPTY], Some(FilterFault::BadPattern(0))),
+    (&[EMPTY; 33], Some(FilterFault::TooMany)),
+    (&[X; 32], None),
+    (&[&[b'a'; 257]], Some(FilterFault::PatternTooLong)),
+    (&[&[b'a'; 256]], None),
+];
+
 #[test]
-fn refusals(rt: HostRuntime) -> Result<(), Fail> {
-    let alloc = rt.alloc();
-    for pattern in ["", "/", "a//b", "/a", "a/", "[a]", "a{", "a\\", "a\\/b"] {
-        assert_eq!(rt;
-            fault_of(alloc, &[b"x".as_slice(), pattern.as_bytes()]),
-            Some(FilterFault::BadPattern(1)),
-            "at {pattern}"
-        );
+fn refusals(rt: HostRuntime) {
+    for (row, (patterns, fault)) in REFUSALS.iter().enumerate() {
+        assert!(rt; fault_of(rt.alloc(), patterns) == *fault, "row {row}");
     }
-    let empty = b"".as_slice();
-    assert_eq!(rt; fault_of(alloc, &[empty]), Some(FilterFault::BadPattern(0)));
-    let many = [empty; 33];
-    assert_eq!(rt; fault_of(alloc, &many), Some(FilterFault::TooMany));
-    let most = [b"x".as_slice(); 32];
-    assert_eq!(rt; fault_of(alloc, &most), None);
-    let long = vec![in alloc; b'a'; 257]?;
-    assert_eq!(rt;
-        fault_of(alloc, &[long.as_slice()]),
-        Some(FilterFault::PatternTooLong)
-    );
-    let wide = vec![in alloc; b'a'; 256]?;
-    assert_eq!(rt; fault_of(alloc, &[wide.as_slice()]), None);
-    Ok(())
 }

@@ -1,3 +1,5 @@
+//! Git's format: entries of trees one by one and by rows, and what a commit names.
+
 use eden_git::{
     Columns, EntryFault, RawEntry, Rows, Word, cut, key_order, next_entry, read_entry, same_word,
     tree_named,
@@ -24,33 +26,66 @@ fn first_entries(alloc: Global, count: usize) -> Result<Vec<u8>, Fail> {
     Ok(payload)
 }
 
+/// What an entry tells: its name, its kind and its id.
+type Told<'a> = (&'a [u8], Option<Kind>, Id);
+
+/// The first entry of a payload, and what stands behind it.
+fn first_of(payload: &[u8]) -> Option<(Told<'_>, &[u8])> {
+    let (entry, rest) = next_entry(payload)?;
+    Some(((entry.name, entry.kind, entry.id), rest))
+}
+
+/// The entry at a row, if its id is the one that stands in the column of ids.
+fn entry_at<'a>(rows: &Rows<'a>, row: usize) -> Option<Told<'a>> {
+    let entry = rows.entry(row)?;
+    if rows.ids().get(row)? != entry.id {
+        return None;
+    }
+    Some((entry.name, entry.kind, entry.id))
+}
+
+/// What is left of a payload behind the first of these entries, so many, if each is told as it is.
+fn left_behind(payload: &[u8], count: usize) -> Option<&[u8]> {
+    let mut left = payload;
+    for (_, name, kind, byte) in ENTRIES.iter().take(count) {
+        let (one, rest) = first_of(left)?;
+        if one != (name.as_bytes(), *kind, Id([*byte; 20])) {
+            return None;
+        }
+        left = rest;
+    }
+    Some(left)
+}
+
+/// Whether rows begin with the first of these entries, so many, and end behind them.
+fn are_rows(rows: &Rows<'_>, count: usize) -> bool {
+    let alike = ENTRIES.iter().take(count).enumerate().all(|(row, entry)| {
+        let (_, name, kind, byte) = entry;
+        entry_at(rows, row) == Some((name.as_bytes(), *kind, Id([*byte; 20])))
+    });
+    alike && entry_at(rows, count).is_none()
+}
+
+/// How many rows and how many ids there are, and the kinds of the rows.
+fn counts<'a>(rows: &Rows<'a>) -> (usize, usize, &'a [u8]) {
+    (rows.len(), rows.ids().len(), rows.kinds())
+}
+
 // Behind them are bytes that are no entry, or none.
 #[test]
 fn entries_one_by_one_and_by_rows(rt: HostRuntime) -> Result<(), Fail> {
     let alloc = rt.alloc();
-    for (count, behind) in [(2, ""), (3, "100644 cut")] {
-        let mut payload = first_entries(alloc, count)?;
-        payload.extend_from_slice(behind.as_bytes())?;
+    for (count, behind) in &[(2, ""), (3, "100644 cut")] {
+        let behind = behind.as_bytes();
+        let mut payload = first_entries(alloc, *count)?;
+        payload.extend_from_slice(behind)?;
         let payload = &payload[..payload.len().min(200)];
+        assert!(rt; left_behind(payload, *count) == Some(behind) && first_of(behind).is_none());
         let columns = Columns::of(alloc, payload)?;
         let rows = Rows::new(payload, &columns);
-        let mut left = payload;
-        for (row, (_, name, kind, byte)) in ENTRIES.iter().take(count).enumerate() {
-            let told = Some((name.as_bytes(), *kind, Id([*byte; 20])));
-            let next = next_entry(left);
-            left = next.map_or(b"".as_slice(), |read| read.1);
-            let one = next.map(|read| (read.0.name, read.0.kind, read.0.id));
-            assert!(rt; one == told, "{name}");
-            let one = rows
-                .entry(row)
-                .map(|entry| (entry.name, entry.kind, entry.id));
-            assert!(rt; one == told, "{name}");
-            assert_eq!(rt; rows.ids().get(row), Some(Id([*byte; 20])));
-        }
-        assert_eq!(rt; left, behind.as_bytes());
-        assert!(rt; next_entry(left).is_none() && rows.entry(count).is_none());
-        assert_eq!(rt; (rows.len(), rows.ids().len()), (count, count));
-        assert_eq!(rt; rows.kinds().get(..2), Some([2, 0].as_slice()));
+        assert!(rt; are_rows(&rows, *count));
+        let (len, ids, kinds) = counts(&rows);
+        assert!(rt; (len, ids) == (*count, *count) && kinds.starts_with([2, 0].as_slice()));
     }
     Ok(())
 }
@@ -69,75 +104,80 @@ fn files(alloc: Global, names: &str) -> Result<Vec<u8>, Fail> {
     Ok(payload)
 }
 
+/// Whether the trees of plain files with these names have the same names.
+fn have_same_names(alloc: Global, names: &str, others: &str) -> Result<bool, Fail> {
+    let (payload, other) = (files(alloc, names)?, files(alloc, others)?);
+    let payload = &payload[..payload.len().min(1000)];
+    let other = &other[..other.len().min(1000)];
+    let (columns, beside) = (Columns::of(alloc, payload)?, Columns::of(alloc, other)?);
+    Ok(Rows::new(payload, &columns).has_names_of(&Rows::new(other, &beside)))
+}
+
+/// The names of two trees, and whether they are the same.
+const NAMES: [(&str, &str, bool); 6] = [
+    ("a b.c d", "a b.c d", true),
+    ("a b.c d", "a b.c e", false),
+    ("a b.c d", "a b.cd", false),
+    ("ab c", "a bc", false),
+    ("a b", "a", false),
+    ("a", "a b", false),
+];
+
 #[test]
 fn names_of_two_trees(rt: HostRuntime) -> Result<(), Fail> {
-    let alloc = rt.alloc();
-    for (names, others, same) in [
-        ("a b.c d", "a b.c d", true),
-        ("a b.c d", "a b.c e", false),
-        ("a b.c d", "a b.cd", false),
-        ("ab c", "a bc", false),
-        ("a b", "a", false),
-        ("a", "a b", false),
-    ] {
-        let (payload, other) = (files(alloc, names)?, files(alloc, others)?);
-        let payload = &payload[..payload.len().min(1000)];
-        let other = &other[..other.len().min(1000)];
-        let (columns, beside) = (Columns::of(alloc, payload)?, Columns::of(alloc, other)?);
-        let rows = Rows::new(payload, &columns);
-        assert_eq!(rt;
-            rows.has_names_of(&Rows::new(other, &beside)),
-            same,
-            "{names}, {others}"
-        );
+    for (names, others, same) in &NAMES {
+        let told = have_same_names(rt.alloc(), names, others)?;
+        assert!(rt; told == *same, "{names}, {others}");
     }
     Ok(())
 }
+
+fn fault_of(payload: &[u8]) -> Option<EntryFault> {
+    read_entry(payload).err()
+}
+
+/// Bytes that are no entry, and why.
+const FAULTS: [(&str, EntryFault); 8] = [
+    ("100755", EntryFault::CutShort),
+    ("100755 a", EntryFault::CutShort),
+    ("160000 a", EntryFault::BadMode),
+    ("040000 a\0", EntryFault::BadMode),
+    ("100644 \0", EntryFault::BadName),
+    ("100644 ..\0", EntryFault::BadName),
+    ("100644 a/b\0", EntryFault::BadName),
+    ("100644 a\0", EntryFault::CutShort),
+];
 
 #[test]
 fn entries_that_cannot_be_read(rt: HostRuntime) -> Result<(), Fail> {
     let payload = first_entries(rt.alloc(), 2)?;
     for length in [0, 5, 10, 11, 30] {
-        let fault = read_entry(&payload[..length.min(payload.len())]).err();
-        assert_eq!(rt; fault, Some(EntryFault::CutShort), "at {length}");
+        let cut = &payload[..length.min(payload.len())];
+        assert!(rt; fault_of(cut) == Some(EntryFault::CutShort), "at {length}");
     }
-    let rows = [
-        ("100755", EntryFault::CutShort),
-        ("100755 a", EntryFault::CutShort),
-        ("160000 a", EntryFault::BadMode),
-        ("040000 a\0", EntryFault::BadMode),
-        ("100644 \0", EntryFault::BadName),
-        ("100644 ..\0", EntryFault::BadName),
-        ("100644 a/b\0", EntryFault::BadName),
-        ("100644 a\0", EntryFault::CutShort),
-    ];
-    for (text, fault) in rows {
-        assert_eq!(rt; read_entry(text.as_bytes()).err(), Some(fault), "at {text}");
+    for (text, fault) in &FAULTS {
+        assert!(rt; fault_of(text.as_bytes()) == Some(*fault), "at {text}");
     }
     Ok(())
 }
 
-#[test]
-fn a_directory_is_compared_with_its_slash(rt: HostRuntime) -> Result<(), Fail> {
+/// How a directory `a` is ordered beside a file of a name.
+fn order_beside(name: &[u8]) -> Ordering {
     let id = Id([1; 20]);
-    for (name, order) in [
-        ("a.b", Ordering::Greater),
-        ("a0", Ordering::Less),
-        ("a", Ordering::Greater),
-    ] {
-        let directory = RawEntry {
-            name: b"a".as_slice(),
-            kind: None,
-            id,
-        };
-        let file = RawEntry {
-            name: name.as_bytes(),
-            kind: Some(Kind::Plain),
-            id,
-        };
-        assert_eq!(rt; key_order(&directory, &file), order);
-    }
-    Ok(())
+    let directory = RawEntry {
+        name: b"a".as_slice(),
+        kind: None,
+        id,
+    };
+    let kind = Some(Kind::Plain);
+    key_order(&directory, &RawEntry { name, kind, id })
+}
+
+#[test]
+fn a_directory_is_compared_with_its_slash(rt: HostRuntime) {
+    assert!(rt; order_beside(b"a.b".as_slice()) == Ordering::Greater);
+    assert!(rt; order_beside(b"a0".as_slice()) == Ordering::Less);
+    assert!(rt; order_beside(b"a".as_slice()) == Ordering::Greater);
 }
 
 #[test]
@@ -150,17 +190,22 @@ fn what_a_commit_names(rt: HostRuntime) -> Result<(), Fail> {
     Ok(())
 }
 
+/// The words, and their texts.
+const WORDS: [(Word, &str); 3] = [
+    (Word::Blob, "blob"),
+    (Word::Tree, "tree"),
+    (Word::Commit, "commit"),
+];
+
 #[test]
-fn words_and_cuts(rt: HostRuntime) -> Result<(), Fail> {
-    let words = [Word::Blob, Word::Tree, Word::Commit];
-    for (word, text) in words.into_iter().zip(["blob", "tree", "commit"]) {
-        assert_eq!(rt; word.text(), text.as_bytes());
-        for other in words {
-            assert_eq!(rt; same_word(word, other), word == other);
+fn words_and_cuts(rt: HostRuntime) {
+    for (word, text) in &WORDS {
+        assert!(rt; word.text() == text.as_bytes(), "{text}");
+        for (other, _) in &WORDS {
+            assert!(rt; same_word(*word, *other) == (word == other), "{text}");
         }
     }
     let parts = cut(b"d/e/f".as_slice(), b'/');
-    assert_eq!(rt; parts, Some((b"d".as_slice(), b"e/f".as_slice())));
-    assert_eq!(rt; cut(b"f".as_slice(), b'/'), None);
-    Ok(())
+    assert!(rt; parts == Some((b"d".as_slice(), b"e/f".as_slice())));
+    assert!(rt; cut(b"f".as_slice(), b'/').is_none());
 }

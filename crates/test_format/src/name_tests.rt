@@ -6,6 +6,7 @@ use eden_ids::PathFault;
 use eden_objects::PutFault;
 use eden_script::{Refusal, push_refusal};
 use std::alloc::Global;
+use std::fmt::Display;
 use std::test::Fail;
 
 /// The line of a refusal, as text.
@@ -15,80 +16,103 @@ fn refused(alloc: Global, cause: Refusal) -> Result<String, Fail> {
     Ok(String::from_utf8(text)?)
 }
 
+/// Whether a refusal's line shows what a fault displays.
+fn is_displayed<F: Display>(alloc: Global, fault: &F, cause: Refusal) -> Result<bool, Fail> {
+    let shown = format!(in alloc; "refused {fault}\n")?;
+    Ok(shown == refused(alloc, cause)?)
+}
+
+const OF_CHANGES: [ChangeFault; 8] = [
+    ChangeFault::NotADirectory,
+    ChangeFault::IsADirectory,
+    ChangeFault::NoEntry,
+    ChangeFault::TooLarge,
+    ChangeFault::NoCommit,
+    ChangeFault::SequenceExhausted,
+    ChangeFault::GenerationNotNew,
+    ChangeFault::NoMemory,
+];
+
+const OF_PATHS: [PathFault; 5] = [
+    PathFault::Empty,
+    PathFault::TooLong,
+    PathFault::BadComponent,
+    PathFault::TooDeep,
+    PathFault::NoMemory,
+];
+
+const OF_PUTS: [PutFault; 14] = [
+    PutFault::TooLarge,
+    PutFault::IdTaken,
+    PutFault::ZeroId,
+    PutFault::BadMode,
+    PutFault::BadName,
+    PutFault::OutOfOrder,
+    PutFault::Duplicate,
+    PutFault::MissingChild,
+    PutFault::WrongChildKind,
+    PutFault::TooDeep,
+    PutFault::PathTooLong,
+    PutFault::CutShort,
+    PutFault::BadCommit,
+    PutFault::NoMemory,
+];
+
 #[test]
 fn changes_paths_and_puts_are_refused_by_what_their_faults_display(
     rt: HostRuntime,
 ) -> Result<(), Fail> {
     let alloc = rt.alloc();
-    for fault in [
-        ChangeFault::NotADirectory,
-        ChangeFault::IsADirectory,
-        ChangeFault::NoEntry,
-        ChangeFault::TooLarge,
-        ChangeFault::NoCommit,
-        ChangeFault::SequenceExhausted,
-        ChangeFault::GenerationNotNew,
-        ChangeFault::NoMemory,
-    ] {
-        let shown = format!(in alloc; "refused {fault}\n")?;
-        assert!(rt; shown == refused(alloc, Refusal::File(fault))?, "{shown}");
+    for fault in &OF_CHANGES {
+        assert!(rt;
+            is_displayed(alloc, fault, Refusal::File(*fault))?,
+            "{fault}"
+        );
     }
-    for fault in [
-        PathFault::Empty,
-        PathFault::TooLong,
-        PathFault::BadComponent,
-        PathFault::TooDeep,
-        PathFault::NoMemory,
-    ] {
-        let shown = format!(in alloc; "refused {fault}\n")?;
-        assert!(rt; shown == refused(alloc, Refusal::Path(fault))?, "{shown}");
+    for fault in &OF_PATHS {
+        assert!(rt;
+            is_displayed(alloc, fault, Refusal::Path(*fault))?,
+            "{fault}"
+        );
     }
-    for fault in [
-        PutFault::TooLarge,
-        PutFault::IdTaken,
-        PutFault::ZeroId,
-        PutFault::BadMode,
-        PutFault::BadName,
-        PutFault::OutOfOrder,
-        PutFault::Duplicate,
-        PutFault::MissingChild,
-        PutFault::WrongChildKind,
-        PutFault::TooDeep,
-        PutFault::PathTooLong,
-        PutFault::CutShort,
-        PutFault::BadCommit,
-        PutFault::NoMemory,
-    ] {
-        let shown = format!(in alloc; "refused {fault}\n")?;
-        assert!(rt; shown == refused(alloc, Refusal::Put(fault))?, "{shown}");
+    for fault in &OF_PUTS {
+        assert!(rt;
+            is_displayed(alloc, fault, Refusal::Put(*fault))?,
+            "{fault}"
+        );
     }
     Ok(())
 }
+
+const OF_POSITIONS: [SinceFault; 4] = [
+    SinceFault::Stale(7),
+    SinceFault::Ahead(18),
+    SinceFault::Truncated(0),
+    SinceFault::NoMemory,
+];
+
+const OF_PATTERNS: [FilterFault; 4] = [
+    FilterFault::TooMany,
+    FilterFault::PatternTooLong,
+    FilterFault::BadPattern(31),
+    FilterFault::NoMemory,
+];
 
 #[test]
 fn positions_and_patterns_are_refused_by_what_their_faults_display(
     rt: HostRuntime,
 ) -> Result<(), Fail> {
     let alloc = rt.alloc();
-    for fault in [
-        SinceFault::Stale(7),
-        SinceFault::Ahead(18),
-        SinceFault::Truncated(0),
-        SinceFault::NoMemory,
-    ] {
-        let shown = format!(in alloc; "refused {fault}\n")?;
-        assert!(rt; shown == refused(alloc, Refusal::Since(fault))?, "{shown}");
-    }
-    for fault in [
-        FilterFault::TooMany,
-        FilterFault::PatternTooLong,
-        FilterFault::BadPattern(31),
-        FilterFault::NoMemory,
-    ] {
-        let shown = format!(in alloc; "refused {fault}\n")?;
+    for fault in &OF_POSITIONS {
         assert!(rt;
-            shown == refused(alloc, Refusal::Patterns(fault))?,
-            "{shown}"
+            is_displayed(alloc, fault, Refusal::Since(*fault))?,
+            "{fault}"
+        );
+    }
+    for fault in &OF_PATTERNS {
+        assert!(rt;
+            is_displayed(alloc, fault, Refusal::Patterns(*fault))?,
+            "{fault}"
         );
     }
     Ok(())

@@ -1,7 +1,9 @@
-use eden_ids::{Content, Id, Path, PathFault, PathTable, Sequence};
+//! Paths and what is refused as one, files' contents, and tables of paths.
+
+use eden_ids::{Content, Id, Kind, Path, PathFault, PathTable, Sequence, push_where};
 use std::alloc::Global;
 use std::test::Fail;
-use test_kit::{path, plain};
+use test_kit::{path, plain, spaced};
 
 /// `count` components `a`.
 fn deep(alloc: Global, count: usize) -> Result<Vec<u8>, Fail> {
@@ -22,110 +24,160 @@ fn fault_of(alloc: Global, bytes: &[u8]) -> Option<PathFault> {
     }
 }
 
+/// Bytes that are no path, and why.
+const REFUSALS: [(&[u8], PathFault); 11] = [
+    (b"", PathFault::Empty),
+    (&[b'a'; 1025], PathFault::TooLong),
+    (&[b'a'; 256], PathFault::BadComponent),
+    (b"a//b", PathFault::BadComponent),
+    (b"/a", PathFault::BadComponent),
+    (b"..", PathFault::BadComponent),
+    (b".", PathFault::BadComponent),
+    (b"a/", PathFault::BadComponent),
+    (b"a/./b", PathFault::BadComponent),
+    (b"../a", PathFault::BadComponent),
+    (b"a\0b", PathFault::BadComponent),
+];
+
 #[test]
 fn path_refusals(rt: HostRuntime) -> Result<(), Fail> {
     let alloc = rt.alloc();
-    assert_eq!(rt; fault_of(alloc, b"".as_slice()), Some(PathFault::Empty));
-    let long = vec![in alloc; b'a'; 1025]?;
-    assert_eq!(rt; fault_of(alloc, long.as_slice()), Some(PathFault::TooLong));
-    let wide = vec![in alloc; b'a'; 256]?;
-    assert_eq!(rt;
-        fault_of(alloc, wide.as_slice()),
-        Some(PathFault::BadComponent)
-    );
-    for text in ["a//b", "/a", "..", ".", "a/", "a/./b", "../a", "a\0b"] {
-        assert_eq!(rt;
-            fault_of(alloc, text.as_bytes()),
-            Some(PathFault::BadComponent),
-            "at {text}"
-        );
+    for (row, (bytes, fault)) in REFUSALS.iter().enumerate() {
+        assert!(rt; fault_of(alloc, bytes) == Some(*fault), "row {row}");
     }
-    assert_eq!(rt;
-        fault_of(alloc, deep(alloc, 65)?.as_slice()),
-        Some(PathFault::TooDeep)
-    );
+    let deepest = deep(alloc, 65)?;
+    assert!(rt; fault_of(alloc, deepest.as_slice()) == Some(PathFault::TooDeep));
     Ok(())
 }
+
+/// Whether a path keeps its bytes, and a copy of it is equal to it.
+fn is_kept(alloc: Global, bytes: &[u8]) -> Result<bool, Fail> {
+    let path = Path::parse(alloc, bytes)?;
+    Ok(path.as_bytes() == bytes && path.copy()? == path)
+}
+
+/// Bytes that are a path.
+const PATHS: [&[u8]; 4] = [b"a", b"...", b"\xff\n /.h", &[b'a'; 255]];
 
 #[test]
 fn paths_keep_their_bytes(rt: HostRuntime) -> Result<(), Fail> {
     let alloc = rt.alloc();
-    let wide = vec![in alloc; b'a'; 255]?;
-    let deepest = deep(alloc, 64)?;
-    for bytes in [
-        b"a".as_slice(),
-        b"...".as_slice(),
-        b"\xff\n /.h".as_slice(),
-        wide.as_slice(),
-        deepest.as_slice(),
-    ] {
-        let path = Path::parse(alloc, bytes)?;
-        assert!(rt; path.as_bytes() == bytes);
-        assert!(rt; path.copy()? == path);
+    for bytes in &PATHS {
+        assert!(rt; is_kept(alloc, bytes)?, "{bytes:?}");
     }
+    let deepest = deep(alloc, 64)?;
+    assert!(rt; is_kept(alloc, deepest.as_slice())?);
     Ok(())
+}
+
+/// The bytes of the path that a vector is, or the bytes that are given back, and why.
+fn of_vector(alloc: Global, bytes: &[u8]) -> Result<(Vec<u8>, Option<PathFault>), Fail> {
+    match Path::from_vec(bytes.to_vec(alloc)?) {
+        Ok(path) => Ok((path.as_bytes().to_vec(alloc)?, None)),
+        Err(refused) => Ok((refused.bytes, Some(refused.cause))),
+    }
 }
 
 #[test]
 fn paths_of_vectors_and_of_two_parts(rt: HostRuntime) -> Result<(), Fail> {
     let alloc = rt.alloc();
-    let path = Path::from_vec(b"src/a".as_slice().to_vec(alloc)?);
-    assert!(rt; path.is_ok_and(|p| p.as_bytes() == b"src/a".as_slice()));
-    let Err(refused) = Path::from_vec(b"src//a".as_slice().to_vec(alloc)?) else {
-        return Err(Fail::new("an empty component stands in a path"));
-    };
-    assert_eq!(rt; refused.cause, PathFault::BadComponent);
-    assert!(rt; refused.bytes.as_slice() == b"src//a".as_slice());
+    for (bytes, fault) in &[("src/a", None), ("src//a", Some(PathFault::BadComponent))] {
+        let (kept, told) = of_vector(alloc, bytes.as_bytes())?;
+        assert!(rt;
+            kept.as_slice() == bytes.as_bytes() && told == *fault,
+            "{bytes}"
+        );
+    }
     let path = Path::joined(alloc, b"src/".as_slice(), b"a".as_slice())?;
     assert!(rt; path.as_bytes() == b"src/a".as_slice());
     Ok(())
 }
 
+/// Whether a path stands below another one, and whether they clash.
+fn below_and_clash(alloc: Global, first: &str, second: &str) -> Result<(bool, bool), Fail> {
+    let (first, second) = (path(alloc, first)?, path(alloc, second)?);
+    Ok((first.is_below(&second), first.clashes(&second)))
+}
+
+/// Two paths, whether the first stands below the second, and whether they clash.
+const PAIRS: [(&str, &str, bool, bool); 6] = [
+    ("a/b", "a", true, true),
+    ("a", "a/b", false, true),
+    ("a", "a", false, false),
+    ("ab", "a", false, false),
+    ("a.b", "a", false, false),
+    ("a/b/c", "a", true, true),
+];
+
 #[test]
 fn clashing_paths(rt: HostRuntime) -> Result<(), Fail> {
-    let alloc = rt.alloc();
-    for (p, q, below, clash) in [
-        ("a/b", "a", true, true),
-        ("a", "a/b", false, true),
-        ("a", "a", false, false),
-        ("ab", "a", false, false),
-        ("a.b", "a", false, false),
-        ("a/b/c", "a", true, true),
-    ] {
-        let (p, q) = (path(alloc, p)?, path(alloc, q)?);
-        assert_eq!(rt; p.is_below(&q), below);
-        assert_eq!(rt; p.clashes(&q), clash);
+    for (first, second, below, clash) in &PAIRS {
+        let told = below_and_clash(rt.alloc(), first, second)?;
+        assert!(rt; told == (*below, *clash), "{first} and {second}");
     }
     Ok(())
 }
 
 #[test]
 fn contents_are_copied_whole(rt: HostRuntime) -> Result<(), Fail> {
-    let content = plain(rt.alloc(), "hello")?;
-    let copy = content.copy()?;
-    assert!(rt; copy == content);
-    let held = Some(content);
-    assert!(rt; Content::copy_of(&held)? == held);
-    assert!(rt; Content::copy_of(&None)?.is_none());
-    assert_eq!(rt; copy.bytes.len(), 5);
-    assert!(rt; !copy.bytes.is_empty());
+    let held = Some(plain(rt.alloc(), "hello")?);
+    let copy = Content::copy_of(&held)?;
+    assert!(rt; copy == held);
+    let copy = copy.ok_or("no copy")?;
+    assert!(rt; Some(copy.copy()?) == held);
+    assert!(rt; copy.bytes.len() == 5 && !copy.bytes.is_empty());
     assert!(rt; copy.bytes.into_vec().as_slice() == b"hello".as_slice());
+    Ok(())
+}
+
+#[test]
+fn contents_that_are_lent_or_that_are_none(rt: HostRuntime) -> Result<(), Fail> {
+    let lent = Some((Kind::Exec, b"hello".as_slice()));
+    let content = Content::of_lent(rt.alloc(), lent)?;
+    assert!(rt;
+        content.is_some_and(|own| own.kind == Kind::Exec
+            && own.bytes.as_slice() == b"hello".as_slice())
+    );
+    assert!(rt; Content::of_lent(rt.alloc(), None)?.is_none());
+    assert!(rt; Content::copy_of(&None)?.is_none());
     assert!(rt; Sequence::<u8>::new(rt.alloc()).is_empty());
     assert!(rt; Id::ZERO == Id([0; 20]));
     Ok(())
 }
 
+/// The paths of these texts, in their order.
+fn paths(alloc: Global, texts: &[&str]) -> Result<Vec<Path>, Fail> {
+    let mut paths = Vec::new(alloc);
+    for text in texts {
+        paths.push(path(alloc, text)?)?;
+    }
+    Ok(paths)
+}
+
 #[test]
 fn tables_list_each_path_once(rt: HostRuntime) -> Result<(), Fail> {
     let alloc = rt.alloc();
-    let given = [path(alloc, "c")?, path(alloc, "a")?];
+    let given = paths(alloc, &["c", "a"])?;
     let mut table = PathTable::new(alloc);
-    table.add(&given[0])?;
-    table.add_all(&given)?;
-    let listed = table.list(alloc)?;
-    assert_eq!(rt; listed.len(), 2);
-    for (path, text) in listed.iter().zip(["a", "c"]) {
-        assert!(rt; path.as_bytes() == text.as_bytes());
+    for path in &given {
+        table.add(path)?;
     }
+    table.add_all(given.as_slice())?;
+    let listed = table.list(alloc)?;
+    assert!(rt; spaced(alloc, listed.as_slice())?.as_slice() == b"a c ".as_slice());
+    Ok(())
+}
+
+#[test]
+fn paths_that_are_wanted_are_added(rt: HostRuntime) -> Result<(), Fail> {
+    let alloc = rt.alloc();
+    let mut wanted = paths(alloc, &["z"])?;
+    let from = paths(alloc, &["a/c", "b", "a/b"])?;
+    push_where(
+        &mut wanted,
+        from.as_slice(),
+        |path| path.as_bytes().starts_with(b"a/".as_slice()),
+    )?;
+    assert!(rt; spaced(alloc, wanted.as_slice())?.as_slice() == b"z a/c a/b ".as_slice());
     Ok(())
 }

@@ -1,3 +1,5 @@
+//! What a head word shows to its seats, in one thread and in two.
+
 ghost use Rattle.std.specs.Prelude.{◌≡◌, ◌<◌};
 
 use eden_head::{HeadSeat, HeadWord};

@@ -1,3 +1,5 @@
+//! Changes, and the paths and contents of which they are made.
+
 use eden_history::Change;
 use eden_ids::{Content, Kind, Path, Sequence};
 use std::alloc::Global;

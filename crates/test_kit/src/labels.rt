@@ -1,3 +1,5 @@
+//! What the labels of a script are bound to.
+
 use eden_history::Position;
 use eden_ids::Id;
 use eden_script::{Binding, Label, push_bytes, push_id, push_number};

@@ -1,3 +1,5 @@
+//! What stands for a mount, asked as the lines of a script ask.
+
 use crate::played::Played;
 use eden_globs::Filter;
 use eden_history::{Answer, Change, ChangeFault, Marked, Position, SinceFault};
@@ -54,7 +56,8 @@ impl<P: Played + Drop> Mounted<P> {
         let (Reply::BasisIs { query, .. }
         | Reply::ChangesAre { query, .. }
         | Reply::ContentIs { query, .. }
-        | Reply::Refused { query, .. }) = &reply;
+        | Reply::Refused { query, .. }
+        | Reply::ListIs { query, .. }) = &reply;
         if *query == QUERY {
             return Ok(reply);
         }

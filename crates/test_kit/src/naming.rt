@@ -1,3 +1,5 @@
+//! A naming under which objects collide.
+
 use eden_ids::{Id, Naming};
 
 /// A naming under which objects come to the same id: twenty copies of the payload's first byte, 0 where it has none.

@@ -1,3 +1,5 @@
+//! Stores that lines of a script put.
+
 use crate::labels::Labels;
 use crate::payload::{commit_of, push_entry};
 use eden_ids::{GitNaming, Id, Sequence};

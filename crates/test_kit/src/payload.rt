@@ -1,3 +1,5 @@
+//! Payloads in Git's format.
+
 use eden_ids::Id;
 use std::alloc::{AllocError, Global};
 

@@ -1,3 +1,5 @@
+//! What a row of the table can be played over.
+
 use eden_history::{Answer, Change, MountFault};
 use eden_ids::{GitNaming, Id};
 use eden_messages::{Reply, Request};

@@ -1,3 +1,5 @@
+//! Rows of the table, played line by line.
+
 use crate::labels::Labels;
 use crate::mounted::Mounted;
 use crate::objects::{Objects, command_of};

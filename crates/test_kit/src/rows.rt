@@ -1,3 +1,5 @@
+//! The table of worked scripts, and what each of them prints.
+
 /// A script, and what it prints. A semicolon ends each line but the last.
 #[derive(Clone, Copy)]
 pub struct Row {

@@ -1,3 +1,5 @@
+//! Bytes that are joined, listed and compared.
+
 use eden_ids::Path;
 use std::alloc::{AllocError, Global};
 

@@ -55,7 +55,7 @@ fn write(alloc: Global, mount: &mut Mount<GitNaming>, path: Path) -> Result<(), 
 
 /// What a mount writes to one frame, a basis of all paths.
 fn replied(alloc: Global, mount: &mut Mount<GitNaming>) -> Result<Vec<u8>, Fail> {
-    let basis = joined(alloc, &[&[0, 0, 0, 0x1b, 1, 1], &Q, &[0]])?;
+    let basis = joined(alloc, &[&[0, 0, 0, 0x1b, 2, 1], &Q, &[0]])?;
     let mut written = Vec::new(alloc);
     let mut reader = Counted::new(basis.as_slice());
     let mut writer = Counted::new(&mut written);
@@ -79,7 +79,7 @@ fn is_basis(
         alloc,
         &[
             &length,
-            &[1, 0x81],
+            &[2, 0x81],
             &Q,
             &place,
             &sequence,
@@ -121,7 +121,7 @@ fn largest_basis(rt: HostRuntime) -> Result<(), Fail> {
     let frame = replied(alloc, &mut mount)?;
     let refused = joined(
         alloc,
-        &[&[0, 0, 0, 0x23, 1, 0x84], &Q, &[4, 0, 0, 0, 0, 0, 0, 0, 0]],
+        &[&[0, 0, 0, 0x23, 2, 0x84], &Q, &[4, 0, 0, 0, 0, 0, 0, 0, 0]],
     )?;
     assert!(rt; frame.as_slice() == refused.as_slice());
     Ok(())

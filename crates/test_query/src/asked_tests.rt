@@ -1,11 +1,11 @@
 //! What a stored history keeps of a stream of frames that was served.
 
-use crate::audit_tests::{changes, created, opened, poll, position, query};
-use eden_audit::{Answer, AuditFault, Audited, Call, CallLog, LogEntry, Settled, audit};
+use crate::audit_tests::{change, changes, created, opened, poll, position, query, verdict};
+use eden_audit::{Answer, AuditFault, Audited, Call, CallLog, LogEntry, Settled};
 use eden_globs::Filter;
 use eden_ids::{GitNaming, Sequence};
 use eden_messages::{Reply, Request};
-use eden_query::{Served, answer, append_reply, encode_reply, encode_request, serve};
+use eden_query::{ServeFault, Served, answer, append_reply, encode_reply, encode_request, serve};
 use eden_stream::Counted;
 use std::alloc::Global;
 use std::test::Fail;
@@ -14,13 +14,12 @@ use test_kit::{path, plain, write};
 /// A mount of the empty commit on which caller 2 has written `a`.
 fn written(alloc: Global) -> Result<Audited<GitNaming>, Fail> {
     let mut audited = opened(alloc)?;
-    audited.apply(2, &write(alloc, "a", "")?)?;
+    change(&mut audited, 2, &write(alloc, "a", "")?)?;
     Ok(audited)
 }
 
-/// What is asked then, and what is right: what changed since the mount and since the write, and the file.
-fn asked(alloc: Global) -> Result<[(Request, Reply); 3], Fail> {
-    let created = vec![in alloc; created(alloc, "a")?]?;
+/// A fetch of `a`, and its reply.
+fn fetched(alloc: Global) -> Result<(Request, Reply), Fail> {
     let fetch = Request::Fetch {
         query: query(3),
         path: path(alloc, "a")?,
@@ -31,11 +30,17 @@ fn asked(alloc: Global) -> Result<[(Request, Reply); 3], Fail> {
         path: path(alloc, "a")?,
         content: Some(plain(alloc, "")?),
     };
-    Ok([
-        (poll(alloc, 1, 1), changes(1, 2, created)),
-        (poll(alloc, 2, 2), changes(2, 2, Vec::new(alloc))),
-        (fetch, file),
-    ])
+    Ok((fetch, file))
+}
+
+/// What is asked then, and what is right: what changed since the mount and since the write, and the file.
+fn asked(alloc: Global) -> Result<Vec<(Request, Reply)>, Fail> {
+    let mut asked = Vec::new(alloc);
+    let marked = created(alloc, &["a"])?;
+    asked.push((poll(alloc, 1, 1), changes(alloc, 1, 2, marked)))?;
+    asked.push((poll(alloc, 2, 2), changes(alloc, 2, 2, Vec::new(alloc))))?;
+    asked.push(fetched(alloc)?)?;
+    Ok(asked)
 }
 
 /// The frames of what is asked, and those of the replies.
@@ -49,8 +54,8 @@ fn frames(alloc: Global) -> Result<(Vec<u8>, Vec<u8>), Fail> {
     Ok((requests, replies))
 }
 
-/// What this caller notes of the stream, where it stands behind the write, and what caller 2 notes of that.
-fn logs(alloc: Global, caller: u64) -> Result<Vec<CallLog>, Fail> {
+/// What a caller notes of the stream, where it stands behind the write.
+fn stream_log(alloc: Global, caller: u64) -> Result<CallLog, Fail> {
     let mut entries = Vec::new(alloc);
     let mut ticket = 2;
     for (request, reply) in asked(alloc)? {
@@ -61,20 +66,51 @@ fn logs(alloc: Global, caller: u64) -> Result<Vec<CallLog>, Fail> {
         })?;
         ticket = ticket.wrapping_add(1);
     }
+    let entries = Sequence::from_vec(entries);
+    Ok(CallLog { caller, entries })
+}
+
+/// What caller 2 notes of the write.
+fn writer_log(alloc: Global) -> Result<CallLog, Fail> {
     let wrote = LogEntry {
         ticket: 1,
         call: Call::Change(write(alloc, "a", "")?),
         answer: Answer::At(position(2)),
     };
-    let stream = CallLog {
-        caller,
-        entries: Sequence::from_vec(entries),
-    };
-    let writer = CallLog {
-        caller: 2,
-        entries: Sequence::from_vec(vec![in alloc; wrote]?),
-    };
-    Ok(vec![in alloc; writer, stream]?)
+    let mut entries = Vec::new(alloc);
+    entries.push(wrote)?;
+    let entries = Sequence::from_vec(entries);
+    Ok(CallLog { caller: 2, entries })
+}
+
+/// Both logs.
+fn logs(alloc: Global, caller: u64) -> Result<Vec<CallLog>, Fail> {
+    let mut logs = Vec::new(alloc);
+    logs.push(writer_log(alloc)?)?;
+    logs.push(stream_log(alloc, caller)?)?;
+    Ok(logs)
+}
+
+/// Serves these frames. Gives the text, and how that ends.
+fn served(
+    alloc: Global,
+    audited: &mut Audited<GitNaming>,
+    requests: &[u8],
+) -> (Vec<u8>, Result<u64, ServeFault>) {
+    let mut text = Vec::new(alloc);
+    let mut reader = Counted::new(requests);
+    let mut writer = Counted::new(&mut text);
+    let ended = serve(alloc, &mut reader, &mut writer, audited);
+    (text, ended)
+}
+
+/// The caller, the ticket and the outcome of each entry of the stored history.
+fn kept(alloc: Global, audited: &Audited<GitNaming>) -> Result<Vec<(u64, u64, Settled)>, Fail> {
+    let mut kept = Vec::new(alloc);
+    for entry in audited.entries() {
+        kept.push((entry.caller, entry.ticket, entry.outcome))?;
+    }
+    Ok(kept)
 }
 
 #[test]
@@ -82,26 +118,31 @@ fn frames_are_asked_as_caller_0(rt: HostRuntime) -> Result<(), Fail> {
     let alloc = rt.alloc();
     let (requests, replies) = frames(alloc)?;
     let mut audited = written(alloc)?;
-    let mut text = Vec::new(alloc);
-    let ended = serve(
-        alloc,
-        &mut Counted::new(requests.as_slice()),
-        &mut Counted::new(&mut text),
-        &mut audited,
-    );
-    assert_eq!(rt; ended, Ok(3));
-    assert_eq!(rt; text.as_slice(), replies.as_slice());
-    let mut kept = Vec::new(alloc);
-    for entry in audited.entries() {
-        kept.push((entry.caller, entry.ticket, entry.outcome))?;
-    }
+    let (text, ended) = served(alloc, &mut audited, requests.as_slice());
+    assert!(rt; ended == Ok(3) && text == replies);
     let at = Settled::At(position(2));
     let wanted = [(2, 1, at), (0, 2, at), (0, 3, at), (0, 4, at)];
-    assert_eq!(rt; kept.as_slice(), wanted.as_slice());
+    assert!(rt; kept(alloc, &audited)?.as_slice() == wanted.as_slice());
     for (caller, said) in [(0, Ok(())), (1, Err(AuditFault::UnknownCall))] {
         let noted = logs(alloc, caller)?;
-        assert_eq!(rt; audit(alloc, &mut audited, noted.as_slice()), said);
+        assert!(rt;
+            verdict(alloc, &mut audited, noted.as_slice()) == said,
+            "caller {caller}"
+        );
     }
+    Ok(())
+}
+
+/// Asks a request, and adds the reply's frame to a text.
+fn append(
+    alloc: Global,
+    audited: &mut Audited<GitNaming>,
+    request: &Request,
+    text: &mut Vec<u8>,
+) -> Result<(), Fail> {
+    let (raw, store) = audited.hold(0, request)?;
+    let reply = answer(alloc, &raw, &store, &Filter::all(alloc))?;
+    append_reply(text, &reply)?;
     Ok(())
 }
 
@@ -112,10 +153,8 @@ fn replies_are_appended_to_a_text(rt: HostRuntime) -> Result<(), Fail> {
     let mut audited = written(alloc)?;
     let mut text = Vec::new(alloc);
     for (request, _) in &asked(alloc)? {
-        let (raw, store) = audited.hold(0, request)?;
-        let reply = answer(alloc, &raw, &store, &Filter::all(alloc))?;
-        append_reply(&mut text, &reply)?;
+        append(alloc, &mut audited, request, &mut text)?;
     }
-    assert_eq!(rt; text.as_slice(), replies.as_slice());
+    assert!(rt; text == replies);
     Ok(())
 }

@@ -27,11 +27,30 @@ pub(crate) fn position(sequence: u64) -> Position {
     }
 }
 
+/// Makes a change for a caller.
+pub(crate) fn change(
+    audited: &mut Audited<GitNaming>,
+    caller: u64,
+    change: &Change,
+) -> Result<(), Fail> {
+    audited.apply(caller, change)?;
+    Ok(())
+}
+
+/// What an audit of these logs says.
+pub(crate) fn verdict(
+    alloc: Global,
+    audited: &mut Audited<GitNaming>,
+    logs: &[CallLog],
+) -> Result<(), AuditFault> {
+    audit(alloc, audited, logs)
+}
+
 /// Caller 1 has written `a`, and caller 2 `b`.
 fn written(alloc: Global) -> Result<Audited<GitNaming>, Fail> {
     let mut audited = opened(alloc)?;
-    audited.apply(1, &write(alloc, "a", "")?)?;
-    audited.apply(2, &write(alloc, "b", "")?)?;
+    change(&mut audited, 1, &write(alloc, "a", "")?)?;
+    change(&mut audited, 2, &write(alloc, "b", "")?)?;
     Ok(audited)
 }
 
@@ -53,40 +72,49 @@ fn log(alloc: Global, caller: u64, writes: &[Wrote]) -> Result<CallLog, Fail> {
 }
 
 /// What caller 2 has noted.
-const SECOND: (u64, &[Wrote]) = (2, &[(2, "b", 3)]);
+const SECOND: Noted = (2, &[(2, "b", 3)]);
+
+/// A caller, and what it has noted.
+type Noted = (u64, &'static [Wrote]);
+
+/// What was noted, and what the audit says. The last three: an entry twice in a log, a log that is handed in twice, and one that is left
+/// out.
+const NOTED: [(&[Noted], Result<(), AuditFault>); 6] = [
+    (&[(1, &[(1, "a", 2)]), SECOND], Ok(())),
+    (&[(1, &[(3, "a", 2)]), SECOND], Err(AuditFault::UnknownCall)),
+    (&[(1, &[(1, "a", 4)]), SECOND], Err(AuditFault::WrongReply)),
+    (
+        &[(1, &[(1, "a", 2), (1, "a", 2)])],
+        Err(AuditFault::OutOfOrder),
+    ),
+    (
+        &[(1, &[(1, "a", 2)]), (1, &[(1, "a", 2)])],
+        Err(AuditFault::Twice),
+    ),
+    (&[SECOND], Err(AuditFault::CountsDiffer)),
+];
+
+/// The logs of these callers.
+fn logs(alloc: Global, noted: &[Noted]) -> Result<Vec<CallLog>, Fail> {
+    let mut logs = Vec::new(alloc);
+    for (caller, writes) in noted {
+        logs.push(log(alloc, *caller, writes)?)?;
+    }
+    Ok(logs)
+}
 
 #[test]
 fn audit_faults(rt: HostRuntime) -> Result<(), Fail> {
     let alloc = rt.alloc();
-    for (noted, said) in [
-        ([(1, [(1, "a", 2)].as_slice()), SECOND].as_slice(), Ok(())),
-        (
-            [(1, [(3, "a", 2)].as_slice()), SECOND].as_slice(),
-            Err(AuditFault::UnknownCall),
-        ),
-        (
-            [(1, [(1, "a", 4)].as_slice()), SECOND].as_slice(),
-            Err(AuditFault::WrongReply),
-        ),
-        // An entry twice in a log, a log that is handed in twice, and one that is left out.
-        (
-            [(1, [(1, "a", 2), (1, "a", 2)].as_slice())].as_slice(),
-            Err(AuditFault::OutOfOrder),
-        ),
-        (
-            [(1, [(1, "a", 2)].as_slice()), (1, [(1, "a", 2)].as_slice())].as_slice(),
-            Err(AuditFault::Twice),
-        ),
-        ([SECOND].as_slice(), Err(AuditFault::CountsDiffer)),
-    ] {
-        let mut logs = Vec::new(alloc);
-        for (caller, writes) in noted {
-            logs.push(log(alloc, *caller, writes)?)?;
-        }
-        assert_eq!(rt; audit(alloc, &mut written(alloc)?, logs.as_slice()), said);
+    for (noted, said) in &NOTED {
+        let (mut audited, logs) = (written(alloc)?, logs(alloc, noted)?);
+        assert!(rt;
+            verdict(alloc, &mut audited, logs.as_slice()) == *said,
+            "{noted:?}"
+        );
     }
     let none: Vec<CallLog> = Vec::new(alloc);
-    assert_eq!(rt; audit(alloc, &mut opened(alloc)?, none.as_slice()), Ok(()));
+    assert!(rt; verdict(alloc, &mut opened(alloc)?, none.as_slice()) == Ok(()));
     Ok(())
 }
 
@@ -109,18 +137,17 @@ pub(crate) fn poll(alloc: Global, number: u64, sequence: u64) -> Request {
 }
 
 /// The reply to the question of this number: that these changed, up to a number.
-pub(crate) fn changes(number: u64, sequence: u64, marked: Vec<Marked>) -> Reply {
+pub(crate) fn changes(alloc: Global, number: u64, sequence: u64, marked: Vec<Marked>) -> Reply {
     Reply::ChangesAre {
         query: query(number),
         target: position(sequence),
         marked: Sequence::from_vec(marked),
+        prefixes: Sequence::new(alloc),
     }
 }
 
-/// What is said where caller 1, after both writes, has asked what changed since the mount, and has noted this answer.
-fn told(alloc: Global, answer: Answer) -> Result<Result<(), AuditFault>, Fail> {
-    let mut audited = written(alloc)?;
-    let _held = audited.hold(1, &poll(alloc, 1, 1))?;
+/// The log of caller 1, who has written `a`, has asked under ticket 3 what changed since the mount, and notes this answer.
+fn first_log(alloc: Global, answer: Answer) -> Result<CallLog, Fail> {
     let asked = LogEntry {
         ticket: 3,
         call: Call::Ask(poll(alloc, 1, 1)),
@@ -129,24 +156,40 @@ fn told(alloc: Global, answer: Answer) -> Result<Result<(), AuditFault>, Fail> {
     let mut entries = log(alloc, 1, &[(1, "a", 2)])?.entries.into_vec();
     entries.push(asked)?;
     let entries = Sequence::from_vec(entries);
-    let second = log(alloc, SECOND.0, SECOND.1)?;
-    let logs = vec![in alloc; CallLog { caller: 1, entries }, second]?;
-    Ok(audit(alloc, &mut audited, logs.as_slice()))
+    Ok(CallLog { caller: 1, entries })
 }
 
-pub(crate) fn created(alloc: Global, at: &str) -> Result<Marked, Fail> {
-    Ok(Marked {
-        mark: Mark::Created,
-        path: path(alloc, at)?,
-    })
+/// What is said where caller 1, after both writes, has asked what changed since the mount, and has noted this answer.
+fn told(alloc: Global, answer: Answer) -> Result<Result<(), AuditFault>, Fail> {
+    let mut audited = written(alloc)?;
+    let _held = audited.hold(1, &poll(alloc, 1, 1))?;
+    let mut logs = logs(alloc, &[SECOND])?;
+    logs.insert(0, first_log(alloc, answer)?)?;
+    Ok(verdict(alloc, &mut audited, logs.as_slice()))
+}
+
+/// That files were created at these paths.
+pub(crate) fn created(alloc: Global, paths: &[&str]) -> Result<Vec<Marked>, Fail> {
+    let mut all = Vec::new(alloc);
+    for at in paths {
+        let (mark, path) = (Mark::Created, path(alloc, at)?);
+        all.push(Marked { mark, path })?;
+    }
+    Ok(all)
 }
 
 #[test]
 fn reply_of_another_state(rt: HostRuntime) -> Result<(), Fail> {
     let alloc = rt.alloc();
-    let both = vec![in alloc; created(alloc, "a")?, created(alloc, "b")?]?;
-    assert_eq!(rt; told(alloc, Answer::Replied(changes(1, 3, both)))?, Ok(()));
-    let opening = told(alloc, Answer::Replied(changes(1, 1, Vec::new(alloc))))?;
+    let both = created(alloc, &["a", "b"])?;
+    assert_eq!(rt;
+        told(alloc, Answer::Replied(changes(alloc, 1, 3, both)))?,
+        Ok(())
+    );
+    let opening = told(
+        alloc,
+        Answer::Replied(changes(alloc, 1, 1, Vec::new(alloc))),
+    )?;
     assert_eq!(rt; opening, Err(AuditFault::WrongReply));
     assert_eq!(rt; told(alloc, Answer::Unanswered)?, Ok(()));
     Ok(())
@@ -197,6 +240,30 @@ fn bad(place: u64, fault: PutFault) -> Answer {
     Answer::Refused(ChangeFault::BadObject { place, fault })
 }
 
+/// The log of caller 1 who notes an import of files of these texts and one that is refused, and both answers.
+fn imports(
+    alloc: Global,
+    texts: &[&str],
+    first: Answer,
+    second: Answer,
+) -> Result<Vec<CallLog>, Fail> {
+    let mut entries = Vec::new(alloc);
+    entries.push(LogEntry {
+        ticket: 1,
+        call: Call::Change(import(alloc, texts)?),
+        answer: first,
+    })?;
+    entries.push(LogEntry {
+        ticket: 2,
+        call: Call::Change(refused(alloc)?),
+        answer: second,
+    })?;
+    let entries = Sequence::from_vec(entries);
+    let mut logs = Vec::new(alloc);
+    logs.push(CallLog { caller: 1, entries })?;
+    Ok(logs)
+}
+
 /// What is said where caller 1 has imported the files `x` and `y` and then a tree that is none, and notes for the first an import of files of
 /// these texts, and both answers.
 fn said(
@@ -206,48 +273,44 @@ fn said(
     second: Answer,
 ) -> Result<Result<(), AuditFault>, Fail> {
     let mut audited = opened(alloc)?;
-    audited.apply(1, &import(alloc, &["x", "y"])?)?;
-    audited.apply(1, &refused(alloc)?)?;
-    let first = LogEntry {
-        ticket: 1,
-        call: Call::Change(import(alloc, texts)?),
-        answer: first,
-    };
-    let second = LogEntry {
-        ticket: 2,
-        call: Call::Change(refused(alloc)?),
-        answer: second,
-    };
-    let entries = Sequence::from_vec(vec![in alloc; first, second]?);
-    let logs = vec![in alloc; CallLog { caller: 1, entries }]?;
-    Ok(audit(alloc, &mut audited, logs.as_slice()))
+    change(&mut audited, 1, &import(alloc, &["x", "y"])?)?;
+    change(&mut audited, 1, &refused(alloc)?)?;
+    let logs = imports(alloc, texts, first, second)?;
+    Ok(verdict(alloc, &mut audited, logs.as_slice()))
+}
+
+/// The number to which the first answer leads, the object that the second one says is refused, why, and whether both are right.
+const ANSWERS: [(u64, u64, PutFault, bool); 4] = [
+    (1, 1, PutFault::CutShort, true),
+    (2, 1, PutFault::CutShort, false),
+    (1, 0, PutFault::CutShort, false),
+    (1, 1, PutFault::BadMode, false),
+];
+
+/// Another object, the two in another order, one less, and one more.
+const OTHERS: [&[&str]; 4] = [&["x", "z"], &["y", "x"], &["x"], &["x", "y", "y"]];
+
+fn at(number: u64) -> Answer {
+    Answer::At(position(number))
 }
 
 // An import takes no number.
 #[test]
 fn imports_are_audited(rt: HostRuntime) -> Result<(), Fail> {
     let alloc = rt.alloc();
-    let (at, short) = (|number| Answer::At(position(number)), PutFault::CutShort);
-    let wrong = Err(AuditFault::WrongReply);
-    for (first, second, told) in [
-        (at(1), bad(1, short), Ok(())),
-        (at(1), Answer::Unanswered, Ok(())),
-        (at(2), bad(1, short), wrong),
-        (at(1), bad(0, short), wrong),
-        (at(1), bad(1, PutFault::BadMode), wrong),
-        (at(1), at(1), wrong),
-    ] {
-        assert_eq!(rt; said(alloc, &["x", "y"], first, second)?, told);
+    let (texts, wrong) = (["x", "y"], Err(AuditFault::WrongReply));
+    for (number, place, fault, is_right) in &ANSWERS {
+        let told = said(alloc, &texts, at(*number), bad(*place, *fault))?;
+        assert!(rt;
+            told == if *is_right { Ok(()) } else { wrong },
+            "{number}, {place}, {fault}"
+        );
     }
-    // Another object, the two in another order, one less, and one more.
-    for texts in [
-        ["x", "z"].as_slice(),
-        ["y", "x"].as_slice(),
-        ["x"].as_slice(),
-        ["x", "y", "y"].as_slice(),
-    ] {
-        let told = said(alloc, texts, at(1), bad(1, short))?;
-        assert_eq!(rt; told, Err(AuditFault::UnknownCall), "{texts:?}");
+    assert!(rt; said(alloc, &texts, at(1), Answer::Unanswered)? == Ok(()));
+    assert!(rt; said(alloc, &texts, at(1), at(1))? == wrong);
+    for texts in &OTHERS {
+        let told = said(alloc, texts, at(1), bad(1, PutFault::CutShort))?;
+        assert!(rt; told == Err(AuditFault::UnknownCall), "{texts:?}");
     }
     Ok(())
 }

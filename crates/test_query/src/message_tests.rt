@@ -1,10 +1,13 @@
+//! Messages and their bytes: each request and each reply as it is spelled, and bodies that are none.
+
 use eden_globs::Filter;
 use eden_history::{Mark, Marked, Position};
-use eden_ids::{Content, Id, Kind, Path, Sequence};
+use eden_ids::{Content, Id, Kind, Sequence};
 use eden_messages::{Cause, Query, Reply, Request};
 use eden_query::{DecodeFault, decode_reply, decode_request, encode_reply, encode_request};
 use std::alloc::Global;
 use std::test::Fail;
+use test_kit::{joined, path};
 
 /// The query of which each number is 1.
 const QUERY: Query = Query {
@@ -31,17 +34,9 @@ const P: [u8; 36] = [
     0, 0, 0, 0,
 ];
 
-pub(crate) fn joined(alloc: Global, parts: &[&[u8]]) -> Result<Vec<u8>, Fail> {
-    let mut bytes = Vec::new(alloc);
-    for part in parts {
-        bytes.extend_from_slice(part)?;
-    }
-    Ok(bytes)
-}
-
 /// The head, the bytes of `QUERY` and those of `PLACE`, and the tail.
 fn placed(alloc: Global, head: &[u8], tail: &[u8]) -> Result<Vec<u8>, Fail> {
-    joined(alloc, &[head, &Q, &P, tail])
+    Ok(joined(alloc, &[head, &Q, &P, tail])?)
 }
 
 /// The request that a body spells.
@@ -52,6 +47,15 @@ pub(crate) fn read_request(alloc: Global, body: &[u8]) -> Result<Request, Decode
 /// The reply that a body spells.
 pub(crate) fn read_reply(alloc: Global, body: &[u8]) -> Result<Reply, DecodeFault> {
     decode_reply(alloc, body)
+}
+
+/// Why a body is no request, or no reply.
+fn fault_of(alloc: Global, body: &[u8], is_request: bool) -> Option<DecodeFault> {
+    if is_request {
+        decode_request(alloc, body).err()
+    } else {
+        decode_reply(alloc, body).err()
+    }
 }
 
 /// The frame of a request.
@@ -72,132 +76,204 @@ fn poll(alloc: Global) -> Result<Request, Fail> {
     })
 }
 
+/// A path that has changed.
+fn marked(alloc: Global, mark: Mark, at: &str) -> Result<Marked, Fail> {
+    let path = path(alloc, at)?;
+    Ok(Marked { mark, path })
+}
+
 /// A reply with the paths `a` and `b`.
 fn two_changes(alloc: Global) -> Result<Reply, Fail> {
-    let mut marked = Vec::new(alloc);
-    let path = Path::parse(alloc, b"a".as_slice())?;
-    marked.push(Marked {
-        mark: Mark::Removed,
-        path,
-    })?;
-    let path = Path::parse(alloc, b"b".as_slice())?;
-    marked.push(Marked {
-        mark: Mark::Root,
-        path,
-    })?;
+    let mut all = Vec::new(alloc);
+    all.push(marked(alloc, Mark::Removed, "a")?)?;
+    all.push(marked(alloc, Mark::Root, "b")?)?;
     Ok(Reply::ChangesAre {
         query: QUERY,
         target: PLACE,
-        marked: Sequence::from_vec(marked),
+        marked: Sequence::from_vec(all),
+        prefixes: Sequence::new(alloc),
+    })
+}
+
+/// The reply that files were moved from `d` to `e`.
+fn moved(alloc: Global) -> Result<Reply, Fail> {
+    let mut prefixes = Vec::new(alloc);
+    prefixes.push(path(alloc, "d")?)?;
+    prefixes.push(path(alloc, "e")?)?;
+    Ok(Reply::ChangesAre {
+        query: QUERY,
+        target: PLACE,
+        marked: Sequence::new(alloc),
+        prefixes: Sequence::from_vec(prefixes),
     })
 }
 
 #[test]
 fn a_poll_has_its_frame(rt: HostRuntime) -> Result<(), Fail> {
     let alloc = rt.alloc();
-    let frame = placed(alloc, &[0, 0, 0, 0x3f, 1, 2], &[0])?;
+    let frame = placed(alloc, &[0, 0, 0, 0x3f, 2, 2], &[0])?;
     assert_eq!(rt; frame_of_request(alloc, &poll(alloc)?)?, frame);
-    let body = placed(alloc, &[1, 2], &[0])?;
+    let body = placed(alloc, &[2, 2], &[0])?;
     assert_eq!(rt; read_request(alloc, body.as_slice())?, poll(alloc)?);
     Ok(())
 }
 
-/// A basis, a poll and a fetch of `a`, each with its body.
+fn basis(alloc: Global) -> Request {
+    Request::Basis {
+        query: QUERY,
+        filter: Filter::all(alloc),
+    }
+}
+
+fn fetch(alloc: Global) -> Result<Request, Fail> {
+    Ok(Request::Fetch {
+        query: QUERY,
+        path: path(alloc, "a")?,
+    })
+}
+
+fn list(alloc: Global) -> Result<Request, Fail> {
+    Ok(Request::List {
+        query: QUERY,
+        prefix: path(alloc, "d")?,
+        filter: Filter::all(alloc),
+    })
+}
+
+/// A basis, a poll, a fetch of `a` and a list of `d`, each with its body.
 pub(crate) fn requests(alloc: Global) -> Result<Vec<(Request, Vec<u8>)>, Fail> {
     let mut all = Vec::new(alloc);
-    let basis = Request::Basis {
-        query: QUERY,
-        filter: Filter::parse(alloc, &[])?,
-    };
-    all.push((basis, joined(alloc, &[&[1, 1], &Q, &[0]])?))?;
-    all.push((poll(alloc)?, placed(alloc, &[1, 2], &[0])?))?;
-    let fetch = Request::Fetch {
-        query: QUERY,
-        path: Path::parse(alloc, b"a".as_slice())?,
-    };
-    all.push((fetch, joined(alloc, &[&[1, 3], &Q, &[0, 1, b'a']])?))?;
+    all.push((basis(alloc), joined(alloc, &[&[2, 1], &Q, &[0]])?))?;
+    all.push((poll(alloc)?, placed(alloc, &[2, 2], &[0])?))?;
+    let body = joined(alloc, &[&[2, 3], &Q, &[0, 1, b'a']])?;
+    all.push((fetch(alloc)?, body))?;
+    let body = joined(alloc, &[&[2, 4], &Q, &[0, 1, b'd', 0]])?;
+    all.push((list(alloc)?, body))?;
     Ok(all)
 }
+
+/// The reply that the files are `a` and `a/b`.
+fn two_files(alloc: Global) -> Result<Reply, Fail> {
+    let mut paths = Vec::new(alloc);
+    paths.push(path(alloc, "a")?)?;
+    paths.push(path(alloc, "a/b")?)?;
+    Ok(Reply::BasisIs {
+        query: QUERY,
+        position: PLACE,
+        paths: Sequence::from_vec(paths),
+    })
+}
+
+/// The reply that the file below `d` is `d/x`.
+fn one_below(alloc: Global) -> Result<Reply, Fail> {
+    let mut paths = Vec::new(alloc);
+    paths.push(path(alloc, "d/x")?)?;
+    Ok(Reply::ListIs {
+        query: QUERY,
+        position: PLACE,
+        prefix: path(alloc, "d")?,
+        paths: Sequence::from_vec(paths),
+    })
+}
+
+/// The reply that `a` has this content, or that no file stands there.
+fn content_is(alloc: Global, content: Option<Content>) -> Result<Reply, Fail> {
+    let path = path(alloc, "a")?;
+    Ok(Reply::ContentIs {
+        query: QUERY,
+        position: PLACE,
+        path,
+        content,
+    })
+}
+
+fn refused(cause: Cause) -> Reply {
+    Reply::Refused {
+        query: QUERY,
+        cause,
+    }
+}
+
+/// What stands behind the position in the bodies of the replies with two files, with two changes, with two directories, without a file,
+/// and with what stands below a directory.
+const FILES: [u8; 12] = [0, 0, 0, 2, 0, 1, b'a', 0, 3, b'a', b'/', b'b'];
+
+const CHANGES: [u8; 16] = [0, 0, 0, 2, 2, 0, 1, b'a', 4, 0, 1, b'b', 0, 0, 0, 0];
+
+const MOVED: [u8; 14] = [0, 0, 0, 0, 0, 0, 0, 2, 0, 1, b'd', 0, 1, b'e'];
+
+const NO_FILE: [u8; 4] = [0, 1, b'a', 0];
+
+const BELOW: [u8; 12] = [0, 1, b'd', 0, 0, 0, 1, 0, 3, b'd', b'/', b'x'];
 
 /// Replies of each kind, each with its body.
 pub(crate) fn replies(alloc: Global) -> Result<Vec<(Reply, Vec<u8>)>, Fail> {
     let mut all = Vec::new(alloc);
-    let mut paths = Vec::new(alloc);
-    paths.push(Path::parse(alloc, b"a".as_slice())?)?;
-    paths.push(Path::parse(alloc, b"a/b".as_slice())?)?;
-    let basis = Reply::BasisIs {
-        query: QUERY,
-        position: PLACE,
-        paths: Sequence::from_vec(paths),
-    };
-    let list = [0, 0, 0, 2, 0, 1, b'a', 0, 3, b'a', b'/', b'b'];
-    all.push((basis, placed(alloc, &[1, 0x81], &list)?))?;
-    let list = [0, 0, 0, 2, 2, 0, 1, b'a', 4, 0, 1, b'b'];
-    all.push((two_changes(alloc)?, placed(alloc, &[1, 0x82], &list)?))?;
-    let absent = Reply::ContentIs {
-        query: QUERY,
-        position: PLACE,
-        path: Path::parse(alloc, b"a".as_slice())?,
-        content: None,
-    };
-    all.push((absent, placed(alloc, &[1, 0x83], &[0, 1, b'a', 0])?))?;
+    all.push((two_files(alloc)?, placed(alloc, &[2, 0x81], &FILES)?))?;
+    all.push((two_changes(alloc)?, placed(alloc, &[2, 0x82], &CHANGES)?))?;
+    all.push((moved(alloc)?, placed(alloc, &[2, 0x82], &MOVED)?))?;
+    all.push((
+        content_is(alloc, None)?,
+        placed(alloc, &[2, 0x83], &NO_FILE)?,
+    ))?;
     for (kind, byte) in [(Kind::Plain, 1), (Kind::Exec, 2), (Kind::Link, 3)] {
-        let content = Content {
-            kind,
-            bytes: Sequence::from_vec(b"hi".to_vec(alloc)?),
-        };
-        let present = Reply::ContentIs {
-            query: QUERY,
-            position: PLACE,
-            path: Path::parse(alloc, b"a".as_slice())?,
-            content: Some(content),
-        };
+        let content = Content::from_bytes(alloc, kind, b"hi".as_slice())?;
         let fields = [0, 1, b'a', byte, 0, 0, 0, 2, b'h', b'i'];
-        all.push((present, placed(alloc, &[1, 0x83], &fields)?))?;
+        let body = placed(alloc, &[2, 0x83], &fields)?;
+        all.push((content_is(alloc, Some(content))?, body))?;
     }
-    let refused = Reply::Refused {
-        query: QUERY,
-        cause: Cause::TooLarge,
-    };
-    let value = [4, 0, 0, 0, 0, 0, 0, 0, 0];
-    all.push((refused, joined(alloc, &[&[1, 0x84], &Q, &value])?))?;
+    let body = joined(alloc, &[&[2, 0x84], &Q, &[4, 0, 0, 0, 0, 0, 0, 0, 0]])?;
+    all.push((refused(Cause::TooLarge), body))?;
+    all.push((one_below(alloc)?, placed(alloc, &[2, 0x85], &BELOW)?))?;
     Ok(all)
 }
 
 /// The frame of a short body.
 pub(crate) fn framed(alloc: Global, body: &[u8]) -> Result<Vec<u8>, Fail> {
-    joined(alloc, &[&[0, 0, 0, (body.len() % 256) as u8], body])
+    Ok(joined(alloc, &[&[0, 0, 0, (body.len() % 256) as u8], body])?)
+}
+
+/// Whether a request has the frame of a body, which is read as that request, as a copy of it is.
+fn is_request_of(alloc: Global, request: &Request, body: &[u8]) -> Result<bool, Fail> {
+    Ok(
+        frame_of_request(alloc, request)? == framed(alloc, body)?
+            && read_request(alloc, body)? == *request
+            && request.copy()? == *request,
+    )
 }
 
 #[test]
 fn each_request_is_spelled_and_read(rt: HostRuntime) -> Result<(), Fail> {
     let alloc = rt.alloc();
     for (request, body) in &requests(alloc)? {
-        let frame = framed(alloc, body.as_slice())?;
-        assert_eq!(rt; frame_of_request(alloc, request)?, frame);
-        assert!(rt; read_request(alloc, body.as_slice())? == *request);
-        assert!(rt; request.copy()? == *request);
+        assert!(rt; is_request_of(alloc, request, body.as_slice())?);
     }
     Ok(())
+}
+
+/// Whether a reply has the frame of a body, which is read as that reply, as a copy of it is.
+fn is_reply_of(alloc: Global, reply: &Reply, body: &[u8]) -> Result<bool, Fail> {
+    Ok(
+        frame_of_reply(alloc, reply)? == framed(alloc, body)?
+            && read_reply(alloc, body)? == *reply
+            && reply.copy()? == *reply,
+    )
 }
 
 #[test]
 fn each_reply_is_spelled_and_read(rt: HostRuntime) -> Result<(), Fail> {
     let alloc = rt.alloc();
     for (reply, body) in &replies(alloc)? {
-        let frame = framed(alloc, body.as_slice())?;
-        assert_eq!(rt; frame_of_reply(alloc, reply)?, frame);
-        assert!(rt; read_reply(alloc, body.as_slice())? == *reply);
-        assert!(rt; reply.copy()? == *reply);
+        assert!(rt; is_reply_of(alloc, reply, body.as_slice())?);
     }
     Ok(())
 }
 
-/// Whether a reply has the frame with these bytes, and the body of that is read as the reply.
-fn has_frame(alloc: Global, reply: &Reply, frame: &[u8]) -> Result<bool, Fail> {
+/// Whether a reply has the frame of these parts, and the body of that is read as the reply.
+fn has_frame(alloc: Global, reply: &Reply, parts: &[&[u8]]) -> Result<bool, Fail> {
     let spelled = frame_of_reply(alloc, reply)?;
     let body = spelled.get(4..).unwrap_or(&[]);
-    Ok(spelled.as_slice() == frame && read_reply(alloc, body)? == *reply)
+    Ok(spelled == joined(alloc, parts)? && read_reply(alloc, body)? == *reply)
 }
 
 #[test]
@@ -207,130 +283,231 @@ fn replies_have_their_frames(rt: HostRuntime) -> Result<(), Fail> {
         query: QUERY,
         target: PLACE,
         marked: Sequence::new(alloc),
+        prefixes: Sequence::new(alloc),
     };
-    let frame = placed(alloc, &[0, 0, 0, 0x42, 1, 0x82], &[0, 0, 0, 0])?;
-    assert!(rt; has_frame(alloc, &none, frame.as_slice())?);
-    let ahead = Reply::Refused {
-        query: QUERY,
-        cause: Cause::Ahead(1),
-    };
+    let frame: [&[u8]; 4] = [&[0, 0, 0, 0x46, 2, 0x82], &Q, &P, &[0; 8]];
+    assert!(rt; has_frame(alloc, &none, &frame)?);
     let value = [2, 0, 0, 0, 0, 0, 0, 0, 1];
-    let frame = joined(alloc, &[&[0, 0, 0, 0x23, 1, 0x84], &Q, &value])?;
-    assert!(rt; has_frame(alloc, &ahead, frame.as_slice())?);
+    let frame: [&[u8]; 3] = [&[0, 0, 0, 0x23, 2, 0x84], &Q, &value];
+    assert!(rt; has_frame(alloc, &refused(Cause::Ahead(1)), &frame)?);
+    let frame: [&[u8]; 4] = [&[0, 0, 0, 0x4c, 2, 0x82], &Q, &P, &MOVED];
+    assert!(rt; has_frame(alloc, &moved(alloc)?, &frame)?);
+    let frame: [&[u8]; 4] = [&[0, 0, 0, 0x4a, 2, 0x85], &Q, &P, &BELOW];
+    assert!(rt; has_frame(alloc, &one_below(alloc)?, &frame)?);
     Ok(())
 }
 
 #[test]
 fn paths_ascend(rt: HostRuntime) -> Result<(), Fail> {
     let alloc = rt.alloc();
-    let list = [0, 0, 0, 2, 2, 0, 1, b'a', 4, 0, 1, b'b'];
-    let frame = placed(alloc, &[0, 0, 0, 0x4a, 1, 0x82], &list)?;
-    assert!(rt; has_frame(alloc, &two_changes(alloc)?, frame.as_slice())?);
+    let frame: [&[u8]; 4] = [&[0, 0, 0, 0x4e, 2, 0x82], &Q, &P, &CHANGES];
+    assert!(rt; has_frame(alloc, &two_changes(alloc)?, &frame)?);
     for (first, second) in [(b'b', b'a'), (b'a', b'a')] {
         let list = [0, 0, 0, 2, 1, 0, 1, first, 1, 0, 1, second];
-        let body = placed(alloc, &[1, 0x82], &list)?;
-        let fault = read_reply(alloc, body.as_slice()).err();
-        assert_eq!(rt; fault, Some(DecodeFault::BadField));
+        let body = placed(alloc, &[2, 0x82], &list)?;
+        let fault = fault_of(alloc, body.as_slice(), false);
+        assert!(rt; fault == Some(DecodeFault::BadField));
     }
     Ok(())
 }
 
+/// The parts of a body, and why it is not read.
+type Bad = (&'static [&'static [u8]], DecodeFault);
+
+/// Bodies without a request.
+const NO_REQUESTS: [Bad; 18] = [
+    (&[], DecodeFault::CutShort),
+    (&[&[1]], DecodeFault::Version),
+    (&[&[2]], DecodeFault::CutShort),
+    // A basis of the version before this one.
+    (&[&[1, 1], &Q, &[0]], DecodeFault::Version),
+    (&[&[2, 5]], DecodeFault::BadTag),
+    (&[&[2, 5], &Q], DecodeFault::BadTag),
+    // No path, an empty one and one that is too long.
+    (&[&[2, 3], &Q, &[0, 1, b'/']], DecodeFault::BadField),
+    (&[&[2, 3], &Q, &[0, 0]], DecodeFault::BadField),
+    (&[&[2, 3], &Q, &[4, 1]], DecodeFault::BadField),
+    // Lists of no path, and without a filter, and with more behind it.
+    (&[&[2, 4], &Q, &[0, 1, b'/', 0]], DecodeFault::BadField),
+    (&[&[2, 4], &Q, &[0, 1, b'd']], DecodeFault::CutShort),
+    (&[&[2, 4], &Q, &[0, 1, b'd', 0, 0]], DecodeFault::Trailing),
+    // A reply.
+    (&[&[2, 0x82], &Q, &P, &[0; 8]], DecodeFault::BadTag),
+    // Too many patterns, and patterns that are empty, too long, bad, and cut short.
+    (&[&[2, 2], &Q, &P, &[0x21]], DecodeFault::BadField),
+    (&[&[2, 2], &Q, &P, &[1, 0, 0]], DecodeFault::BadField),
+    (&[&[2, 2], &Q, &P, &[1, 1, 1]], DecodeFault::BadField),
+    (&[&[2, 2], &Q, &P, &[1, 0, 1, b'[']], DecodeFault::BadField),
+    (&[&[2, 2], &Q, &P, &[1, 0, 2, b'a']], DecodeFault::CutShort),
+];
+
+/// Bodies without a reply.
+const NO_REPLIES: [Bad; 27] = [
+    (&[&[1]], DecodeFault::Version),
+    (&[&[2]], DecodeFault::CutShort),
+    // Changes of the version before this one, and a tag behind the last.
+    (&[&[1, 0x82], &Q, &P, &[0; 4]], DecodeFault::Version),
+    (&[&[2, 0x86], &Q], DecodeFault::BadTag),
+    // A request.
+    (&[&[2, 2], &Q, &P, &[0]], DecodeFault::BadTag),
+    // Many paths, two that are turned, and one twice.
+    (
+        &[&[2, 0x81], &Q, &P, &[0xff, 0xff, 0xff, 0xff]],
+        DecodeFault::CutShort,
+    ),
+    (
+        &[&[2, 0x81], &Q, &P, &[0, 0, 0, 2, 0, 1, b'b', 0, 1, b'a']],
+        DecodeFault::BadField,
+    ),
+    (
+        &[&[2, 0x81], &Q, &P, &[0, 0, 0, 2, 0, 1, b'a', 0, 1, b'a']],
+        DecodeFault::BadField,
+    ),
+    // A fourth kind, and contents that are too long and cut short.
+    (
+        &[&[2, 0x83], &Q, &P, &[0, 1, b'a', 4]],
+        DecodeFault::BadField,
+    ),
+    (
+        &[&[2, 0x83], &Q, &P, &[0, 1, b'a', 1, 0, 0x80, 0, 1]],
+        DecodeFault::BadField,
+    ),
+    (
+        &[&[2, 0x83], &Q, &P, &[0, 1, b'a', 1, 0, 0x80, 0, 0]],
+        DecodeFault::CutShort,
+    ),
+    // A value where there is none, no cause, and a fifth one.
+    (
+        &[&[2, 0x84], &Q, &[4, 0, 0, 0, 0, 0, 0, 0, 1]],
+        DecodeFault::BadField,
+    ),
+    (&[&[2, 0x84], &Q, &[0]], DecodeFault::BadField),
+    (&[&[2, 0x84], &Q, &[5]], DecodeFault::BadField),
+    // No mark, a fifth one, and paths that are empty, too long, and none; and many.
+    (
+        &[&[2, 0x82], &Q, &P, &[0, 0, 0, 1, 0, 0, 1, b'a']],
+        DecodeFault::BadField,
+    ),
+    (
+        &[&[2, 0x82], &Q, &P, &[0, 0, 0, 1, 5]],
+        DecodeFault::BadField,
+    ),
+    (
+        &[&[2, 0x82], &Q, &P, &[0, 0, 0, 1, 1, 0, 0]],
+        DecodeFault::BadField,
+    ),
+    (
+        &[&[2, 0x82], &Q, &P, &[0, 0, 0, 1, 1, 4, 1]],
+        DecodeFault::BadField,
+    ),
+    (
+        &[&[2, 0x82], &Q, &P, &[0, 0, 0, 1, 1, 0, 1, b'/']],
+        DecodeFault::BadField,
+    ),
+    (
+        &[&[2, 0x82], &Q, &P, &[0xff, 0xff, 0xff, 0xff]],
+        DecodeFault::CutShort,
+    ),
+    // No count of directories, and directories that are turned, and one twice.
+    (&[&[2, 0x82], &Q, &P, &[0; 4]], DecodeFault::CutShort),
+    (
+        &[
+            &[2, 0x82],
+            &Q,
+            &P,
+            &[0, 0, 0, 0, 0, 0, 0, 2, 0, 1, b'e', 0, 1, b'd'],
+        ],
+        DecodeFault::BadField,
+    ),
+    (
+        &[
+            &[2, 0x82],
+            &Q,
+            &P,
+            &[0, 0, 0, 0, 0, 0, 0, 2, 0, 1, b'd', 0, 1, b'd'],
+        ],
+        DecodeFault::BadField,
+    ),
+    // Paths that are not below the directory: itself, one beside it, and one that only begins as it does; and two that are turned.
+    (
+        &[&[2, 0x85], &Q, &P, &[0, 1, b'd', 0, 0, 0, 1, 0, 1, b'd']],
+        DecodeFault::BadField,
+    ),
+    (
+        &[
+            &[2, 0x85],
+            &Q,
+            &P,
+            &[0, 1, b'd', 0, 0, 0, 1, 0, 3, b'e', b'/', b'x'],
+        ],
+        DecodeFault::BadField,
+    ),
+    (
+        &[
+            &[2, 0x85],
+            &Q,
+            &P,
+            &[0, 1, b'd', 0, 0, 0, 1, 0, 3, b'd', b'.', b'x'],
+        ],
+        DecodeFault::BadField,
+    ),
+    (
+        &[
+            &[2, 0x85],
+            &Q,
+            &P,
+            &[
+                0, 1, b'd', 0, 0, 0, 2, 0, 3, b'd', b'/', b'y', 0, 3, b'd', b'/', b'x',
+            ],
+        ],
+        DecodeFault::BadField,
+    ),
+];
+
+/// The first of these bodies that is not refused as it should be.
+fn first_wrong(alloc: Global, bodies: &[Bad], is_request: bool) -> Result<Option<usize>, Fail> {
+    for (row, (parts, fault)) in bodies.iter().enumerate() {
+        let body = joined(alloc, parts)?;
+        if fault_of(alloc, body.as_slice(), is_request) != Some(*fault) {
+            return Ok(Some(row));
+        }
+    }
+    Ok(None)
+}
+
 #[test]
 fn bodies_without_a_request(rt: HostRuntime) -> Result<(), Fail> {
-    let alloc = rt.alloc();
-    let many_patterns = placed(alloc, &[1, 2], &[0x21])?;
-    let empty_pattern = placed(alloc, &[1, 2], &[1, 0, 0])?;
-    let long_pattern = placed(alloc, &[1, 2], &[1, 1, 1])?;
-    let bad_pattern = placed(alloc, &[1, 2], &[1, 0, 1, b'['])?;
-    let cut_pattern = placed(alloc, &[1, 2], &[1, 0, 2, b'a'])?;
-    let no_path = joined(alloc, &[&[1, 3], &Q, &[0, 1, b'/']])?;
-    let empty_path = joined(alloc, &[&[1, 3], &Q, &[0, 0]])?;
-    let long_path = joined(alloc, &[&[1, 3], &Q, &[4, 1]])?;
-    let unknown = joined(alloc, &[&[1, 5], &Q])?;
-    let reply = placed(alloc, &[1, 0x82], &[0, 0, 0, 0])?;
-    for (body, fault) in [
-        (b"".as_slice(), DecodeFault::CutShort),
-        ([2].as_slice(), DecodeFault::Version),
-        ([1, 5].as_slice(), DecodeFault::BadTag),
-        (unknown.as_slice(), DecodeFault::BadTag),
-        (no_path.as_slice(), DecodeFault::BadField),
-        (empty_path.as_slice(), DecodeFault::BadField),
-        (long_path.as_slice(), DecodeFault::BadField),
-        (reply.as_slice(), DecodeFault::BadTag),
-        (many_patterns.as_slice(), DecodeFault::BadField),
-        (empty_pattern.as_slice(), DecodeFault::BadField),
-        (long_pattern.as_slice(), DecodeFault::BadField),
-        (bad_pattern.as_slice(), DecodeFault::BadField),
-        (cut_pattern.as_slice(), DecodeFault::CutShort),
-    ] {
-        assert_eq!(rt; read_request(alloc, body).err(), Some(fault));
-    }
+    let wrong = first_wrong(rt.alloc(), NO_REQUESTS.as_slice(), true)?;
+    assert_eq!(rt; wrong, None);
     Ok(())
 }
 
 #[test]
 fn bodies_without_a_reply(rt: HostRuntime) -> Result<(), Fail> {
-    let alloc = rt.alloc();
-    let too_large_with_value = joined(alloc, &[&[1, 0x84], &Q, &[4, 0, 0, 0, 0, 0, 0, 0, 1]])?;
-    let no_cause = joined(alloc, &[&[1, 0x84], &Q, &[0]])?;
-    let fifth_cause = joined(alloc, &[&[1, 0x84], &Q, &[5]])?;
-    let many_paths = placed(alloc, &[1, 0x81], &[0xff, 0xff, 0xff, 0xff])?;
-    let turned_paths = placed(alloc, &[1, 0x81], &[0, 0, 0, 2, 0, 1, b'b', 0, 1, b'a'])?;
-    let same_paths = placed(alloc, &[1, 0x81], &[0, 0, 0, 2, 0, 1, b'a', 0, 1, b'a'])?;
-    let fourth_kind = placed(alloc, &[1, 0x83], &[0, 1, b'a', 4])?;
-    let long_content = placed(alloc, &[1, 0x83], &[0, 1, b'a', 1, 0, 0x80, 0, 1])?;
-    let cut_content = placed(alloc, &[1, 0x83], &[0, 1, b'a', 1, 0, 0x80, 0, 0])?;
-    let no_mark = placed(alloc, &[1, 0x82], &[0, 0, 0, 1, 0, 0, 1, b'a'])?;
-    let fifth_mark = placed(alloc, &[1, 0x82], &[0, 0, 0, 1, 5])?;
-    let empty_path = placed(alloc, &[1, 0x82], &[0, 0, 0, 1, 1, 0, 0])?;
-    let long_path = placed(alloc, &[1, 0x82], &[0, 0, 0, 1, 1, 4, 1])?;
-    let no_path = placed(alloc, &[1, 0x82], &[0, 0, 0, 1, 1, 0, 1, b'/'])?;
-    let many = placed(alloc, &[1, 0x82], &[0xff, 0xff, 0xff, 0xff])?;
-    let request = placed(alloc, &[1, 2], &[0])?;
-    for (body, fault) in [
-        ([2].as_slice(), DecodeFault::Version),
-        (request.as_slice(), DecodeFault::BadTag),
-        (many_paths.as_slice(), DecodeFault::CutShort),
-        (turned_paths.as_slice(), DecodeFault::BadField),
-        (same_paths.as_slice(), DecodeFault::BadField),
-        (fourth_kind.as_slice(), DecodeFault::BadField),
-        (long_content.as_slice(), DecodeFault::BadField),
-        (cut_content.as_slice(), DecodeFault::CutShort),
-        (too_large_with_value.as_slice(), DecodeFault::BadField),
-        (no_cause.as_slice(), DecodeFault::BadField),
-        (fifth_cause.as_slice(), DecodeFault::BadField),
-        (no_mark.as_slice(), DecodeFault::BadField),
-        (fifth_mark.as_slice(), DecodeFault::BadField),
-        (empty_path.as_slice(), DecodeFault::BadField),
-        (long_path.as_slice(), DecodeFault::BadField),
-        (no_path.as_slice(), DecodeFault::BadField),
-        (many.as_slice(), DecodeFault::CutShort),
-    ] {
-        assert_eq!(rt; read_reply(alloc, body).err(), Some(fault));
-    }
+    let wrong = first_wrong(rt.alloc(), NO_REPLIES.as_slice(), false)?;
+    assert_eq!(rt; wrong, None);
     Ok(())
+}
+
+/// Whether each front of a body is cut short, and a byte behind it is one too many.
+fn has_its_length(alloc: Global, body: &[u8], is_request: bool) -> Result<bool, Fail> {
+    for n in 0..body.len() {
+        if fault_of(alloc, &body[..n], is_request) != Some(DecodeFault::CutShort) {
+            return Ok(false);
+        }
+    }
+    let longer = joined(alloc, &[body, &[0]])?;
+    Ok(fault_of(alloc, longer.as_slice(), is_request) == Some(DecodeFault::Trailing))
 }
 
 #[test]
 fn fronts_are_cut_short(rt: HostRuntime) -> Result<(), Fail> {
     let alloc = rt.alloc();
     for (_, body) in &requests(alloc)? {
-        for n in 0..body.len() {
-            let fault = read_request(alloc, &body[..n]).err();
-            assert_eq!(rt; fault, Some(DecodeFault::CutShort), "at {n}");
-        }
-        let longer = joined(alloc, &[body.as_slice(), &[0]])?;
-        let fault = read_request(alloc, longer.as_slice()).err();
-        assert_eq!(rt; fault, Some(DecodeFault::Trailing));
+        assert!(rt; has_its_length(alloc, body.as_slice(), true)?);
     }
     for (_, body) in &replies(alloc)? {
-        for n in 0..body.len() {
-            let fault = read_reply(alloc, &body[..n]).err();
-            assert_eq!(rt; fault, Some(DecodeFault::CutShort), "at {n}");
-        }
-        let longer = joined(alloc, &[body.as_slice(), &[0]])?;
-        let fault = read_reply(alloc, longer.as_slice()).err();
-        assert_eq!(rt; fault, Some(DecodeFault::Trailing));
+        assert!(rt; has_its_length(alloc, body.as_slice(), false)?);
     }
     Ok(())
 }
@@ -338,14 +515,14 @@ fn fronts_are_cut_short(rt: HostRuntime) -> Result<(), Fail> {
 #[test]
 fn a_body_has_16_mebibytes_at_the_most(rt: HostRuntime) -> Result<(), Fail> {
     let alloc = rt.alloc();
-    let body = vec![in alloc; 1; 16_777_217]?;
-    let fault = read_request(alloc, body.as_slice()).err();
-    assert_eq!(rt; fault, Some(DecodeFault::TooLarge));
-    let fault = read_reply(alloc, body.as_slice()).err();
-    assert_eq!(rt; fault, Some(DecodeFault::TooLarge));
-    assert_eq!(rt; body.len(), 16_777_217);
-    // A basis with one pattern of 257 bytes.
-    let fault = read_request(alloc, &body[1..]).err();
-    assert_eq!(rt; fault, Some(DecodeFault::BadField));
+    let body = vec![in alloc; 2; 16_777_217]?;
+    for is_request in [true, false] {
+        let fault = fault_of(alloc, body.as_slice(), is_request);
+        assert!(rt; fault == Some(DecodeFault::TooLarge));
+    }
+    // A poll with two patterns, of which the first has 514 bytes.
+    let largest = body.get(1..).unwrap_or(&[]);
+    assert!(rt; largest.len() == 16_777_216);
+    assert!(rt; fault_of(alloc, largest, true) == Some(DecodeFault::BadField));
     Ok(())
 }

@@ -1,13 +1,14 @@
 //! Each change of one byte of a body of each message, judged by a plain reader.
 
 use crate::message_tests::{
-    frame_of_reply, frame_of_request, framed, joined, read_reply, read_request, replies, requests,
+    frame_of_reply, frame_of_request, framed, read_reply, read_request, replies, requests,
 };
 use eden_ids::Kind;
 use eden_messages::Reply;
 use eden_query::DecodeFault;
 use std::alloc::Global;
 use std::test::Fail;
+use test_kit::joined;
 
 /// What is left of a body that is being read.
 #[derive(Drop)]
@@ -52,15 +53,15 @@ impl<'a> Left<'a> {
         }
     }
 
-    /// Paths that ascend, with a mark before each or without.
-    fn paths(&mut self, marks: bool) -> Result<(), DecodeFault> {
+    /// Paths that ascend, with a mark before each or without, and each below a directory if there is one.
+    fn paths(&mut self, marks: bool, prefix: Option<&[u8]>) -> Result<(), DecodeFault> {
         let mut last = b"".as_slice();
         for _ in 0..self.number(4)? {
             if marks && !(1..=4).contains(&self.number(1)?) {
                 return Err(DecodeFault::BadField);
             }
             let path = self.path()?;
-            if path <= last {
+            if path <= last || !prefix.is_none_or(|prefix| is_below(path, prefix)) {
                 return Err(DecodeFault::BadField);
             }
             last = path;
@@ -118,24 +119,35 @@ impl<'a> Left<'a> {
 
     /// The fields behind the query of a message with this tag.
     fn fields(&mut self, tag: u64) -> Result<(), DecodeFault> {
-        if matches!(tag, 2 | 0x81 | 0x82 | 0x83) {
+        if matches!(tag, 2 | 0x81 | 0x82 | 0x83 | 0x85) {
             self.position()?;
         }
         match tag {
             1 | 2 => self.filter(),
-            0x81 => self.paths(false),
-            0x82 => self.paths(true),
-            0x84 => self.cause(),
-            _ => {
-                let _ = self.path()?;
-                if tag == 0x83 { self.content() } else { Ok(()) }
+            0x81 => self.paths(false, None),
+            0x82 => {
+                self.paths(true, None)?;
+                self.paths(false, None)
             }
+            0x84 => self.cause(),
+            _ => self.of_path(tag),
+        }
+    }
+
+    /// The fields of a message that begins with a path, or has one behind a position.
+    fn of_path(&mut self, tag: u64) -> Result<(), DecodeFault> {
+        let path = self.path()?;
+        match tag {
+            4 => self.filter(),
+            0x83 => self.content(),
+            0x85 => self.paths(false, Some(path)),
+            _ => Ok(()),
         }
     }
 
     /// A body with one of these tags.
     fn body(&mut self, tags: &[u64]) -> Result<(), DecodeFault> {
-        if self.number(1)? != 1 {
+        if self.number(1)? != 2 {
             return Err(DecodeFault::Version);
         }
         let tag = self.number(1)?;
@@ -172,6 +184,11 @@ fn is_path(bytes: &[u8]) -> bool {
         names = names.min(64) + 1;
     }
     names <= 64
+}
+
+/// Whether a path lies below a directory.
+fn is_below(path: &[u8], prefix: &[u8]) -> bool {
+    path.starts_with(prefix) && path.get(prefix.len()) == Some(&b'/')
 }
 
 /// Whether bytes, 1 to 256 of them, are a pattern.
@@ -217,9 +234,9 @@ fn spelled_again(
 /// Whether a body is read as the plain reader reads it, as one of these messages, and is spelled again as it was.
 fn is_read_plainly(alloc: Global, body: &[u8], is_request: bool) -> Result<bool, Fail> {
     let tags = if is_request {
-        [1, 2, 3].as_slice()
+        [1, 2, 3, 4].as_slice()
     } else {
-        [0x81, 0x82, 0x83, 0x84].as_slice()
+        [0x81, 0x82, 0x83, 0x84, 0x85].as_slice()
     };
     let again = spelled_again(alloc, body, is_request)?;
     Ok(match (again, plain_fault(body, tags)) {
@@ -261,16 +278,14 @@ fn read_plainly(alloc: Global, body: &[u8], is_request: bool) -> Result<(), Fail
     Ok(())
 }
 
-/// A basis and a poll with two patterns, since those of `requests` have none.
-fn with_patterns(alloc: Global) -> Result<[Vec<u8>; 2], Fail> {
-    let patterns = [2, 0, 4, b'a', b'/', b'*', b'*', 0, 3, b'b', b'\\', b'['];
-    let query = [0; 24];
-    let place = [7; 36];
-    Ok([
-        joined(alloc, &[&[1, 1], &query, &patterns])?,
-        joined(alloc, &[&[1, 2], &query, &place, &patterns])?,
-    ])
-}
+/// The bodies of a basis, a poll and a list with two patterns, since those of `requests` have none: what stands before the patterns.
+const WITH_PATTERNS: [&[&[u8]]; 3] = [
+    &[&[2, 1], &[0; 24]],
+    &[&[2, 2], &[0; 24], &[7; 36]],
+    &[&[2, 4], &[0; 24], &[0, 1, b'd']],
+];
+
+const PATTERNS: [u8; 12] = [2, 0, 4, b'a', b'/', b'*', b'*', 0, 3, b'b', b'\\', b'['];
 
 #[test]
 fn every_byte_of_each_request(rt: HostRuntime) -> Result<(), Fail> {
@@ -278,7 +293,9 @@ fn every_byte_of_each_request(rt: HostRuntime) -> Result<(), Fail> {
     for (_, body) in &requests(alloc)? {
         read_plainly(alloc, body.as_slice(), true)?;
     }
-    for body in &with_patterns(alloc)? {
+    for parts in &WITH_PATTERNS {
+        let head = joined(alloc, parts)?;
+        let body = joined(alloc, &[head.as_slice(), &PATTERNS])?;
         read_plainly(alloc, body.as_slice(), true)?;
     }
     Ok(())

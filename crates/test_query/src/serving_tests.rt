@@ -1,4 +1,4 @@
-//! Frames of polls and what a mount replies, in whatever pieces they come.
+//! Frames of requests and what a mount replies, in whatever pieces they come.
 
 use eden_accumulate::Mount;
 use eden_history::Change;
@@ -9,6 +9,7 @@ use eden_stream::Counted;
 use std::alloc::Global;
 use std::test::Fail;
 use test_devices::{Endless, Source};
+use test_kit::joined;
 
 /// What a byte is changed to: the least and the greatest values, the bits, and those around the greatest number of patterns.
 const VALUES: [u8; 16] = [
@@ -23,41 +24,63 @@ const Q: [u8; 24] = [
 /// A root of the empty commit.
 const ROOT: [u8; 20] = [0; 20];
 
-fn joined(alloc: Global, parts: &[&[u8]]) -> Result<Vec<u8>, Fail> {
-    let mut bytes = Vec::new(alloc);
-    for part in parts {
-        bytes.extend_from_slice(part)?;
-    }
-    Ok(bytes)
-}
+/// The last bytes of the generation 7 and of its first number.
+const FIRST: [u8; 16] = [0, 0, 0, 0, 0, 0, 0, 7, 0, 0, 0, 0, 0, 0, 0, 1];
+
+/// Those of its third number.
+const THIRD: [u8; 16] = [0, 0, 0, 0, 0, 0, 0, 7, 0, 0, 0, 0, 0, 0, 0, 3];
+
+/// A poll since the first row of generation 7.
+const POLL: &[&[u8]] = &[&[0, 0, 0, 0x3f, 2, 2], &Q, &FIRST, &ROOT, &[0]];
+
+/// The reply that tells no change up to that row.
+const NO_CHANGES: &[&[u8]] = &[&[0, 0, 0, 0x46, 2, 0x82], &Q, &FIRST, &ROOT, &[0; 8]];
+
+/// A fetch of `a`.
+const FETCH: &[&[u8]] = &[&[0, 0, 0, 0x1d, 2, 3], &Q, &[0, 1, b'a']];
+
+/// The reply that nothing stands there in that row.
+const ABSENT: &[&[u8]] = &[
+    &[0, 0, 0, 0x42, 2, 0x83],
+    &Q,
+    &FIRST,
+    &ROOT,
+    &[0, 1, b'a', 0],
+];
+
+/// A basis of all paths.
+const BASIS: &[&[u8]] = &[&[0, 0, 0, 0x1b, 2, 1], &Q, &[0]];
+
+/// The reply that no path holds a file in that row.
+const NO_PATHS: &[&[u8]] = &[&[0, 0, 0, 0x42, 2, 0x81], &Q, &FIRST, &ROOT, &[0; 4]];
+
+/// A list of what stands below `d`.
+const LIST: &[&[u8]] = &[&[0, 0, 0, 0x1e, 2, 4], &Q, &[0, 1, b'd', 0]];
+
+/// The reply that no path below it holds a file in that row.
+const NO_LIST: &[&[u8]] = &[
+    &[0, 0, 0, 0x45, 2, 0x85],
+    &Q,
+    &FIRST,
+    &ROOT,
+    &[0, 1, b'd', 0, 0, 0, 0],
+];
 
 /// A poll since a position of these last bytes of its generation and its sequence.
 fn poll(alloc: Global, generation: u8, sequence: u8) -> Result<Vec<u8>, Fail> {
-    let place = [
-        0, 0, 0, 0, 0, 0, 0, generation, 0, 0, 0, 0, 0, 0, 0, sequence,
-    ];
-    joined(alloc, &[&[0, 0, 0, 0x3f, 1, 2], &Q, &place, &ROOT, &[0]])
-}
-
-/// The reply that tells no change up to the first row of generation 7.
-fn no_changes(alloc: Global) -> Result<Vec<u8>, Fail> {
-    let place = [0, 0, 0, 0, 0, 0, 0, 7, 0, 0, 0, 0, 0, 0, 0, 1];
-    joined(
-        alloc,
-        &[&[0, 0, 0, 0x42, 1, 0x82], &Q, &place, &ROOT, &[0, 0, 0, 0]],
-    )
+    let mut frame = joined(alloc, POLL)?;
+    for (place, byte) in [(37, generation), (45, sequence)] {
+        if let Some(last) = frame.get_mut(place) {
+            *last = byte;
+        }
+    }
+    Ok(frame)
 }
 
 /// A refusal for this cause, with a number below 256.
 fn refusal(alloc: Global, cause: u8, number: u8) -> Result<Vec<u8>, Fail> {
-    joined(
-        alloc,
-        &[
-            &[0, 0, 0, 0x23, 1, 0x84],
-            &Q,
-            &[cause, 0, 0, 0, 0, 0, 0, 0, number],
-        ],
-    )
+    let value = [cause, 0, 0, 0, 0, 0, 0, 0, number];
+    Ok(joined(alloc, &[&[0, 0, 0, 0x23, 2, 0x84], &Q, &value])?)
 }
 
 /// A mount of the empty commit, in generation 7.
@@ -105,38 +128,17 @@ fn stops(number: u64, fault: FrameFault) -> Result<u64, ServeFault> {
     Err(ServeFault::Frame { number, fault })
 }
 
-/// A fetch of `a`.
-fn fetch(alloc: Global) -> Result<Vec<u8>, Fail> {
-    joined(alloc, &[&[0, 0, 0, 0x1d, 1, 3], &Q, &[0, 1, b'a']])
-}
-
-/// A basis of all paths.
-fn basis(alloc: Global) -> Result<Vec<u8>, Fail> {
-    joined(alloc, &[&[0, 0, 0, 0x1b, 1, 1], &Q, &[0]])
-}
-
-/// The reply that nothing stands at `a` in the first row of generation 7.
-fn absent(alloc: Global) -> Result<Vec<u8>, Fail> {
-    let place = [0, 0, 0, 0, 0, 0, 0, 7, 0, 0, 0, 0, 0, 0, 0, 1];
-    joined(
-        alloc,
-        &[
-            &[0, 0, 0, 0x42, 1, 0x83],
-            &Q,
-            &place,
-            &ROOT,
-            &[0, 1, b'a', 0],
-        ],
-    )
-}
-
-/// The reply that no path holds a file in the first row of generation 7.
-fn no_paths(alloc: Global) -> Result<Vec<u8>, Fail> {
-    let place = [0, 0, 0, 0, 0, 0, 0, 7, 0, 0, 0, 0, 0, 0, 0, 1];
-    joined(
-        alloc,
-        &[&[0, 0, 0, 0x42, 1, 0x81], &Q, &place, &ROOT, &[0, 0, 0, 0]],
-    )
+/// Whether a mount writes this text to these bytes, in such pieces, and ends so.
+fn is_served(
+    alloc: Global,
+    mount: &mut Mount<GitNaming>,
+    bytes: &[u8],
+    pieces: (usize, usize),
+    text: &[u8],
+    end: Result<u64, ServeFault>,
+) -> bool {
+    let (written, ended) = served(alloc, mount, bytes, pieces.0, pieces.1);
+    written.as_slice() == text && ended == end
 }
 
 /// Whether these frames are answered by this text and this end, whole, byte by byte, and cut in two at each place.
@@ -147,30 +149,49 @@ fn answers(
     end: Result<u64, ServeFault>,
 ) -> Result<bool, Fail> {
     let mut mount = opened(alloc, 1000)?;
-    let mut ways = vec![in alloc; (usize::MAX, usize::MAX), (1, usize::MAX)]?;
+    let whole = (usize::MAX, usize::MAX);
+    let mut same = is_served(alloc, &mut mount, frames, whole, text, end)
+        && is_served(alloc, &mut mount, frames, (1, usize::MAX), text, end);
     for cut in 0..frames.len() {
-        ways.push((usize::MAX, cut))?;
-    }
-    let mut same = true;
-    for &(most, cut) in &ways {
-        let (written, ended) = served(alloc, &mut mount, frames, most, cut);
-        same = same && written.as_slice() == text && ended == end;
+        same = same && is_served(alloc, &mut mount, frames, (usize::MAX, cut), text, end);
     }
     Ok(same)
 }
 
+/// The same of frames and a text in parts.
+fn answers_parts(
+    alloc: Global,
+    frames: &[&[u8]],
+    text: &[&[u8]],
+    end: Result<u64, ServeFault>,
+) -> Result<bool, Fail> {
+    let (frames, text) = (joined(alloc, frames)?, joined(alloc, text)?);
+    answers(alloc, frames.as_slice(), text.as_slice(), end)
+}
+
+/// Whether a poll since this position is refused for this cause, with this number.
+fn is_refused(alloc: Global, generation: u8, sequence: u8, cause: (u8, u8)) -> Result<bool, Fail> {
+    let frame = poll(alloc, generation, sequence)?;
+    let reply = refusal(alloc, cause.0, cause.1)?;
+    answers(alloc, frame.as_slice(), reply.as_slice(), Ok(1))
+}
+
+/// A frame and its reply.
+const KNOWN: [(&[&[u8]], &[&[u8]]); 4] = [
+    (FETCH, ABSENT),
+    (BASIS, NO_PATHS),
+    (POLL, NO_CHANGES),
+    (LIST, NO_LIST),
+];
+
 #[test]
 fn known_frames(rt: HostRuntime) -> Result<(), Fail> {
     let alloc = rt.alloc();
-    for (frame, reply) in [
-        (&fetch(alloc)?, &absent(alloc)?),
-        (&basis(alloc)?, &no_paths(alloc)?),
-        (&poll(alloc, 7, 1)?, &no_changes(alloc)?),
-        (&poll(alloc, 7, 2)?, &refusal(alloc, 2, 1)?),
-        (&poll(alloc, 7, 0)?, &refusal(alloc, 3, 1)?),
-        (&poll(alloc, 8, 9)?, &refusal(alloc, 1, 7)?),
-    ] {
-        assert!(rt; answers(alloc, frame.as_slice(), reply.as_slice(), Ok(1))?);
+    for (frame, reply) in &KNOWN {
+        assert!(rt; answers_parts(alloc, frame, reply, Ok(1))?);
+    }
+    for (generation, sequence, cause) in [(7, 2, (2, 1)), (7, 0, (3, 1)), (8, 9, (1, 7))] {
+        assert!(rt; is_refused(alloc, generation, sequence, cause)?);
     }
     Ok(())
 }
@@ -188,23 +209,12 @@ fn trailing(alloc: Global, frame: &[u8]) -> Result<Vec<u8>, Fail> {
 /// where the next one is cut short.
 fn is_framed(alloc: Global, frame: &[u8], reply: &[u8]) -> Result<bool, Fail> {
     let longer = trailing(alloc, frame)?;
-    let behind = joined(alloc, &[&[0, 0, 0, 0], frame])?;
-    let twice = joined(alloc, &[frame, frame])?;
-    let replies = joined(alloc, &[reply, reply])?;
-    let cut = joined(alloc, &[frame, &[0, 0, 0]])?;
+    let (short, more) = (FrameFault::CutShort, FrameFault::Trailing);
     Ok(
-        answers(
-            alloc,
-            longer.as_slice(),
-            &[],
-            stops(1, FrameFault::Trailing),
-        )? && answers(
-            alloc,
-            behind.as_slice(),
-            &[],
-            stops(1, FrameFault::CutShort),
-        )? && answers(alloc, twice.as_slice(), replies.as_slice(), Ok(2))?
-            && answers(alloc, cut.as_slice(), reply, stops(2, FrameFault::CutShort))?,
+        answers(alloc, longer.as_slice(), &[], stops(1, more))?
+            && answers_parts(alloc, &[&[0; 4], frame], &[], stops(1, short))?
+            && answers_parts(alloc, &[frame, frame], &[reply, reply], Ok(2))?
+            && answers_parts(alloc, &[frame, &[0; 3]], &[reply], stops(2, short))?,
     )
 }
 
@@ -223,21 +233,23 @@ fn spends(alloc: Global, frame: &[u8], reply: &[u8], replies: usize) -> Result<b
     Ok(ended == Err(ServeFault::TurnsSpent) && written == wanted)
 }
 
+/// Bytes that are no frame, and why, or none where there is no byte.
+const FAULTS: [(&[u8], Option<FrameFault>); 4] = [
+    (&[0, 0, 0, 0], Some(FrameFault::CutShort)),
+    (&[1, 0, 0, 1], Some(FrameFault::TooLarge)),
+    (&[0, 0, 0], Some(FrameFault::CutShort)),
+    (&[], None),
+];
+
 #[test]
 fn frame_faults(rt: HostRuntime) -> Result<(), Fail> {
     let alloc = rt.alloc();
-    for (bytes, end) in [
-        ([0, 0, 0, 0].as_slice(), stops(1, FrameFault::CutShort)),
-        ([1, 0, 0, 1].as_slice(), stops(1, FrameFault::TooLarge)),
-        ([0, 0, 0].as_slice(), stops(1, FrameFault::CutShort)),
-        (b"".as_slice(), Ok(0)),
-    ] {
-        assert!(rt; answers(alloc, bytes, &[], end)?);
+    for (bytes, fault) in &FAULTS {
+        let end = fault.map_or(Ok(0), |fault| stops(1, fault));
+        assert!(rt; answers(alloc, bytes, &[], end)?, "{bytes:?}");
     }
-    for (frame, reply) in [
-        (&fetch(alloc)?, &absent(alloc)?),
-        (&basis(alloc)?, &no_paths(alloc)?),
-    ] {
+    for (frame, reply) in [(FETCH, ABSENT), (BASIS, NO_PATHS), (LIST, NO_LIST)] {
+        let (frame, reply) = (joined(alloc, frame)?, joined(alloc, reply)?);
         assert!(rt; is_framed(alloc, frame.as_slice(), reply.as_slice())?);
     }
     Ok(())
@@ -246,25 +258,31 @@ fn frame_faults(rt: HostRuntime) -> Result<(), Fail> {
 #[test]
 fn poll_frames(rt: HostRuntime) -> Result<(), Fail> {
     let alloc = rt.alloc();
-    let frame = poll(alloc, 7, 1)?;
-    let reply = no_changes(alloc)?;
-    assert!(rt; frame.starts_with(&[0, 0, 0, 0x3f]) && reply.len() == 70);
+    let (frame, reply) = (joined(alloc, POLL)?, joined(alloc, NO_CHANGES)?);
+    assert!(rt; frame.starts_with(&[0, 0, 0, 0x3f]) && reply.len() == 74);
     assert!(rt; trailing(alloc, frame.as_slice())?.starts_with(&[0, 0, 0, 0x40]));
     assert!(rt; is_framed(alloc, frame.as_slice(), reply.as_slice())?);
     assert!(rt; spends(alloc, frame.as_slice(), reply.as_slice(), 14_925)?);
     Ok(())
 }
 
+/// The first front of a frame, by its length, that is not refused as one that is cut short.
+fn not_cut_short(alloc: Global, parts: &[&[u8]]) -> Result<Option<usize>, Fail> {
+    let frame = joined(alloc, parts)?;
+    let mut mount = opened(alloc, 1000)?;
+    let (whole, end) = ((usize::MAX, usize::MAX), stops(1, FrameFault::CutShort));
+    for left in 1..frame.len() {
+        if !is_served(alloc, &mut mount, &frame[..left], whole, &[], end) {
+            return Ok(Some(left));
+        }
+    }
+    Ok(None)
+}
+
 #[test]
 fn frames_cut_short(rt: HostRuntime) -> Result<(), Fail> {
-    let alloc = rt.alloc();
-    let mut mount = opened(alloc, 1000)?;
-    for one in [&poll(alloc, 7, 1)?, &fetch(alloc)?, &basis(alloc)?] {
-        for left in 1..one.len() {
-            let (written, ended) = served(alloc, &mut mount, &one[..left], usize::MAX, usize::MAX);
-            assert!(rt; written.is_empty(), "{left} bytes");
-            assert!(rt; ended == stops(1, FrameFault::CutShort), "{left} bytes");
-        }
+    for frame in [POLL, FETCH, BASIS, LIST] {
+        assert_eq!(rt; not_cut_short(rt.alloc(), frame)?, None);
     }
     Ok(())
 }
@@ -272,8 +290,7 @@ fn frames_cut_short(rt: HostRuntime) -> Result<(), Fail> {
 #[test]
 fn reads_spent(rt: HostRuntime) -> Result<(), Fail> {
     let alloc = rt.alloc();
-    let frame = fetch(alloc)?;
-    let reply = absent(alloc)?;
+    let (frame, reply) = (joined(alloc, FETCH)?, joined(alloc, ABSENT)?);
     assert!(rt; spends(alloc, frame.as_slice(), reply.as_slice(), 30_303)?);
     Ok(())
 }
@@ -291,9 +308,9 @@ fn expected(
         0 => Err(FrameFault::TooLarge),
         1..=3 => Err(FrameFault::CutShort),
         4 => Err(FrameFault::Version),
-        // A basis has an end where the position stands, and a fetch a path, of which a generation is no length.
+        // A basis has an end where the position stands, and a fetch or a list a path, of which a generation is no length.
         5 if value == 1 => Err(FrameFault::Trailing),
-        5 if value == 3 => Err(FrameFault::BadField),
+        5 if value == 3 || value == 4 => Err(FrameFault::BadField),
         5 => Err(FrameFault::BadTag),
         // The query is the reply's.
         6..=29 => {
@@ -313,38 +330,39 @@ fn expected(
     })
 }
 
+/// Whether a poll in which the byte at a place has another value is answered as the plain reading says.
+fn is_read_plainly(
+    alloc: Global,
+    mount: &mut Mount<GitNaming>,
+    place: usize,
+    value: u8,
+) -> Result<bool, Fail> {
+    let (mut frame, reply) = (joined(alloc, POLL)?, joined(alloc, NO_CHANGES)?);
+    if let Some(changed) = frame.get_mut(place) {
+        *changed = value;
+    }
+    let whole = (usize::MAX, usize::MAX);
+    Ok(match expected(alloc, place, value, reply.as_slice())? {
+        Ok(text) => is_served(
+            alloc,
+            mount,
+            frame.as_slice(),
+            whole,
+            text.as_slice(),
+            Ok(1),
+        ),
+        Err(fault) => is_served(alloc, mount, frame.as_slice(), whole, &[], stops(1, fault)),
+    })
+}
+
 #[test]
 fn single_byte_changes(rt: HostRuntime) -> Result<(), Fail> {
     let alloc = rt.alloc();
     let mut mount = opened(alloc, 1000)?;
-    let one = poll(alloc, 7, 1)?;
-    let reply = no_changes(alloc)?;
-    for (place, byte) in one.iter().enumerate() {
-        for value in VALUES {
-            if value == *byte {
-                continue;
-            }
-            let mut frame = one.clone()?;
-            if let Some(changed) = frame.get_mut(place) {
-                *changed = value;
-            }
-            let (written, ended) = served(
-                alloc,
-                &mut mount,
-                frame.as_slice(),
-                usize::MAX,
-                usize::MAX,
-            );
-            match expected(alloc, place, value, reply.as_slice())? {
-                Ok(text) => {
-                    assert!(rt; written.as_slice() == text.as_slice(), "{value} at {place}");
-                    assert!(rt; ended == Ok(1), "{value} at {place}");
-                }
-                Err(fault) => {
-                    assert!(rt; written.is_empty(), "{value} at {place}");
-                    assert!(rt; ended == stops(1, fault), "{value} at {place}");
-                }
-            }
+    for (place, byte) in joined(alloc, POLL)?.iter().enumerate() {
+        for value in &VALUES {
+            let right = value == byte || is_read_plainly(alloc, &mut mount, place, *value)?;
+            assert!(rt; right, "{value} at {place}");
         }
     }
     Ok(())
@@ -359,72 +377,128 @@ fn two_files(alloc: Global) -> Result<Mount<GitNaming>, Fail> {
     Ok(mount)
 }
 
+/// The pattern `d/**`, the path `d/a`, and its content.
+const PATTERN: [u8; 7] = [1, 0, 4, b'd', b'/', b'*', b'*'];
+
+const D_A: [u8; 5] = [0, 3, b'd', b'/', b'a'];
+
+const CONTENT: [u8; 7] = [2, 0, 0, 0, 2, b'h', b'i'];
+
+/// A basis by that pattern, a fetch of that path, and their replies.
+const ASKED: &[&[u8]] = &[
+    &[0, 0, 0, 0x21, 2, 1],
+    &Q,
+    &PATTERN,
+    &[0, 0, 0, 0x1f, 2, 3],
+    &Q,
+    &D_A,
+];
+
+const REPLIED: &[&[u8]] = &[
+    &[0, 0, 0, 0x47, 2, 0x81],
+    &Q,
+    &THIRD,
+    &ROOT,
+    &[0, 0, 0, 1],
+    &D_A,
+    &[0, 0, 0, 0x4a, 2, 0x83],
+    &Q,
+    &THIRD,
+    &ROOT,
+    &D_A,
+    &CONTENT,
+];
+
+/// Two polls since the first row, of all paths and by that pattern, and their replies.
+const POLLED: &[&[u8]] = &[
+    &[0, 0, 0, 0x3f, 2, 2],
+    &Q,
+    &FIRST,
+    &ROOT,
+    &[0],
+    &[0, 0, 0, 0x45, 2, 2],
+    &Q,
+    &FIRST,
+    &ROOT,
+    &PATTERN,
+];
+
+const CHANGED: &[&[u8]] = &[
+    &[0, 0, 0, 0x50, 2, 0x82],
+    &Q,
+    &THIRD,
+    &ROOT,
+    &[0, 0, 0, 2, 1],
+    &D_A,
+    &[1, 0, 1, b'e', 0, 0, 0, 0],
+    &[0, 0, 0, 0x4c, 2, 0x82],
+    &Q,
+    &THIRD,
+    &ROOT,
+    &[0, 0, 0, 1, 1],
+    &D_A,
+    &[0; 4],
+];
+
+/// Lists of what stands below `d` by that pattern, and below `e`, where a file stands, and their replies.
+const LISTED: &[&[u8]] = &[
+    &[0, 0, 0, 0x24, 2, 4],
+    &Q,
+    &[0, 1, b'd'],
+    &PATTERN,
+    &[0, 0, 0, 0x1e, 2, 4],
+    &Q,
+    &[0, 1, b'e', 0],
+];
+
+const BELOW: &[&[u8]] = &[
+    &[0, 0, 0, 0x4a, 2, 0x85],
+    &Q,
+    &THIRD,
+    &ROOT,
+    &[0, 1, b'd', 0, 0, 0, 1],
+    &D_A,
+    &[0, 0, 0, 0x45, 2, 0x85],
+    &Q,
+    &THIRD,
+    &ROOT,
+    &[0, 1, b'e', 0, 0, 0, 0],
+];
+
+/// Whether the mount of two files answers two frames, which come in pieces of so many bytes at the most, by two replies.
+fn answers_two(
+    alloc: Global,
+    frames: &[&[u8]],
+    replies: &[&[u8]],
+    most: usize,
+) -> Result<bool, Fail> {
+    let mut mount = two_files(alloc)?;
+    let (frames, replies) = (joined(alloc, frames)?, joined(alloc, replies)?);
+    let pieces = (most, usize::MAX);
+    Ok(is_served(
+        alloc,
+        &mut mount,
+        frames.as_slice(),
+        pieces,
+        replies.as_slice(),
+        Ok(2),
+    ))
+}
+
 #[test]
 fn basis_of_a_pattern_and_a_file(rt: HostRuntime) -> Result<(), Fail> {
-    let alloc = rt.alloc();
-    let mut mount = two_files(alloc)?;
-    let place = [0, 0, 0, 0, 0, 0, 0, 7, 0, 0, 0, 0, 0, 0, 0, 3];
-    let pattern = [1, 0, 4, b'd', b'/', b'*', b'*'];
-    let path = [0, 3, b'd', b'/', b'a'];
-    let frames = joined(
-        alloc,
-        &[
-            &[0, 0, 0, 0x21, 1, 1],
-            &Q,
-            &pattern,
-            &[0, 0, 0, 0x1f, 1, 3],
-            &Q,
-            &path,
-        ],
-    )?;
-    let content = [2, 0, 0, 0, 2, b'h', b'i'];
-    let replies = joined(
-        alloc,
-        &[
-            &[0, 0, 0, 0x47, 1, 0x81],
-            &Q,
-            &place,
-            &ROOT,
-            &[0, 0, 0, 1],
-            &path,
-            &[0, 0, 0, 0x4a, 1, 0x83],
-            &Q,
-            &place,
-            &ROOT,
-            &path,
-            &content,
-        ],
-    )?;
-    let (written, ended) = served(alloc, &mut mount, frames.as_slice(), 1, usize::MAX);
-    assert_eq!(rt; ended, Ok(2));
-    assert!(rt; written.as_slice() == replies.as_slice());
+    assert!(rt; answers_two(rt.alloc(), ASKED, REPLIED, 1)?);
     Ok(())
 }
 
 #[test]
 fn poll_by_a_pattern(rt: HostRuntime) -> Result<(), Fail> {
-    let alloc = rt.alloc();
-    let mut mount = two_files(alloc)?;
-    let since = [0, 0, 0, 0, 0, 0, 0, 7, 0, 0, 0, 0, 0, 0, 0, 1];
-    let pattern = [1, 0, 4, b'd', b'/', b'*', b'*'];
-    let narrow = joined(
-        alloc,
-        &[&[0, 0, 0, 0x45, 1, 2], &Q, &since, &ROOT, &pattern],
-    )?;
-    let frames = joined(alloc, &[&poll(alloc, 7, 1)?, &narrow])?;
-    let place = [0, 0, 0, 0, 0, 0, 0, 7, 0, 0, 0, 0, 0, 0, 0, 3];
-    let one = [0, 0, 0, 1, 1, 0, 3, b'd', b'/', b'a'];
-    let both = [0, 0, 0, 2, 1, 0, 3, b'd', b'/', b'a', 1, 0, 1, b'e'];
-    let wide = joined(
-        alloc,
-        &[&[0, 0, 0, 0x4c, 1, 0x82], &Q, &place, &ROOT, &both],
-    )?;
-    let replies = joined(
-        alloc,
-        &[&wide, &[0, 0, 0, 0x48, 1, 0x82], &Q, &place, &ROOT, &one],
-    )?;
-    let (written, ended) = served(alloc, &mut mount, frames.as_slice(), usize::MAX, usize::MAX);
-    assert_eq!(rt; ended, Ok(2));
-    assert!(rt; written.as_slice() == replies.as_slice());
+    assert!(rt; answers_two(rt.alloc(), POLLED, CHANGED, usize::MAX)?);
+    Ok(())
+}
+
+#[test]
+fn list_of_a_directory(rt: HostRuntime) -> Result<(), Fail> {
+    assert!(rt; answers_two(rt.alloc(), LISTED, BELOW, 1)?);
     Ok(())
 }

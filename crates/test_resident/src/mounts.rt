@@ -53,6 +53,7 @@ pub(crate) fn changes(alloc: Global, sequence: u64, created: &[&str]) -> Result<
         query: QUERY,
         target: position(sequence),
         marked: Sequence::from_vec(marked),
+        prefixes: Sequence::new(alloc),
     })
 }
 

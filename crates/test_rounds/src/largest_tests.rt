@@ -55,7 +55,7 @@ fn largest_content(rt: HostRuntime) -> Result<(), Fail> {
 /// The body of a ContentIs with a plain file of these bytes at `p`, of which this is the count.
 fn body_of(alloc: Global, count: u32, bytes: &[u8]) -> Result<Vec<u8>, Fail> {
     let mut body = Vec::new(alloc);
-    body.extend_from_slice([1, 0x83].as_slice())?;
+    body.extend_from_slice([2, 0x83].as_slice())?;
     for number in [1_u64, 1, 1, 7, 1] {
         body.extend_from_slice(&number.to_be_bytes())?;
     }

@@ -10,6 +10,8 @@ mod largest_tests;
 #[cfg(test)]
 mod owned_tests;
 #[cfg(test)]
+mod prefix_tests;
+#[cfg(test)]
 mod rounds_tests;
 #[cfg(test)]
 mod strange_tests;

@@ -2,7 +2,7 @@
 
 use crate::daemon::{path, plain};
 use eden_globs::Filter;
-use eden_history::Position;
+use eden_history::{Mark, Marked, Position};
 use eden_ids::{Content, Id, Sequence};
 use eden_messages::{Cause, Outcome, Query, Reply};
 use eden_mirror::Mirror;
@@ -85,6 +85,75 @@ fn either_way(alloc: Global, came: &[Reply], reply: Reply, wanted: Outcome) -> R
         return Err(Fail::new(format_args!("{said}: {outcomes:?}")));
     }
     are_alike(&lent, &given, said.as_str())
+}
+
+/// The second question of mirror 1.
+const NEXT: Query = Query {
+    mirror: 1,
+    life: 1,
+    number: 2,
+};
+
+/// That files were moved from or to `d`, and that `p` alone has changed by itself.
+fn moved(alloc: Global) -> Result<Reply, Fail> {
+    let marked = Marked {
+        mark: Mark::Created,
+        path: path(alloc, "p")?,
+    };
+    Ok(Reply::ChangesAre {
+        query: NEXT,
+        target: TARGET,
+        marked: Sequence::from_vec(vec![in alloc; marked]?),
+        prefixes: Sequence::from_vec(vec![in alloc; path(alloc, "d")?]?),
+    })
+}
+
+/// These paths below a directory hold a file.
+fn below(alloc: Global, prefix: &str, texts: &[&str]) -> Result<Reply, Fail> {
+    let mut paths = Vec::new(alloc);
+    for text in texts {
+        paths.push(path(alloc, text)?)?;
+    }
+    Ok(Reply::ListIs {
+        query: NEXT,
+        position: TARGET,
+        prefix: path(alloc, prefix)?,
+        paths: Sequence::from_vec(paths),
+    })
+}
+
+/// The mirror in its second round, which awaits a list of `d` and the content of `p`. It has the file `d/a`.
+fn told_mirror(alloc: Global) -> Result<Mirror, Fail> {
+    let file = content(alloc, QUERY, "d/a", Some(plain(alloc, "x")?))?;
+    let mut mirror = mirror_after(alloc, &[list(alloc, &["d/a"])?, file])?;
+    mirror.begin()?;
+    let _ = mirror.deliver(&moved(alloc)?)?;
+    Ok(mirror)
+}
+
+#[test]
+fn given_lists_of_directories(rt: HostRuntime) -> Result<(), Fail> {
+    let alloc = rt.alloc();
+    let too_large = Reply::Refused {
+        query: NEXT,
+        cause: Cause::TooLarge,
+    };
+    for (reply, wanted) in [
+        (below(alloc, "d", &[])?, Outcome::Taken),
+        (below(alloc, "d", &["d/a", "d/b"])?, Outcome::Taken),
+        (below(alloc, "e", &["e/a"])?, Outcome::Ignored),
+        (content(alloc, NEXT, "p", None)?, Outcome::Taken),
+        (content(alloc, NEXT, "d", None)?, Outcome::Ignored),
+        (moved(alloc)?, Outcome::Ignored),
+        (too_large, Outcome::Ended),
+    ] {
+        let (mut lent, mut given) = (told_mirror(alloc)?, told_mirror(alloc)?);
+        let said = format!(in alloc; "{reply:?}")?;
+        let outcomes = (lent.deliver(&reply)?, given.deliver_owned(reply)?);
+        assert_eq!(rt; outcomes, (wanted, wanted), "{said}");
+        are_alike(&lent, &given, said.as_str())?;
+    }
+    Ok(())
 }
 
 #[test]

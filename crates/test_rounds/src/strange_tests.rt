@@ -1,7 +1,7 @@
 //! Replies that no round awaits change nothing.
 
 use crate::daemon::{Pair, Step, opened_world};
-use crate::wanted::{Said, basis, content, created, position, query, refused};
+use crate::wanted::{Said, basis, content, created, listed, position, query, refused};
 use eden_globs::Filter;
 use eden_ids::GitNaming;
 use eden_messages::{Cause, Outcome, Query, Reply};
@@ -23,14 +23,17 @@ enum Round {
     ChangesAsked,
     /// The content of `p` is awaited, for 7/2.
     Gathering,
+    /// The list of what stands below `d` is awaited, for 7/2.
+    Listing,
 }
 
-const ROUNDS: [Round; 5] = [
+const ROUNDS: [Round; 6] = [
     Round::NoneYet,
     Round::Over,
     Round::AllAsked,
     Round::ChangesAsked,
     Round::Gathering,
+    Round::Listing,
 ];
 
 /// The kinds of replies.
@@ -39,25 +42,30 @@ enum Kind {
     Basis,
     Changes,
     Content,
+    List,
     Stale,
     TooLarge,
 }
 
-const KINDS: [Kind; 5] = [
+const KINDS: [Kind; 6] = [
     Kind::Basis,
     Kind::Changes,
     Kind::Content,
+    Kind::List,
     Kind::Stale,
     Kind::TooLarge,
 ];
 
 /// What leads from one round to the next.
-const WAY: [Step; 5] = [
+const WAY: [Step; 8] = [
     Step::Begin,
     Step::Goes(Said::Basis(1, (7, 1), &[]), Outcome::Placed),
     Step::Write("p", "x"),
     Step::Begin,
     Step::Goes(Said::Created(2, (7, 2), "p"), Outcome::Taken),
+    Step::Goes(Said::Content(2, (7, 2), "p", "x"), Outcome::Placed),
+    Step::Begin,
+    Step::Comes(Said::Moved(3, (7, 2), &["d"]), Outcome::Taken),
 ];
 
 /// How many steps lead to such a round, and the number of the mirror's last one.
@@ -68,6 +76,7 @@ fn steps_to(round: Round) -> (usize, u64) {
         Round::Over => (3, 1),
         Round::ChangesAsked => (4, 2),
         Round::Gathering => (5, 2),
+        Round::Listing => (8, 3),
     }
 }
 
@@ -86,6 +95,7 @@ fn reply_of(alloc: Global, query: Query, kind: Kind) -> Result<Reply, Fail> {
         Kind::Basis => basis(alloc, query, here, &["p"]),
         Kind::Changes => created(alloc, query, here, "p"),
         Kind::Content => content(alloc, query, here, "p", "strange"),
+        Kind::List => listed(alloc, query, here, "d", &["d/strange"]),
         Kind::Stale => Ok(refused(query, Cause::Stale(8))),
         Kind::TooLarge => Ok(refused(query, Cause::TooLarge)),
     }
@@ -95,9 +105,10 @@ fn reply_of(alloc: Global, query: Query, kind: Kind) -> Result<Reply, Fail> {
 fn is_awaited(round: Round, kind: Kind) -> bool {
     match round {
         Round::NoneYet | Round::Over => false,
-        Round::AllAsked => kind != Kind::Changes && kind != Kind::Content,
-        Round::ChangesAsked => kind != Kind::Basis && kind != Kind::Content,
+        Round::AllAsked => matches!(kind, Kind::Basis | Kind::Stale | Kind::TooLarge),
+        Round::ChangesAsked => matches!(kind, Kind::Changes | Kind::Stale | Kind::TooLarge),
         Round::Gathering => kind == Kind::Content,
+        Round::Listing => matches!(kind, Kind::List | Kind::TooLarge),
     }
 }
 
@@ -156,6 +167,32 @@ fn strange_replies(rt: HostRuntime) -> Result<(), Fail> {
 }
 
 #[test]
+fn strange_lists(rt: HostRuntime) -> Result<(), Fail> {
+    let alloc = rt.alloc();
+    let (mut pair, asked) = mirror_in(alloc, Round::Listing)?;
+    let here = position(7, 2);
+    for (said, query, position, at) in [
+        ("another mirror", Query { mirror: 2, ..asked }, here, "d"),
+        ("another life", Query { life: 2, ..asked }, here, "d"),
+        ("an old round", Query { number: 2, ..asked }, here, "d"),
+        ("a round to come", Query { number: 4, ..asked }, here, "d"),
+        ("another generation", asked, position(8, 2), "d"),
+        ("an earlier position", asked, position(7, 1), "d"),
+        ("another directory", asked, here, "p"),
+        ("a directory below", asked, here, "d/e"),
+    ] {
+        let reply = listed(alloc, query, position, at, &[])?;
+        ignores(&mut pair, &reply, said)?;
+    }
+    let right = [
+        Step::Comes(Said::Listed(3, (7, 3), "d", &[]), Outcome::Placed),
+        Step::Comes(Said::Listed(3, (7, 3), "d", &[]), Outcome::Ignored),
+        Step::Holds(Some((7, 2)), &[("p", "x")]),
+    ];
+    pair.goes(&right)
+}
+
+#[test]
 fn replies_out_of_their_round(rt: HostRuntime) -> Result<(), Fail> {
     let alloc = rt.alloc();
     for round in ROUNDS {
@@ -165,7 +202,7 @@ fn replies_out_of_their_round(rt: HostRuntime) -> Result<(), Fail> {
                 ("its own", own),
                 ("another mirror's", Query { mirror: 2, ..own }),
                 ("another life's", Query { life: 2, ..own }),
-                ("a later one's", Query { number: 3, ..own }),
+                ("a later one's", Query { number: 4, ..own }),
             ] {
                 if asked == own && is_awaited(round, kind) {
                     continue;
@@ -189,7 +226,7 @@ fn awaited_replies_count(rt: HostRuntime) -> Result<(), Fail> {
             }
             let (mut pair, own) = mirror_in(alloc, round)?;
             let wanted = match kind {
-                Kind::Basis | Kind::Changes => Outcome::Taken,
+                Kind::Basis | Kind::Changes | Kind::List => Outcome::Taken,
                 Kind::Content => Outcome::Placed,
                 Kind::Stale => Outcome::Unplaced,
                 Kind::TooLarge => Outcome::Ended,

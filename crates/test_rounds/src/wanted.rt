@@ -2,7 +2,7 @@
 
 use crate::daemon::{path, plain};
 use eden_history::{Mark, Marked, Position};
-use eden_ids::{Id, Sequence};
+use eden_ids::{Id, Path, Sequence};
 use eden_messages::{Cause, Query, Reply};
 use std::alloc::Global;
 use std::test::Fail;
@@ -25,6 +25,15 @@ pub(crate) fn position(generation: u64, sequence: u64) -> Position {
     }
 }
 
+/// These paths.
+fn paths(alloc: Global, names: &[&str]) -> Result<Sequence<Path>, Fail> {
+    let mut paths = Vec::new(alloc);
+    for name in names {
+        paths.push(path(alloc, name)?)?;
+    }
+    Ok(Sequence::from_vec(paths))
+}
+
 /// These paths hold a file.
 pub(crate) fn basis(
     alloc: Global,
@@ -32,14 +41,10 @@ pub(crate) fn basis(
     position: Position,
     names: &[&str],
 ) -> Result<Reply, Fail> {
-    let mut paths = Vec::new(alloc);
-    for name in names {
-        paths.push(path(alloc, name)?)?;
-    }
     Ok(Reply::BasisIs {
         query,
         position,
-        paths: Sequence::from_vec(paths),
+        paths: paths(alloc, names)?,
     })
 }
 
@@ -56,6 +61,38 @@ pub(crate) fn created(
         query,
         target,
         marked: Sequence::from_vec(vec![in alloc; Marked { mark, path }]?),
+        prefixes: Sequence::new(alloc),
+    })
+}
+
+/// Files were moved between these directories, and no path was changed by itself.
+pub(crate) fn moved(
+    alloc: Global,
+    query: Query,
+    target: Position,
+    names: &[&str],
+) -> Result<Reply, Fail> {
+    Ok(Reply::ChangesAre {
+        query,
+        target,
+        marked: Sequence::new(alloc),
+        prefixes: paths(alloc, names)?,
+    })
+}
+
+/// These paths below a directory hold a file.
+pub(crate) fn listed(
+    alloc: Global,
+    query: Query,
+    position: Position,
+    prefix: &str,
+    names: &[&str],
+) -> Result<Reply, Fail> {
+    Ok(Reply::ListIs {
+        query,
+        position,
+        prefix: path(alloc, prefix)?,
+        paths: paths(alloc, names)?,
     })
 }
 
@@ -88,6 +125,10 @@ pub(crate) enum Said {
     Basis(u64, (u64, u64), &'static [&'static str]),
     /// A file was created at this path, which alone was changed.
     Created(u64, (u64, u64), &'static str),
+    /// Files were moved between these directories, and no path was changed by itself.
+    Moved(u64, (u64, u64), &'static [&'static str]),
+    /// These paths below the directory hold a file.
+    Listed(u64, (u64, u64), &'static str, &'static [&'static str]),
     /// A plain file stands at the path, with this text.
     Content(u64, (u64, u64), &'static str, &'static str),
     /// What was asked is refused.
@@ -109,6 +150,19 @@ impl Said {
                 query(number),
                 position(generation, sequence),
                 name,
+            ),
+            Said::Moved(number, (generation, sequence), names) => moved(
+                alloc,
+                query(number),
+                position(generation, sequence),
+                names,
+            ),
+            Said::Listed(number, (generation, sequence), prefix, names) => listed(
+                alloc,
+                query(number),
+                position(generation, sequence),
+                prefix,
+                names,
             ),
             Said::Content(number, (generation, sequence), name, text) => content(
                 alloc,

@@ -109,6 +109,7 @@ fn told_up_to(reply: &Reply) -> Option<u64> {
         query,
         target,
         marked,
+        prefixes,
     } = reply
     else {
         return None;
@@ -123,7 +124,8 @@ fn told_up_to(reply: &Reply) -> Option<u64> {
         ] => target.sequence > 2 && path.as_bytes() == b"w".as_slice(),
         _ => false,
     };
-    if is_right && *query == QUERY && target.generation == 7 && target.root == Id::ZERO {
+    let is_whole = is_right && prefixes.as_slice().is_empty();
+    if is_whole && *query == QUERY && target.generation == 7 && target.root == Id::ZERO {
         Some(target.sequence)
     } else {
         None

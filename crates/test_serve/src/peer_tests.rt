@@ -29,7 +29,7 @@ fn script(alloc: Global) -> Result<Vec<u8>, Fail> {
 fn hostile_texts(alloc: Global, frames: &Frames) -> Result<Vec<Vec<u8>>, Fail> {
     let mut texts = Vec::new(alloc);
     texts.push(Vec::new(alloc))?;
-    texts.push([0, 0, 0, 63, 1, 2].as_slice().to_vec(alloc)?)?;
+    texts.push([0, 0, 0, 63, 2, 2].as_slice().to_vec(alloc)?)?;
     texts.push([255; 4].as_slice().to_vec(alloc)?)?;
     texts.push(b"GET / HTTP/1.0\r\n\r\n".as_slice().to_vec(alloc)?)?;
     let mut many = Vec::new(alloc);

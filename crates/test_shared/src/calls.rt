@@ -76,6 +76,11 @@ fn request_of(alloc: Global, draw: Draw, query: Query) -> Result<Request, Fail> 
             since,
             filter,
         },
+        14 => Request::List {
+            query,
+            prefix: path(alloc, "a")?,
+            filter,
+        },
         _ => Request::Fetch {
             query,
             path: path(alloc, draw.path)?,

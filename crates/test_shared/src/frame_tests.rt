@@ -29,14 +29,14 @@ const P: [u8; 36] = [
 
 /// A fetch of `a`.
 fn fetch(alloc: Global) -> Result<Vec<u8>, Fail> {
-    Ok(joined(alloc, &[&[0, 0, 0, 0x1d, 1, 3], &Q, &[0, 1, b'a']])?)
+    Ok(joined(alloc, &[&[0, 0, 0, 0x1d, 2, 3], &Q, &[0, 1, b'a']])?)
 }
 
 /// The reply that nothing stands at `a`.
 fn absent(alloc: Global) -> Result<Vec<u8>, Fail> {
     Ok(joined(
         alloc,
-        &[&[0, 0, 0, 0x42, 1, 0x83], &Q, &P, &[0, 1, b'a', 0]],
+        &[&[0, 0, 0, 0x42, 2, 0x83], &Q, &P, &[0, 1, b'a', 0]],
     )?)
 }
 
@@ -69,7 +69,7 @@ fn cases(alloc: Global) -> Result<[Case; 7], Fail> {
     let (frame, reply) = (fetch(alloc)?, absent(alloc)?);
     let (frame, reply) = (frame.as_slice(), reply.as_slice());
     // A byte more than its fields.
-    let longer = joined(alloc, &[&[0, 0, 0, 0x1e, 1, 3], &Q, &[0, 1, b'a', 0]])?;
+    let longer = joined(alloc, &[&[0, 0, 0, 0x1e, 2, 3], &Q, &[0, 1, b'a', 0]])?;
     Ok([
         made(alloc, &[], &[], Ok(0))?,
         made(alloc, &[&[0, 0, 0, 0]], &[], stops(1, FrameFault::CutShort))?,

@@ -81,6 +81,7 @@ pub(crate) fn told_up_to(reply: &Reply) -> Option<u64> {
         query,
         target,
         marked,
+        prefixes,
     } = reply
     else {
         return None;
@@ -95,7 +96,8 @@ pub(crate) fn told_up_to(reply: &Reply) -> Option<u64> {
         ] => target.sequence > 2 && path.as_bytes() == b"w".as_slice(),
         _ => false,
     };
-    if *query == QUERY && target.generation == 7 && target.root == Id::ZERO && is_right {
+    let is_whole = is_right && prefixes.as_slice().is_empty();
+    if *query == QUERY && target.generation == 7 && target.root == Id::ZERO && is_whole {
         Some(target.sequence)
     } else {
         None

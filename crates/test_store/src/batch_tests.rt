@@ -1,7 +1,7 @@
 //! A batch that Git printed, and streams that are none.
 
 use eden_batch::{ObjectFault, ObjectsFault, read_objects};
-use eden_ids::{GitNaming, Id, Kind, Path, Sequence};
+use eden_ids::{GitNaming, Id, Kind, Sequence};
 use eden_objects::{PutFault, Store};
 use eden_stream::{Counted, Faults};
 use std::alloc::Global;
@@ -44,49 +44,40 @@ fn ids_of(alloc: Global, text: &str) -> Result<Vec<Id>, Fail> {
     Ok(ids)
 }
 
-/// Reads what the source gives into the store.
+/// Reads what the source gives into the store. Gives the ids, or why the reading ended before the stream, and how many calls were made.
 fn read<R: Read + Drop>(
     alloc: Global,
     source: R,
     store: &mut Store<GitNaming>,
-) -> Result<Sequence<Id>, ObjectsFault> {
-    read_objects(alloc, &mut Counted::new(source), store)
+) -> (Result<Sequence<Id>, ObjectsFault>, u64) {
+    let mut reader = Counted::new(source);
+    let ids = read_objects(alloc, &mut reader, store);
+    (ids, reader.calls())
+}
+
+fn file<'a>(store: &'a Store<GitNaming>, commit: Id, path: &[u8]) -> Option<(Kind, &'a [u8])> {
+    store.file(commit, path)
 }
 
 #[test]
 fn what_git_printed(rt: HostRuntime) -> Result<(), Fail> {
     let alloc = rt.alloc();
     let wanted = ids_of(alloc, PRINTED_IDS)?;
-    let readme = Path::parse(alloc, b"README".as_slice())?;
     for most in [usize::MAX, 100, 1] {
         let mut store = Store::new(alloc, GitNaming);
         let mut source = Source::new(printed());
         source.most = most;
-        let ids = read(alloc, source, &mut store)?;
-        assert_eq!(rt; ids.as_slice(), wanted.as_slice(), "{most} bytes a read");
+        let ids = read(alloc, source, &mut store).0?;
+        assert!(rt; ids.as_slice() == wanted.as_slice(), "{most} bytes a read");
         let commit = ids.as_slice().last().copied().unwrap_or(Id::ZERO);
-        assert!(rt;
-            store.file(commit, readme.as_bytes()) == Some((Kind::Plain, b"hello\n".as_slice()))
-        );
+        let readme = file(&store, commit, b"README".as_slice());
+        assert!(rt; readme == Some((Kind::Plain, b"hello\n".as_slice())));
     }
     Ok(())
 }
 
-/// A stream, the blobs that are held at last, and why its reading ends, if it does before the stream.
-#[derive(Drop)]
-struct Case {
-    stream: &'static [u8],
-    blobs: &'static str,
-    end: Result<(), ObjectsFault>,
-}
-
-fn make_case(stream: &'static [u8], blobs: &'static str, end: Result<(), ObjectsFault>) -> Case {
-    Case { stream, blobs, end }
-}
-
-fn refuse(number: u64, fault: ObjectFault) -> Result<(), ObjectsFault> {
-    Err(ObjectsFault::Object { number, fault })
-}
+/// A stream, the blobs that are held at last, and at which object its reading ends and why, if it does before the stream.
+type Case = (&'static [u8], &'static str, Option<(u64, ObjectFault)>);
 
 /// The id of a file of `hello` and a line feed, and that of an empty one.
 const HELLO: &str = "ce013625030ba8dba906f756967f9e9ca394464a";
@@ -99,198 +90,204 @@ const BOTH: &str =
 const TWICE: &str =
     "e69de29bb2d1d6434b8b29ae775ad8c2e48c5391 e69de29bb2d1d6434b8b29ae775ad8c2e48c5391";
 
-fn whole_batches() -> [Case; 4] {
-    [
-        make_case(b"", "", Ok(())),
-        make_case(
-            b"e69de29bb2d1d6434b8b29ae775ad8c2e48c5391 blob 0\n\n",
-            EMPTY,
-            Ok(()),
-        ),
-        make_case(
-            b"e69de29bb2d1d6434b8b29ae775ad8c2e48c5391 blob 0\n\n\
-              ce013625030ba8dba906f756967f9e9ca394464a blob 6\nhello\n\n",
-            BOTH,
-            Ok(()),
-        ),
-        make_case(
-            b"e69de29bb2d1d6434b8b29ae775ad8c2e48c5391 blob 0\n\n\
-              e69de29bb2d1d6434b8b29ae775ad8c2e48c5391 blob 0\n\n",
-            TWICE,
-            Ok(()),
-        ),
-    ]
-}
+/// Batches that are read to their ends.
+const WHOLE_BATCHES: [Case; 4] = [
+    (b"", "", None),
+    (
+        b"e69de29bb2d1d6434b8b29ae775ad8c2e48c5391 blob 0\n\n",
+        EMPTY,
+        None,
+    ),
+    (
+        b"e69de29bb2d1d6434b8b29ae775ad8c2e48c5391 blob 0\n\n\
+          ce013625030ba8dba906f756967f9e9ca394464a blob 6\nhello\n\n",
+        BOTH,
+        None,
+    ),
+    (
+        b"e69de29bb2d1d6434b8b29ae775ad8c2e48c5391 blob 0\n\n\
+          e69de29bb2d1d6434b8b29ae775ad8c2e48c5391 blob 0\n\n",
+        TWICE,
+        None,
+    ),
+];
 
 /// Streams that end within an object, or whose next bytes are no header.
-fn bad_forms() -> [Case; 18] {
-    let bad = ObjectFault::BadHeader;
-    let short = ObjectFault::CutShort;
-    [
-        make_case(b"e", "", refuse(1, short)),
-        make_case(b"g", "", refuse(1, bad)),
-        make_case(
-            b"E69de29bb2d1d6434b8b29ae775ad8c2e48c5391 blob 0\n\n",
-            "",
-            refuse(1, bad),
-        ),
-        make_case(
-            b"e69de29bb2d1d6434b8b29ae775ad8c2e48c5391",
-            "",
-            refuse(1, short),
-        ),
-        make_case(
-            b"e69de29bb2d1d6434b8b29ae775ad8c2e48c5391\n",
-            "",
-            refuse(1, bad),
-        ),
-        make_case(
-            b"e69de29bb2d1d6434b8b29ae775ad8c2e48c5391 missing\n",
-            "",
-            refuse(1, bad),
-        ),
-        make_case(
-            b"e69de29bb2d1d6434b8b29ae775ad8c2e48c5391 tag 0\n\n",
-            "",
-            refuse(1, bad),
-        ),
-        make_case(
-            b"e69de29bb2d1d6434b8b29ae775ad8c2e48c5391 t",
-            "",
-            refuse(1, short),
-        ),
-        make_case(
-            b"e69de29bb2d1d6434b8b29ae775ad8c2e48c5391 blob \n\n",
-            "",
-            refuse(1, bad),
-        ),
-        make_case(
-            b"e69de29bb2d1d6434b8b29ae775ad8c2e48c5391 blob +0\n\n",
-            "",
-            refuse(1, bad),
-        ),
-        make_case(
-            b"e69de29bb2d1d6434b8b29ae775ad8c2e48c5391 blob 00\n\n",
-            "",
-            refuse(1, bad),
-        ),
-        make_case(
-            b"e69de29bb2d1d6434b8b29ae775ad8c2e48c5391 blob 0",
-            "",
-            refuse(1, short),
-        ),
-        make_case(
-            b"e69de29bb2d1d6434b8b29ae775ad8c2e48c5391 blob 0\n",
-            "",
-            refuse(1, short),
-        ),
-        make_case(
-            b"e69de29bb2d1d6434b8b29ae775ad8c2e48c5391 blob 0\nx",
-            "",
-            refuse(1, bad),
-        ),
-        make_case(
-            b"e69de29bb2d1d6434b8b29ae775ad8c2e48c5391 blob 0\n\nce01",
-            EMPTY,
-            refuse(2, short),
-        ),
-        make_case(
-            b"e69de29bb2d1d6434b8b29ae775ad8c2e48c5391 blob 0\n\n\n",
-            EMPTY,
-            refuse(2, bad),
-        ),
-        make_case(
-            b"ce013625030ba8dba906f756967f9e9ca394464a blob 6\nhello",
-            "",
-            refuse(1, short),
-        ),
-        make_case(
-            b"ce013625030ba8dba906f756967f9e9ca394464a blob 6\nhello\nx",
-            "",
-            refuse(1, bad),
-        ),
-    ]
-}
+const BAD_FORMS: [Case; 18] = [
+    (b"e", "", Some((1, ObjectFault::CutShort))),
+    (b"g", "", Some((1, ObjectFault::BadHeader))),
+    (
+        b"E69de29bb2d1d6434b8b29ae775ad8c2e48c5391 blob 0\n\n",
+        "",
+        Some((1, ObjectFault::BadHeader)),
+    ),
+    (
+        b"e69de29bb2d1d6434b8b29ae775ad8c2e48c5391",
+        "",
+        Some((1, ObjectFault::CutShort)),
+    ),
+    (
+        b"e69de29bb2d1d6434b8b29ae775ad8c2e48c5391\n",
+        "",
+        Some((1, ObjectFault::BadHeader)),
+    ),
+    (
+        b"e69de29bb2d1d6434b8b29ae775ad8c2e48c5391 missing\n",
+        "",
+        Some((1, ObjectFault::BadHeader)),
+    ),
+    (
+        b"e69de29bb2d1d6434b8b29ae775ad8c2e48c5391 tag 0\n\n",
+        "",
+        Some((1, ObjectFault::BadHeader)),
+    ),
+    (
+        b"e69de29bb2d1d6434b8b29ae775ad8c2e48c5391 t",
+        "",
+        Some((1, ObjectFault::CutShort)),
+    ),
+    (
+        b"e69de29bb2d1d6434b8b29ae775ad8c2e48c5391 blob \n\n",
+        "",
+        Some((1, ObjectFault::BadHeader)),
+    ),
+    (
+        b"e69de29bb2d1d6434b8b29ae775ad8c2e48c5391 blob +0\n\n",
+        "",
+        Some((1, ObjectFault::BadHeader)),
+    ),
+    (
+        b"e69de29bb2d1d6434b8b29ae775ad8c2e48c5391 blob 00\n\n",
+        "",
+        Some((1, ObjectFault::BadHeader)),
+    ),
+    (
+        b"e69de29bb2d1d6434b8b29ae775ad8c2e48c5391 blob 0",
+        "",
+        Some((1, ObjectFault::CutShort)),
+    ),
+    (
+        b"e69de29bb2d1d6434b8b29ae775ad8c2e48c5391 blob 0\n",
+        "",
+        Some((1, ObjectFault::CutShort)),
+    ),
+    (
+        b"e69de29bb2d1d6434b8b29ae775ad8c2e48c5391 blob 0\nx",
+        "",
+        Some((1, ObjectFault::BadHeader)),
+    ),
+    (
+        b"e69de29bb2d1d6434b8b29ae775ad8c2e48c5391 blob 0\n\nce01",
+        EMPTY,
+        Some((2, ObjectFault::CutShort)),
+    ),
+    (
+        b"e69de29bb2d1d6434b8b29ae775ad8c2e48c5391 blob 0\n\n\n",
+        EMPTY,
+        Some((2, ObjectFault::BadHeader)),
+    ),
+    (
+        b"ce013625030ba8dba906f756967f9e9ca394464a blob 6\nhello",
+        "",
+        Some((1, ObjectFault::CutShort)),
+    ),
+    (
+        b"ce013625030ba8dba906f756967f9e9ca394464a blob 6\nhello\nx",
+        "",
+        Some((1, ObjectFault::BadHeader)),
+    ),
+];
 
 /// Objects that are too large, are refused, or have another id than their headers tell.
-fn bad_objects() -> [Case; 8] {
-    let large = ObjectFault::TooLarge;
-    [
-        make_case(
-            b"e69de29bb2d1d6434b8b29ae775ad8c2e48c5391 blob 8388608\n",
-            "",
-            refuse(1, ObjectFault::CutShort),
-        ),
-        make_case(
-            b"e69de29bb2d1d6434b8b29ae775ad8c2e48c5391 blob 8388609\n",
-            "",
-            refuse(1, large),
-        ),
-        make_case(
-            b"e69de29bb2d1d6434b8b29ae775ad8c2e48c5391 tree 18446744073709551615\n",
-            "",
-            refuse(1, large),
-        ),
-        make_case(
-            b"e69de29bb2d1d6434b8b29ae775ad8c2e48c5391 blob 18446744073709551616",
-            "",
-            refuse(1, ObjectFault::BadHeader),
-        ),
-        // The tree of a file that comes behind it.
-        make_case(
-            b"496d6428b9cf92981dc9495211e6e1120fb6f2ba tree 29\n100644 a\0\
-              \xe6\x9d\xe2\x9b\xb2\xd1\xd6\x43\x4b\x8b\x29\xae\x77\x5a\xd8\xc2\xe4\x8c\x53\x91\n\
-              e69de29bb2d1d6434b8b29ae775ad8c2e48c5391 blob 0\n\n",
-            "",
-            refuse(1, ObjectFault::Refused(PutFault::MissingChild)),
-        ),
-        make_case(
-            b"e69de29bb2d1d6434b8b29ae775ad8c2e48c5391 blob 0\n\n\
-              496d6428b9cf92981dc9495211e6e1120fb6f2ba commit 45\ntree e69de29bb2d1d6434b8b29ae775ad8c2e48c5391\n",
-            EMPTY,
-            refuse(2, ObjectFault::Refused(PutFault::CutShort)),
-        ),
-        // What it names is no tree.
-        make_case(
-            b"e69de29bb2d1d6434b8b29ae775ad8c2e48c5391 blob 0\n\n\
-              496d6428b9cf92981dc9495211e6e1120fb6f2ba commit 46\ntree e69de29bb2d1d6434b8b29ae775ad8c2e48c5391\n\n",
-            EMPTY,
-            refuse(2, ObjectFault::Refused(PutFault::WrongChildKind)),
-        ),
-        // It is put, under its own id.
-        make_case(
-            b"e69de29bb2d1d6434b8b29ae775ad8c2e48c5391 blob 6\nhello\n\n",
-            HELLO,
-            refuse(1, ObjectFault::OtherId),
-        ),
-    ]
+const BAD_OBJECTS: [Case; 8] = [
+    (
+        b"e69de29bb2d1d6434b8b29ae775ad8c2e48c5391 blob 8388608\n",
+        "",
+        Some((1, ObjectFault::CutShort)),
+    ),
+    (
+        b"e69de29bb2d1d6434b8b29ae775ad8c2e48c5391 blob 8388609\n",
+        "",
+        Some((1, ObjectFault::TooLarge)),
+    ),
+    (
+        b"e69de29bb2d1d6434b8b29ae775ad8c2e48c5391 tree 18446744073709551615\n",
+        "",
+        Some((1, ObjectFault::TooLarge)),
+    ),
+    (
+        b"e69de29bb2d1d6434b8b29ae775ad8c2e48c5391 blob 18446744073709551616",
+        "",
+        Some((1, ObjectFault::BadHeader)),
+    ),
+    // The tree of a file that comes behind it.
+    (
+        b"496d6428b9cf92981dc9495211e6e1120fb6f2ba tree 29\n100644 a\0\
+          \xe6\x9d\xe2\x9b\xb2\xd1\xd6\x43\x4b\x8b\x29\xae\x77\x5a\xd8\xc2\xe4\x8c\x53\x91\n\
+          e69de29bb2d1d6434b8b29ae775ad8c2e48c5391 blob 0\n\n",
+        "",
+        Some((1, ObjectFault::Refused(PutFault::MissingChild))),
+    ),
+    (
+        b"e69de29bb2d1d6434b8b29ae775ad8c2e48c5391 blob 0\n\n\
+          496d6428b9cf92981dc9495211e6e1120fb6f2ba commit 45\ntree e69de29bb2d1d6434b8b29ae775ad8c2e48c5391\n",
+        EMPTY,
+        Some((2, ObjectFault::Refused(PutFault::CutShort))),
+    ),
+    // What it names is no tree.
+    (
+        b"e69de29bb2d1d6434b8b29ae775ad8c2e48c5391 blob 0\n\n\
+          496d6428b9cf92981dc9495211e6e1120fb6f2ba commit 46\ntree e69de29bb2d1d6434b8b29ae775ad8c2e48c5391\n\n",
+        EMPTY,
+        Some((2, ObjectFault::Refused(PutFault::WrongChildKind))),
+    ),
+    // It is put, under its own id.
+    (
+        b"e69de29bb2d1d6434b8b29ae775ad8c2e48c5391 blob 6\nhello\n\n",
+        HELLO,
+        Some((1, ObjectFault::OtherId)),
+    ),
+];
+
+fn holds(store: &Store<GitNaming>, id: &str) -> Result<bool, Fail> {
+    Ok(store.blob(Id::from_hex(id.as_bytes())?).is_some())
 }
 
-/// Reads each stream whole and one byte at a time.
-fn end_as_told(alloc: Global, cases: &[Case]) -> Result<(), Fail> {
-    for case in cases {
-        let blobs = ids_of(alloc, case.blobs)?;
-        for most in [usize::MAX, 1] {
-            let mut store = Store::new(alloc, GitNaming);
-            let mut source = Source::new(case.stream);
-            source.most = most;
-            let end = match read(alloc, source, &mut store) {
-                Ok(ids) => {
-                    if ids.as_slice() != blobs.as_slice() {
-                        return Err(Fail::new("other ids"));
-                    }
-                    Ok(())
-                }
-                Err(fault) => Err(fault),
-            };
-            if end != case.end {
-                return Err(Fail::new(format_args!("{end:?} in place of {:?}", case.end)));
-            }
-            for id in [HELLO, EMPTY] {
-                let id = Id::from_hex(id.as_bytes())?;
-                if store.blob(id).is_some() != blobs.contains(&id) {
-                    return Err(Fail::new(format_args!("other blobs at {:?}", case.end)));
-                }
+/// Reads a stream, so many bytes at a time. Gives the ids, or why the reading ended, and whether each of the two files is held then.
+fn ended(
+    alloc: Global,
+    stream: &[u8],
+    most: usize,
+) -> Result<(Result<Sequence<Id>, ObjectsFault>, bool, bool), Fail> {
+    let mut store = Store::new(alloc, GitNaming);
+    let mut source = Source::new(stream);
+    source.most = most;
+    let (ids, _) = read(alloc, source, &mut store);
+    Ok((ids, holds(&store, HELLO)?, holds(&store, EMPTY)?))
+}
+
+/// Whether a stream that is read so many bytes at a time ends as it should.
+fn is_right(alloc: Global, case: &Case, most: usize) -> Result<bool, Fail> {
+    let (stream, blobs, wanted) = case;
+    let (ids, hello, empty) = ended(alloc, stream, most)?;
+    let end = match ids {
+        Ok(ids) => wanted.is_none() && ids.as_slice() == ids_of(alloc, blobs)?.as_slice(),
+        Err(ObjectsFault::Object { number, fault }) => *wanted == Some((number, fault)),
+        Err(_) => false,
+    };
+    Ok(end && hello == blobs.contains(HELLO) && empty == blobs.contains(EMPTY))
+}
+
+#[test]
+fn batches_end_as_told(rt: HostRuntime) -> Result<(), Fail> {
+    for cases in [
+        WHOLE_BATCHES.as_slice(),
+        BAD_FORMS.as_slice(),
+        BAD_OBJECTS.as_slice(),
+    ] {
+        for (row, case) in cases.iter().enumerate() {
+            for most in [usize::MAX, 1] {
+                assert!(rt; is_right(rt.alloc(), case, most)?, "row {row}: {case:?}");
             }
         }
     }
@@ -298,36 +295,22 @@ fn end_as_told(alloc: Global, cases: &[Case]) -> Result<(), Fail> {
 }
 
 #[test]
-fn batches_end_as_told(rt: HostRuntime) -> Result<(), Fail> {
-    let alloc = rt.alloc();
-    end_as_told(alloc, whole_batches().as_slice())?;
-    end_as_told(alloc, bad_forms().as_slice())?;
-    end_as_told(alloc, bad_objects().as_slice())
-}
-
-#[test]
 fn readers_that_fail(rt: HostRuntime) -> Result<(), Fail> {
     let alloc = rt.alloc();
-    let hello = Id::from_hex(HELLO.as_bytes())?;
     let mut store = Store::new(alloc, GitNaming);
     let mut source = Source::new(printed());
     source.most = 30;
     source.fails_at = 90;
     source.interrupts = true;
     // The first object has 55 bytes, and so has the second.
-    assert_eq!(rt;
-        read(alloc, source, &mut store),
-        Err(ObjectsFault::Read { number: 2 })
-    );
-    assert!(rt; store.blob(hello).is_some());
+    let (ids, _) = read(alloc, source, &mut store);
+    assert!(rt; ids.err() == Some(ObjectsFault::Read { number: 2 }));
+    assert!(rt; holds(&store, HELLO)?);
     // A source that never ends and gives one byte a read, of objects of 49 bytes.
     let endless = Endless::new(b"e69de29bb2d1d6434b8b29ae775ad8c2e48c5391 blob 0\n\n");
-    let mut reader = Counted::new(endless);
-    assert_eq!(rt;
-        read_objects(alloc, &mut reader, &mut store),
-        Err(ObjectsFault::TurnsSpent { number: 20_409 })
-    );
-    assert_eq!(rt; reader.calls(), 1_000_000);
+    let (ids, calls) = read(alloc, endless, &mut store);
+    assert!(rt; ids.err() == Some(ObjectsFault::TurnsSpent { number: 20_409 }));
+    assert!(rt; calls == 1_000_000);
     Ok(())
 }
 
@@ -343,7 +326,7 @@ fn an_object_of_8_mib(rt: HostRuntime) -> Result<(), Fail> {
     stream.extend_from_slice(letters.as_slice())?;
     stream.push(b'\n')?;
     let mut store = Store::new(alloc, GitNaming);
-    let ids = read(alloc, stream.as_slice(), &mut store)?;
-    assert_eq!(rt; ids.as_slice(), [Id::from_hex(id)?].as_slice());
+    let ids = read(alloc, stream.as_slice(), &mut store).0?;
+    assert!(rt; ids.as_slice() == [Id::from_hex(id)?].as_slice());
     Ok(())
 }

@@ -1,3 +1,5 @@
+//! The paths on which two commits differ, all of them or those that a filter admits.
+
 use eden_globs::Filter;
 use eden_ids::{Id, Kind, Path};
 use eden_objects::CommitFault;
@@ -6,21 +8,39 @@ use std::alloc::Global;
 use std::test::Fail;
 use test_kit::{Objects, spaced};
 
-/// The paths that two commits differ on, or those that a pattern admits if there is one, each with a space behind it.
+/// The filter of a pattern, or of none where the text is empty.
+fn filter_of(alloc: Global, pattern: &str) -> Result<Filter, Fail> {
+    if pattern.is_empty() {
+        return Ok(Filter::all(alloc));
+    }
+    Ok(Filter::parse(alloc, &[pattern.as_bytes()])?)
+}
+
+/// The paths that two commits differ on, or those that a pattern admits if there is one.
+fn differing(
+    alloc: Global,
+    objects: &Objects,
+    pattern: &str,
+    first: Id,
+    second: Id,
+) -> Result<Vec<Path>, Fail> {
+    if pattern.is_empty() {
+        return Ok(diff(alloc, &objects.store, first, second)?);
+    }
+    let filter = filter_of(alloc, pattern)?;
+    Ok(diff_admitted(alloc, &objects.store, first, second, &filter)?)
+}
+
+/// The same paths, each with a space behind it.
 fn told(
     alloc: Global,
     objects: &Objects,
-    pattern: &[u8],
+    pattern: &str,
     first: &str,
     second: &str,
 ) -> Result<Vec<u8>, Fail> {
     let (first, second) = (objects.id(first), objects.id(second));
-    if pattern.is_empty() {
-        let paths = diff(alloc, &objects.store, first, second)?;
-        return Ok(spaced(alloc, paths.as_slice())?);
-    }
-    let filter = Filter::parse(alloc, &[pattern])?;
-    let paths = diff_admitted(alloc, &objects.store, first, second, &filter)?;
+    let paths = differing(alloc, objects, pattern, first, second)?;
     Ok(spaced(alloc, paths.as_slice())?)
 }
 
@@ -47,109 +67,130 @@ const DIFFERENCES: [(&str, &str, &str); 3] = [
 #[test]
 fn known_differences(rt: HostRuntime) -> Result<(), Fail> {
     let alloc = rt.alloc();
-    for (name, script, paths) in DIFFERENCES {
+    for (name, script, paths) in &DIFFERENCES {
         let objects = Objects::of(alloc, script)?;
-        for (first, second) in [("c", "d"), ("d", "c")] {
-            let found = told(alloc, &objects, b"".as_slice(), first, second)?;
-            assert_eq!(rt; found.as_slice(), paths.as_bytes(), "{name}");
-        }
+        let there = told(alloc, &objects, "", "c", "d")?;
+        let back = told(alloc, &objects, "", "d", "c")?;
+        assert!(rt; there.as_slice() == paths.as_bytes(), "{name}");
+        assert!(rt; back == there, "{name}");
     }
     Ok(())
 }
+
+/// A file, two lowest directories with and one without a file in it, and one that has a directory without files beside its file.
+const LOWEST: &str =
+    "blob x x;blob y y;tree n;tree p 100644 a x;tree m 100644 a x 40000 b n;tree o 100644 a y";
+
+/// Directories of one level more: each has the level below under two names.
+const LEVELS: [&str; 4] = [
+    "tree n 40000 a n 40000 b n",
+    "tree p 40000 a p 40000 b p",
+    "tree m 40000 a m 40000 b m",
+    "tree o 40000 a o 40000 b o",
+];
+
+/// Commits of them, and of a file.
+const TOPS: [&str; 12] = [
+    "tree t 100644 f x 40000 z p",
+    "commit px t",
+    "tree t 100644 f y 40000 z p",
+    "commit py t",
+    "tree t 100644 f x 40000 z m",
+    "commit mx t",
+    "tree t 100644 f y 40000 z m",
+    "commit my t",
+    "tree t 100644 f y 40000 z o",
+    "commit oy t",
+    "tree t 40000 z n",
+    "commit n t",
+];
 
 /// Commits of a file `f`, which holds `x` or `y`, and of a directory `z` of forty levels, each with the level below under two names, so
 /// that what is lowest stands there two to the fortieth times: `p` one file, `m` the same one beside a directory without files, and `o`
 /// another one. And `n`, whose lowest directories are empty.
 fn wide_commits(alloc: Global) -> Result<Objects, Fail> {
-    let mut objects = Objects::of(
-        alloc,
-        "blob x x;blob y y;tree n;tree p 100644 a x;tree m 100644 a x 40000 b n;tree o 100644 a y",
-    )?;
-    for line in [
-        "tree n 40000 a n 40000 b n",
-        "tree p 40000 a p 40000 b p",
-        "tree m 40000 a m 40000 b m",
-        "tree o 40000 a o 40000 b o",
-    ] {
+    let mut objects = Objects::of(alloc, LOWEST)?;
+    for line in &LEVELS {
         objects.repeat(alloc, line, 40)?;
     }
-    for line in [
-        "tree t 100644 f x 40000 z p",
-        "commit px t",
-        "tree t 100644 f y 40000 z p",
-        "commit py t",
-        "tree t 100644 f x 40000 z m",
-        "commit mx t",
-        "tree t 100644 f y 40000 z m",
-        "commit my t",
-        "tree t 100644 f y 40000 z o",
-        "commit oy t",
-        "tree t 40000 z n",
-        "commit n t",
-    ] {
+    for line in &TOPS {
         objects.put(alloc, line)?;
     }
     Ok(objects)
 }
+
+/// A pattern, or none, the labels of two of these commits, and the paths on which they differ.
+const WIDE: [(&str, &str, &str, &str); 6] = [
+    ("", "px", "py", "f "),
+    ("", "px", "mx", ""),
+    ("", "px", "my", "f "),
+    ("", "n", "empty", ""),
+    ("", "empty", "n", ""),
+    ("f", "px", "oy", "f "),
+];
+
+/// One of the lowest files.
+const DOWN: &str =
+    "z/b/b/b/b/b/b/b/b/b/b/b/b/b/b/b/b/b/b/b/b/b/b/b/b/b/b/b/b/b/b/b/b/b/b/b/b/b/b/b/b/a";
 
 #[test]
 fn shared_subtrees(rt: HostRuntime) -> Result<(), Fail> {
     let alloc = rt.alloc();
     let objects = wide_commits(alloc)?;
     assert!(rt; objects.id("px") != objects.id("mx"));
-    let mut down = b"z".to_vec(alloc)?;
-    for _ in 0..40_u64 {
-        down.extend_from_slice(b"/b".as_slice())?;
-    }
-    down.extend_from_slice(b"/a".as_slice())?;
-    let mut there = down.clone()?;
-    there.push(b' ')?;
-    let all = b"".as_slice();
-    for (pattern, first, second, paths) in [
-        (all, "px", "py", b"f ".as_slice()),
-        (all, "px", "mx", b"".as_slice()),
-        (all, "px", "my", b"f ".as_slice()),
-        (all, "n", "empty", b"".as_slice()),
-        (all, "empty", "n", b"".as_slice()),
-        (b"f".as_slice(), "px", "oy", b"f ".as_slice()),
-        (down.as_slice(), "px", "oy", there.as_slice()),
-    ] {
+    for (pattern, first, second, paths) in &WIDE {
         let found = told(alloc, &objects, pattern, first, second)?;
-        assert_eq!(rt; found.as_slice(), paths, "{first} and {second}");
+        assert!(rt;
+            found.as_slice() == paths.as_bytes(),
+            "{first} and {second}"
+        );
     }
+    let found = told(alloc, &objects, DOWN, "px", "oy")?;
+    assert!(rt; found.strip_suffix(b" ".as_slice()) == Some(DOWN.as_bytes()));
     Ok(())
 }
 
-/// Whether one of the rows has this path, and where `whole` is set this kind and this blob too.
-fn has_row(rows: &[(Path, Kind, Id)], row: &(Path, Kind, Id), whole: bool) -> bool {
-    for other in rows.iter() {
-        if other.0 == row.0 {
-            return !whole || (other.1 == row.1 && other.2 == row.2);
-        }
-    }
-    false
+/// A file of a listing.
+type Row = (Path, Kind, Id);
+
+/// The files of a commit.
+fn files_of(alloc: Global, objects: &Objects, label: &str) -> Result<Vec<Row>, Fail> {
+    Ok(objects.store.list(objects.id(label), &Filter::all(alloc))?)
 }
 
-/// The paths that a filter admits of those of two listings on which they differ, one by one.
+fn has_path(rows: &[Row], row: &Row) -> bool {
+    rows.iter().any(|other| other.0 == row.0)
+}
+
+fn has_row(rows: &[Row], row: &Row) -> bool {
+    rows.iter().any(|other| other == row)
+}
+
+fn is_admitted(filter: &Filter, row: &Row) -> bool {
+    filter.admits(&row.0)
+}
+
+/// The paths that a pattern admits of those of two listings on which they differ, one by one, each with a space behind it.
 fn plain_diff(
     alloc: Global,
-    first: &[(Path, Kind, Id)],
-    second: &[(Path, Kind, Id)],
-    filter: &Filter,
-) -> Result<Vec<Path>, Fail> {
+    first: &[Row],
+    second: &[Row],
+    pattern: &str,
+) -> Result<Vec<u8>, Fail> {
+    let filter = filter_of(alloc, pattern)?;
     let mut paths = Vec::new(alloc);
-    for row in first.iter() {
-        if filter.admits(&row.0) && !has_row(second, row, true) {
+    for row in first {
+        if is_admitted(&filter, row) && !has_row(second, row) {
             paths.push(row.0.copy()?)?;
         }
     }
-    for row in second.iter() {
-        if filter.admits(&row.0) && !has_row(first, row, false) {
+    for row in second {
+        if is_admitted(&filter, row) && !has_path(first, row) {
             paths.push(row.0.copy()?)?;
         }
     }
     paths.sort()?;
-    Ok(paths)
+    Ok(spaced(alloc, paths.as_slice())?)
 }
 
 /// Commits of trees with files and directories in each other's places, of other kinds, and with directories that have no files.
@@ -176,52 +217,50 @@ const COMMITS: [&str; 13] = [
     "two",
 ];
 
-/// Whether two commits differ on just those paths that are found one by one: by no filter, and by the filter of each of these patterns.
-fn is_right(
-    alloc: Global,
-    objects: &Objects,
-    patterns: &[&str],
-    first: &str,
-    second: &str,
-) -> Result<bool, Fail> {
-    let all = Filter::all(alloc);
-    let rows = objects.store.list(objects.id(first), &all)?;
-    let others = objects.store.list(objects.id(second), &all)?;
-    let wanted = plain_diff(alloc, rows.as_slice(), others.as_slice(), &all)?;
-    let wanted = spaced(alloc, wanted.as_slice())?;
-    let mut right = told(alloc, objects, b"".as_slice(), first, second)? == wanted;
-    for pattern in patterns {
-        let filter = Filter::parse(alloc, &[pattern.as_bytes()])?;
-        let wanted = plain_diff(alloc, rows.as_slice(), others.as_slice(), &filter)?;
-        let wanted = spaced(alloc, wanted.as_slice())?;
-        let found = told(alloc, objects, pattern.as_bytes(), first, second)?;
-        right = right && found == wanted;
+/// No pattern, and patterns.
+const PATTERNS: [&str; 7] = ["", "**", "a/**", "*", "**/b", "a/a/a", "none"];
+
+/// Whether two commits differ on just those paths that are found one by one, by each of the patterns.
+fn is_right(alloc: Global, objects: &Objects, first: &str, second: &str) -> Result<bool, Fail> {
+    let rows = files_of(alloc, objects, first)?;
+    let others = files_of(alloc, objects, second)?;
+    for pattern in &PATTERNS {
+        let wanted = plain_diff(alloc, rows.as_slice(), others.as_slice(), pattern)?;
+        if told(alloc, objects, pattern, first, second)? != wanted {
+            return Ok(false);
+        }
     }
-    Ok(right)
+    Ok(true)
 }
 
 #[test]
 fn each_pair_of_a_family(rt: HostRuntime) -> Result<(), Fail> {
     let alloc = rt.alloc();
     let objects = Objects::of(alloc, FAMILY)?;
-    let patterns = ["**", "a/**", "*", "**/b", "a/a/a", "none"];
-    for first in COMMITS {
-        for second in COMMITS {
-            let right = is_right(alloc, &objects, &patterns, first, second)?;
+    for first in &COMMITS {
+        for second in &COMMITS {
+            let right = is_right(alloc, &objects, first, second)?;
             assert!(rt; right, "{first} and {second}");
         }
     }
     Ok(())
 }
 
+fn fault_of(alloc: Global, objects: &Objects, first: &str, second: &str) -> Option<CommitFault> {
+    diff(alloc, &objects.store, objects.id(first), objects.id(second)).err()
+}
+
 #[test]
 fn no_commit(rt: HostRuntime) -> Result<(), Fail> {
     let alloc = rt.alloc();
     let objects = Objects::of(alloc, "blob b x;tree t 100644 f b;commit c t")?;
-    for name in ["b", "t", "unknown"] {
-        for (first, second) in [("c", name), (name, "c"), (name, name)] {
-            let answer = diff(alloc, &objects.store, objects.id(first), objects.id(second));
-            assert_eq!(rt; answer.err(), Some(CommitFault::NoCommit));
+    for name in &["b", "t", "unknown"] {
+        for (first, second) in [("c", *name), (*name, "c"), (*name, *name)] {
+            let fault = fault_of(alloc, &objects, first, second);
+            assert!(rt;
+                fault == Some(CommitFault::NoCommit),
+                "{first} and {second}"
+            );
         }
     }
     Ok(())

@@ -23,13 +23,30 @@ fn objects_of(alloc: Global, parts: &[Part]) -> Result<Vec<Object>, Fail> {
     Ok(objects)
 }
 
-/// That the object at a place is refused.
-fn refuse(place: u64, fault: PutFault) -> Result<(), ImportFault> {
-    Err(ImportFault::BadObject { place, fault })
+/// The place of an object that is refused, and why.
+type Bad = (u64, PutFault);
+
+/// Imports these objects. Tells which is refused, if one is.
+fn import<N: Naming + Drop>(store: &mut Store<N>, objects: &[Object]) -> Result<Option<Bad>, Fail> {
+    match store.import(objects) {
+        Ok(()) => Ok(None),
+        Err(ImportFault::BadObject { place, fault }) => Ok(Some((place, fault))),
+        Err(fault) => Err(Fail::from(fault)),
+    }
+}
+
+fn import_parts<N: Naming + Drop>(
+    store: &mut Store<N>,
+    parts: &[Part],
+) -> Result<Option<Bad>, Fail> {
+    let objects = objects_of(store.allocator(), parts)?;
+    import(store, objects.as_slice())
 }
 
 /// The blobs of a store in which an id has twenty copies of one letter: the payloads of `a`, `b` and `c`.
-fn blobs(store: &Store<FirstByte>) -> [Option<&[u8]>; 3] {
+type Blobs<'a> = [Option<&'a [u8]>; 3];
+
+fn blobs(store: &Store<FirstByte>) -> Blobs<'_> {
     [
         store.blob(Id([b'a'; 20])),
         store.blob(Id([b'b'; 20])),
@@ -37,65 +54,56 @@ fn blobs(store: &Store<FirstByte>) -> [Option<&[u8]>; 3] {
     ]
 }
 
-/// That an import is answered so, and that these are the blobs then.
-fn imports(
-    rt: &impl Abort,
-    store: &mut Store<FirstByte>,
-    parts: &[Part],
-    answer: Result<(), ImportFault>,
-    held: [Option<&[u8]>; 3],
-) -> Result<(), Fail> {
-    let objects = objects_of(store.allocator(), parts)?;
-    assert_eq!(rt; store.import(objects.as_slice()), answer, "{parts:?}");
-    assert!(rt; blobs(store) == held, "{parts:?}");
-    Ok(())
-}
+const AB: Part = (Word::Blob, b"ab");
+
+const AC: Part = (Word::Blob, b"ac");
+
+const B: Part = (Word::Blob, b"b");
+
+const C: Part = (Word::Blob, b"c");
+
+const NONE: Part = (Word::Blob, b"");
+
+/// The tree without entries has no first byte.
+const EMPTY: Part = (Word::Tree, b"");
+
+/// Another kind of object is another object.
+const CUT: Part = (Word::Tree, b"ab");
+
+const NO_BLOB: Blobs<'static> = [None; 3];
+
+const ONE_BLOB: Blobs<'static> = [Some(b"ab"), None, None];
+
+const TWO_BLOBS: Blobs<'static> = [Some(b"ab"), Some(b"b"), None];
+
+/// Imports into one store, one after another: the objects, the first one that is refused, and the blobs then.
+const IMPORTS: [(&[Part], Option<Bad>, Blobs<'static>); 11] = [
+    (&[], None, NO_BLOB),
+    (&[AB, AC], Some((1, PutFault::IdTaken)), NO_BLOB),
+    // The first fault is told.
+    (&[B, NONE, AB, AC], Some((1, PutFault::ZeroId)), NO_BLOB),
+    (&[AB], None, ONE_BLOB),
+    (&[AB, AB], None, ONE_BLOB),
+    (&[AC], Some((0, PutFault::IdTaken)), ONE_BLOB),
+    (
+        &[AB, B, AB, C, AC, NONE],
+        Some((4, PutFault::IdTaken)),
+        ONE_BLOB,
+    ),
+    (&[EMPTY], Some((0, PutFault::ZeroId)), ONE_BLOB),
+    (&[B, CUT], Some((1, PutFault::CutShort)), ONE_BLOB),
+    (&[AB, B, AB], None, TWO_BLOBS),
+    (&[], None, TWO_BLOBS),
+];
 
 #[test]
 fn import_refusals(rt: HostRuntime) -> Result<(), Fail> {
     let mut store = Store::new(rt.alloc(), FirstByte);
-    let blob = |payload| (Word::Blob, payload);
-    let (ab, ac) = (blob(b"ab".as_slice()), blob(b"ac".as_slice()));
-    let (b, c, none) = (
-        blob(b"b".as_slice()),
-        blob(b"c".as_slice()),
-        blob(b"".as_slice()),
-    );
-    let (taken, zero) = (PutFault::IdTaken, PutFault::ZeroId);
-    let (nothing, one) = ([None; 3], [Some(b"ab".as_slice()), None, None]);
-    imports(&rt, &mut store, &[], Ok(()), nothing)?;
-    imports(&rt, &mut store, &[ab, ac], refuse(1, taken), nothing)?;
-    // The first fault is told.
-    imports(
-        &rt,
-        &mut store,
-        &[b, none, ab, ac],
-        refuse(1, zero),
-        nothing,
-    )?;
-    imports(&rt, &mut store, &[ab], Ok(()), one)?;
-    imports(&rt, &mut store, &[ab, ab], Ok(()), one)?;
-    imports(&rt, &mut store, &[ac], refuse(0, taken), one)?;
-    imports(
-        &rt,
-        &mut store,
-        &[ab, b, ab, c, ac, none],
-        refuse(4, taken),
-        one,
-    )?;
-    // The tree without entries has no first byte, and another kind of object is another object.
-    let (empty, cut) = ((Word::Tree, b"".as_slice()), (Word::Tree, b"ab".as_slice()));
-    imports(&rt, &mut store, &[empty], refuse(0, zero), one)?;
-    imports(
-        &rt,
-        &mut store,
-        &[b, cut],
-        refuse(1, PutFault::CutShort),
-        one,
-    )?;
-    let two = [one[0], Some(b"b".as_slice()), None];
-    imports(&rt, &mut store, &[ab, b, ab], Ok(()), two)?;
-    imports(&rt, &mut store, &[], Ok(()), two)
+    for (parts, bad, held) in &IMPORTS {
+        assert!(rt; import_parts(&mut store, parts)? == *bad, "{parts:?}");
+        assert!(rt; blobs(&store) == *held, "{parts:?}");
+    }
+    Ok(())
 }
 
 // Here the ids are those that `git hash-object` and `git mktree` give to the same bytes.
@@ -127,10 +135,9 @@ const OF_D: Part = (
     b"tree 5ab25eb7b77ecd6c06f51efc523e84c74fb24ddb\n",
 );
 
-const OF_X: Part = (
-    Word::Commit,
-    b"tree c1b0730e0133447badcfd47fd144e254807b06e1\n",
-);
+const OF_X: Part = (Word::Commit, TREE_X);
+
+const TREE_X: &[u8] = b"tree c1b0730e0133447badcfd47fd144e254807b06e1\n";
 
 /// A letter for each of the files, the trees and the commits, and its id.
 const IDS: [(u8, &str); 6] = [
@@ -142,44 +149,60 @@ const IDS: [(u8, &str); 6] = [
     (b's', "862425d64e2c4c77cd19109249b680588db47326"),
 ];
 
+fn id_of(text: &str) -> Result<Id, Fail> {
+    Ok(Id::from_hex(text.as_bytes())?)
+}
+
+fn has_object(store: &Store<GitNaming>, id: Id) -> bool {
+    store.blob(id).is_some() || store.tree(id).is_some() || store.has_commit(id)
+}
+
 /// The letters of those that a store has.
 fn letters(alloc: Global, store: &Store<GitNaming>) -> Result<Vec<u8>, Fail> {
     let mut letters = Vec::new(alloc);
-    for (letter, id) in IDS {
-        let id = Id::from_hex(id.as_bytes())?;
-        if store.blob(id).is_some() || store.tree(id).is_some() || store.has_commit(id) {
-            letters.push(letter)?;
+    for (letter, text) in &IDS {
+        if has_object(store, id_of(text)?) {
+            letters.push(*letter)?;
         }
     }
     Ok(letters)
 }
 
+/// Imports into one store, one after another: the objects, the first one that is refused, and the letters of those that there are then.
+const IMPORTS_OF_KINDS: [(&[Part], Option<Bad>, &str); 11] = [
+    (&[], None, ""),
+    (&[A], Some((0, PutFault::MissingChild)), ""),
+    (&[X, OF_A, A], Some((1, PutFault::MissingChild)), ""),
+    (&[Y, X, D, A], Some((2, PutFault::MissingChild)), ""),
+    (
+        &[X, A, OF_A, OF_X, OF_D],
+        Some((3, PutFault::WrongChildKind)),
+        "",
+    ),
+    (&[X, A, OF_A], None, "xar"),
+    (&[X, A, OF_A], None, "xar"),
+    (&[OF_A], None, "xar"),
+    (&[Y, OF_D, D], Some((1, PutFault::MissingChild)), "xar"),
+    (&[D, Y, OF_D, D], None, "xyadrs"),
+    (
+        &[OF_D, X, OF_X],
+        Some((2, PutFault::WrongChildKind)),
+        "xyadrs",
+    ),
+];
+
 #[test]
 fn imports_of_each_kind(rt: HostRuntime) -> Result<(), Fail> {
     let alloc = rt.alloc();
-    let (missing, wrong) = (PutFault::MissingChild, PutFault::WrongChildKind);
     let mut store = Store::new(alloc, GitNaming);
-    for (parts, answer, held) in [
-        ([].as_slice(), Ok(()), ""),
-        ([A].as_slice(), refuse(0, missing), ""),
-        ([X, OF_A, A].as_slice(), refuse(1, missing), ""),
-        ([Y, X, D, A].as_slice(), refuse(2, missing), ""),
-        ([X, A, OF_A, OF_X, OF_D].as_slice(), refuse(3, wrong), ""),
-        ([X, A, OF_A].as_slice(), Ok(()), "xar"),
-        ([X, A, OF_A].as_slice(), Ok(()), "xar"),
-        ([OF_A].as_slice(), Ok(()), "xar"),
-        ([Y, OF_D, D].as_slice(), refuse(1, missing), "xar"),
-        ([D, Y, OF_D, D].as_slice(), Ok(()), "xyadrs"),
-        ([OF_D, X, OF_X].as_slice(), refuse(2, wrong), "xyadrs"),
-    ] {
-        let objects = objects_of(alloc, parts)?;
-        assert_eq!(rt; store.import(objects.as_slice()), answer, "{parts:?}");
+    for (parts, bad, held) in &IMPORTS_OF_KINDS {
+        assert!(rt; import_parts(&mut store, parts)? == *bad, "{parts:?}");
         let letters = letters(alloc, &store)?;
-        assert_eq!(rt; letters.as_slice(), held.as_bytes(), "{parts:?}");
+        assert!(rt; letters.as_slice() == held.as_bytes(), "{parts:?}");
     }
-    let commit = Id::from_hex(IDS[5].1.as_bytes())?;
-    let file = Some((Kind::Plain, b"x".as_slice()));
-    assert!(rt; store.file(commit, b"d/a".as_slice()) == file);
+    let commit = id_of(IDS[5].1)?;
+    let file = store.file(commit, b"d/a".as_slice());
+    assert!(rt; file == Some((Kind::Plain, b"x".as_slice())));
     Ok(())
 }
 
@@ -189,12 +212,12 @@ fn fault_of_third(alloc: Global, word: Word, payload: Vec<u8>) -> Result<Option<
     let mut objects = objects_of(alloc, [X, A].as_slice())?;
     let payload = Sequence::from_vec(payload);
     objects.push(Object { word, payload })?;
-    let answer = store.import(objects.as_slice());
-    let none = letters(alloc, &store)?.is_empty();
-    Ok(match answer {
-        Err(ImportFault::BadObject { place: 2, fault }) if none => Some(fault),
-        _ => None,
-    })
+    let bad = import(&mut store, objects.as_slice())?;
+    let is_empty = letters(alloc, &store)?.is_empty();
+    match bad {
+        Some((2, fault)) if is_empty => Ok(Some(fault)),
+        _ => Ok(None),
+    }
 }
 
 /// An entry of a tree: its mode, its name, and the letter of what it names.
@@ -216,87 +239,103 @@ const BAD_TREES: [(&[Entry], PutFault); 6] = [
     (&[("100644", "b", b'a')], PutFault::WrongChildKind),
 ];
 
+/// The id of a letter, or one that no object has.
+fn id_of_letter(named: u8) -> Result<Id, Fail> {
+    match IDS.iter().find(|(letter, _)| *letter == named) {
+        Some((_, text)) => id_of(text),
+        None => Ok(Id([1; 20])),
+    }
+}
+
 /// The payload of a tree.
 fn entries_of(alloc: Global, entries: &[Entry]) -> Result<Vec<u8>, Fail> {
     let mut payload = Vec::new(alloc);
     for (mode, name, named) in entries {
-        let mut id = Id([1; 20]);
-        for (letter, text) in IDS {
-            if letter == *named {
-                id = Id::from_hex(text.as_bytes())?;
-            }
-        }
-        push_entry(&mut payload, mode, name.as_bytes(), id)?;
+        push_entry(&mut payload, mode, name.as_bytes(), id_of_letter(*named)?)?;
     }
     Ok(payload)
 }
 
+/// Payloads that no object has, and why.
+const BAD_PAYLOADS: [(Word, &[u8], PutFault); 4] = [
+    (Word::Tree, b"100644 b", PutFault::CutShort),
+    (Word::Commit, b"tree ", PutFault::CutShort),
+    (Word::Commit, &[b't'; 46], PutFault::BadCommit),
+    (Word::Commit, TREE_X, PutFault::WrongChildKind),
+];
+
 #[test]
 fn imports_are_refused_for_each_fault(rt: HostRuntime) -> Result<(), Fail> {
     let alloc = rt.alloc();
-    for (entries, fault) in BAD_TREES {
+    for (entries, fault) in &BAD_TREES {
         let payload = entries_of(alloc, entries)?;
-        assert_eq!(rt; fault_of_third(alloc, Word::Tree, payload)?, Some(fault));
+        assert!(rt;
+            fault_of_third(alloc, Word::Tree, payload)? == Some(*fault),
+            "{entries:?}"
+        );
     }
-    for (word, payload, fault) in [
-        (Word::Tree, b"100644 b".as_slice(), PutFault::CutShort),
-        (Word::Commit, b"tree ".as_slice(), PutFault::CutShort),
-        (Word::Commit, [b't'; 46].as_slice(), PutFault::BadCommit),
-        (Word::Commit, OF_X.1, PutFault::WrongChildKind),
-    ] {
+    for (word, payload, fault) in &BAD_PAYLOADS {
         let payload = payload.to_vec(alloc)?;
-        assert_eq!(rt; fault_of_third(alloc, word, payload)?, Some(fault));
+        assert!(rt;
+            fault_of_third(alloc, *word, payload)? == Some(*fault),
+            "{word:?}"
+        );
     }
-    for word in [Word::Blob, Word::Tree, Word::Commit] {
+    for word in &[Word::Blob, Word::Tree, Word::Commit] {
         let large = vec![in alloc; b'a'; 8_388_609]?;
-        assert_eq!(rt;
-            fault_of_third(alloc, word, large)?,
-            Some(PutFault::TooLarge)
+        assert!(rt;
+            fault_of_third(alloc, *word, large)? == Some(PutFault::TooLarge),
+            "{word:?}"
         );
     }
     Ok(())
 }
 
-/// What an import answers of a file and of so many trees, each of which has the one before as its only entry, with a name of this length.
-fn import_levels(
-    alloc: Global,
-    store: &mut Store<GitNaming>,
-    levels: usize,
-    length: usize,
-) -> Result<Result<(), ImportFault>, Fail> {
+/// A tree that has one entry, and its id.
+fn only(alloc: Global, mode: &str, name: &[u8], id: Id) -> Result<(Object, Id), Fail> {
+    let mut payload = Vec::new(alloc);
+    push_entry(&mut payload, mode, name, id)?;
+    let id = GitNaming.id_of(b"tree".as_slice(), payload.as_slice());
+    let (word, payload) = (Word::Tree, Sequence::from_vec(payload));
+    Ok((Object { word, payload }, id))
+}
+
+/// A file and so many trees, each of which has the one before as its only entry, with a name of this length.
+fn levels_of(alloc: Global, levels: usize, length: usize) -> Result<Vec<Object>, Fail> {
     let mut objects = objects_of(alloc, [X].as_slice())?;
     let name = vec![in alloc; b'd'; length]?;
-    let (mut mode, mut id) = ("100644", Id::from_hex(IDS[0].1.as_bytes())?);
+    let (mut mode, mut id) = ("100644", id_of(IDS[0].1)?);
     for _ in 0..levels {
-        let mut payload = Vec::new(alloc);
-        push_entry(&mut payload, mode, name.as_slice(), id)?;
-        id = GitNaming.id_of(b"tree".as_slice(), payload.as_slice());
-        mode = "40000";
-        let payload = Sequence::from_vec(payload);
-        objects.push(Object {
-            word: Word::Tree,
-            payload,
-        })?;
+        let (object, tree) = only(alloc, mode, name.as_slice(), id)?;
+        objects.push(object)?;
+        (mode, id) = ("40000", tree);
     }
-    Ok(store.import(objects.as_slice()))
+    Ok(objects)
 }
+
+/// How many levels, the length of each name, and which object is refused.
+const LEVELS: [(usize, usize, Option<Bad>); 5] = [
+    (65, 1, Some((65, PutFault::TooDeep))),
+    (64, 1, None),
+    // 64 names of 15 bytes and the slashes between them have 1,023 bytes, and four names of 256 are too long at once.
+    (64, 15, None),
+    (5, 255, Some((5, PutFault::PathTooLong))),
+    (4, 255, None),
+];
 
 #[test]
 fn imports_of_deep_trees(rt: HostRuntime) -> Result<(), Fail> {
     let alloc = rt.alloc();
-    for (levels, length, answer) in [
-        (65, 1, refuse(65, PutFault::TooDeep)),
-        (64, 1, Ok(())),
-        // 64 names of 15 bytes and the slashes between them have 1,023 bytes, and four names of 256 are too long at once.
-        (64, 15, Ok(())),
-        (5, 255, refuse(5, PutFault::PathTooLong)),
-        (4, 255, Ok(())),
-    ] {
+    for (levels, length, bad) in &LEVELS {
+        let objects = levels_of(alloc, *levels, *length)?;
         let mut store = Store::new(alloc, GitNaming);
-        let told = import_levels(alloc, &mut store, levels, length)?;
-        assert_eq!(rt; told, answer, "{levels} levels");
-        let held: &[u8] = if answer.is_ok() { b"x" } else { b"" };
-        assert_eq!(rt; letters(alloc, &store)?.as_slice(), held, "{levels} levels");
+        assert!(rt;
+            import(&mut store, objects.as_slice())? == *bad,
+            "{levels} levels"
+        );
+        let letters = letters(alloc, &store)?;
+        let held: &[u8] = if bad.is_none() { b"x" } else { b"" };
+        assert!(rt; letters.as_slice() == held, "{levels} levels");
     }
     Ok(())
 }
@@ -304,24 +343,29 @@ fn imports_of_deep_trees(rt: HostRuntime) -> Result<(), Fail> {
 /// How many objects are put one by one, a copy being taken behind each.
 const BLOBS: u8 = 40;
 
-/// Whether a store has just the objects of these first bytes that have a `b` behind it: no other object takes such an id.
+fn put(store: &mut Store<FirstByte>, first: u8, second: u8) -> Result<Id, PutFault> {
+    store.put_blob([first, second].as_slice())
+}
+
+/// Whether a store has the object of this first byte that has a `b` behind it: no other object takes its id.
+fn keeps(store: &mut Store<FirstByte>, first: u8) -> bool {
+    let id = Id([first; 20]);
+    put(store, first, b'b') == Ok(id)
+        && put(store, first, b'c') == Err(PutFault::IdTaken)
+        && store.blob(id) == Some([first, b'b'].as_slice())
+}
+
+/// Whether it has just those of these first bytes.
 fn keeps_first(store: &mut Store<FirstByte>, count: u8) -> bool {
-    (1..=count).all(|first| {
-        let id = Id([first; 20]);
-        store.put_blob([first, b'b'].as_slice()) == Ok(id)
-            && store.put_blob([first, b'c'].as_slice()) == Err(PutFault::IdTaken)
-            && store.blob(id) == Some([first, b'b'].as_slice())
-    })
+    (1..=count).all(|first| keeps(store, first))
 }
 
 #[test]
 fn object_replaced(rt: HostRuntime) -> Result<(), Fail> {
-    let alloc = rt.alloc();
-    let mut store = Store::new(alloc, FirstByte);
-    let mut copies = Vec::new(alloc);
+    let mut store = Store::new(rt.alloc(), FirstByte);
+    let mut copies = Vec::new(rt.alloc());
     for first in 1..=BLOBS {
-        let put = store.put_blob([first, b'b'].as_slice());
-        assert_eq!(rt; put, Ok(Id([first; 20])));
+        assert!(rt; put(&mut store, first, b'b') == Ok(Id([first; 20])));
         copies.push(store.share()?)?;
         assert!(rt; keeps_first(&mut store, first), "{first} objects");
     }
@@ -330,8 +374,7 @@ fn object_replaced(rt: HostRuntime) -> Result<(), Fail> {
         count = BLOBS.min(count) + 1;
         assert!(rt; keeps_first(copy, count), "{count} objects");
         // In a copy the id of a later object is still to be had.
-        let next = copy.put_blob([count + 1, b'c'].as_slice());
-        assert_eq!(rt; next, Ok(Id([count + 1; 20])));
+        assert!(rt; put(copy, count + 1, b'c') == Ok(Id([count + 1; 20])));
         assert!(rt; keeps_first(copy, count), "{count} objects and another one");
     }
     assert!(rt; keeps_first(&mut store, BLOBS));

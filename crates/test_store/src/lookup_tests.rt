@@ -1,3 +1,5 @@
+//! The files of a commit: listed, looked up, counted, and those below a directory.
+
 use eden_globs::Filter;
 use eden_ids::{GitNaming, Id, Kind, Path};
 use eden_objects::{CommitFault, NoCommit, Store};
@@ -33,35 +35,55 @@ const F: Row = (
     "2bdf67abb163a4ffb2d7f3f0880c9fe5068ce782",
 );
 
-/// Whether the listing has just these rows.
-fn has_rows(listed: &[(Path, Kind, Id)], rows: &[Row]) -> bool {
-    if listed.len() != rows.len() {
-        return false;
-    }
-    for (one, row) in listed.iter().zip(rows) {
-        let (path, kind, id) = one;
-        if path.as_bytes() != row.0.as_bytes()
-            || *kind != row.1
-            || id.to_hex().as_slice() != row.2.as_bytes()
-        {
-            return false;
-        }
-    }
-    true
+/// Whether one file of a listing is that of a row.
+fn is_row(listed: &(Path, Kind, Id), row: &Row) -> bool {
+    let (path, kind, id) = listed;
+    path.as_bytes() == row.0.as_bytes()
+        && *kind == row.1
+        && id.to_hex().as_slice() == row.2.as_bytes()
 }
 
-/// Whether a commit has just these rows below a path.
-fn has_below(
+/// Whether the listing has just these rows.
+fn has_rows(listed: &[(Path, Kind, Id)], rows: &[Row]) -> bool {
+    listed.len() == rows.len() && listed.iter().zip(rows).all(|(one, row)| is_row(one, row))
+}
+
+/// The files of a commit that a pattern admits.
+fn listed(
+    alloc: Global,
+    store: &Store<GitNaming>,
+    commit: Id,
+    pattern: &[u8],
+) -> Result<Vec<(Path, Kind, Id)>, Fail> {
+    Ok(store.list(commit, &Filter::parse(alloc, &[pattern])?)?)
+}
+
+/// The files of a commit below a path that patterns admit.
+fn listed_below(
     alloc: Global,
     store: &Store<GitNaming>,
     commit: Id,
     top: &str,
-    rows: &[Row],
-) -> Result<bool, Fail> {
-    let top = Path::parse(alloc, top.as_bytes())?;
-    let listed = store.list_below(commit, &top)?;
-    Ok(has_rows(listed.as_slice(), rows))
+    patterns: &[&[u8]],
+) -> Result<Vec<(Path, Kind, Id)>, Fail> {
+    let filter = Filter::parse(alloc, patterns)?;
+    Ok(store.list_below(commit, &path(alloc, top)?, &filter)?)
 }
+
+/// What patterns admit of a commit below a directory, or below what is none.
+const BELOW: [(&str, &[&[u8]], &[Row]); 11] = [
+    ("a", &[], &[A_X]),
+    ("d", &[], &[F]),
+    ("d/e", &[], &[F]),
+    ("a-b", &[], &[]),
+    ("a/x", &[], &[]),
+    ("d/f", &[], &[]),
+    ("z/e", &[], &[]),
+    ("d", &[b"**/f"], &[F]),
+    ("d", &[b"a/**", b"d/e/*"], &[F]),
+    ("d", &[b"a/**"], &[]),
+    ("a", &[b"*"], &[]),
+];
 
 // The ids are those that Git gives the same files.
 #[test]
@@ -69,110 +91,151 @@ fn a_commit_lists_its_files(rt: HostRuntime) -> Result<(), Fail> {
     let alloc = rt.alloc();
     let objects = Objects::of(alloc, FILES)?;
     let (store, commit) = (&objects.store, objects.id("c"));
-    assert_eq!(rt;
-        commit.to_hex().as_slice(),
-        b"121c0404102d0c4f3969bca6aa8e28f3be526767".as_slice()
+    assert!(rt;
+        commit.to_hex().as_slice() == b"121c0404102d0c4f3969bca6aa8e28f3be526767".as_slice()
     );
-    let all = Filter::parse(alloc, &[])?;
-    let listed = store.list(commit, &all)?;
-    assert!(rt; has_rows(listed.as_slice(), &[A_B, A_X, A0, F]));
-    assert!(rt; has_below(alloc, store, commit, "a", &[A_X])?);
-    assert!(rt; has_below(alloc, store, commit, "d", &[F])?);
-    assert!(rt; has_below(alloc, store, commit, "d/e", &[F])?);
-    for top in ["a-b", "a/x", "d/f", "z/e"] {
-        assert!(rt; has_below(alloc, store, commit, top, &[])?, "at {top}");
+    let all = store.list(commit, &Filter::all(alloc))?;
+    assert!(rt; has_rows(all.as_slice(), &[A_B, A_X, A0, F]));
+    for (top, patterns, rows) in &BELOW {
+        let below = listed_below(alloc, store, commit, top, patterns)?;
+        assert!(rt; has_rows(below.as_slice(), rows), "at {top}");
     }
     Ok(())
 }
+
+/// The file at a path of a commit, or none; and none where there is no commit.
+fn found(
+    alloc: Global,
+    store: &Store<GitNaming>,
+    commit: Id,
+    at: &str,
+) -> Result<Result<Option<(Kind, Id)>, NoCommit>, Fail> {
+    Ok(store.lookup(commit, &path(alloc, at)?))
+}
+
+fn id_of(text: &str) -> Result<Id, Fail> {
+    Ok(Id::from_hex(text.as_bytes())?)
+}
+
+fn blob(store: &Store<GitNaming>, id: Id) -> Option<&[u8]> {
+    store.blob(id)
+}
+
+/// Directories and what is none: no file stands there.
+const NO_FILE: [&str; 7] = ["a", "a-b/x", "a/y", "d/e", "d/e/f/g", "x", "z"];
 
 #[test]
 fn a_file_is_looked_up(rt: HostRuntime) -> Result<(), Fail> {
     let alloc = rt.alloc();
     let objects = Objects::of(alloc, FILES)?;
     let (store, commit) = (&objects.store, objects.id("c"));
-    for (path, kind, id) in [A_B, A_X, A0, F] {
-        let id = Id::from_hex(id.as_bytes())?;
-        let path = Path::parse(alloc, path.as_bytes())?;
-        assert_eq!(rt;
-            store.lookup(commit, &path),
-            Ok(Some((kind, id))),
-            "at {path:?}"
+    for (path, kind, id) in &[A_B, A_X, A0, F] {
+        let wanted = Some((*kind, id_of(id)?));
+        assert!(rt;
+            found(alloc, store, commit, path)? == Ok(wanted),
+            "at {path}"
         );
     }
-    for path in ["a", "a-b/x", "a/y", "d/e", "d/e/f/g", "x", "z"] {
-        let path = Path::parse(alloc, path.as_bytes())?;
-        assert_eq!(rt; store.lookup(commit, &path), Ok(None), "at {path:?}");
+    for path in &NO_FILE {
+        assert!(rt; found(alloc, store, commit, path)? == Ok(None), "at {path}");
     }
-    let two = Id::from_hex(A_X.2.as_bytes())?;
-    assert_eq!(rt; store.blob(two), Some(b"two\n".as_slice()));
-    assert_eq!(rt; store.blob(commit), None);
-    assert_eq!(rt; store.blob(Id::ZERO), None);
+    assert!(rt; blob(store, id_of(A_X.2)?) == Some(b"two\n".as_slice()));
+    assert!(rt; blob(store, commit).is_none());
+    assert!(rt; blob(store, Id::ZERO).is_none());
     Ok(())
 }
 
+/// The file at a path of a commit, if the commit and the store tell the same: `None` where there is no such commit.
+fn file_of<'a>(
+    store: &'a Store<GitNaming>,
+    id: Id,
+    path: &str,
+) -> Option<Option<(Kind, &'a [u8])>> {
+    let file = store.commit(id)?.file(path.as_bytes());
+    if file == store.commit_files(id).file(path.as_bytes()) {
+        return Some(file);
+    }
+    None
+}
+
+/// How many files a commit has below a path, and whether that is one at least.
+fn below(store: &Store<GitNaming>, id: Id, top: &str) -> Option<(usize, bool)> {
+    let commit = store.commit(id)?;
+    let top = top.as_bytes();
+    Some((commit.files_below(top), commit.has_below(top, 1)))
+}
+
+/// A path, and the file at it.
+const HELD: [(&str, Option<(Kind, &[u8])>); 10] = [
+    ("a-b", Some((Kind::Plain, b"one\n"))),
+    ("a/x", Some((Kind::Exec, b"two\n"))),
+    ("a0", Some((Kind::Link, b"a-b"))),
+    ("d/e/f", Some((Kind::Plain, b"three\n"))),
+    ("a", None),
+    ("a-b/x", None),
+    ("a/y", None),
+    ("d/e", None),
+    ("d/e/f/g", None),
+    ("x", None),
+];
+
+/// A path, and how many files stand below it.
+const COUNTS: [(&str, usize); 6] = [
+    ("a", 1),
+    ("d", 1),
+    ("d/e", 1),
+    ("a-b", 0),
+    ("d/e/f", 0),
+    ("x", 0),
+];
+
 #[test]
 fn a_commit_that_is_held_tells_its_files(rt: HostRuntime) -> Result<(), Fail> {
-    let alloc = rt.alloc();
-    let objects = Objects::of(alloc, FILES)?;
+    let objects = Objects::of(rt.alloc(), FILES)?;
     let (store, id) = (&objects.store, objects.id("c"));
-    let commit = store.commit(id).expect(&rt, "the commit");
-    for (path, kind, bytes) in [
-        ("a-b", Kind::Plain, "one\n"),
-        ("a/x", Kind::Exec, "two\n"),
-        ("a0", Kind::Link, "a-b"),
-        ("d/e/f", Kind::Plain, "three\n"),
-    ] {
-        let file = commit.file(path.as_bytes());
-        assert_eq!(rt; file, Some((kind, bytes.as_bytes())), "at {path}");
+    for (path, file) in &HELD {
+        assert!(rt; file_of(store, id, path) == Some(*file), "at {path}");
     }
-    for path in ["a", "a-b/x", "a/y", "d/e", "d/e/f/g", "x"] {
-        assert_eq!(rt; commit.file(path.as_bytes()), None, "at {path}");
-    }
-    for (top, files) in [
-        ("a", 1usize),
-        ("d", 1),
-        ("d/e", 1),
-        ("a-b", 0),
-        ("d/e/f", 0),
-        ("x", 0),
-    ] {
-        assert_eq!(rt; commit.files_below(top.as_bytes()), files, "below {top}");
-        assert_eq!(rt;
-            commit.has_below(top.as_bytes(), 1),
-            files == 1,
+    for (top, files) in &COUNTS {
+        assert!(rt;
+            below(store, id, top) == Some((*files, *files == 1)),
             "below {top}"
         );
     }
-    assert!(rt; store.commit(Id::ZERO).is_some());
-    assert!(rt; store.commit(Id([7; 20])).is_none());
-    assert_eq!(rt;
-        store.commit_files(Id([7; 20])).file(b"a-b".as_slice()),
-        None
-    );
-    assert_eq!(rt;
-        store.commit_files(id).file(b"a-b".as_slice()),
-        Some((Kind::Plain, b"one\n".as_slice()))
-    );
+    assert!(rt; file_of(store, Id::ZERO, "a-b") == Some(None));
+    assert!(rt; file_of(store, Id([7; 20]), "a-b").is_none());
+    let files = store.commit_files(Id([7; 20]));
+    assert!(rt; files.file(b"a-b".as_slice()).is_none());
     Ok(())
+}
+
+/// Why the files of a commit, all of them and those below `a`, are not listed.
+fn faults(
+    alloc: Global,
+    store: &Store<GitNaming>,
+    id: Id,
+) -> Result<(Option<CommitFault>, Option<CommitFault>), Fail> {
+    let filter = Filter::all(alloc);
+    let all = store.list(id, &filter).err();
+    let below = store.list_below(id, &path(alloc, "a")?, &filter).err();
+    Ok((all, below))
 }
 
 #[test]
 fn commits_are_told_from_other_objects(rt: HostRuntime) -> Result<(), Fail> {
     let alloc = rt.alloc();
     let objects = Objects::of(alloc, FILES)?;
-    let (store, commit) = (&objects.store, objects.id("c"));
-    let all = Filter::parse(alloc, &[])?;
-    let path = Path::parse(alloc, b"a".as_slice())?;
-    assert!(rt; store.has_commit(commit));
+    let store = &objects.store;
+    assert!(rt; store.has_commit(objects.id("c")));
     assert!(rt; store.has_commit(Id::ZERO));
-    assert!(rt; store.list(Id::ZERO, &all)?.is_empty());
-    assert!(rt; store.list_below(Id::ZERO, &path)?.is_empty());
-    assert_eq!(rt; store.lookup(Id::ZERO, &path), Ok(None));
-    for id in [Id::from_hex(A_B.2.as_bytes())?, Id([7; 20])] {
+    assert!(rt; store.list(Id::ZERO, &Filter::all(alloc))?.is_empty());
+    assert!(rt; listed_below(alloc, store, Id::ZERO, "a", &[])?.is_empty());
+    assert!(rt; found(alloc, store, Id::ZERO, "a")? == Ok(None));
+    let none = Some(CommitFault::NoCommit);
+    for id in [id_of(A_B.2)?, Id([7; 20])] {
         assert!(rt; !store.has_commit(id));
-        assert_eq!(rt; store.lookup(id, &path), Err(NoCommit));
-        assert!(rt; store.list(id, &all).err() == Some(CommitFault::NoCommit));
-        assert!(rt; store.list_below(id, &path).err() == Some(CommitFault::NoCommit));
+        assert!(rt; found(alloc, store, id, "a")? == Err(NoCommit));
+        assert!(rt; faults(alloc, store, id)? == (none, none));
     }
     Ok(())
 }
@@ -183,11 +246,14 @@ fn file_becomes_directory(rt: HostRuntime) -> Result<(), Fail> {
     let alloc = rt.alloc();
     let script = "blob x x;tree s 100644 b x;tree t 100644 a.b x 40000 a s;commit c t";
     let objects = Objects::of(alloc, script)?;
-    let below = objects
-        .store
-        .list_below(objects.id("c"), &path(alloc, "a")?)?;
-    let wanted = (path(alloc, "a/b")?, Kind::Plain, objects.id("x"));
-    assert!(rt; below.as_slice() == [wanted].as_slice());
+    let below = listed_below(alloc, &objects.store, objects.id("c"), "a", &[])?;
+    // The id that `git hash-object` gives the letter `x`.
+    let row = (
+        "a/b",
+        Kind::Plain,
+        "c1b0730e0133447badcfd47fd144e254807b06e1",
+    );
+    assert!(rt; has_rows(below.as_slice(), &[row]));
     Ok(())
 }
 
@@ -203,6 +269,20 @@ fn levels(alloc: Global, lowest: &str) -> Result<Objects, Fail> {
     Ok(objects)
 }
 
+/// A path of forty-one components, and the same bytes the other way round, of which the last component is the file's name.
+const DOWN: &str =
+    "a/a/b/a/b/a/b/a/b/a/b/a/b/a/b/a/b/a/b/a/b/a/b/a/b/a/b/a/b/a/b/a/b/a/b/a/b/a/b/a/b";
+
+const UP: &str =
+    "b/a/b/a/b/a/b/a/b/a/b/a/b/a/b/a/b/a/b/a/b/a/b/a/b/a/b/a/b/a/b/a/b/a/b/a/b/a/b/a/a";
+
+fn has_below(store: &Store<GitNaming>, commit: Id, top: &str, files: usize) -> bool {
+    store.has_below(commit, top.as_bytes(), files)
+}
+
+/// A pattern, and how many files it admits of the commit of many levels and of `x`.
+const ADMITTED: [(&str, usize); 4] = [("x", 1), ("?", 1), ("d/x", 0), ("*/*/b/f", 0)];
+
 // 2 to the 40 files, of which none is listed; those below each of the two names are counted at once. And a directory that no pattern enters
 // is not read.
 #[test]
@@ -210,28 +290,18 @@ fn shared_subtrees(rt: HostRuntime) -> Result<(), Fail> {
     let alloc = rt.alloc();
     let objects = levels(alloc, "tree t 100644 a x")?;
     let (store, commit, x) = (&objects.store, objects.id("c"), objects.id("x"));
-    let mut names = b"a".to_vec(alloc)?;
-    for level in 0..40u32 {
-        let name = if level % 2 == 0 { b"/a" } else { b"/b" };
-        names.extend_from_slice(name.as_slice())?;
-    }
-    let down = Path::parse(alloc, names.as_slice())?;
-    assert_eq!(rt; store.lookup(commit, &down)?, None);
-    // The other way round the last component is the file's name.
-    names.reverse();
-    let up = Path::parse(alloc, names.as_slice())?;
-    assert_eq!(rt; store.lookup(commit, &up)?, Some((Kind::Plain, x)));
+    assert!(rt; found(alloc, store, commit, DOWN)? == Ok(None));
+    assert!(rt; found(alloc, store, commit, UP)? == Ok(Some((Kind::Plain, x))));
     for (top, files) in [("a", 549_755_813_888_usize), ("b/a", 274_877_906_944)] {
-        assert!(rt; store.has_below(commit, top.as_bytes(), files), "{top}");
+        assert!(rt; has_below(store, commit, top, files), "{top}");
         assert!(rt;
-            !store.has_below(commit, top.as_bytes(), files.saturating_add(1)),
+            !has_below(store, commit, top, files.saturating_add(1)),
             "{top}"
         );
     }
-    for (pattern, wanted) in [("x", 1), ("?", 1), ("d/x", 0), ("*/*/b/f", 0)] {
-        let filter = Filter::parse(alloc, &[pattern.as_bytes()])?;
-        let listed = store.list(objects.id("d"), &filter)?;
-        assert_eq!(rt; listed.len(), wanted, "{pattern}");
+    for (pattern, wanted) in &ADMITTED {
+        let listed = listed(alloc, store, objects.id("d"), pattern.as_bytes())?;
+        assert!(rt; listed.len() == *wanted, "{pattern}");
         assert!(rt; listed.iter().all(|row| row.2 == x), "{pattern}");
     }
     Ok(())
@@ -243,7 +313,7 @@ fn empty_directories_hold_nothing(rt: HostRuntime) -> Result<(), Fail> {
     let alloc = rt.alloc();
     let objects = levels(alloc, "tree t")?;
     let (store, commit) = (&objects.store, objects.id("c"));
-    assert!(rt; !store.has_below(commit, b"a".as_slice(), 1));
-    assert_eq!(rt; store.list(commit, &Filter::all(alloc))?.len(), 0);
+    assert!(rt; !has_below(store, commit, "a", 1));
+    assert!(rt; store.list(commit, &Filter::all(alloc))?.is_empty());
     Ok(())
 }

@@ -1,22 +1,38 @@
+//! Objects that are put, and those that are refused: each fault, and which of two comes first.
+
 ghost use Rattle.std.specs.Prelude.{◌≡◌, ◌||◌, nat_eq, slice_index};
 
 use eden_ids::{GitNaming, Id, Naming};
-use eden_objects::{PutFault, Store};
+use eden_objects::{PutFault, Store, Word};
 use std::alloc::Global;
 use std::test::Fail;
 use test_kit::{FirstByte, Objects, commit_of, push_entry, tree_of};
 
-#[test]
-fn colliding_naming(rt: HostRuntime) -> Result<(), Fail> {
-    let mut store = Store::new(rt.alloc(), FirstByte);
-    let id = Id([b'a'; 20]);
-    assert_eq!(rt; store.put_blob(b"ab".as_slice()), Ok(id));
-    assert_eq!(rt; store.put_blob(b"ac".as_slice()), Err(PutFault::IdTaken));
-    assert_eq!(rt; store.put_blob(b"".as_slice()), Err(PutFault::ZeroId));
-    assert_eq!(rt; store.put_blob(b"ab".as_slice()), Ok(id));
+/// Puts an object of a kind.
+fn put<N: Naming + Drop>(store: &mut Store<N>, word: Word, payload: &[u8]) -> Result<Id, PutFault> {
+    match word {
+        Word::Blob => store.put_blob(payload),
+        Word::Tree => store.put_tree(payload),
+        Word::Commit => store.put_commit(payload),
+    }
+}
+
+/// Objects that are put one after another, and their ids or why they are refused.
+const COLLIDING: [(Word, &[u8], Result<Id, PutFault>); 5] = [
+    (Word::Blob, b"ab", Ok(Id([b'a'; 20]))),
+    (Word::Blob, b"ac", Err(PutFault::IdTaken)),
+    (Word::Blob, b"", Err(PutFault::ZeroId)),
+    (Word::Blob, b"ab", Ok(Id([b'a'; 20]))),
     // The empty tree's id is zero too, and another kind of object is another object.
-    assert_eq!(rt; store.put_tree(b"".as_slice()), Err(PutFault::ZeroId));
-    Ok(())
+    (Word::Tree, b"", Err(PutFault::ZeroId)),
+];
+
+#[test]
+fn colliding_naming(rt: HostRuntime) {
+    let mut store = Store::new(rt.alloc(), FirstByte);
+    for (row, (word, payload, answer)) in COLLIDING.iter().enumerate() {
+        assert!(rt; put(&mut store, *word, payload) == *answer, "row {row}");
+    }
 }
 
 #[test]
@@ -24,13 +40,13 @@ fn too_large_comes_first(rt: HostRuntime) -> Result<(), Fail> {
     let alloc = rt.alloc();
     let mut store = Store::new(alloc, FirstByte);
     let largest = vec![in alloc; b'a'; 8_388_608]?;
-    assert_eq!(rt; store.put_blob(largest.as_slice()), Ok(Id([b'a'; 20])));
-    let zeros = vec![in alloc; 0u8; 8_388_609]?;
-    let taken = vec![in alloc; b'a'; 8_388_609]?;
-    for payload in [zeros.as_slice(), taken.as_slice()] {
-        assert_eq!(rt; store.put_blob(payload), Err(PutFault::TooLarge));
-        assert_eq!(rt; store.put_tree(payload), Err(PutFault::TooLarge));
-        assert_eq!(rt; store.put_commit(payload), Err(PutFault::TooLarge));
+    assert!(rt; put(&mut store, Word::Blob, largest.as_slice()) == Ok(Id([b'a'; 20])));
+    for byte in [0, b'a'] {
+        let larger = vec![in alloc; byte; 8_388_609]?;
+        for word in &[Word::Blob, Word::Tree, Word::Commit] {
+            let answer = put(&mut store, *word, larger.as_slice());
+            assert!(rt; answer == Err(PutFault::TooLarge), "{word:?} of {byte}");
+        }
     }
     Ok(())
 }
@@ -38,78 +54,110 @@ fn too_large_comes_first(rt: HostRuntime) -> Result<(), Fail> {
 /// A blob, a tree of it and a commit of that tree.
 const SMALL: &str = "blob b x;tree t 100644 x b;commit c t";
 
+/// An entry of a tree: its mode, its name and the label of what it names.
+type Entry = (&'static str, &'static str, &'static str);
+
+/// The payload of a tree of these entries.
+fn entries_of(alloc: Global, objects: &Objects, entries: &[Entry]) -> Result<Vec<u8>, Fail> {
+    let mut payload = Vec::new(alloc);
+    for (mode, name, label) in entries {
+        push_entry(&mut payload, mode, name.as_bytes(), objects.id(label))?;
+    }
+    Ok(payload)
+}
+
+/// An executable file, a link and a directory: their entries end behind 31, 64 and 92 bytes.
+const WHOLE: [Entry; 3] = [
+    ("100755", "run", "b"),
+    ("120000", "there", "b"),
+    ("40000", "z", "t"),
+];
+
+/// Entries of trees that lack their last byte, and why they are refused. A bad mode or name is told before the end that comes too early,
+/// and that before what the entry names.
+const CUT: [(&[Entry], PutFault); 5] = [
+    (&[("160000", "a", "b")], PutFault::BadMode),
+    (&[("100644", "..", "b")], PutFault::BadName),
+    (
+        &[("100644", "b", "b"), ("100644", "b", "b")],
+        PutFault::CutShort,
+    ),
+    (
+        &[("100644", "b", "b"), ("100644", "a", "b")],
+        PutFault::CutShort,
+    ),
+    (&[("100644", "a", "missing")], PutFault::CutShort),
+];
+
 #[test]
 fn trees_cut_short(rt: HostRuntime) -> Result<(), Fail> {
     let alloc = rt.alloc();
     let mut objects = Objects::of(alloc, SMALL)?;
-    objects.put(alloc, "tree w 100755 run b 120000 there b 40000 z t")?;
-    let whole = objects
-        .store
-        .tree(objects.id("w"))
-        .unwrap_or(b"".as_slice());
-    let whole = whole.to_vec(alloc)?;
-    let borders = [0, 31, 64, 91];
-    for length in 0..whole.len() {
-        let cut = &whole[..length];
-        if !borders.contains(&length) {
-            let answer = objects.store.put_tree(cut);
-            assert_eq!(rt; answer, Err(PutFault::CutShort), "at {length}");
+    let whole = entries_of(alloc, &objects, &WHOLE)?;
+    assert!(rt; whole.len() == 92);
+    assert!(rt; put(&mut objects.store, Word::Tree, whole.as_slice()).is_ok());
+    for length in 1..whole.len() {
+        if length != 31 && length != 64 {
+            let answer = put(&mut objects.store, Word::Tree, &whole[..length]);
+            assert!(rt; answer == Err(PutFault::CutShort), "at {length}");
         }
     }
-    // A bad mode or name is told before the end that comes too early, and that before what the entry names.
-    let (b, missing) = (objects.id("b"), objects.id("missing"));
-    for (entries, fault) in [
-        ([("160000", "a", b)].as_slice(), PutFault::BadMode),
-        ([("100644", "..", b)].as_slice(), PutFault::BadName),
-        (
-            [("100644", "b", b), ("100644", "b", b)].as_slice(),
-            PutFault::CutShort,
-        ),
-        (
-            [("100644", "b", b), ("100644", "a", b)].as_slice(),
-            PutFault::CutShort,
-        ),
-        ([("100644", "a", missing)].as_slice(), PutFault::CutShort),
-    ] {
-        let payload = tree_of(alloc, entries)?;
+    for (entries, fault) in &CUT {
+        let payload = entries_of(alloc, &objects, entries)?;
         let cut = &payload[..payload.len().saturating_sub(1)];
-        assert_eq!(rt; objects.store.put_tree(cut), Err(fault));
+        let answer = put(&mut objects.store, Word::Tree, cut);
+        assert!(rt; answer == Err(*fault), "{entries:?}");
     }
-    let mode = objects.store.put_tree(b"160000 a".as_slice());
-    assert_eq!(rt; mode, Err(PutFault::BadMode));
+    let mode = put(&mut objects.store, Word::Tree, b"160000 a".as_slice());
+    assert!(rt; mode == Err(PutFault::BadMode));
     Ok(())
 }
+
+/// A place in a commit, and a byte that may not stand there.
+const BYTES: [(usize, u8); 5] = [(0, b'T'), (4, b'\t'), (5, b'A'), (44, b'g'), (45, b'\r')];
+
+/// Bytes with another one at a place.
+fn with_byte(bytes: &[u8], alloc: Global, place: usize, byte: u8) -> Result<Vec<u8>, Fail> {
+    let mut bytes = bytes.to_vec(alloc)?;
+    if let Some(slot) = bytes.get_mut(place) {
+        *slot = byte;
+    }
+    Ok(bytes)
+}
+
+/// What a commit names as its tree, and why it is refused. No object is the empty commit, so none is its tree.
+const NAMED: [(&str, PutFault); 4] = [
+    ("missing", PutFault::MissingChild),
+    ("empty", PutFault::MissingChild),
+    ("b", PutFault::WrongChildKind),
+    ("c", PutFault::WrongChildKind),
+];
 
 #[test]
 fn commit_refusals(rt: HostRuntime) -> Result<(), Fail> {
     let alloc = rt.alloc();
     let mut objects = Objects::of(alloc, SMALL)?;
     let whole = commit_of(alloc, objects.id("t"), "author a\n")?;
-    assert!(rt; objects.store.put_commit(whole.as_slice()).is_ok());
+    let store = &mut objects.store;
     for length in 0..46usize.min(whole.len()) {
-        let answer = objects.store.put_commit(&whole[..length]);
-        assert_eq!(rt; answer, Err(PutFault::CutShort));
+        let answer = put(store, Word::Commit, &whole[..length]);
+        assert!(rt; answer == Err(PutFault::CutShort), "at {length}");
     }
-    let first = &whole[..46.min(whole.len())];
-    assert!(rt; objects.store.put_commit(first).is_ok());
-    for (place, byte) in [(0, b'T'), (4, b'\t'), (5, b'A'), (44, b'g'), (45, b'\r')] {
-        let mut payload = whole.clone()?;
-        if let Some(slot) = payload.get_mut(place) {
-            *slot = byte;
-        }
-        let answer = objects.store.put_commit(payload.as_slice());
-        assert_eq!(rt; answer, Err(PutFault::BadCommit));
+    for length in [46.min(whole.len()), whole.len()] {
+        assert!(rt;
+            put(store, Word::Commit, &whole[..length]).is_ok(),
+            "at {length}"
+        );
     }
-    // No object is the empty commit, so none is its tree.
-    for (name, fault) in [
-        ("missing", PutFault::MissingChild),
-        ("empty", PutFault::MissingChild),
-        ("b", PutFault::WrongChildKind),
-        ("c", PutFault::WrongChildKind),
-    ] {
+    for (place, byte) in &BYTES {
+        let payload = with_byte(whole.as_slice(), alloc, *place, *byte)?;
+        let answer = put(store, Word::Commit, payload.as_slice());
+        assert!(rt; answer == Err(PutFault::BadCommit), "at {place}");
+    }
+    for (name, fault) in &NAMED {
         let payload = commit_of(alloc, objects.id(name), "")?;
-        let answer = objects.store.put_commit(payload.as_slice());
-        assert_eq!(rt; answer, Err(fault), "{name}");
+        let answer = put(&mut objects.store, Word::Commit, payload.as_slice());
+        assert!(rt; answer == Err(*fault), "{name}");
     }
     Ok(())
 }
@@ -144,16 +192,35 @@ impl Naming for Marked {
     }
 }
 
+/// A tree of one entry.
+fn only(alloc: Global, mode: &str, name: &[u8], id: Id) -> Result<Vec<u8>, Fail> {
+    let mut payload = Vec::new(alloc);
+    push_entry(&mut payload, mode, name, id)?;
+    Ok(payload)
+}
+
 /// A store with a blob, a tree of it, and the blob whose id has twenty bytes `Y`.
 fn marked_store(alloc: Global) -> Result<(Store<Marked>, Id, Id), Fail> {
     let mut store = Store::new(alloc, Marked);
-    let blob = store.put_blob(b"x".as_slice())?;
-    let tree = store.put_tree(tree_of(alloc, &[("100644", "x", blob)])?.as_slice())?;
-    let taken = store.put_blob(b"blob: Y".as_slice())?;
+    let blob = put(&mut store, Word::Blob, b"x".as_slice())?;
+    let payload = only(alloc, "100644", b"x".as_slice(), blob)?;
+    let tree = put(&mut store, Word::Tree, payload.as_slice())?;
+    let taken = put(&mut store, Word::Blob, b"blob: Y".as_slice())?;
     if taken == Id([b'Y'; 20]) {
         return Ok((store, blob, tree));
     }
     Err(Fail::new("the mark is not seen"))
+}
+
+/// Puts a tree whose only entry is a directory.
+fn put_above(
+    alloc: Global,
+    store: &mut Store<Marked>,
+    name: &[u8],
+    child: Id,
+) -> Result<Result<Id, PutFault>, Fail> {
+    let payload = only(alloc, "40000", name, child)?;
+    Ok(put(store, Word::Tree, payload.as_slice()))
 }
 
 /// Puts trees, each of which has the one before as its only entry, with this name.
@@ -166,9 +233,7 @@ fn nested(
 ) -> Result<Id, Fail> {
     let mut top = tree;
     for _ in 0..count {
-        let mut payload = Vec::new(alloc);
-        push_entry(&mut payload, "40000", name, top)?;
-        top = store.put_tree(payload.as_slice())?;
+        top = put_above(alloc, store, name, top)??;
     }
     Ok(top)
 }
@@ -180,53 +245,65 @@ fn fault_of(
     name: &[u8],
     child: Id,
 ) -> Result<Option<PutFault>, Fail> {
-    let mut payload = Vec::new(alloc);
-    push_entry(&mut payload, "40000", name, child)?;
-    Ok(store.put_tree(payload.as_slice()).err())
+    Ok(put_above(alloc, store, name, child)?.err())
+}
+
+/// Why no commit is put, with a mark behind its tree.
+fn fault_of_commit(
+    alloc: Global,
+    store: &mut Store<Marked>,
+    tree: Id,
+    mark: &str,
+) -> Result<Option<PutFault>, Fail> {
+    let payload = commit_of(alloc, tree, mark)?;
+    Ok(put(store, Word::Commit, payload.as_slice()).err())
 }
 
 #[test]
 fn deep_trees(rt: HostRuntime) -> Result<(), Fail> {
     let alloc = rt.alloc();
     let (mut store, _, tree) = marked_store(alloc)?;
+    let too_deep = Some(PutFault::TooDeep);
     let deepest = nested(alloc, &mut store, tree, 63, b"d".as_slice())?;
-    for name in ["d", "Z", "Y"] {
+    for name in &["d", "Z", "Y"] {
         let fault = fault_of(alloc, &mut store, name.as_bytes(), deepest)?;
-        assert_eq!(rt; fault, Some(PutFault::TooDeep), "{name}");
+        assert!(rt; fault == too_deep, "{name}");
     }
     // Sixty-four levels that reach 15 bytes for each component but the last, and one more that is too long too.
     let wide = nested(alloc, &mut store, tree, 63, b"ddddddddddddddd".as_slice())?;
-    let name = vec![in alloc; b'd'; 255]?;
-    let fault = fault_of(alloc, &mut store, name.as_slice(), wide)?;
-    assert_eq!(rt; fault, Some(PutFault::TooDeep));
+    assert!(rt; fault_of(alloc, &mut store, &[b'd'; 255], wide)? == too_deep);
     // A fault of an entry comes before the depth.
     let entries = [("40000", "d", deepest), ("100644", "e", Id([1; 20]))];
     let payload = tree_of(alloc, &entries)?;
-    assert_eq!(rt;
-        store.put_tree(payload.as_slice()),
-        Err(PutFault::MissingChild)
-    );
+    let answer = put(&mut store, Word::Tree, payload.as_slice());
+    assert!(rt; answer == Err(PutFault::MissingChild));
     Ok(())
+}
+
+/// How long a file's name is, and why the tree above three more is refused, as `d`, `Z` and `Y`.
+const LENGTHS: [(usize, [Option<PutFault>; 3]); 2] = [
+    (255, [Some(PutFault::PathTooLong); 3]),
+    (254, [None, Some(PutFault::ZeroId), Some(PutFault::IdTaken)]),
+];
+
+/// A store with three directories, one in another, each with a name of 255 bytes, above a file with a name of this length; and the top.
+fn long_store(alloc: Global, length: usize) -> Result<(Store<Marked>, Id), Fail> {
+    let (mut store, blob, _) = marked_store(alloc)?;
+    let name = vec![in alloc; b'f'; length]?;
+    let payload = only(alloc, "100644", name.as_slice(), blob)?;
+    let file = put(&mut store, Word::Tree, payload.as_slice())?;
+    let top = nested(alloc, &mut store, file, 3, &[b'd'; 255])?;
+    Ok((store, top))
 }
 
 #[test]
 fn long_paths(rt: HostRuntime) -> Result<(), Fail> {
     let alloc = rt.alloc();
-    let long = Some(PutFault::PathTooLong);
-    for (length, answers) in [
-        (255, [long, long, long]),
-        (254, [None, Some(PutFault::ZeroId), Some(PutFault::IdTaken)]),
-    ] {
-        let (mut store, blob, _) = marked_store(alloc)?;
-        let mut payload = Vec::new(alloc);
-        let name = vec![in alloc; b'f'; length]?;
-        push_entry(&mut payload, "100644", name.as_slice(), blob)?;
-        let file = store.put_tree(payload.as_slice())?;
-        let name = vec![in alloc; b'd'; 255]?;
-        let three = nested(alloc, &mut store, file, 3, name.as_slice())?;
-        for (name, answer) in ["d", "Z", "Y"].into_iter().zip(answers) {
-            let fault = fault_of(alloc, &mut store, name.as_bytes(), three)?;
-            assert_eq!(rt; fault, answer, "{name}");
+    for (length, answers) in &LENGTHS {
+        let (mut store, top) = long_store(alloc, *length)?;
+        for (name, answer) in ["d", "Z", "Y"].iter().zip(answers) {
+            let fault = fault_of(alloc, &mut store, name.as_bytes(), top)?;
+            assert!(rt; fault == *answer, "{name}");
         }
     }
     Ok(())
@@ -236,20 +313,20 @@ fn long_paths(rt: HostRuntime) -> Result<(), Fail> {
 fn what_is_named_comes_before_the_id(rt: HostRuntime) -> Result<(), Fail> {
     let alloc = rt.alloc();
     let (mut store, blob, tree) = marked_store(alloc)?;
-    for (mark, answer) in [("Z", PutFault::ZeroId), ("Y", PutFault::IdTaken)] {
+    for (mark, answer) in &[("Z", PutFault::ZeroId), ("Y", PutFault::IdTaken)] {
         for (child, fault) in [
             (Id([1; 20]), PutFault::MissingChild),
             (blob, PutFault::WrongChildKind),
-            (tree, answer),
+            (tree, *answer),
         ] {
-            let commit = commit_of(alloc, child, mark)?;
-            assert_eq!(rt; store.put_commit(commit.as_slice()), Err(fault));
-            let directory = fault_of(alloc, &mut store, mark.as_bytes(), child)?;
-            assert_eq!(rt; directory, Some(fault));
+            assert!(rt; fault_of_commit(alloc, &mut store, child, mark)? == Some(fault));
+            assert!(rt; fault_of(alloc, &mut store, mark.as_bytes(), child)? == Some(fault));
         }
-        assert_eq!(rt; store.put_commit(mark.as_bytes()), Err(PutFault::CutShort));
-        let bad = vec![in alloc; mark.as_bytes().first().copied().unwrap_or(b'Z'); 46]?;
-        assert_eq!(rt; store.put_commit(bad.as_slice()), Err(PutFault::BadCommit));
+        let short = put(&mut store, Word::Commit, mark.as_bytes());
+        assert!(rt; short == Err(PutFault::CutShort), "{mark}");
+        let bad = mark.repeat(alloc, 46)?;
+        let bad = put(&mut store, Word::Commit, bad.as_bytes());
+        assert!(rt; bad == Err(PutFault::BadCommit), "{mark}");
     }
     Ok(())
 }

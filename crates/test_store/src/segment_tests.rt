@@ -1,3 +1,5 @@
+//! The table that a store stands in: what it and copies of it keep while it grows, also where a growth is refused.
+
 use eden_ids::{GitNaming, Id, Naming, NoMemory};
 use eden_segments::{Share, Shared, Table};
 use std::alloc::{AllocError, Global};

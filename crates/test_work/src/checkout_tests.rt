@@ -1,3 +1,5 @@
+//! Checkouts by each rule: what they tell, and which files they leave.
+
 use crate::mounted::Mounted;
 use eden_checkout::plan;
 use eden_history::Mode;

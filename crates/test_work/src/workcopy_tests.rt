@@ -1,11 +1,14 @@
+//! Changes of a working copy, what is answered to them, and which paths it lists then.
+
 use crate::mounted::Mounted;
+use eden_globs::Filter;
 use eden_history::ChangeFault;
-use eden_ids::{Content, GitNaming, Id, Kind, Sequence};
+use eden_ids::{Content, GitNaming, Id, Kind, Path, Sequence};
 use eden_objects::{CommitFault, Store};
-use eden_workcopy::WorkCopy;
+use eden_workcopy::{WorkCopy, touched_law, woven};
 use std::alloc::Global;
 use std::test::Fail;
-use test_kit::{Objects, path};
+use test_kit::{Objects, path, plain, spaced};
 
 /// A change, what is answered to it, and then the paths of all files and the dirty ones.
 type Step = (
@@ -169,5 +172,62 @@ fn paths_set_unjudged(rt: HostRuntime) -> Result<(), Fail> {
     assert_eq!(rt; touched.len(), 2);
     assert!(rt; touched[0].1 && !touched[1].1);
     assert!(rt; WorkCopy::new(alloc, &store, Id([1; 20])).is_err());
+    Ok(())
+}
+
+/// A copy of the file at a path.
+fn copied(work: &WorkCopy, store: &Store<GitNaming>, path: &Path) -> Result<Option<Content>, Fail> {
+    Ok(work.over(store).file_copy(path)?)
+}
+
+#[test]
+fn files_are_copied_and_shifted(rt: HostRuntime) -> Result<(), Fail> {
+    let alloc = rt.alloc();
+    let store = Store::new(alloc, GitNaming);
+    let mut work = WorkCopy::new(alloc, &store, Id::ZERO)?;
+    let (old, new) = (path(alloc, "a")?, path(alloc, "b")?);
+    let file = Some(plain(alloc, "1")?);
+    work.set(old.copy()?, Content::copy_of(&file)?)?;
+    assert!(rt; copied(&work, &store, &old)? == file);
+    assert!(rt; copied(&work, &store, &new)?.is_none());
+    work.shift_file(&old, &new, plain(alloc, "1")?)?;
+    assert!(rt; copied(&work, &store, &old)?.is_none());
+    assert!(rt; copied(&work, &store, &new)? == file);
+    Ok(())
+}
+
+/// The paths that a pattern admits of the commit of a working copy and of what was changed over it, each with a space behind it.
+fn woven_paths(
+    alloc: Global,
+    store: &Store<GitNaming>,
+    work: &WorkCopy,
+    pattern: &str,
+) -> Result<Vec<u8>, Fail> {
+    touched_law();
+    let filter = Filter::parse(alloc, &[pattern.as_bytes()])?;
+    let rows = store.list(work.root(), &filter)?;
+    let touched = work.touched()?;
+    let paths = woven(alloc, rows, touched.as_slice(), &filter)?;
+    Ok(spaced(alloc, paths.as_slice())?)
+}
+
+// The commit has `a`, `a.b` and `d/x`; over it `a` is gone, and `b` and `d/y` are there.
+#[test]
+fn touched_paths_lie_over_a_commit(rt: HostRuntime) -> Result<(), Fail> {
+    let alloc = rt.alloc();
+    let script = "blob b 1;tree d 100644 x b;tree t 100644 a b 100644 a.b b 40000 d d;commit c t";
+    let objects = Objects::of(alloc, script)?;
+    let mut work = WorkCopy::new(alloc, &objects.store, objects.id("c"))?;
+    work.set(path(alloc, "a")?, None)?;
+    work.set(path(alloc, "b")?, Some(plain(alloc, "2")?))?;
+    work.set(path(alloc, "d/y")?, Some(plain(alloc, "2")?))?;
+    for (pattern, wanted) in &[
+        ("**", "a.b b d/x d/y "),
+        ("*", "a.b b "),
+        ("d/*", "d/x d/y "),
+    ] {
+        let paths = woven_paths(alloc, &objects.store, &work, pattern)?;
+        assert!(rt; paths.as_slice() == wanted.as_bytes(), "{pattern}");
+    }
     Ok(())
 }

@@ -44,7 +44,13 @@ fn requests_have_their_lengths(rt: HostRuntime) -> Result<(), Fail> {
     };
     assert_eq!(rt; basis.copy()?.body_len(), 0x1b);
     assert_eq!(rt; poll.copy()?.body_len(), 0x3f);
+    let list = Request::List {
+        query,
+        prefix: path(alloc, "d")?,
+        filter: Filter::all(alloc),
+    };
     assert_eq!(rt; fetch.copy()?.body_len(), 0x1d);
+    assert_eq!(rt; list.copy()?.body_len(), 0x1e);
     Ok(())
 }
 
@@ -63,8 +69,9 @@ fn replies_have_their_lengths(rt: HostRuntime) -> Result<(), Fail> {
         query,
         target: position,
         marked: Sequence::new(alloc),
+        prefixes: Sequence::new(alloc),
     };
-    replies.push((changes, 0x42))?;
+    replies.push((changes, 0x46))?;
     let content = Reply::ContentIs {
         query,
         position,
@@ -77,6 +84,13 @@ fn replies_have_their_lengths(rt: HostRuntime) -> Result<(), Fail> {
         cause: Cause::of(SinceFault::Ahead(1))?,
     };
     replies.push((ahead, 0x23))?;
+    let list = Reply::ListIs {
+        query,
+        position,
+        prefix: path(alloc, "d")?,
+        paths: Sequence::new(alloc),
+    };
+    replies.push((list, 0x45))?;
     for (reply, len) in replies.iter() {
         assert_eq!(rt; reply.body_len(), Some(*len));
         assert!(rt; reply.copy()?.bounded(query) == *reply);

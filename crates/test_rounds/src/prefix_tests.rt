@@ -1,0 +1,172 @@
+//! Rounds that await what stands below directories, by replies made by hand.
+
+use crate::daemon::{Pair, Step, opened_world, path};
+use crate::wanted::{Said, query};
+use eden_globs::Filter;
+use eden_ids::GitNaming;
+use eden_messages::{Cause, Outcome, Request};
+use eden_world::World;
+use std::alloc::Global;
+use std::test::Fail;
+
+/// A mirror is placed at 7/3, and has some files below `d`, one beside it, and none below `e`.
+const PLACED: [Step; 5] = [
+    Step::Begin,
+    Step::Comes(
+        Said::Basis(1, (7, 3), &["d.x", "d/x", "d/y"]),
+        Outcome::Taken,
+    ),
+    Step::Comes(Said::Content(1, (7, 3), "d.x", "0"), Outcome::Taken),
+    Step::Comes(Said::Content(1, (7, 3), "d/x", "1"), Outcome::Taken),
+    Step::Comes(Said::Content(1, (7, 3), "d/y", "2"), Outcome::Placed),
+];
+
+/// In its second round it is told that files were moved between `d` and `e`.
+const MOVED: [Step; 2] = [
+    Step::Begin,
+    Step::Comes(Said::Moved(2, (7, 4), &["d", "e"]), Outcome::Taken),
+];
+
+/// That mirror, placed.
+fn placed(alloc: Global) -> Result<Pair<World<GitNaming>>, Fail> {
+    let mut pair = Pair::new(alloc, opened_world(alloc)?);
+    pair.goes(&PLACED)?;
+    Ok(pair)
+}
+
+/// That mirror, which was told that files were moved.
+fn told(alloc: Global) -> Result<Pair<World<GitNaming>>, Fail> {
+    let mut pair = placed(alloc)?;
+    pair.goes(&MOVED)?;
+    Ok(pair)
+}
+
+/// Whether these lists are outstanding in the second round, and then these contents.
+fn is_outstanding(
+    pair: &Pair<World<GitNaming>>,
+    prefixes: &[&str],
+    paths: &[&str],
+) -> Result<bool, Fail> {
+    let (alloc, query) = (pair.alloc, query(2));
+    let mut wanted = Vec::new(alloc);
+    for name in prefixes {
+        wanted.push(Request::List {
+            query,
+            prefix: path(alloc, name)?,
+            filter: Filter::all(alloc),
+        })?;
+    }
+    for name in paths {
+        wanted.push(Request::Fetch {
+            query,
+            path: path(alloc, name)?,
+        })?;
+    }
+    Ok(pair.mirror.outstanding()?.as_slice() == wanted.as_slice())
+}
+
+#[test]
+fn lists_in_a_round(rt: HostRuntime) -> Result<(), Fail> {
+    let mut pair = told(rt.alloc())?;
+    assert!(rt; is_outstanding(&pair, &["d", "e"], &[])?);
+    pair.goes(&[
+        Step::Comes(Said::Listed(2, (7, 4), "d", &[]), Outcome::Taken),
+        Step::Holds(Some((7, 3)), &[("d.x", "0")]),
+    ])?;
+    assert!(rt; is_outstanding(&pair, &["e"], &[])?);
+    pair.goes(&[Step::Comes(
+        Said::Listed(2, (7, 5), "e", &["e/x", "e/y"]),
+        Outcome::Taken,
+    )])?;
+    assert!(rt; is_outstanding(&pair, &[], &["e/x", "e/y"])?);
+    pair.goes(&[
+        Step::Comes(Said::Content(2, (7, 4), "e/x", "1"), Outcome::Taken),
+        Step::Comes(Said::Content(2, (7, 5), "e/y", "2"), Outcome::Placed),
+        Step::Holds(Some((7, 4)), &[("d.x", "0"), ("e/x", "1"), ("e/y", "2")]),
+    ])
+}
+
+// The last reply that is awaited is a list; and a path that is listed again is asked again.
+#[test]
+fn listed_again(rt: HostRuntime) -> Result<(), Fail> {
+    let mut pair = told(rt.alloc())?;
+    pair.goes(&[
+        Step::Comes(Said::Listed(2, (7, 4), "d", &["d/y"]), Outcome::Taken),
+        Step::Holds(Some((7, 3)), &[("d.x", "0"), ("d/y", "2")]),
+    ])?;
+    assert!(rt; is_outstanding(&pair, &["e"], &["d/y"])?);
+    pair.goes(&[
+        Step::Comes(Said::Content(2, (7, 4), "d/y", "3"), Outcome::Taken),
+        Step::Comes(Said::Content(2, (7, 4), "d/y", "4"), Outcome::Ignored),
+        Step::Comes(Said::Listed(2, (7, 4), "e", &[]), Outcome::Placed),
+        Step::Holds(Some((7, 4)), &[("d.x", "0"), ("d/y", "3")]),
+    ])
+}
+
+// A directory within another one: what is below both is awaited once, and again where its content has come before it is listed.
+#[test]
+fn a_directory_in_a_directory(rt: HostRuntime) -> Result<(), Fail> {
+    let mut pair = placed(rt.alloc())?;
+    pair.goes(&[
+        Step::Begin,
+        Step::Comes(Said::Moved(2, (7, 4), &["a", "a/b", "d"]), Outcome::Taken),
+        Step::Comes(Said::Listed(2, (7, 4), "d", &[]), Outcome::Taken),
+        Step::Comes(
+            Said::Listed(2, (7, 4), "a", &["a/b/x", "a/y"]),
+            Outcome::Taken,
+        ),
+        Step::Comes(Said::Content(2, (7, 4), "a/b/x", "1"), Outcome::Taken),
+    ])?;
+    assert!(rt; is_outstanding(&pair, &["a/b"], &["a/y"])?);
+    pair.goes(&[Step::Comes(Said::Listed(2, (7, 4), "a/b", &["a/b/x"]), Outcome::Taken)])?;
+    assert!(rt; is_outstanding(&pair, &[], &["a/y", "a/b/x"])?);
+    pair.goes(&[
+        Step::Comes(Said::Content(2, (7, 4), "a/b/x", "2"), Outcome::Taken),
+        Step::Comes(Said::Content(2, (7, 4), "a/y", "3"), Outcome::Placed),
+        Step::Holds(Some((7, 4)), &[("a/b/x", "2"), ("a/y", "3"), ("d.x", "0")]),
+    ])
+}
+
+#[test]
+fn a_list_that_is_too_large(rt: HostRuntime) -> Result<(), Fail> {
+    let mut pair = told(rt.alloc())?;
+    let files = &[("d.x", "0"), ("d/x", "1"), ("d/y", "2")];
+    pair.goes(&[
+        Step::Comes(Said::Refused(1, Cause::TooLarge), Outcome::Ignored),
+        Step::Comes(Said::Refused(2, Cause::Truncated(9)), Outcome::Ignored),
+        Step::Comes(Said::Refused(2, Cause::TooLarge), Outcome::Ended),
+        Step::Asks(&[]),
+        Step::Holds(Some((7, 3)), files),
+        Step::Comes(Said::Listed(2, (7, 4), "d", &[]), Outcome::Ignored),
+        Step::Comes(Said::Refused(2, Cause::TooLarge), Outcome::Ignored),
+        Step::Holds(Some((7, 3)), files),
+    ])
+}
+
+// Once the directories are listed, such a refusal answers nothing that is awaited.
+#[test]
+fn too_large_after_the_lists(rt: HostRuntime) -> Result<(), Fail> {
+    let mut pair = told(rt.alloc())?;
+    pair.goes(&[
+        Step::Comes(Said::Listed(2, (7, 4), "d", &[]), Outcome::Taken),
+        Step::Comes(Said::Listed(2, (7, 4), "e", &["e/x"]), Outcome::Taken),
+        Step::Comes(Said::Refused(2, Cause::TooLarge), Outcome::Ignored),
+        Step::Comes(Said::Content(2, (7, 4), "e/x", "1"), Outcome::Placed),
+        Step::Holds(Some((7, 4)), &[("d.x", "0"), ("e/x", "1")]),
+    ])
+}
+
+// A round that is begun anew ignores the lists of the one before.
+#[test]
+fn given_up_with_a_list_outstanding(rt: HostRuntime) -> Result<(), Fail> {
+    let mut pair = told(rt.alloc())?;
+    pair.goes(&[
+        Step::Comes(Said::Listed(2, (7, 4), "d", &[]), Outcome::Taken),
+        Step::Begin,
+        Step::Comes(Said::Listed(2, (7, 4), "e", &["e/x"]), Outcome::Ignored),
+        Step::Comes(Said::Moved(3, (7, 5), &["d", "e"]), Outcome::Taken),
+        Step::Comes(Said::Listed(3, (7, 5), "e", &[]), Outcome::Taken),
+        Step::Comes(Said::Listed(3, (7, 5), "d", &[]), Outcome::Placed),
+        Step::Holds(Some((7, 5)), &[("d.x", "0")]),
+    ])
+}
