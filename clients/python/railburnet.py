@@ -1,12 +1,13 @@
 #!/usr/bin/env python3
 """A client of a Railburnet mount: what changed since a position, what files there are, and a mirror that follows.
 
-It speaks frames of version 1, as docs/formats.md says them, over TCP, and needs Python 3.9 and nothing else. Paths, patterns and contents are
+It speaks frames of version 2, as docs/formats.md says them, over TCP, and needs Python 3.9 and nothing else. Paths, patterns and contents are
 bytes. As a library:
 
     client = Client(port=7777)
     basis = client.basis([b"src/**"])                     # which files there are, and the position of that answer
     changes = client.since(basis.position, [b"src/**"])   # what changed since; PositionRefused where that can't be told
+    client.below(b"src", [b"src/**"])                     # which files there are below one of changes.prefixes, where any may have changed
     files = FileMap()
     mirror = Mirror([b"src/**"], files=files)
     while client.round(mirror) is not Outcome.PLACED:     # rounds until the mirror has a position
@@ -33,6 +34,7 @@ from contextlib import contextmanager
 from dataclasses import dataclass
 from typing import Callable, Dict, Iterable, Iterator, List, NamedTuple, Optional, Protocol, Sequence, Set, Tuple, Union
 
+VERSION = 2
 MOST_BODY = 16_777_216
 MOST_CONTENT = 8_388_608
 MOST_NUMBER = 2**64 - 1
@@ -119,6 +121,15 @@ class Fetch:
 
 
 @dataclass(frozen=True)
+class Below:
+    """Which paths below a directory hold a file? (The frame List.)"""
+
+    query: Query
+    prefix: bytes
+    patterns: Tuple[bytes, ...] = ()
+
+
+@dataclass(frozen=True)
 class BasisIs:
     """These paths hold a file, at this position."""
 
@@ -129,11 +140,12 @@ class BasisIs:
 
 @dataclass(frozen=True)
 class ChangesAre:
-    """These paths changed, up to this position."""
+    """These paths changed, and what stands below these directories, up to this position."""
 
     query: Query
     position: Position
     marked: List[Tuple[Mark, bytes]]
+    prefixes: List[bytes]
 
 
 @dataclass(frozen=True)
@@ -155,8 +167,18 @@ class Refused:
     value: int
 
 
-Request = Union[Basis, Poll, Fetch]
-Reply = Union[BasisIs, ChangesAre, ContentIs, Refused]
+@dataclass(frozen=True)
+class ListIs:
+    """These paths below the directory hold a file, at this position."""
+
+    query: Query
+    position: Position
+    prefix: bytes
+    paths: List[bytes]
+
+
+Request = Union[Basis, Poll, Fetch, Below]
+Reply = Union[BasisIs, ChangesAre, ContentIs, Refused, ListIs]
 
 
 class FrameFault(Exception):
@@ -198,6 +220,11 @@ def path_fault(path: bytes) -> Optional[str]:
     return "TooDeep" if len(parts) > 64 else None
 
 
+def lies_below(path: bytes, prefix: bytes) -> bool:
+    """Whether a path lies below a directory."""
+    return path.startswith(prefix + b"/")
+
+
 def patterns_fault(patterns: Sequence[bytes]) -> Optional[str]:
     """Why patterns are no filter, or None. A mount ends the connection at such a filter and answers nothing."""
     if len(patterns) > 32:
@@ -227,7 +254,17 @@ _QUERY = struct.Struct(">BBQQQ")
 _POSITION = struct.Struct(">QQ20s")
 
 
-def _spelled_patterns(patterns: Sequence[bytes]) -> bytes:
+def _checked_path(path: bytes) -> bytes:
+    fault = path_fault(path)
+    if fault:
+        raise ValueError(fault)
+    return struct.pack(">H", len(path)) + path
+
+
+def _checked_patterns(patterns: Sequence[bytes]) -> bytes:
+    fault = patterns_fault(patterns)
+    if fault:
+        raise ValueError(fault)
     return bytes([len(patterns)]) + b"".join(struct.pack(">H", len(p)) + p for p in patterns)
 
 
@@ -238,16 +275,15 @@ def _spelled_position(position: Position) -> bytes:
 def encode_request(request: Request) -> bytes:
     """The frame of a request. ValueError where a path or a filter is none."""
     if isinstance(request, Fetch):
-        fault, tag = path_fault(request.path), 3
-        fields = struct.pack(">H", len(request.path) & 0xFFFF) + request.path
+        tag, fields = 3, _checked_path(request.path)
+    elif isinstance(request, Below):
+        tag, fields = 4, _checked_path(request.prefix) + _checked_patterns(request.patterns)
+    elif isinstance(request, Poll):
+        tag, fields = 2, _spelled_position(request.since) + _checked_patterns(request.patterns)
     else:
-        fault = patterns_fault(request.patterns)
-        tag, since = (2, _spelled_position(request.since)) if isinstance(request, Poll) else (1, b"")
-        fields = since + _spelled_patterns(request.patterns) if not fault else b""
-    if fault:
-        raise ValueError(fault)
+        tag, fields = 1, _checked_patterns(request.patterns)
     query = request.query
-    body = _QUERY.pack(1, tag, query.mirror, query.life, query.number) + fields
+    body = _QUERY.pack(VERSION, tag, query.mirror, query.life, query.number) + fields
     return struct.pack(">I", len(body)) + body
 
 
@@ -279,6 +315,19 @@ class _Fields:
         if path_fault(path):
             raise FrameFault("BadField")
         return path
+
+    def plain_paths(self) -> List[bytes]:
+        """A list of paths."""
+        return [path for _, path in self.paths(lambda: 0)]
+
+    def paths_below(self, prefix: bytes) -> List[bytes]:
+        """A list of paths, each of which has to lie below a directory."""
+        paths = []
+        for _, path in self.paths(lambda: 0):
+            if not lies_below(path, prefix):
+                raise FrameFault("BadField")
+            paths.append(path)
+        return paths
 
     def paths(self, first: Callable[[], int]) -> Iterator[Tuple[int, bytes]]:
         """A list of paths, each behind what `first` reads."""
@@ -315,20 +364,24 @@ class _Fields:
         return Refused(query, cause, value)
 
     def reply(self) -> Reply:
-        if self.number(1) != 1:
+        if self.number(1) != VERSION:
             raise FrameFault("Version")
         tag = self.number(1)
-        if not 0x81 <= tag <= 0x84:
+        if not 0x81 <= tag <= 0x85:
             raise FrameFault("BadTag")
         query = Query(self.number(8), self.number(8), self.number(8))
+        if tag == 0x84:
+            return self.refused(query)
+        position = self.position()
         if tag == 0x81:
-            return BasisIs(query, self.position(), [path for _, path in self.paths(lambda: 0)])
+            return BasisIs(query, position, self.plain_paths())
         if tag == 0x82:
-            position = self.position()
-            return ChangesAre(query, position, [(Mark(m), path) for m, path in self.paths(lambda: self.one_of(Mark))])
+            marked = [(Mark(m), path) for m, path in self.paths(lambda: self.one_of(Mark))]
+            return ChangesAre(query, position, marked, self.plain_paths())
+        path = self.path()
         if tag == 0x83:
-            return ContentIs(query, self.position(), self.path(), self.file())
-        return self.refused(query)
+            return ContentIs(query, position, path, self.file())
+        return ListIs(query, position, path, self.paths_below(path))
 
 
 def decode_reply(body: bytes) -> Reply:
@@ -356,13 +409,16 @@ class FrameReader:
         if self._held < self._wanted():
             return
         text, at = b"".join(self._parts), 0
-        while len(text) - at >= 4:
-            end = at + 4 + self._length(text[at : at + 4])
-            if end > len(text):
-                break
-            yield text[at + 4 : end]
-            at = end
-        self._parts, self._held = [text[at:]], len(text) - at
+        try:
+            while len(text) - at >= 4:
+                start, end = at + 4, at + 4 + self._length(text[at : at + 4])
+                if end > len(text):
+                    break
+                at = end
+                yield text[start:end]
+        finally:
+            # Also where no more bodies are taken: one that was given comes once.
+            self._parts, self._held = [text[at:]], len(text) - at
 
     def _wanted(self) -> int:
         """How many bytes the first frame has, as far as that is known."""
@@ -388,7 +444,7 @@ class Outcome(enum.Enum):
     TAKEN = "it counted, and the round goes on"
     PLACED = "the round is over, and the mirror has moved to its position"
     UNPLACED = "the position is refused: the next round asks for a basis"
-    ENDED = "the list doesn't fit into a frame: the round is over"
+    ENDED = "a list doesn't fit into a frame: the round is over"
 
 
 class Files(Protocol):
@@ -397,6 +453,9 @@ class Files(Protocol):
     def clear(self) -> None:
         """Holds none any more."""
 
+    def keep_below(self, prefix: bytes, paths: Sequence[bytes]) -> None:
+        """Of the files below a directory holds only those at these paths any more."""
+
     def put(self, path: bytes, file: Optional[File]) -> None:
         """Sets what stands at a path; None where no file does."""
 
@@ -404,12 +463,23 @@ class Files(Protocol):
 class FileMap(Dict[bytes, File]):
     """Files that are kept in memory."""
 
+    def keep_below(self, prefix: bytes, paths: Sequence[bytes]) -> None:
+        """Drops the files below a directory but those at these paths."""
+        for path in _left_out(self, prefix, paths):
+            del self[path]
+
     def put(self, path: bytes, file: Optional[File]) -> None:
         """Sets what stands at a path."""
         if file is None:
             self.pop(path, None)
         else:
             self[path] = file
+
+
+def _left_out(held: Iterable[bytes], prefix: bytes, paths: Sequence[bytes]) -> List[bytes]:
+    """The held paths below a directory that aren't among the listed ones."""
+    listed = set(paths)
+    return [path for path in held if lies_below(path, prefix) and path not in listed]
 
 
 class Mirror:
@@ -429,9 +499,11 @@ class Mirror:
         self.number = 0
         self.position: Optional[Position] = None
         self.listed: List[Tuple[Optional[Mark], bytes]] = []
+        self.prefixes: List[bytes] = []
         self._asked: Optional[Request] = None
         self._target: Optional[Position] = None
         self._awaited: Dict[bytes, None] = {}
+        self._unlisted: Dict[bytes, None] = {}
 
     def begin(self) -> None:
         """Begins a round, and gives up the one that there may be."""
@@ -439,7 +511,7 @@ class Mirror:
             raise OverflowError("a mirror has no number left: take a greater life")
         self.number += 1
         query = Query(self.mirror, self.life, self.number)
-        self._target, self._awaited = None, {}
+        self._target, self._awaited, self._unlisted = None, {}, {}
         if self.position is None:
             self._asked = Basis(query, self.patterns)
         else:
@@ -450,12 +522,12 @@ class Mirror:
         if self._asked is not None:
             return [self._asked]
         query = Query(self.mirror, self.life, self.number)
-        return [Fetch(query, path) for path in self._awaited]
+        return [*(Below(query, prefix, self.patterns) for prefix in self._unlisted), *(Fetch(query, path) for path in self._awaited)]
 
     @property
     def awaited(self) -> int:
-        """How many contents are awaited."""
-        return len(self._awaited)
+        """How many contents are awaited, and lists of what stands below a directory."""
+        return len(self._awaited) + len(self._unlisted)
 
     def deliver(self, reply: Reply) -> Outcome:
         """Takes a reply where it belongs to the round."""
@@ -463,7 +535,9 @@ class Mirror:
             return Outcome.IGNORED
         if isinstance(reply, ContentIs):
             return self._content(reply)
-        if self._asked is None:
+        if isinstance(reply, ListIs):
+            return self._listed(reply)
+        if self._asked is None and not (isinstance(reply, Refused) and reply.cause is Cause.TOO_LARGE and self._unlisted):
             return Outcome.IGNORED
         if isinstance(reply, Refused):
             return self._refused(reply)
@@ -475,33 +549,45 @@ class Mirror:
         if isinstance(reply, BasisIs):
             self.files.clear()
             self.position = None
-            self.listed = [(None, path) for path in reply.paths]
+            self.listed, self.prefixes = [(None, path) for path in reply.paths], []
         else:
-            self.listed = list(reply.marked)
+            self.listed, self.prefixes = list(reply.marked), list(reply.prefixes)
         self._asked, self._target = None, reply.position
-        self._awaited = dict.fromkeys(path for _, path in self.listed)
+        self._awaited, self._unlisted = dict.fromkeys(path for _, path in self.listed), dict.fromkeys(self.prefixes)
         return self._moved()
 
     def _content(self, reply: ContentIs) -> Outcome:
-        target = self._target
-        if target is None or reply.path not in self._awaited:
-            return Outcome.IGNORED
-        if reply.position.generation != target.generation or reply.position.sequence < target.sequence:
+        if reply.path not in self._awaited or not self._is_new(reply.position):
             return Outcome.IGNORED
         self.files.put(reply.path, reply.file)
         del self._awaited[reply.path]
         return self._moved()
 
+    def _listed(self, reply: ListIs) -> Outcome:
+        """What isn't listed below the directory is gone, and what is becomes awaited."""
+        if reply.prefix not in self._unlisted or not self._is_new(reply.position):
+            return Outcome.IGNORED
+        self.files.keep_below(reply.prefix, reply.paths)
+        self.listed += [(None, path) for path in reply.paths if path not in self._awaited]
+        self._awaited.update(dict.fromkeys(reply.paths))
+        del self._unlisted[reply.prefix]
+        return self._moved()
+
+    def _is_new(self, position: Position) -> bool:
+        """Whether what stands somewhere at a position serves a round that leads to its target."""
+        target = self._target
+        return target is not None and position.generation == target.generation and position.sequence >= target.sequence
+
     def _moved(self) -> Outcome:
         """Moves to the list's position where nothing is awaited."""
-        if self._awaited:
+        if self._awaited or self._unlisted:
             return Outcome.TAKEN
         self.position, self._target = self._target, None
         return Outcome.PLACED
 
     def _refused(self, reply: Refused) -> Outcome:
         if reply.cause is Cause.TOO_LARGE:
-            self._asked = None
+            self._asked, self._target, self._awaited, self._unlisted = None, None, {}, {}
             return Outcome.ENDED
         self._asked = self.position = None
         return Outcome.UNPLACED
@@ -625,6 +711,14 @@ class Client:
         assert isinstance(reply, ContentIs) and reply.path == path
         return reply
 
+    def below(self, prefix: bytes, patterns: Iterable[bytes] = ()) -> ListIs:
+        """The paths of the files below a directory that the patterns admit. TooLarge where they don't fit into a frame."""
+        reply = self._ask(Below(self._query(), prefix, tuple(patterns)))
+        if isinstance(reply, Refused):
+            raise TooLarge()
+        assert isinstance(reply, ListIs) and reply.prefix == prefix
+        return reply
+
     def round(self, mirror: Mirror) -> Outcome:
         """One round of a mirror. IGNORED where no reply counted any more, since the mount was begun anew meanwhile: begin another."""
         mirror.begin()
@@ -693,23 +787,29 @@ class Changes:
     def next(self) -> List[Tuple[Optional[Mark], bytes]]:
         """What changed since the last call; the first call gives all files that there are, without marks.
 
-        Where the mount can't tell what changed, every path that there was or is may have, and is given without a mark; `refused` says why
-        until the next call.
+        Where files were moved from one directory to another, every path below these that there was or is may have changed, and is given
+        without a mark unless it has one. Where the mount can't tell what changed, so is every path; `refused` says why until the next call.
         """
         self.refused = None
         if self.position is not None:
             try:
                 reply = self._client.since(self.position, self._patterns)
+                below = [path for prefix in reply.prefixes for path in self._below(prefix)]
             except (PositionRefused, TooLarge) as refusal:
                 self.refused, self.position = str(refusal) or "TOO_LARGE", None
             else:
                 self.position = reply.position
-                self._known.update(dict.fromkeys(path for _, path in reply.marked))
-                return list(reply.marked)
+                marks: Dict[bytes, Optional[Mark]] = {**dict.fromkeys(below), **{path: mark for mark, path in reply.marked}}
+                self._known.update(dict.fromkeys(marks))
+                return [(marks[path], path) for path in sorted(marks)]
         basis = self._client.basis(self._patterns)
         self.position = basis.position
         before, self._known = self._known, dict.fromkeys(basis.paths)
         return [(None, path) for path in sorted({*before, *basis.paths})]
+
+    def _below(self, prefix: bytes) -> List[bytes]:
+        """The paths below a directory that there were or are."""
+        return [*(path for path in self._known if lies_below(path, prefix)), *self._client.below(prefix, self._patterns).paths]
 
 
 # A mirror in a real directory.
@@ -768,6 +868,11 @@ class Folder:
         for name in self._staged.values():
             self._drop(name)
         self._staged, self._clear = {}, True
+
+    def keep_below(self, prefix: bytes, paths: Sequence[bytes]) -> None:
+        """Of the files below a directory only those at these paths are to stand, from the next `place` on."""
+        for path in _left_out({**self._made, **self._staged}, prefix, paths):
+            self.put(path, None)
 
     def put(self, path: bytes, file: Optional[File]) -> None:
         """What is to stand at a path, from the next `place` on."""
@@ -1024,6 +1129,10 @@ def _since(client: Client, options: argparse.Namespace) -> int:
     if not options.null:
         _print_words("changes", str(len(changes.marked)), "to", str(changes.position))
     _print_paths(((mark.name.capitalize(), path) for mark, path in changes.marked), options.null)
+    if changes.prefixes:
+        if not options.null:
+            _print_words("prefixes", str(len(changes.prefixes)))
+        _print_paths(((None, prefix) for prefix in changes.prefixes), options.null)
     return 0
 
 
@@ -1144,14 +1253,16 @@ def _parser() -> argparse.ArgumentParser:
         return below
 
     since = kind("since", _since, "what changed since a position",
-                 "Prints `changes N to GENERATION SEQUENCE ROOT`, and a line MARK PATH for each path.")
+                 "Prints `changes N to GENERATION SEQUENCE ROOT`, and a line MARK PATH for each path; where directories were moved `prefixes N` "
+                 "too, and a line for each: below it any path may have changed.")
     since.add_argument("generation", type=_number, metavar="GENERATION")
     since.add_argument("sequence", type=_number, metavar="SEQUENCE")
     listed = kind("list", _list, "which files there are", "Prints the position, `at GENERATION SEQUENCE ROOT`, `files N`, and a line for each path.")
     cat = kind("cat", _cat, "what a file holds", "Prints its bytes, or the target of a link.")
     cat.add_argument("path", metavar="PATH")
     follow = kind("follow", _follow, "follows the mount", "Prints a line `at GENERATION SEQUENCE ROOT` for each position that it comes to, and a "
-                  "line MARK PATH for each path that changed, at first File and each path; or, with --into, makes DIR equal to the mount.")
+                  "line MARK PATH for each path that changed, at first, and below directories that were moved, File and each path; or, with --into, "
+                  "makes DIR equal to the mount.")
     follow.add_argument("--into", metavar="DIR", help="keep DIR equal to the files: each is replaced as a whole, what this didn't make is left alone "
                         "and told, no link is followed; DIR/.railburnet is kept for the mirror's own files")
     follow.add_argument("--every", type=float, default=0.2, metavar="SECONDS", help="how long to wait between two polls, 0.2 where none is given")

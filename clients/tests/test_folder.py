@@ -99,6 +99,17 @@ class Placing(InFolder):
         self.assertEqual(self.placed({b"b": plain(b"3")}), 0)
         self.assertEqual(self.tree(), {b"b": plain(b"3")})
 
+    def test_what_is_listed_below_a_directory(self):
+        self.placed({b"d.x": plain(b"1"), b"d/a": plain(b"2"), b"d/b": plain(b"3"), b"d/e/c": plain(b"4"), b"e/a": plain(b"5")})
+        self.folder_of.put(b"d/new", plain(b"6"))
+        self.folder_of.keep_below(b"d", [b"d/b"])
+        self.assertEqual(len(self.tree()), 5)
+        self.assertEqual(self.placed({b"d/z": plain(b"7")}), 0)
+        self.assertEqual(self.tree(), {b"d.x": plain(b"1"), b"d/b": plain(b"3"), b"d/z": plain(b"7"), b"e/a": plain(b"5")})
+        self.folder_of.keep_below(b"e", [])
+        self.placed({b"e": plain(b"8")})
+        self.assertEqual(self.tree()[b"e"], plain(b"8"))
+
     def test_files_of_others(self):
         os.makedirs(self.path("m", "d"))
         for name in ("mine", "d/mine"):

@@ -6,11 +6,11 @@ import struct
 import threading
 import unittest
 
-from kit import CLIENTS, InFolder
+from kit import CLIENTS, InFolder, moves_directories
 
 import railburnet
-from railburnet import (Basis, BasisIs, Cause, ChangesAre, ContentIs, Fetch, File, FrameFault, Kind, Mark, Mirror, Outcome, Poll, Position, Query,
-                        Refused)
+from railburnet import (Basis, BasisIs, Below, Cause, ChangesAre, ContentIs, Fetch, File, FrameFault, Kind, ListIs, Mark, Mirror, Outcome, Poll,
+                        Position, Query, Refused)
 
 ONE = Query(1, 1, 1)
 
@@ -23,7 +23,7 @@ def known_frames():
     for line in text.splitlines():
         if not re.match(r" {4}.*[0-9a-f]{8}", line):
             continue
-        name, digits = re.fullmatch(r" {4}([A-Z]\w*(?: of a)?)? *((?:[0-9a-f]{2}| )+)", line).groups()
+        name, digits = re.fullmatch(r" {4}([A-Z]\w*(?: of [ad])?)? *((?:[0-9a-f]{2}| )+)", line).groups()
         if name:
             frames.append([name, ""])
         frames[-1][1] += digits.replace(" ", "")
@@ -32,16 +32,19 @@ def known_frames():
 
 class Frames(unittest.TestCase):
     def test_known_frames(self):
-        first, second = Position(7, 1), Position(7, 2)
+        first, second, third, fourth = (Position(7, number) for number in (1, 2, 3, 4))
         wanted = [
-            Basis(ONE), BasisIs(ONE, first, []), Poll(ONE, first), ChangesAre(ONE, first, []), Fetch(ONE, b"a"), ContentIs(ONE, first, b"a", None),
-            Refused(ONE, Cause.AHEAD, 1), Basis(ONE, (b"a*",)), BasisIs(ONE, second, [b"a"]), ChangesAre(ONE, second, [(Mark.CREATED, b"a")]),
-            ContentIs(ONE, second, b"a", File(Kind.PLAIN, b"hi")),
+            Basis(ONE), BasisIs(ONE, first, []), Poll(ONE, first), ChangesAre(ONE, first, [], []), Fetch(ONE, b"a"),
+            ContentIs(ONE, first, b"a", None), Below(ONE, b"d"), ListIs(ONE, first, b"d", []), Refused(ONE, Cause.AHEAD, 1),
+            Basis(ONE, (b"a*",)), BasisIs(ONE, second, [b"a"]), ChangesAre(ONE, second, [(Mark.CREATED, b"a")], []),
+            ContentIs(ONE, second, b"a", File(Kind.PLAIN, b"hi")), Below(ONE, b"d", (b"d/*",)), ListIs(ONE, third, b"d", [b"d/x"]),
+            ChangesAre(ONE, fourth, [], [b"d", b"e"]),
         ]
         frames = known_frames()
-        self.assertEqual([name.split()[0] for name, _ in frames], [type(message).__name__ for message in wanted])
+        names = [type(message).__name__.replace("Below", "List") for message in wanted]
+        self.assertEqual([name.split()[0] for name, _ in frames], names)
         for (_, frame), message in zip(frames, wanted):
-            if isinstance(message, (Basis, Poll, Fetch)):
+            if isinstance(message, (Basis, Poll, Fetch, Below)):
                 self.assertEqual(railburnet.encode_request(message), frame)
             else:
                 self.assertEqual(struct.unpack(">I", frame[:4])[0], len(frame) - 4)
@@ -49,7 +52,7 @@ class Frames(unittest.TestCase):
 
     def test_every_cut(self):
         for name, frame in known_frames():
-            if name.split()[0] in ("Basis", "Poll", "Fetch"):
+            if name.split()[0] in ("Basis", "Poll", "Fetch", "List"):
                 continue
             for end in range(4, len(frame)):
                 with self.assertRaises(FrameFault) as raised:
@@ -59,15 +62,18 @@ class Frames(unittest.TestCase):
                 railburnet.decode_reply(frame[4:] + b"\0")
 
     def test_faults(self):
-        head = bytes.fromhex("01") + b"%c" + bytes(24)
+        head = bytes.fromhex("02") + b"%c" + bytes(24)
         here = bytes(36)
 
         def tagged(tag, fields):
             return head.replace(b"%c", bytes([tag])) + fields
 
         for body, fault in (
-            (b"\x02" + tagged(0x84, b"\1" + bytes(8))[1:], "Version"),
-            (tagged(0x85, b""), "BadTag"),
+            (b"\x01" + tagged(0x84, b"\1" + bytes(8))[1:], "Version"),
+            (b"\x01", "Version"),
+            (b"\x02", "CutShort"),
+            (tagged(0x86, b""), "BadTag"),
+            (tagged(0x04, b"\0\1d\0"), "BadTag"),
             (tagged(0x03, b"\0\1a"), "BadTag"),
             (tagged(0x84, b"\0" + bytes(8)), "BadField"),
             (tagged(0x84, b"\5" + bytes(8)), "BadField"),
@@ -80,6 +86,15 @@ class Frames(unittest.TestCase):
             (tagged(0x81, here + b"\xff\xff\xff\xff\0\1a"), "CutShort"),
             (tagged(0x82, here + b"\0\0\0\1\0\0\1a"), "BadField"),
             (tagged(0x82, here + b"\0\0\0\1\5\0\1a"), "BadField"),
+            (tagged(0x82, here + b"\0\0\0\0"), "CutShort"),
+            (tagged(0x82, here + b"\0\0\0\0\0\0\0\2\0\1e\0\1d"), "BadField"),
+            (tagged(0x82, here + b"\0\0\0\0\0\0\0\2\0\1d\0\1d"), "BadField"),
+            (tagged(0x85, here + b"\0\0"), "BadField"),
+            (tagged(0x85, here + b"\0\1d\0\0\0\1\0\1d"), "BadField"),
+            (tagged(0x85, here + b"\0\1d\0\0\0\1\0\3d.x"), "BadField"),
+            (tagged(0x85, here + b"\0\1d\0\0\0\1\0\3e/x"), "BadField"),
+            (tagged(0x85, here + b"\0\1d\0\0\0\2\0\3d/y\0\3d/x"), "BadField"),
+            (tagged(0x85, here + b"\0\1d\0\0\0\2\0\3d/x"), "CutShort"),
             (tagged(0x83, here + b"\0\1a\4"), "BadField"),
             (tagged(0x83, here + b"\0\1a\1\0\x80\0\1"), "BadField"),
             (b"", "CutShort"),
@@ -96,6 +111,9 @@ class Frames(unittest.TestCase):
             self.assertEqual([body for at in range(0, len(frames), step) for body in reader.feed(frames[at : at + step])], bodies)
         with self.assertRaisesRegex(FrameFault, "TooLarge"):
             list(railburnet.FrameReader().feed(b"\x01\0\0\1"))
+        reader = railburnet.FrameReader()
+        self.assertEqual(next(reader.feed(frames)), bodies[0])
+        self.assertEqual(list(reader.feed(b"")), bodies[1:])
 
     def test_paths(self):
         for path, fault in (
@@ -111,8 +129,9 @@ class Frames(unittest.TestCase):
             self.assertIsNone(railburnet.patterns_fault([pattern]), pattern)
         for pattern in (b"", b"/a", b"a//b", b"a/", b"a\\", b"a\\/b", b"a[", b"{a", b"a" * 257):
             self.assertIsNotNone(railburnet.patterns_fault([pattern]), pattern)
-            with self.assertRaises(ValueError):
-                railburnet.encode_request(Basis(ONE, (pattern,)))
+            for request in (Basis(ONE, (pattern,)), Below(ONE, b"d", (pattern,))):
+                with self.assertRaises(ValueError):
+                    railburnet.encode_request(request)
         self.assertIsNone(railburnet.patterns_fault([b"a"] * 32))
         self.assertIsNotNone(railburnet.patterns_fault([b"a"] * 33))
 
@@ -142,7 +161,7 @@ class Mirrors(unittest.TestCase):
         mirror.begin()
         query = Query(9, 3, 2)
         self.assertEqual(mirror.outstanding(), [Poll(query, Position(7, 5))])
-        mirror.deliver(ChangesAre(query, Position(7, 9), [(Mark.REMOVED, b"a"), (Mark.CREATED, b"b")]))
+        mirror.deliver(ChangesAre(query, Position(7, 9), [(Mark.REMOVED, b"a"), (Mark.CREATED, b"b")], []))
         self.assertEqual(mirror.outstanding(), [Fetch(query, b"a"), Fetch(query, b"b")])
         self.assertIs(mirror.deliver(ContentIs(query, Position(7, 9), b"b", self.YO)), Outcome.TAKEN)
         self.assertEqual(mirror.position, Position(7, 5))
@@ -153,16 +172,73 @@ class Mirrors(unittest.TestCase):
     def test_no_path(self):
         mirror = self.placed()
         mirror.begin()
-        self.assertIs(mirror.deliver(ChangesAre(Query(9, 3, 2), Position(7, 8), [])), Outcome.PLACED)
+        self.assertIs(mirror.deliver(ChangesAre(Query(9, 3, 2), Position(7, 8), [], [])), Outcome.PLACED)
         self.assertEqual(mirror.position, Position(7, 8))
+
+    def moved(self):
+        """The mirror at 7 5 with `d/x` and `d/y` instead, which has been told that `d` and `e` were moved between, and that `z` changed."""
+        mirror = Mirror(mirror=9, life=3)
+        mirror.begin()
+        mirror.deliver(BasisIs(Query(9, 3, 1), Position(7, 5), [b"d.x", b"d/x", b"d/y"]))
+        for path in (b"d.x", b"d/x", b"d/y"):
+            mirror.deliver(ContentIs(Query(9, 3, 1), Position(7, 5), path, self.HI))
+        mirror.begin()
+        self.assertIs(mirror.deliver(ChangesAre(Query(9, 3, 2), Position(7, 7), [(Mark.CREATED, b"z")], [b"d", b"e"])), Outcome.TAKEN)
+        return mirror
+
+    def test_prefixes(self):
+        mirror, query = self.moved(), Query(9, 3, 2)
+        self.assertEqual(mirror.outstanding(), [Below(query, b"d"), Below(query, b"e"), Fetch(query, b"z")])
+        self.assertIs(mirror.deliver(ListIs(query, Position(7, 7), b"d", [])), Outcome.TAKEN)
+        self.assertEqual(dict(mirror.files), {b"d.x": self.HI})
+        self.assertIs(mirror.deliver(ContentIs(query, Position(7, 7), b"z", self.YO)), Outcome.TAKEN)
+        self.assertEqual((mirror.position, mirror.outstanding()), (Position(7, 5), [Below(query, b"e")]))
+        self.assertIs(mirror.deliver(ListIs(query, Position(7, 8), b"e", [b"e/x", b"e/y"])), Outcome.TAKEN)
+        self.assertEqual((mirror.outstanding(), mirror.awaited), ([Fetch(query, b"e/x"), Fetch(query, b"e/y")], 2))
+        self.assertIs(mirror.deliver(ContentIs(query, Position(7, 7), b"e/x", self.HI)), Outcome.TAKEN)
+        self.assertIs(mirror.deliver(ContentIs(query, Position(7, 8), b"e/y", None)), Outcome.PLACED)
+        self.assertEqual((mirror.position, dict(mirror.files)), (Position(7, 7), {b"d.x": self.HI, b"z": self.YO, b"e/x": self.HI}))
+        self.assertEqual(mirror.outstanding(), [])
+
+    def test_what_is_listed_again(self):
+        """A path below a prefix whose content has come, and one that is awaited already; the round ends with a list."""
+        mirror, query = self.moved(), Query(9, 3, 2)
+        self.assertIs(mirror.deliver(ContentIs(query, Position(7, 7), b"z", None)), Outcome.TAKEN)
+        self.assertIs(mirror.deliver(ListIs(query, Position(7, 7), b"d", [b"d/y"])), Outcome.TAKEN)
+        self.assertEqual(dict(mirror.files), {b"d.x": self.HI, b"d/y": self.HI})
+        self.assertIs(mirror.deliver(ContentIs(query, Position(7, 7), b"d/y", self.YO)), Outcome.TAKEN)
+        self.assertIs(mirror.deliver(ListIs(query, Position(7, 7), b"e", [])), Outcome.PLACED)
+        self.assertEqual((mirror.position, dict(mirror.files)), (Position(7, 7), {b"d.x": self.HI, b"d/y": self.YO}))
+
+    def test_lists_that_are_ignored(self):
+        mirror, query = self.moved(), Query(9, 3, 2)
+        for reply in (ListIs(query, Position(7, 6), b"d", []), ListIs(query, Position(8, 9), b"d", []), ListIs(query, Position(7, 7), b"d.x", []),
+                      ListIs(Query(9, 3, 1), Position(7, 7), b"d", []), Refused(query, Cause.STALE, 8),
+                      Refused(Query(9, 3, 1), Cause.TOO_LARGE, 0)):
+            self.assertIs(mirror.deliver(reply), Outcome.IGNORED, reply)
+        self.assertIs(mirror.deliver(ListIs(query, Position(7, 7), b"d", [])), Outcome.TAKEN)
+        self.assertIs(mirror.deliver(ListIs(query, Position(7, 7), b"d", [b"d/x"])), Outcome.IGNORED)
+        self.assertEqual(dict(mirror.files), {b"d.x": self.HI})
+
+    def test_a_list_that_is_too_large(self):
+        mirror, query = self.moved(), Query(9, 3, 2)
+        self.assertIs(mirror.deliver(Refused(query, Cause.TOO_LARGE, 0)), Outcome.ENDED)
+        self.assertEqual((mirror.position, mirror.outstanding(), len(mirror.files)), (Position(7, 5), [], 3))
+        self.assertIs(mirror.deliver(ListIs(query, Position(7, 7), b"d", [])), Outcome.IGNORED)
+        self.assertIs(mirror.deliver(ContentIs(query, Position(7, 7), b"z", self.YO)), Outcome.IGNORED)
+        mirror = self.moved()
+        mirror.deliver(ListIs(query, Position(7, 7), b"d", []))
+        mirror.deliver(ListIs(query, Position(7, 7), b"e", []))
+        self.assertIs(mirror.deliver(Refused(query, Cause.TOO_LARGE, 0)), Outcome.IGNORED)
+        self.assertEqual(mirror.outstanding(), [Fetch(query, b"z")])
 
     def test_what_is_ignored(self):
         mirror = self.placed()
         mirror.begin()
         query = Query(9, 3, 2)
-        changes = ChangesAre(query, Position(7, 8), [(Mark.CHANGED, b"a")])
+        changes = ChangesAre(query, Position(7, 8), [(Mark.CHANGED, b"a")], [])
         early = [BasisIs(query, Position(7, 8), [b"z"]), ContentIs(query, Position(7, 8), b"a", self.YO), Refused(Query(9, 3, 1), Cause.STALE, 8),
-                 ChangesAre(Query(9, 2, 2), Position(7, 8), []), ChangesAre(Query(8, 3, 2), Position(7, 8), [])]
+                 ChangesAre(Query(9, 2, 2), Position(7, 8), [], []), ChangesAre(Query(8, 3, 2), Position(7, 8), [], [])]
         late = [changes, Refused(query, Cause.STALE, 8), Refused(query, Cause.TOO_LARGE, 0), ContentIs(query, Position(7, 7), b"a", self.YO),
                 ContentIs(query, Position(8, 9), b"a", self.YO), ContentIs(query, Position(7, 8), b"b", self.YO),
                 ContentIs(Query(9, 3, 1), Position(7, 8), b"a", self.YO)]
@@ -194,7 +270,7 @@ class Mirrors(unittest.TestCase):
     def test_a_round_given_up(self):
         mirror = self.placed()
         mirror.begin()
-        mirror.deliver(ChangesAre(Query(9, 3, 2), Position(7, 8), [(Mark.CHANGED, b"a"), (Mark.CREATED, b"b")]))
+        mirror.deliver(ChangesAre(Query(9, 3, 2), Position(7, 8), [(Mark.CHANGED, b"a"), (Mark.CREATED, b"b")], []))
         mirror.deliver(ContentIs(Query(9, 3, 2), Position(7, 8), b"b", self.YO))
         mirror.begin()
         self.assertEqual(mirror.outstanding(), [Poll(Query(9, 3, 3), Position(7, 5))])
@@ -213,7 +289,7 @@ class Connections(InFolder):
                         if not head:
                             return
                         body = requests.read(int.from_bytes(head, "big"))
-                        reply = b"\x01\x83" + body[2:26] + bytes(36) + body[26:] + b"\x01\0\0\4\0" + bytes(1024)
+                        reply = b"\x02\x83" + body[2:26] + bytes(36) + body[26:] + b"\x01\0\0\4\0" + bytes(1024)
                         peer.sendall(struct.pack(">I", len(reply)) + reply)
 
             thread = threading.Thread(target=serve)
@@ -265,6 +341,57 @@ class Connections(InFolder):
                 service.sendall(data)
         except OSError:
             pass
+
+    @moves_directories
+    def test_a_moved_directory(self):
+        port, server = self.server(b"mount empty 7 1000000\n")
+        self.lines(server, b"write d/x.c plain 1", b"write d/y.h plain 2", b"write d.c plain 3")
+        client, mirrors = railburnet.Client(port), [Mirror(), Mirror([b"e/**"]), Mirror([b"**/*.c"])]
+        changes = railburnet.Changes(client, [b"**/*.c"])
+        while client.position().sequence < 4:
+            pass
+        self.assertEqual(changes.next(), [(None, b"d.c"), (None, b"d/x.c")])
+        for mirror in mirrors:
+            self.assertIs(client.round(mirror), Outcome.PLACED)
+        self.lines(server, b"write d/y.h plain 4", b"renamedir d e", b"write d/z.c plain 5")
+        while client.position().sequence < 7:
+            pass
+        told = client.since(Position(7, 4), [b"**/*.c"])
+        self.assertEqual((told.marked, told.prefixes), ([(Mark.CREATED, b"d/z.c")], [b"d", b"e"]))
+        self.assertEqual(client.below(b"e").paths, [b"e/x.c", b"e/y.h"])
+        self.assertEqual(client.below(b"e", [b"**/*.c"]).paths, [b"e/x.c"])
+        self.assertEqual(client.below(b"z").paths, [])
+        self.assertEqual(changes.next(), [(None, b"d/x.c"), (Mark.CREATED, b"d/z.c"), (None, b"e/x.c")])
+        self.assertEqual(changes.next(), [])
+        for mirror in mirrors:
+            self.assertIs(client.round(mirror), Outcome.PLACED)
+            self.assertEqual(mirror.position.sequence, 7)
+        one, three, four, five = (File(Kind.PLAIN, text) for text in (b"1", b"3", b"4", b"5"))
+        self.assertEqual(dict(mirrors[0].files), {b"d.c": three, b"d/z.c": five, b"e/x.c": one, b"e/y.h": four})
+        self.assertEqual(dict(mirrors[1].files), {b"e/x.c": one, b"e/y.h": four})
+        self.assertEqual(dict(mirrors[2].files), {b"d.c": three, b"d/z.c": five, b"e/x.c": one})
+        client.close()
+
+    def test_questions_and_rounds(self):
+        """On one connection, which is never made anew."""
+        port, server = self.server(b"mount empty 7 1000000\n")
+        self.lines(server, b"write a plain 1")
+        client, mirror = railburnet.Client(port, timeout=10, connections=1), Mirror()
+        while client.position().sequence < 2:
+            pass
+        for _ in range(2):
+            self.assertIs(client.round(mirror), Outcome.PLACED)
+            self.assertEqual(client.basis().paths, [b"a"])
+        self.assertEqual(dict(mirror.files), {b"a": File(Kind.PLAIN, b"1")})
+        client.close()
+
+    def test_another_version(self):
+        """A frame of version 1 ends the connection, and nothing is answered."""
+        port, _ = self.server(b"mount empty 7 1000000\n")
+        with socket.create_connection(("127.0.0.1", port)) as peer:
+            frame = railburnet.encode_request(Basis(ONE))
+            peer.sendall(frame[:4] + b"\x01" + frame[5:])
+            self.assertEqual(peer.recv(1), b"")
 
     def test_nobody_there(self):
         with socket.create_server(("127.0.0.1", 0)) as listener:

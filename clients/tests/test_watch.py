@@ -5,7 +5,7 @@ import signal
 import subprocess
 import unittest
 
-from kit import InFolder, change, client, wait_until
+from kit import InFolder, change, client, moves_directories, wait_until
 
 COMMAND = """#!/bin/bash
 echo "begun $(date +%s%N)" >> "$LOG"
@@ -51,6 +51,14 @@ class Watching(InFolder):
         self.lines(server, b"rename d/a d/z")
         self.assertEqual(self.runs(2)[1][2], [b"word", b"d/a", b"d/z"])
         self.assertIn(b"watch: 2 paths changed: d/a, d/z; running ", self.text("stderr"))
+
+    @moves_directories
+    def test_a_moved_directory(self):
+        port, server = self.server(b"mount empty 7 1000000\nwrite d/x.c plain 1\nwrite d/x.h plain 1\n")
+        self.watch(port, "**/*.c")
+        self.lines(server, b"write d/y.c plain 2", b"renamedir d e")
+        moved = {b"d/x.c", b"d/y.c", b"e/x.c", b"e/y.c"}
+        self.assertTrue(wait_until(lambda: moved == {path for run in self.runs(1) for path in run[2]}))
 
     def test_never_two_at_once(self):
         port, server = self.server(b"mount empty 7 1000000\n")
