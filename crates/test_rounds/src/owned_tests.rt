@@ -75,16 +75,26 @@ fn are_alike(lent: &Mirror, given: &Mirror, said: &str) -> Result<(), Fail> {
     Err(Fail::new(format_args!("{said}: what is held is not the same")))
 }
 
-/// A reply that is lent to one mirror and given to another has this outcome at both, and leaves them alike.
-fn either_way(alloc: Global, came: &[Reply], reply: Reply, wanted: Outcome) -> Result<(), Fail> {
-    let said = format!(in alloc; "{reply:?} after {came:?}")?;
-    let mut lent = mirror_after(alloc, came)?;
-    let mut given = mirror_after(alloc, came)?;
+/// A reply that is lent to the one mirror and given to the other, which are alike, has this outcome at both, and leaves them alike.
+fn comes_alike(
+    alloc: Global,
+    mut lent: Mirror,
+    mut given: Mirror,
+    reply: Reply,
+    wanted: Outcome,
+) -> Result<(), Fail> {
+    let said = format!(in alloc; "{reply:?}")?;
     let outcomes = (lent.deliver(&reply)?, given.deliver_owned(reply)?);
     if outcomes != (wanted, wanted) {
         return Err(Fail::new(format_args!("{said}: {outcomes:?}")));
     }
     are_alike(&lent, &given, said.as_str())
+}
+
+/// A reply that comes after others has this outcome, lent or given.
+fn either_way(alloc: Global, came: &[Reply], reply: Reply, wanted: Outcome) -> Result<(), Fail> {
+    let (lent, given) = (mirror_after(alloc, came)?, mirror_after(alloc, came)?);
+    comes_alike(alloc, lent, given, reply, wanted)
 }
 
 /// The second question of mirror 1.
@@ -147,11 +157,8 @@ fn given_lists_of_directories(rt: HostRuntime) -> Result<(), Fail> {
         (moved(alloc)?, Outcome::Ignored),
         (too_large, Outcome::Ended),
     ] {
-        let (mut lent, mut given) = (told_mirror(alloc)?, told_mirror(alloc)?);
-        let said = format!(in alloc; "{reply:?}")?;
-        let outcomes = (lent.deliver(&reply)?, given.deliver_owned(reply)?);
-        assert_eq!(rt; outcomes, (wanted, wanted), "{said}");
-        are_alike(&lent, &given, said.as_str())?;
+        let (lent, given) = (told_mirror(alloc)?, told_mirror(alloc)?);
+        comes_alike(alloc, lent, given, reply, wanted)?;
     }
     Ok(())
 }

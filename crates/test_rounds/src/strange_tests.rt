@@ -137,102 +137,143 @@ fn ignores(pair: &mut Pair<World<GitNaming>>, reply: &Reply, said: &str) -> Resu
     Err(Fail::new(format_args!("{said}: {outcome:?}, {before} and then {after}")))
 }
 
+/// A question of a mirror in a life, by its number.
+fn asked_by(mirror: u64, life: u64, number: u64) -> Query {
+    Query {
+        mirror,
+        life,
+        number,
+    }
+}
+
+/// What is strange of a content or a list, and of what it is told: the mirror, the life and the number of the question, the generation and the
+/// number of the position, and the path.
+type Strange = (&'static str, u64, u64, u64, u64, u64, &'static str);
+
+/// The content of `p` at 7/2 is awaited by the second round of mirror 1.
+const CONTENTS: [Strange; 8] = [
+    ("another mirror", 2, 1, 2, 7, 2, "p"),
+    ("another life", 1, 2, 2, 7, 2, "p"),
+    ("an old round", 1, 1, 1, 7, 2, "p"),
+    ("a round to come", 1, 1, 3, 7, 2, "p"),
+    ("another generation", 1, 1, 2, 8, 2, "p"),
+    ("an earlier position", 1, 1, 2, 7, 1, "p"),
+    ("another path", 1, 1, 2, 7, 2, "q"),
+    ("a path below", 1, 1, 2, 7, 2, "p/q"),
+];
+
+/// A list of `d` at 7/2 is awaited by its third round.
+const LISTS: [Strange; 8] = [
+    ("another mirror", 2, 1, 3, 7, 2, "d"),
+    ("another life", 1, 2, 3, 7, 2, "d"),
+    ("an old round", 1, 1, 2, 7, 2, "d"),
+    ("a round to come", 1, 1, 4, 7, 2, "d"),
+    ("another generation", 1, 1, 3, 8, 2, "d"),
+    ("an earlier position", 1, 1, 3, 7, 1, "d"),
+    ("another directory", 1, 1, 3, 7, 2, "p"),
+    ("a directory below", 1, 1, 3, 7, 2, "d/e"),
+];
+
 #[test]
 fn strange_replies(rt: HostRuntime) -> Result<(), Fail> {
     let alloc = rt.alloc();
     let (mut pair, asked) = mirror_in(alloc, Round::Gathering)?;
-    let here = position(7, 2);
-    for (said, query, position, at) in [
-        ("another mirror", Query { mirror: 2, ..asked }, here, "p"),
-        ("another life", Query { life: 2, ..asked }, here, "p"),
-        ("an old round", Query { number: 1, ..asked }, here, "p"),
-        ("a round to come", Query { number: 3, ..asked }, here, "p"),
-        ("another generation", asked, position(8, 2), "p"),
-        ("an earlier position", asked, position(7, 1), "p"),
-        ("another path", asked, here, "q"),
-        ("a path below", asked, here, "p/q"),
-    ] {
-        let reply = content(alloc, query, position, at, "strange")?;
+    for (said, mirror, life, number, generation, sequence, at) in &CONTENTS {
+        let query = asked_by(*mirror, *life, *number);
+        let here = position(*generation, *sequence);
+        let reply = content(alloc, query, here, at, "strange")?;
         ignores(&mut pair, &reply, said)?;
     }
-    let again = created(alloc, asked, here, "p")?;
+    let again = created(alloc, asked, position(7, 2), "p")?;
     ignores(&mut pair, &again, "the list again")?;
     let refusal = reply_of(alloc, asked, Kind::TooLarge)?;
     ignores(&mut pair, &refusal, "a refusal of the list")?;
-    let right = [
+    pair.goes(&[
         Step::Goes(Said::Content(2, (7, 2), "p", "x"), Outcome::Placed),
         Step::Holds(Some((7, 2)), &[("p", "x")]),
-    ];
-    pair.goes(&right)
+    ])
 }
 
 #[test]
 fn strange_lists(rt: HostRuntime) -> Result<(), Fail> {
     let alloc = rt.alloc();
-    let (mut pair, asked) = mirror_in(alloc, Round::Listing)?;
-    let here = position(7, 2);
-    for (said, query, position, at) in [
-        ("another mirror", Query { mirror: 2, ..asked }, here, "d"),
-        ("another life", Query { life: 2, ..asked }, here, "d"),
-        ("an old round", Query { number: 2, ..asked }, here, "d"),
-        ("a round to come", Query { number: 4, ..asked }, here, "d"),
-        ("another generation", asked, position(8, 2), "d"),
-        ("an earlier position", asked, position(7, 1), "d"),
-        ("another directory", asked, here, "p"),
-        ("a directory below", asked, here, "d/e"),
-    ] {
-        let reply = listed(alloc, query, position, at, &[])?;
+    let (mut pair, _) = mirror_in(alloc, Round::Listing)?;
+    for (said, mirror, life, number, generation, sequence, at) in &LISTS {
+        let query = asked_by(*mirror, *life, *number);
+        let here = position(*generation, *sequence);
+        let reply = listed(alloc, query, here, at, &[])?;
         ignores(&mut pair, &reply, said)?;
     }
-    let right = [
+    pair.goes(&[
         Step::Comes(Said::Listed(3, (7, 3), "d", &[]), Outcome::Placed),
         Step::Comes(Said::Listed(3, (7, 3), "d", &[]), Outcome::Ignored),
         Step::Holds(Some((7, 2)), &[("p", "x")]),
-    ];
-    pair.goes(&right)
+    ])
 }
 
-#[test]
-fn replies_out_of_their_round(rt: HostRuntime) -> Result<(), Fail> {
-    let alloc = rt.alloc();
-    for round in ROUNDS {
-        let (mut pair, own) = mirror_in(alloc, round)?;
-        for kind in KINDS {
-            for (said, asked) in [
-                ("its own", own),
-                ("another mirror's", Query { mirror: 2, ..own }),
-                ("another life's", Query { life: 2, ..own }),
-                ("a later one's", Query { number: 4, ..own }),
-            ] {
-                if asked == own && is_awaited(round, kind) {
-                    continue;
-                }
-                let reply = reply_of(alloc, asked, kind)?;
-                let line = format!(in alloc; "{round:?}, {kind:?} to {said}")?;
-                ignores(&mut pair, &reply, line.as_str())?;
-            }
+/// Whose question a reply answers: the mirror, its life, and whether the round is one to come.
+const ASKED: [(&str, u64, u64, bool); 4] = [
+    ("its own", 1, 1, false),
+    ("another mirror's", 2, 1, false),
+    ("another life's", 1, 2, false),
+    ("a later one's", 1, 1, true),
+];
+
+/// Whatever question it answers, a reply of a kind changes nothing that is not awaited in such a round.
+fn ignores_unasked(
+    pair: &mut Pair<World<GitNaming>>,
+    own: Query,
+    round: Round,
+    kind: Kind,
+) -> Result<(), Fail> {
+    for (said, mirror, life, to_come) in &ASKED {
+        let number = if *to_come { 4 } else { own.number };
+        let asked = asked_by(*mirror, *life, number);
+        if asked != own || !is_awaited(round, kind) {
+            let reply = reply_of(pair.alloc, asked, kind)?;
+            let line = format!(in pair.alloc; "{round:?}, {kind:?} to {said}")?;
+            ignores(pair, &reply, line.as_str())?;
         }
     }
     Ok(())
 }
 
 #[test]
+fn replies_out_of_their_round(rt: HostRuntime) -> Result<(), Fail> {
+    for round in &ROUNDS {
+        let (mut pair, own) = mirror_in(rt.alloc(), *round)?;
+        for kind in &KINDS {
+            ignores_unasked(&mut pair, own, *round, *kind)?;
+        }
+    }
+    Ok(())
+}
+
+/// What comes of a reply of a kind that is awaited.
+fn outcome_of(kind: Kind) -> Outcome {
+    match kind {
+        Kind::Basis | Kind::Changes | Kind::List => Outcome::Taken,
+        Kind::Content => Outcome::Placed,
+        Kind::Stale => Outcome::Unplaced,
+        Kind::TooLarge => Outcome::Ended,
+    }
+}
+
+/// Whether a reply of a kind counts in such a round, as far as it is awaited there.
+fn counts(alloc: Global, round: Round, kind: Kind) -> Result<bool, Fail> {
+    if !is_awaited(round, kind) {
+        return Ok(true);
+    }
+    let (mut pair, own) = mirror_in(alloc, round)?;
+    let reply = reply_of(alloc, own, kind)?;
+    Ok(pair.delivered(&reply)? == outcome_of(kind))
+}
+
+#[test]
 fn awaited_replies_count(rt: HostRuntime) -> Result<(), Fail> {
-    let alloc = rt.alloc();
-    for round in ROUNDS {
-        for kind in KINDS {
-            if !is_awaited(round, kind) {
-                continue;
-            }
-            let (mut pair, own) = mirror_in(alloc, round)?;
-            let wanted = match kind {
-                Kind::Basis | Kind::Changes | Kind::List => Outcome::Taken,
-                Kind::Content => Outcome::Placed,
-                Kind::Stale => Outcome::Unplaced,
-                Kind::TooLarge => Outcome::Ended,
-            };
-            let outcome = pair.delivered(&reply_of(alloc, own, kind)?)?;
-            assert_eq!(rt; outcome, wanted, "{round:?}, {kind:?}");
+    for round in &ROUNDS {
+        for kind in &KINDS {
+            assert!(rt; counts(rt.alloc(), *round, *kind)?, "{round:?}, {kind:?}");
         }
     }
     Ok(())
@@ -244,8 +285,8 @@ fn begun_anew(rt: HostRuntime) -> Result<(), Fail> {
     let (mut pair, old) = mirror_in(alloc, Round::ChangesAsked)?;
     pair.mirror = Mirror::new(alloc, 1, 2, Filter::all(alloc));
     for _ in 0..2 {
-        for kind in KINDS {
-            let reply = reply_of(alloc, old, kind)?;
+        for kind in &KINDS {
+            let reply = reply_of(alloc, old, *kind)?;
             ignores(&mut pair, &reply, "a reply to the life before")?;
         }
         pair.begin()?;
