@@ -7,7 +7,7 @@ use Rattle.eden_ids.specs.FileMaps.{FileMap, listing}
 use Rattle.eden_history.specs.declared.answer.Answer.{Answer}
 use Rattle.eden_history.specs.declared.answer.Answer.TheVariants.{At, Checked, Refused}
 use Rattle.eden_history.specs.declared.change.Change.{Change}
-use Rattle.eden_history.specs.declared.change.Change.TheVariants.{Write, Remove, Rename, Checkout, Reset, Flush, Remount, Import}
+use Rattle.eden_history.specs.declared.change.Change.TheVariants.{Write, Remove, Rename, RenameDir, Checkout, Reset, Flush, Remount, Import}
 use Rattle.eden_history.specs.declared.change.ChangeFault.{ChangeFault}
 use Rattle.eden_history.specs.declared.change.ChangeFault.TheVariants.{NoCommit, SequenceExhausted, GenerationNotNew, BadObject, NoMemory}
 use Rattle.eden_history.specs.declared.position.Position.{Position}
@@ -17,6 +17,7 @@ use Rattle.eden_objects.specs.Files.{files_of}
 use Rattle.eden_history.specs.Worlds.{Row, Event, Commits, Namer, WorldState, commits_of, now, position_of}
 use Rattle.eden_history.specs.Imports.{world_imported}
 use Rattle.eden_history.specs.Renames.{absent_fault, write_fault, rename_fault, renamed}
+use Rattle.eden_history.specs.DirRenames.{dir_renamed, rename_dir_fault}
 use Rattle.eden_ids.specs.Sameness.{same_bytes}
 use Rattle.eden_history.specs.Checkouts.{checked_out, conflicts, is_dry}
 use Rattle.eden_history.specs.Named.{moved_prefixes, named, unclean_paths}
@@ -31,16 +32,18 @@ abbrev pub change_fault : Commits → Row → Change → Option ChangeFault
 change_fault commits row (Write path kind bytes) = write_fault row.files path bytes
 change_fault commits row (Remove path) = absent_fault row.files path
 change_fault commits row (Rename old new) = rename_fault row.files old new
+change_fault commits row (RenameDir old new) = rename_dir_fault row.files old new
 change_fault commits row (Checkout commit mode) = commit_fault (commits commit)
 change_fault commits row (Reset commit) = commit_fault (commits commit)
 change_fault commits row Flush = None
 change_fault commits row (Remount generation) = if nat_lt row.generation generation then None else Some GenerationNotNew
 change_fault commits row (Import objects) = None
 
--- whether the change, where nothing refuses it, makes an event: all do but the rename of a file to itself, a checkout that is tried and an
--- import
+-- whether the change, where nothing refuses it, makes an event: all do but the rename of a file or a directory to itself, a checkout that
+-- is tried and an import
 abbrev pub is_event : Change → Bool
 is_event (Rename old new) = not (same_bytes old new)
+is_event (RenameDir old new) = not (same_bytes old new)
 is_event (Checkout commit mode) = not (is_dry mode)
 is_event (Import objects) = false
 is_event change = true
@@ -61,6 +64,7 @@ abbrev pub files_changed : FileMap → Change → FileMap
 files_changed files (Write path kind bytes) = fin.insert files path (record { kind = kind; bytes = bytes })
 files_changed files (Remove path) = fin.remove files path
 files_changed files (Rename old new) = renamed files old new
+files_changed files (RenameDir old new) = dir_renamed files old new
 files_changed files change = files
 
 -- the files after a change that is not refused

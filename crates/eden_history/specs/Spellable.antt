@@ -6,7 +6,7 @@ use Rattle.eden_ids.specs.Texts.{AreBytes, AreTexts, IsIdText, IsPathText}
 use Rattle.eden_objects.specs.declared.import.Object.{Object}
 use Rattle.eden_objects.specs.Small.{AreSmall}
 use Rattle.eden_history.specs.declared.change.Change.{Change}
-use Rattle.eden_history.specs.declared.change.Change.TheVariants.{Write, Remove, Rename, Checkout, Reset, Flush, Remount, Import}
+use Rattle.eden_history.specs.declared.change.Change.TheVariants.{Write, Remove, Rename, RenameDir, Checkout, Reset, Flush, Remount, Import}
 use Rattle.eden_history.specs.Worlds.{Row, WorldState}
 
 pub record IsRowText (row : Row) : Type 0 where
@@ -24,6 +24,7 @@ abbrev pub IsChange : Change → Type 0
 IsChange (Write path kind bytes) = IsPathText path × AreBytes bytes
 IsChange (Remove path) = IsPathText path
 IsChange (Rename old new) = IsPathText old × IsPathText new
+IsChange (RenameDir old new) = IsPathText old × IsPathText new
 IsChange (Checkout commit mode) = IsIdText commit
 IsChange (Reset commit) = IsIdText commit
 IsChange Flush = Unit {0}

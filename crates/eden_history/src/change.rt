@@ -42,6 +42,14 @@ pub enum Change {
         /// Where it is to stand.
         new: Path,
     },
+    /// Moves each file below one path to the same place below another, below which none stands. It names neither path, nor any path below
+    /// them: the two are told as they are. A directory may be renamed to itself: that changes nothing and takes no number.
+    RenameDir {
+        /// Below which path the files stand.
+        old: Path,
+        /// Below which they are to stand.
+        new: Path,
+    },
     /// Goes over to another commit, and makes the files those of that commit as far as the mode says.
     Checkout {
         /// The commit.
@@ -78,21 +86,28 @@ impl Change {
     }
 }
 
-/// Why a change was refused. The first cause in this order is told, and nothing has changed.
+/// Why a change was refused. The first cause in this order is told, of a rename those at the old path before those at the new one, and
+/// nothing has changed.
 #[derive(Clone, Copy, Debug, PartialEq, Eq, Error)]
 pub enum ChangeFault {
-    /// A file stands at a proper prefix of the path's components.
+    /// A file stands at a proper prefix of the path's components or, where a directory is renamed, at the path itself.
     #[error("NotADirectory")]
     NotADirectory,
     /// Files stand below the path.
     #[error("IsADirectory")]
     IsADirectory,
-    /// No file stands there.
+    /// No file stands there or, where a directory is renamed, below it.
     #[error("NoEntry")]
     NoEntry,
     /// The file would hold more than 8 MiB.
     #[error("TooLarge")]
     TooLarge,
+    /// The new path of a directory lies below its old one. This is told before what stands at the new path.
+    #[error("IntoItself")]
+    IntoItself,
+    /// Below the new path of a directory a file would stand at what is no path.
+    #[error("PathTooLong")]
+    PathTooLong,
     /// The id is no commit's.
     #[error("NoCommit")]
     NoCommit,

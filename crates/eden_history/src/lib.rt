@@ -25,7 +25,9 @@ pub use crate::position::Position;
 pub use crate::sides::Sides;
 pub use crate::text_laws::change_law;
 pub use crate::touches::Touch;
-pub use crate::tree_faults::{absent_fault, place_fault, rename_fault, write_fault};
+pub use crate::tree_faults::{
+    absent_fault, free_fault, place_fault, rename_fault, source_fault, write_fault,
+};
 
 mod answer;
 mod carried_laws;

@@ -29,6 +29,10 @@ pub fn change_law(change: &Change)
             path_law(old);
             path_law(new);
         }
+        Change::RenameDir { old, new } => {
+            path_law(old);
+            path_law(new);
+        }
         Change::Checkout { commit, .. } => id_law(*commit),
         Change::Reset { commit } => id_law(*commit),
         Change::Flush => {}

@@ -1,9 +1,10 @@
-//! Why a file can't be read, written, removed or renamed, in whatever holds the files.
+//! Why a file can't be read, written, removed or renamed, nor a directory renamed, in whatever holds the files.
 
 ghost use Rattle.std.specs.Prelude.{◌≡◌, None, Some, if◌then◌else◌, nat_lt, is_some, length};
 ghost use Rattle.eden_ids.specs.FileMaps.{file_at};
 ghost use Rattle.eden_ids.specs.Sameness.{same_bytes};
 ghost use Rattle.eden_history.specs.Renames.{place_fault, absent_fault, write_fault, rename_fault};
+ghost use Rattle.eden_history.specs.DirRenames.{free_fault, has_file_upward, source_fault};
 
 use crate::change::ChangeFault;
 use eden_ids::{Content, FileTree, Path, has_file, has_file_above};
@@ -81,5 +82,38 @@ pub fn rename_fault<T: FileTree>(files: &T, old: &Path, new: &Path) -> Option<Ch
     match absent_fault(files, old) {
         Some(fault) => Some(fault),
         None => target_fault(files, old, new),
+    }
+}
+
+/// Whether a file stands at a path or above it.
+fn has_file_upward<T: FileTree>(files: &T, path: &Path) -> bool
+    ensures { result ≡ has_file_upward (T.files files.now) path.now }
+{
+    has_file(files, path.as_bytes()) || has_file_above(files, path.as_bytes())
+}
+
+/// Why a path is no directory whose files can be moved: a file stands there or above it, or none stands below it. This takes no memory.
+pub fn source_fault<T: FileTree>(files: &T, old: &Path) -> Option<ChangeFault>
+    ensures { result ≡ source_fault (T.files files.now) old.now }
+{
+    if has_file_upward(files, old) {
+        Some(ChangeFault::NotADirectory)
+    } else if files.has_file_below(old) {
+        None
+    } else {
+        Some(ChangeFault::NoEntry)
+    }
+}
+
+/// Why the files of a directory can't be moved below a path: a file stands there or above it, or files stand below it. This takes no memory.
+pub fn free_fault<T: FileTree>(files: &T, new: &Path) -> Option<ChangeFault>
+    ensures { result ≡ free_fault (T.files files.now) new.now }
+{
+    if has_file_upward(files, new) {
+        Some(ChangeFault::NotADirectory)
+    } else if files.has_file_below(new) {
+        Some(ChangeFault::IsADirectory)
+    } else {
+        None
     }
 }
