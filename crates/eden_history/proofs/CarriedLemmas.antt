@@ -20,7 +20,7 @@ use Rattle.eden_history.specs.Carried.{carried, carried_files, carried_rule}
 -- ---- below a path
 
 -- the path is the other one, a slash and a rest
-rest_below : (path top : List ℕ) → lies_below path top ≡ true → (rest : List ℕ) × (path ≡ top ++ 47 ∷ rest)
+pub rest_below : (path top : List ℕ) → lies_below path top ≡ true → (rest : List ℕ) × (path ≡ top ++ 47 ∷ rest)
 rest_below path top e =
     let rest = drop (length (top ++ 47 ∷ [])) path in
     (rest, (starts_is Decides-eqb path (top ++ 47 ∷ []) (lies_below path top) refl).0 e ∙ append_assoc top (47 ∷ []) rest)
@@ -63,7 +63,7 @@ same_front (x ∷ front) p q = ap (λ b. b && lies_below (front ++ p) (front ++ 
 
 -- ---- places below a path
 
-carried_there : (old new rest : List ℕ) → carried old new (old ++ rest) ≡ new ++ rest
+pub carried_there : (old new rest : List ℕ) → carried old new (old ++ rest) ≡ new ++ rest
 carried_there old new rest = ap (λ r. new ++ r) (drop-append_seam old rest)
 
 pub carried-back : (old new path : List ℕ) → lies_below path old ≡ true → carried new old (carried old new path) ≡ path

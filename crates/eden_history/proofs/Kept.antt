@@ -12,7 +12,7 @@ use Rattle.eden_ids.specs.FileMaps.{FileMap, differ, file_at, has, listing, path
 use Rattle.eden_ids.specs.Sameness.{same_bytes}
 use Rattle.eden_ids.proofs.FileMapLemmas.{file_at-insert, file_at-remove, has-listing, has-path_set, has-union, path_set-listing, same_path-refl, unlisted}
 use Rattle.eden_history.specs.declared.change.Change.{Change}
-use Rattle.eden_history.specs.declared.change.Change.TheVariants.{Write, Remove, Rename, Checkout, Reset, Flush, Remount, Import}
+use Rattle.eden_history.specs.declared.change.Change.TheVariants.{Write, Remove, Rename, RenameDir, Checkout, Reset, Flush, Remount, Import}
 use Rattle.eden_history.specs.Worlds.{Row, Event, Commits, last_row}
 use Rattle.eden_history.specs.Renames as renames
 use Rattle.eden_history.specs.Checkouts.{unclean}
@@ -22,6 +22,7 @@ use Rattle.eden_history.specs.Legal.{AreMade}
 use Rattle.eden_history.specs.Changes.{below_any, events_in, is_among, is_in_range, named_since, prefixes_told}
 use Rattle.eden_history.specs.Rows.{IsRowOf}
 use Rattle.eden_history.proofs.CheckoutLaws.{has-unclean, same_where}
+use Rattle.eden_history.proofs.DirRenameLaws.{dir_renamed-elsewhere}
 use Rattle.eden_history.proofs.Following.{Follows, IsNotAfter, counted, earlier, event_follows, skipped}
 use Rattle.eden_history.proofs.Saying.{named-counted}
 use Rattle.eden_history.proofs.Steps.{is_made}
@@ -65,6 +66,9 @@ next_kept commits row (Remove path) p none outside = remove_kept row.files path 
 next_kept commits row (Rename old new) p none outside =
     let parts = unnamed p old (new ∷ []) none in
     rename_kept row.files old new p parts.0 (unnamed p new [] parts.1).0
+next_kept commits row (RenameDir old new) p none outside =
+    let parts = or_parts (lies_below p old) _ outside in
+    dir_renamed-elsewhere row.files old new p parts.0 (or_parts (lies_below p new) false parts.1).0
 next_kept commits row (Checkout commit mode) p none outside =
     checkout_kept row.files (files_of (commits row.root)) (next_files commits row (Checkout commit mode)) (files_of (commits commit)) p none
 next_kept commits row (Reset commit) p none outside = refl

@@ -10,12 +10,13 @@ use Rattle.eden_objects.specs.Commits.{commit_map}
 use Rattle.eden_objects.specs.Files.{files_of}
 use Rattle.eden_objects.proofs.CommitLaws.{file_maps}
 use Rattle.eden_history.specs.declared.change.Change.{Change}
-use Rattle.eden_history.specs.declared.change.Change.TheVariants.{Write, Remove, Rename, Checkout, Reset, Flush, Remount, Import}
+use Rattle.eden_history.specs.declared.change.Change.TheVariants.{Write, Remove, Rename, RenameDir, Checkout, Reset, Flush, Remount, Import}
 use Rattle.eden_history.specs.Worlds.{Row, Event, Commits, WorldState, commits_of, last_row, now, opened}
 use Rattle.eden_history.specs.Outcome.{change_fault, next_files, next_row, outcome, refusal}
 use Rattle.eden_history.specs.Outcome.Outcome.{Next}
 use Rattle.eden_history.specs.Legal.{AreMade, IsLegal, IsWorld}
 use Rattle.eden_history.proofs.CheckoutLaws.{checked_out_no_clash}
+use Rattle.eden_history.proofs.DirRenameLaws.{rename_dir_fits}
 use Rattle.eden_history.proofs.RenameLaws.{first-none, rename_fits, write_fits}
 use Rattle.eden_history.proofs.Steps.{is_made}
 
@@ -35,6 +36,7 @@ unfolding next_files
 next_fits commits row (Write path kind bytes) maps e fits = write_fits row.files path bytes _ fits e
 next_fits commits row (Remove path) maps e fits = IsFileMap-remove row.files path fits
 next_fits commits row (Rename old new) maps e fits = rename_fits row.files old new fits e
+next_fits commits row (RenameDir old new) maps e fits = rename_dir_fits row.files old new fits e
 next_fits commits row (Checkout commit mode) maps e fits =
     checked_out_no_clash mode row.files (files_of (commits row.root)) (files_of (commits commit)) fits (held_fits commits maps commit)
 next_fits commits row (Reset commit) maps e fits = fits

@@ -3,6 +3,7 @@ pub mod DirtyFiles
 mod SortedPaths
 pub mod RenameLaws
 pub mod CarriedLemmas
+pub mod DirRenameLaws
 pub mod Committed
 pub mod Steps
 pub mod LegalFiles
@@ -10,6 +11,7 @@ pub mod Rooted
 pub mod Growing
 pub mod Ends
 pub mod Saying
+pub mod Recording
 pub mod Floors
 pub mod Following
 pub mod Kept

@@ -1,17 +1,19 @@
 -- What makes replies spellable is kept by every change, and holds of each row of a world and of each path that an event names.
-use Rattle.std.proofs.Common.{◌≡◌, ℕ, ◌^◌, ◌<◌, ◌⊎◌, inl, inr, Bool, true, false, cond, ◌||◌, is_some, nat_lt, List, [], ◌∷◌, ◌++◌, length, Option, Some, None, Ok, refl, sym, ap, subst, ◌∙◌, arith}
+use Rattle.std.proofs.Common.{◌≡◌, ℕ, ◌^◌, ◌<◌, ◌⊎◌, inl, inr, Bool, true, false, cond, ◌||◌, is_some, nat_lt, List, [], ◌∷◌, ◌++◌, length, drop, Option, Some, None, Ok, refl, sym, ap, subst, ◌∙◌, arith}
 use Rattle.std.specs.Prelude.{if◌then◌else◌}
 use Rattle.std.proofs.lemmas.Bool.{ltb-false}
 use Rattle.std.specs.List.{AllByRecursion, flat_map}
 use Rattle.std.proofs.lemmas.List.{map-append}
+use Rattle.std.proofs.lemmas.List.Elements.{All-drop, All-from_recursion, recursion_from_All}
 use Rattle.std.specs.FinMap as fin
 use Rattle.eden_ids.specs.declared.id.Id.{Id}
 use Rattle.eden_ids.specs.declared.content.Content.{Content}
 use Rattle.eden_ids.specs.declared.content.Kind.{Kind}
+use Rattle.eden_ids.specs.Paths.{lies_below}
 use Rattle.eden_ids.specs.FileMaps.{FileMap, clashes_any, differ, file_at, listing, path_set}
 use Rattle.eden_ids.specs.Sameness.{same_bytes}
 use Rattle.eden_ids.specs.Texts.{AreBytes, AreTexts, IsContentText, IsIdText, IsPathText}
-use Rattle.eden_ids.proofs.Members.{all_of_set, all_of_union}
+use Rattle.eden_ids.proofs.Members.{all_joined, all_of_set, all_of_union}
 use Rattle.eden_ids.proofs.TextLemmas.{differ_texts, texts_insert, texts_none, texts_remove}
 use Rattle.eden_objects.specs.declared.import.Object.{Object}
 use Rattle.eden_objects.specs.Objects.{Held}
@@ -25,7 +27,7 @@ use Rattle.eden_objects.proofs.Importing.{imports_small}
 use Rattle.eden_history.specs.declared.change.Mode.{Mode}
 use Rattle.eden_history.specs.declared.change.Mode.TheVariants.{Normal, Dry, Force}
 use Rattle.eden_history.specs.declared.change.Change.{Change}
-use Rattle.eden_history.specs.declared.change.Change.TheVariants.{Write, Remove, Rename, Checkout, Reset, Flush, Remount, Import}
+use Rattle.eden_history.specs.declared.change.Change.TheVariants.{Write, Remove, Rename, RenameDir, Checkout, Reset, Flush, Remount, Import}
 use Rattle.eden_history.specs.declared.change.ChangeFault.{ChangeFault}
 use Rattle.eden_history.specs.declared.change.ChangeFault.TheVariants.{TooLarge}
 use Rattle.eden_history.specs.Worlds.{Row, Event, Commits, Namer, WorldState, commits_of, last_row, now, opened}
@@ -36,10 +38,14 @@ use Rattle.eden_history.specs.Changes.{events_in, is_in_range, prefixes_since, p
 use Rattle.eden_history.specs.Outcome.{Outcome, change_fault, event_at, extended, is_event, judged, next_files, next_generation, next_root, next_row, outcome, refusal, row_after, world_after}
 use Rattle.eden_history.specs.Outcome.Outcome.{Refuses, NoEvent, Next}
 use Rattle.eden_history.specs.Renames.{moved, place_fault, renamed, write_fault}
+use Rattle.eden_history.specs.Carried.{carried, carried_files}
+use Rattle.eden_history.specs.DirRenames.{breaks_a_path, dir_renamed, rename_dir_fault, source_fault, target_fault}
 use Rattle.eden_history.specs.Legal.{AreMade, IsWorld}
 use Rattle.eden_history.specs.Imports.{over_held, world_imported}
 use Rattle.eden_history.specs.Spellable.{AreObjects, IsChange, IsRowText, IsSpellable}
+use Rattle.eden_history.proofs.CarriedLemmas.{carried-back, carried-below, file_at-carried}
 use Rattle.eden_history.proofs.CheckoutLaws.{file_at-checked_out}
+use Rattle.eden_history.proofs.DirRenameLaws.{carried_path, is_allowed}
 use Rattle.eden_history.proofs.Growing.{after_by, imported_by}
 use Rattle.eden_history.proofs.LegalFiles.{allowed_files}
 use Rattle.eden_history.proofs.Saying.{names-said, said-counted, said-none, said-skipped}
@@ -80,6 +86,34 @@ texts_renamed files old new texts path = by (same_bytes old new)
     by true = texts
     by false = at (file_at files old) refl
 
+all_dropped : (n : ℕ) (bytes : List ℕ) → AreBytes bytes → AreBytes (drop n bytes)
+all_dropped n bytes are = recursion_from_All (λ b. b < 256) (drop n bytes) (All-drop (λ b. b < 256) n bytes (All-from_recursion (λ b. b < 256) bytes are))
+
+-- a carried path is one, and its bytes are those of the new directory and of the old path
+texts_carried : (files : FileMap) (old new : List ℕ) → AreTexts files → IsPathText new → breaks_a_path files old new ≡ false → AreTexts (carried_files files old new)
+texts_carried files old new texts path unbroken p file at =
+    by (lies_below p new) (lies_below p old) refl (sym (file_at-carried files old new p) ∙ at)
+  where
+    arrived : lies_below p new ≡ true → file_at files (carried new old p) ≡ Some file → IsPathText p × IsContentText file
+    arrived below there =
+        let before = texts (carried new old p) file there in
+        let is = carried_path files old new (carried new old p) unbroken (ap is_some there) (carried-below new old p below) in
+        let bytes = all_joined (λ b. b < 256) new (drop (length old) (carried new old p)) path.bytes (all_dropped (length old) (carried new old p) before.0.bytes) in
+        (subst IsPathText (carried-back new old p below) (record { path = is; bytes = bytes }), before.1)
+
+    by : (into outof : Bool) → lies_below p new ≡ into → (if into then file_at files (carried new old p) else if outof then None else file_at files p) ≡ Some file
+        → IsPathText p × IsContentText file
+    by true outof below e = arrived below e
+    by false true apart e = absurd (let bad : ◌≡◌ {A = Option Content} None (Some file) = e in cc)
+    by false false apart e = texts p file e
+
+texts_dir_renamed : (files : FileMap) (old new : List ℕ) → AreTexts files → IsPathText new → rename_dir_fault files old new ≡ None → AreTexts (dir_renamed files old new)
+texts_dir_renamed files old new texts path allowed = by (same_bytes old new) (first-none (source_fault files old) _ allowed).1
+  where
+    by : (same : Bool) → (if same then None else target_fault files old new) ≡ None → AreTexts (if same then files else carried_files files old new)
+    by true e = texts
+    by false e = texts_carried files old new texts path (is_allowed files old new e).1
+
 -- a file that a checkout leaves stood in the working copy or stands in the target
 from_either : (mode : Mode) (work root target : FileMap) (p : List ℕ) (file : Content) → rule_of mode work root target p ≡ Some file
     → (file_at work p ≡ Some file) ⊎ (file_at target p ≡ Some file)
@@ -112,6 +146,7 @@ texts_next commits row (Write path kind bytes) held allowed is texts =
     texts_insert row.files path (record { kind = kind; bytes = bytes }) texts is.0 (written_text row.files path bytes kind allowed is.1)
 texts_next commits row (Remove path) held allowed is texts = texts_remove row.files path texts
 texts_next commits row (Rename old new) held allowed is texts = texts_renamed row.files old new texts is.1
+texts_next commits row (RenameDir old new) held allowed is texts = texts_dir_renamed row.files old new texts is.1 allowed
 texts_next commits row (Checkout commit mode) held allowed is texts =
     texts_checked_out mode row.files (files_of (commits row.root)) (files_of (commits commit)) texts (held_texts commits held commit)
 texts_next commits row (Reset commit) held allowed is texts = texts
@@ -125,6 +160,7 @@ generation_fits : (row : Row) (change : Change) → IsChange change → row.gene
 generation_fits row (Write path kind bytes) is fits = fits
 generation_fits row (Remove path) is fits = fits
 generation_fits row (Rename old new) is fits = fits
+generation_fits row (RenameDir old new) is fits = fits
 generation_fits row (Checkout commit mode) is fits = fits
 generation_fits row (Reset commit) is fits = fits
 generation_fits row Flush is fits = fits
@@ -135,6 +171,7 @@ root_text : (row : Row) (change : Change) → IsChange change → IsIdText row.r
 root_text row (Write path kind bytes) is root = root
 root_text row (Remove path) is root = root
 root_text row (Rename old new) is root = root
+root_text row (RenameDir old new) is root = root
 root_text row (Checkout commit mode) is root = is
 root_text row (Reset commit) is root = is
 root_text row Flush is root = root
@@ -177,6 +214,7 @@ names_texts : (commits : Commits) (before : Row) (change : Change) (after : Row)
 names_texts commits before (Write path kind bytes) after held is old new = (is.0, tt)
 names_texts commits before (Remove path) after held is old new = (is, tt)
 names_texts commits before (Rename from to) after held is old new = (is.0, (is.1, tt))
+names_texts commits before (RenameDir from to) after held is old new = tt
 names_texts commits before (Checkout commit mode) after held is old new =
     let root = held_texts commits held before.root in
     let target = held_texts commits held commit in
@@ -232,7 +270,15 @@ named_texts name world since is spellable =
 -- ---- directories
 
 moved_texts : (change : Change) → IsChange change → AllByRecursion IsPathText (moved_prefixes change)
-moved_texts change is = tt
+moved_texts (Write path kind bytes) is = tt
+moved_texts (Remove path) is = tt
+moved_texts (Rename old new) is = tt
+moved_texts (RenameDir old new) is = (is.0, (is.1, tt))
+moved_texts (Checkout commit mode) is = tt
+moved_texts (Reset commit) is = tt
+moved_texts Flush is = tt
+moved_texts (Remount generation) is = tt
+moved_texts (Import objects) is = tt
 
 told_texts : (commits : Commits) (generation since until : ℕ) (opening : Row) (past : List Event) → AllByRecursion (λ event. IsChange event.change) past
     → AreMade commits opening past → AllByRecursion IsPathText (prefixes_told generation since until past)

@@ -1,0 +1,148 @@
+-- A rename of a directory that is not refused: nothing stands where it puts files, each path that it makes is one, and nothing but the
+-- limits of length and depth can break a path.
+use Rattle.std.proofs.Common.{◌≡◌, ℕ, ◌<◌, Bool, true, false, not, ◌&&◌, nat_eq, nat_lt, List, [], ◌∷◌, ◌++◌, length, Option, Some, None, is_some, refl, sym, ap, ◌∙◌, arith}
+use Rattle.std.specs.Prelude.{IsSome, ◌==◌, if◌then◌else◌}
+use Rattle.std.specs.List.{list_all, onto_first}
+use Rattle.std.proofs.lemmas.Bool.{ne_eqb, or_parts}
+use Rattle.std.proofs.lemmas.List.Folds.{list_all-append}
+use Rattle.std.proofs.lemmas.List.Splits.{length-slice_split, slice_split-cons_no, slice_split-cons_yes}
+use Rattle.eden_ids.specs.declared.content.Content.{Content}
+use Rattle.eden_ids.specs.declared.path.PathFault.{PathFault}
+use Rattle.eden_ids.specs.declared.path.PathFault.TheVariants.{Empty, TooLong, BadComponent, TooDeep}
+use Rattle.eden_ids.specs.Paths.{IsPath, components, is_component, lies_below, path_fault}
+use Rattle.eden_ids.specs.FileMaps.{FileMap, IsFileMap, file_at, has_file_above, has_file_below, paths}
+use Rattle.eden_ids.specs.Sameness.{same_bytes}
+use Rattle.eden_ids.proofs.FileMapLemmas.{held, unlisted}
+use Rattle.eden_history.specs.declared.change.ChangeFault.{ChangeFault}
+use Rattle.eden_history.specs.declared.change.ChangeFault.TheVariants.{NotADirectory, IsADirectory, IntoItself, PathTooLong}
+use Rattle.eden_history.specs.Carried.{carried, carried_files}
+use Rattle.eden_history.specs.DirRenames.{breaks_a_path, dir_renamed, free_fault, has_file_upward, rename_dir_fault, source_fault, target_fault}
+use Rattle.eden_history.proofs.CarriedLemmas.{carried-elsewhere, carried_fits, carried_there, rest_below}
+use Rattle.eden_history.proofs.RenameLaws.{first-none}
+
+-- ---- what a rename that is not refused finds
+
+outside : (b : Bool) (rest : Option ChangeFault) → (if b then Some IntoItself else rest) ≡ None → rest ≡ None
+outside true rest e = let bad : ◌≡◌ {A = Option ChangeFault} (Some IntoItself) None = e in cc
+outside false rest e = e
+
+unblocked : (upward below : Bool) → (if upward then Some NotADirectory else (if below then Some IsADirectory else None)) ≡ None → upward ≡ false
+unblocked true below e = let bad : ◌≡◌ {A = Option ChangeFault} (Some NotADirectory) None = e in cc
+unblocked false below e = refl
+
+unbroken : (b : Bool) → (if b then Some PathTooLong else None) ≡ None → b ≡ false
+unbroken true e = let bad : ◌≡◌ {A = Option ChangeFault} (Some PathTooLong) None = e in cc
+unbroken false e = refl
+
+-- no file stands at the new path or above it, and each moved path is a path
+pub is_allowed : (m : FileMap) (old new : List ℕ) → target_fault m old new ≡ None → (has_file_upward m new ≡ false) × (breaks_a_path m old new ≡ false)
+is_allowed m old new e =
+    let parts = first-none (free_fault m new) _ (outside (lies_below new old) _ e) in
+    (unblocked (has_file_upward m new) (has_file_below m new) parts.0, unbroken (breaks_a_path m old new) parts.1)
+
+absent : (o : Option Content) → is_some o ≡ false → o ≡ None
+absent None e = refl
+absent (Some file) e = let bad : true ≡ false = e in cc
+
+-- ---- the files after it
+
+pub rename_dir_fits : (m : FileMap) (old new : List ℕ) → IsFileMap m → rename_dir_fault m old new ≡ None → IsFileMap (dir_renamed m old new)
+rename_dir_fits m old new fits allowed = by (same_bytes old new) (first-none (source_fault m old) _ allowed).1
+  where
+    by : (same : Bool) → (if same then None else target_fault m old new) ≡ None → IsFileMap (if same then m else carried_files m old new)
+    by true e = fits
+    by false e =
+        let free = or_parts (is_some (file_at m new)) (has_file_above m new) (is_allowed m old new e).0 in
+        carried_fits m old new fits (absent (file_at m new) free.0) free.1
+
+-- a path below neither directory keeps what stands there
+pub dir_renamed-elsewhere : (m : FileMap) (old new p : List ℕ) → lies_below p old ≡ false → lies_below p new ≡ false → file_at (dir_renamed m old new) p ≡ file_at m p
+dir_renamed-elsewhere m old new p from to = by (same_bytes old new)
+  where
+    by : (same : Bool) → file_at (if same then m else carried_files m old new) p ≡ file_at m p
+    by true = refl
+    by false = carried-elsewhere m old new p from to
+
+-- ---- the paths of the moved files
+
+sound : (fault : Option PathFault) → is_some fault ≡ false → fault ≡ None
+sound None e = refl
+sound (Some fault) e = let bad : true ≡ false = e in cc
+
+-- where no path breaks, each moved path is one
+pub carried_path : (m : FileMap) (old new p : List ℕ) → breaks_a_path m old new ≡ false → IsSome (file_at m p) → lies_below p old ≡ true → IsPath (carried old new p)
+carried_path m old new p whole there below =
+    sound (path_fault (carried old new p))
+    (sym (ap (λ b. b && is_some (path_fault (carried old new p))) below)
+    ∙ unlisted (λ q. lies_below q old && is_some (path_fault (carried old new q))) (paths m) p whole (held m p there))
+
+no_fault : (b : Bool) (fault : PathFault) (rest : Option PathFault) → (if b then Some fault else rest) ≡ None → (b ≡ false) × (rest ≡ None)
+no_fault true fault rest e = let bad : ◌≡◌ {A = Option PathFault} (Some fault) None = e in cc
+no_fault false fault rest e = (refl, e)
+
+unless : (b : Bool) → not b ≡ false → b ≡ true
+unless true e = refl
+unless false e = let bad : true ≡ false = e in cc
+
+-- a path has a byte at least, and names alone
+names_alone : (p : List ℕ) → IsPath p → list_all is_component (components p) ≡ true
+names_alone p is =
+    let filled = no_fault (nat_eq (length p) 0) Empty _ is in
+    let short = no_fault (nat_lt 1024 (length p)) TooLong _ filled.1 in
+    unless (list_all is_component (components p)) (no_fault (not (list_all is_component (components p))) BadComponent _ short.1).0
+
+and_both : (a b : Bool) → (a && b) ≡ true → (a ≡ true) × (b ≡ true)
+and_both true true e = (refl, refl)
+and_both true false e = let bad : false ≡ true = e in cc
+and_both false b e = let bad : false ≡ true = e in cc
+
+onto_both : (b : ℕ) (ps qs : List (List ℕ)) → 0 < length ps → onto_first b (ps ++ qs) ≡ onto_first b ps ++ qs
+onto_both b [] qs some = absurd (omega arith)
+onto_both b (p ∷ ps) qs some = refl
+
+-- the components on both sides of a slash
+parts_joined : (top rest : List ℕ) → components (top ++ 47 ∷ rest) ≡ components top ++ components rest
+parts_joined [] rest = refl
+parts_joined (b ∷ top) rest = by (b == 47) refl (parts_joined top rest)
+  where
+    by : (slash : Bool) → (b == 47) ≡ slash → components (top ++ 47 ∷ rest) ≡ components top ++ components rest
+        → components (b ∷ (top ++ 47 ∷ rest)) ≡ components (b ∷ top) ++ components rest
+    by true e more =
+        slice_split-cons_yes (λ c. c == 47) b (top ++ 47 ∷ rest) e ∙ ap (λ ps. [] ∷ ps) more
+        ∙ sym (ap (λ ps. ps ++ components rest) (slice_split-cons_yes (λ c. c == 47) b top e))
+    by false e more =
+        let some : 0 < length (components top) = omega (arith, length-slice_split (λ c. c == 47) top) in
+        slice_split-cons_no (λ c. c == 47) b (top ++ 47 ∷ rest) e ∙ ap (onto_first b) more ∙ onto_both b (components top) (components rest) some
+        ∙ sym (ap (λ ps. ps ++ components rest) (slice_split-cons_no (λ c. c == 47) b top e))
+
+-- names alone on both sides of a slash
+names_joined : (top rest : List ℕ) → list_all is_component (components (top ++ 47 ∷ rest))
+    ≡ (list_all is_component (components top) && list_all is_component (components rest))
+names_joined top rest = ap (list_all is_component) (parts_joined top rest) ∙ list_all-append is_component (components top) (components rest)
+
+filled : (top rest : List ℕ) → nat_eq (length (top ++ 47 ∷ rest)) 0 ≡ false
+filled [] rest = ne_eqb (length (47 ∷ rest)) 0 (λ e. omega arith)
+filled (b ∷ top) rest = ne_eqb (length (b ∷ (top ++ 47 ∷ rest))) 0 (λ e. omega arith)
+
+-- nothing but length and depth breaks a moved path
+pub carried-fault : (old new p : List ℕ) → IsPath new → IsPath p → lies_below p old ≡ true
+    → path_fault (carried old new p)
+    ≡ (if nat_lt 1024 (length (carried old new p)) then Some TooLong else if nat_lt 64 (length (components (carried old new p))) then Some TooDeep else None)
+carried-fault old new p there here below =
+    let at = rest_below p old below in
+    let place : carried old new p ≡ new ++ 47 ∷ at.0 = ap (carried old new) at.1 ∙ carried_there old new (47 ∷ at.0) in
+    let names = names_joined old at.0 in
+    let rest = (and_both _ _ (sym names ∙ ap (λ q. list_all is_component (components q)) (sym at.1) ∙ names_alone p here)).1 in
+    let all : list_all is_component (components (carried old new p)) ≡ true =
+    ap (λ q. list_all is_component (components q)) place ∙ names_joined new at.0 ∙ (λ i. names_alone new there i && rest i) in
+    let some : nat_eq (length (carried old new p)) 0 ≡ false = ap (λ q. nat_eq (length q) 0) place ∙ filled new at.0 in
+    by (nat_eq (length (carried old new p)) 0) (nat_lt 1024 (length (carried old new p))) (list_all is_component (components (carried old new p))) some all
+  where
+    by : (empty long names : Bool) → empty ≡ false → names ≡ true
+        → (if empty then Some Empty else if long then Some TooLong else if not names then Some BadComponent else
+        if nat_lt 64 (length (components (carried old new p))) then Some TooDeep else None)
+        ≡ (if long then Some TooLong else if nat_lt 64 (length (components (carried old new p))) then Some TooDeep else None)
+    by true long names e all = cc
+    by false long false e all = cc
+    by false true true e all = refl
+    by false false true e all = refl
