@@ -6,18 +6,18 @@ use Rattle.std.proofs.lemmas.Bool.{eqb-true, eq-eqb}
 use Rattle.std.proofs.lemmas.List.{map-append, reverse-append, append-nil}
 use Rattle.std.proofs.lemmas.List.Elements.{filter-append}
 use Rattle.eden_ids.specs.declared.id.Id.{Id}
-use Rattle.eden_journal.specs.declared.file_touch.FileTouch.{FileTouch}
-use Rattle.eden_journal.specs.FilesChanged.{Touched}
+use Rattle.eden_journal.specs.FilesChanged.{FilesChanged}
 use Rattle.eden_journal.specs.declared.delta.Delta.{Delta}
 use Rattle.eden_journal.specs.declared.delta.Delta.TheVariants.{File, Root}
 use Rattle.eden_history.specs.declared.change.Change.{Change}
-use Rattle.eden_history.specs.declared.change.Change.TheVariants.{Write, Remove, Rename, Checkout, Reset, Flush, Remount, Import}
+use Rattle.eden_history.specs.declared.change.Change.TheVariants.{Write, Remove, Rename, RenameDir, Checkout, Reset, Flush, Remount, Import}
 use Rattle.eden_history.specs.Worlds.{Row, Event, Commits, last_row}
 use Rattle.eden_history.specs.Named.{moved_prefixes, unclean_paths}
 use Rattle.eden_history.specs.Outcome.{next_row}
 use Rattle.eden_history.specs.Legal.{AreMade}
 use Rattle.eden_history.specs.Changes.{events_in, is_in_range}
-use Rattle.eden_history.specs.Recorded.{delta_of, moves_root, start, starts, touches_of}
+use Rattle.eden_history.specs.Recorded.{delta_of, files_by, moves_root, start, starts, touches_of}
+use Rattle.eden_history.proofs.Recording.{prefixes-by, root-prefixes}
 use Rattle.eden_history.proofs.Steps.{Makes, is_made}
 use Rattle.eden_history.proofs.Following.{IsNotAfter}
 use Rattle.eden_ranges.specs.Gathered.{left_by, prefixes_in, roots_by, unclean_in}
@@ -34,17 +34,18 @@ plain_unclean : (commits : Commits) (before : Row) (change : Change) (after : Ro
 plain_unclean commits before (Write path kind bytes) after e = refl
 plain_unclean commits before (Remove path) after e = refl
 plain_unclean commits before (Rename old new) after e = refl
+plain_unclean commits before (RenameDir old new) after e = refl
 plain_unclean commits before (Checkout commit mode) after e = cc
 plain_unclean commits before (Reset commit) after e = cc
 plain_unclean commits before Flush after e = refl
 plain_unclean commits before (Remount generation) after e = refl
 plain_unclean commits before (Import objects) after e = refl
 
-delta_file : (before : Row) (event : Event) → moves_root event.change ≡ false → delta_of before event ≡ File (Touched (touches_of before event))
-delta_file before event e = ap (λ b. if b then Root before.root event.unclean else File (Touched (touches_of before event))) e
+delta_file : (before : Row) (event : Event) → moves_root event.change ≡ false → delta_of before event ≡ File (files_by event.change (touches_of before event))
+delta_file before event e = ap (λ b. if b then Root before.root event.unclean else File (files_by event.change (touches_of before event))) e
 
 delta_root : (before : Row) (event : Event) → moves_root event.change ≡ true → delta_of before event ≡ Root before.root event.unclean
-delta_root before event e = ap (λ b. if b then Root before.root event.unclean else File (Touched (touches_of before event))) e
+delta_root before event e = ap (λ b. if b then Root before.root event.unclean else File (files_by event.change (touches_of before event))) e
 
 -- one more event is the newest of those that count
 counted_more : (generation since until : ℕ) (event : Event) (past : List Event) → is_in_range generation since until event.row ≡ true
@@ -82,8 +83,8 @@ each_prefix : (commits : Commits) → TellsEach prefixes_in (λ event. event.pre
 each_prefix commits before event one = by (moves_root event.change) refl ∙ sym (λ i. (one.made i).prefixes)
   where
     by : (b : Bool) → moves_root event.change ≡ b → prefixes_in (delta_of before event) ≡ moved_prefixes event.change
-    by true e = ap prefixes_in (delta_root before event e)
-    by false e = ap prefixes_in (delta_file before event e)
+    by true e = ap prefixes_in (delta_root before event e) ∙ sym (root-prefixes event.change e)
+    by false e = ap prefixes_in (delta_file before event e) ∙ prefixes-by event.change (touches_of before event)
 
 each_unclean : (commits : Commits) → TellsEach unclean_in (λ event. event.unclean) commits
 each_unclean commits before event one = by (moves_root event.change) refl
@@ -107,9 +108,9 @@ lefts-none : left_by [] ≡ []
 unfolding left_by
 lefts-none = refl
 
-lefts-file : (touches : List FileTouch) (ds : List Delta) → left_by (File (Touched touches) ∷ ds) ≡ left_by ds
+lefts-file : (files : FilesChanged) (ds : List Delta) → left_by (File files ∷ ds) ≡ left_by ds
 unfolding left_by
-lefts-file touches ds = refl
+lefts-file files ds = refl
 
 lefts-root : (left : Id) (unclean : List (List ℕ)) (ds : List Delta) → left_by (Root left unclean ∷ ds) ≡ left_by ds ++ left ∷ []
 unfolding left_by
@@ -185,7 +186,7 @@ more_roots commits generation since until opening event past made plain counts l
         let stays : event.row.root ≡ (last_row opening past).root =
         (λ i. ((is_made commits (last_row opening past) event made.0).made i).row.root) ∙ plain_root commits (last_row opening past) event.change e in
         ap (roots_by event.row.root) (next ∙ ap (λ d. d ∷ newer opening past since) (delta_file (last_row opening past) event e))
-        ∙ (λ i. lefts-file (touches_of (last_row opening past) event) (newer opening past since) i ++ stays i ∷ [])
+        ∙ (λ i. lefts-file (files_by event.change (touches_of (last_row opening past) event)) (newer opening past since) i ++ stays i ∷ [])
         ∙ older
         ∙ sym (λ i. (before i).root ∷ (parted false e ∙ append-nil (roots (reverse rest))) i)
 
