@@ -3,3 +3,4 @@ mod Tabulating
 mod SideLaws
 mod Marking
 mod Walk
+mod CarryingLaws

@@ -29,6 +29,7 @@ pub use eden_ids::Files;
 pub use eden_messages::{Answer, Call, Cause, Query, Reply, Request};
 pub use eden_stream::{Counted, Faults};
 
+mod carrying;
 mod commit_files;
 mod directories;
 mod events;
