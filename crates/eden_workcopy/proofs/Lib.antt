@@ -11,3 +11,4 @@ pub mod WovenBelow
 pub mod Rerooted
 pub mod Reverted
 pub mod Within
+pub mod CarriedOver

@@ -18,6 +18,10 @@ before_first k e fs h = ap (λ r. take (cond (is_lt r) (suc (place k fs)) 0) (e 
 pub before_step : (k : List ℕ) (e : Entry) (es fs : List Entry) → T (is_lt (by_bytes e.0 k)) → es ≡ e ∷ fs → before k es ≡ e ∷ before k fs
 before_step k e es fs h is = ap (before k) is ∙ before_first k e fs h
 
+pub begins_before : (k : List ℕ) (e : Entry) (block left later : List Entry) → T (is_lt (by_bytes e.0 k)) → block ≡ e ∷ left
+    → (rest : List Entry) × (before k (block ++ later) ≡ e ∷ rest)
+begins_before k e block left later h is = (before k (left ++ later), ap (λ es. before k (es ++ later)) is ∙ before_first k e (left ++ later) h)
+
 pub before_none : (k : List ℕ) (es : List Entry) → place k es ≡ 0 → before k es ≡ []
 before_none k [] none = refl
 before_none k (e ∷ es) none = ap (λ n. take n (e ∷ es)) none

@@ -58,6 +58,13 @@ listed_there held root test none there = by (commit_rows held root) none there
     by None none there = cc
     by (Some rows) none there = cc
 
+pub listed_below_there : (held : List Held) (root : Id) (wanted test : List ℕ → Bool) → rows_where wanted (rows_where test (commit_rows held root)) ≡ None → IsSome (commit_map held root) → ⊥
+listed_below_there held root wanted test none there = by (commit_rows held root) none there
+  where
+    by : (o : Option (List Row)) → rows_where wanted (rows_where test o) ≡ None → IsSome (map_of_rows held o) → ⊥
+    by None none there = cc
+    by (Some rows) none there = cc
+
 -- at a path of the overlay, and at another
 pub file_told : (base : FileMap) (layer : Layer) (p : List ℕ) (file : Option Content) → fin.get layer p ≡ Some file → file_at (over base layer) p ≡ file
 file_told base layer p file is = file_at-over base layer p ∙ ap (λ o. or_below o (file_at base p)) is

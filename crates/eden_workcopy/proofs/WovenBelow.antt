@@ -14,7 +14,7 @@ use Rattle.eden_objects.specs.Closed.{IsClosed}
 use Rattle.eden_objects.specs.Commits.{Row, commit_map, commit_rows, rows_where}
 use Rattle.eden_objects.specs.Files.{commit_files}
 use Rattle.eden_objects.proofs.CommitLaws.{rows_listed}
-use Rattle.eden_workcopy.specs.Layers.{Mark, by_bytes}
+use Rattle.eden_workcopy.specs.Layers.{Entry, Mark, by_bytes, marks}
 use Rattle.eden_workcopy.specs.Listings.{admitted, shown_over}
 use Rattle.eden_workcopy.proofs.Works.{some_rows}
 use Rattle.eden_workcopy.proofs.WovenRows.{among, filtered, has-shown_over, is, is_there, said}
@@ -103,3 +103,22 @@ sorted_below top ms sorted = subst (λ es. T (is_sorted by_bytes es)) (kept ms) 
     kept : (ms : List Mark) → where_key by_bytes (λ path. lies_below path top) ms ≡ marks_below top ms
     kept [] = refl
     kept (m ∷ ms) = ap (λ es. cond (lies_below m.0 top) (m ∷ es) es) (kept ms)
+
+-- the marks of the entries below it
+pub marks_beneath : (top : List ℕ) (es : List Entry) → marks (filter (λ e. lies_below e.0 top) es) ≡ marks_below top (marks es)
+marks_beneath top [] = refl
+marks_beneath top (e ∷ es) = step (lies_below e.0 top) (marks_beneath top es)
+  where
+    step : (b : Bool) → marks (filter (λ e. lies_below e.0 top) es) ≡ marks_below top (marks es)
+        → marks (cond b (e ∷ filter (λ e. lies_below e.0 top) es) (filter (λ e. lies_below e.0 top) es))
+        ≡ cond b ((e.0, is_some e.1) ∷ marks_below top (marks es)) (marks_below top (marks es))
+    step true more = ap (λ (ms : List Mark). (e.0, is_some e.1) ∷ ms) more
+    step false more = more
+
+-- a filter of no pattern admits each path
+pub all_wanted : (wanted ps : List (List ℕ)) → wanted ≡ [] → filter (admits wanted) ps ≡ ps
+all_wanted wanted ps is = ap (λ qs. filter (admits qs) ps) is ∙ each ps
+  where
+    each : (ps : List (List ℕ)) → filter (admits []) ps ≡ ps
+    each [] = refl
+    each (p ∷ ps) = ap (λ (qs : List (List ℕ)). p ∷ qs) (each ps)

@@ -1,5 +1,6 @@
 -- What only this crate's functions speak of.
 pub mod Agreements
 pub mod Blocks
+pub mod Carrying
 pub mod Places
 pub mod Woven

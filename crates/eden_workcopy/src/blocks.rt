@@ -1,6 +1,6 @@
 //! Entries in byte order of their paths, cut into blocks: what is put in moves the entries of one block alone.
 
-ghost use Rattle.std.specs.Prelude.{◌≡◌, ◌∷◌, ◌<◌, ◌≤◌, [], T, None, Some, filter, not, drop, length, IfOk, OnOk, OnErr, is_some};
+ghost use Rattle.std.specs.Prelude.{◌≡◌, ◌∷◌, ◌<◌, ◌≤◌, [], T, None, Some, filter, not, drop, length, IfOk, OnOk, OnErr};
 ghost use Rattle.std.specs.FinMap.{is_sorted, put, find};
 ghost use Rattle.std.specs.Option.{is_none, option_copied};
 ghost use Rattle.eden_ids.specs.FileMaps.{same_path};
@@ -146,24 +146,24 @@ pub(crate) fn put_in(
     Ok(is_new)
 }
 
-/// Takes the entry of a path out, if there is one, and tells whether there was. It takes no memory.
-pub(crate) fn take_out_of(blocks: &mut Vec<Block>, path: &[u8]) -> bool
+/// Takes the entry of a path out, if there is one, and gives back what it said. It takes no memory.
+pub(crate) fn take_out_of(blocks: &mut Vec<Block>, path: &[u8]) -> Option<Option<Content>>
     requires sorted { T (is_sorted by_bytes (flat blocks.old.items)) }
     requires filled { AllFilled blocks.old.items }
     ensures left { flat blocks.new.items ≡ filter (λ e. not (same_path path.now e.0)) (flat blocks.old.items) }
     ensures filled { AllFilled blocks.new.items }
-    ensures there { result ≡ is_some (find by_bytes path.now (flat blocks.old.items)) }
+    ensures there { result ≡ find by_bytes path.now (flat blocks.old.items) }
 {
     let at = block_for(blocks, path);
     if at >= blocks.len() {
-        return false;
+        return None;
     }
     let block = &mut blocks[at];
-    let was_there = take_out(block, path);
+    let said = take_out(block, path);
     if block.is_empty() {
         blocks.remove(at);
     }
-    was_there
+    said
 }
 
 /// A block with the same entries.

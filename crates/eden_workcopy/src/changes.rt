@@ -4,11 +4,13 @@ ghost use Rattle.std.specs.Prelude.{◌≡◌, ◌≢◌, None, Some, IfOk, IfEr
 ghost use Rattle.std.specs.FinMap as fin;
 ghost use Rattle.eden_ids.specs.FileMaps.{file_at};
 ghost use Rattle.eden_history.specs.Renames.{absent_fault, rename_fault, renamed, write_fault};
+ghost use Rattle.eden_history.specs.DirRenames.{dir_renamed, rename_dir_fault};
 ghost use Rattle.eden_workcopy.specs.Meanings.{means, FitsIn};
 
+use crate::carrying::way_fault;
 use crate::work::WorkCopy;
-use eden_history::{ChangeFault, rename_fault};
-use eden_ids::{Kind, Naming, NoMemory, Path};
+use eden_history::{ChangeFault, rename_fault, source_fault};
+use eden_ids::{Kind, Naming, NoMemory, Path, path_law};
 use eden_objects::Store;
 
 impl WorkCopy {
@@ -112,6 +114,43 @@ impl WorkCopy {
             return Ok(());
         };
         self.shift_file(old, new, content)?;
+        Ok(())
+    }
+
+    /// Moves each file below one path to the same place below another.
+    ///
+    /// Refused, in this order and all judged before the change: as `NotADirectory` where a file stands at the old path or above it, or as
+    /// `NoEntry` where none stands below it; where the two paths differ, as `IntoItself` where the new one lies below the old one, as
+    /// `NotADirectory` or `IsADirectory` where a file stands at the new path or above it, or files below it, or as `PathTooLong` where a
+    /// file would come to stand at what is no path. `NoMemory` comes where a growth was refused. After a refusal nothing has changed. A
+    /// rename of a directory to itself changes nothing.
+    pub fn rename_dir<N: Naming + Drop>(
+        &mut self,
+        store: &Store<N>,
+        old: &Path,
+        new: &Path,
+    ) -> Result<(), ChangeFault>
+        requires { FitsIn store.now self.old }
+        ensures root { self.new.root ≡ self.old.root }
+        ensures fits { FitsIn store.now self.new }
+        ensures accepts { IfOk result (λ _. rename_dir_fault (means store.now self.old) old.now new.now ≡ None) }
+        ensures files { OnOk result (means store.now self.new ≡ dir_renamed (means store.now self.old) old.now new.now) }
+        ensures refuses { IfErr result (λ fault. fault ≢ ChangeFault.NoMemory
+            → rename_dir_fault (means store.now self.old) old.now new.now ≡ Some fault) }
+        ensures same { OnErr result (self.new ≡ self.old) }
+    {
+        path_law(new);
+        let files = self.over(store);
+        if let Some(fault) = source_fault(&files, old) {
+            return Err(fault);
+        }
+        if old == new {
+            return Ok(());
+        }
+        if let Some(fault) = way_fault(&files, old, new) {
+            return Err(fault);
+        }
+        self.overlay = self.carried(store, old, new)?;
         Ok(())
     }
 

@@ -1,6 +1,6 @@
 //! The entries of one block.
 
-ghost use Rattle.std.specs.Prelude.{◌≡◌, filter, not, T, Some, None, IfOk, OnOk, OnErr, is_some, option_copied};
+ghost use Rattle.std.specs.Prelude.{◌≡◌, filter, not, T, Some, None, IfOk, OnOk, OnErr, option_copied};
 ghost use Rattle.std.specs.Option.{is_none};
 ghost use Rattle.std.specs.Ordering.{is_lt};
 ghost use Rattle.std.specs.FinMap.{is_sorted, put, find};
@@ -73,18 +73,20 @@ pub(crate) fn put(
     Ok(true)
 }
 
-/// Takes the entry of a path out, if there is one, and tells whether there was. It takes no memory.
+/// Takes the entry of a path out, if there is one, and gives back what it said. It takes no memory.
 #[tactic(auto, using(crate::proofs::Placing::sorted_without))]
-pub(crate) fn take_out(entries: &mut Vec<(Path, Option<Content>)>, path: &[u8]) -> bool
+pub(crate) fn take_out(
+    entries: &mut Vec<(Path, Option<Content>)>,
+    path: &[u8],
+) -> Option<Option<Content>>
     requires { T (is_sorted by_bytes entries.old.items) }
     ensures left { entries.new.items ≡ filter (λ e. not (same_path path.now e.0)) entries.old.items }
     ensures sorted { T (is_sorted by_bytes entries.new.items) }
-    ensures there { result ≡ is_some (find by_bytes path.now entries.old.items) }
+    ensures there { result ≡ find by_bytes path.now entries.old.items }
 {
     let at = place(entries, path);
     if is_there(entries, at, path) {
-        entries.remove(at);
-        return true;
+        return Some(entries.remove(at).1);
     }
-    false
+    None
 }

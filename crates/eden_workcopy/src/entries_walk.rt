@@ -1,11 +1,11 @@
 //! Entries one after another, from some block on.
 
-ghost use Rattle.std.specs.Prelude.{◌≡◌, ◌∷◌, ◌++◌, T, IfSome, IfNone};
+ghost use Rattle.std.specs.Prelude.{◌≡◌, ◌∷◌, ◌++◌, [], T, List, IfSome, IfNone};
 ghost use Rattle.std.specs.Iterator.{item_count, YieldsFirstRef};
 ghost use Rattle.std.specs.Ordering.{is_lt};
-ghost use Rattle.eden_workcopy.specs.Layers.{by_bytes};
+ghost use Rattle.eden_workcopy.specs.Layers.{Entry, by_bytes};
 ghost use Rattle.eden_workcopy.specs.internal.Places.{place};
-ghost use Rattle.eden_workcopy.specs.internal.Blocks.{flat, AllFilled};
+ghost use Rattle.eden_workcopy.specs.internal.Blocks.{before, flat, AllFilled};
 
 use crate::blocks::Block;
 use crate::entries::is_before;
@@ -45,6 +45,20 @@ impl<'a> Walk<'a> {
         match later.split_first() {
             Some((block, later)) => Walk { block, later },
             None => Walk { block, later },
+        }
+    }
+
+    /// The first entry that is left, if its path comes before another one.
+    #[tactic(auto, using(crate::proofs::Walked::begins_before))]
+    pub(crate) fn first_before(&self, path: &[u8]) -> Option<&'a (Path, Option<Content>)>
+        ensures none { IfNone result (before path.now self.now ≡ []) }
+        ensures some { IfSome result (λ entry. (rest : List Entry) × (before path.now self.now ≡ entry.now ∷ rest)) }
+    {
+        let (entry, _) = self.block.split_first()?;
+        if is_before(entry, path) {
+            Some(entry)
+        } else {
+            None
         }
     }
 

@@ -19,9 +19,11 @@ pub use crate::work::WorkCopy;
 pub use crate::working::Working;
 
 mod blocks;
+mod carrying;
 mod changes;
 mod dirty;
 mod entries;
+mod entries_below;
 mod entries_walk;
 mod laws;
 mod list;

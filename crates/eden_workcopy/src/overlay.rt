@@ -104,12 +104,14 @@ impl Overlay {
         Ok(())
     }
 
-    /// Says no longer what stands at a path. It takes no memory.
-    pub(crate) fn forget(&mut self, path: &[u8])
-        ensures { self.new ≡ fin.remove self.old path.now }
+    /// Says no longer what stands at a path, and gives back what was said. It takes no memory.
+    pub(crate) fn forget(&mut self, path: &[u8]) -> Option<Option<Content>>
+        ensures left { self.new ≡ fin.remove self.old path.now }
+        ensures said { result ≡ fin.get self.old path.now }
     {
-        let was_there = take_out_of(&mut self.blocks, path);
-        self.count -= usize::from(was_there);
+        let said = take_out_of(&mut self.blocks, path);
+        self.count -= usize::from(said.is_some());
+        said
     }
 
     /// Says that no file stands at one path, and what stands at another. `NoMemory` changes nothing.

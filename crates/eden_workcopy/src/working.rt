@@ -51,7 +51,7 @@ pub(crate) fn lent(file: &Option<Content>) -> Option<(Kind, &[u8])>
 }
 
 /// A path with a byte behind it. In byte order the paths below a path begin with the slash behind it, and end with the next byte.
-fn edge(path: &Path, byte: u8) -> ArrayVec<u8, 1025>
+pub(crate) fn edge(path: &Path, byte: u8) -> ArrayVec<u8, 1025>
     ensures { result.items ≡ path.now ++ byte ∷ [] }
 {
     let mut edge = ArrayVec::new();

@@ -1,4 +1,4 @@
-use Rattle.std.proofs.Common.{◌≡◌, ◌<◌, [], T, is_some, vec_len, sym, ap, subst, ◌∙◌, arith}
+use Rattle.std.proofs.Common.{◌≡◌, ◌<◌, [], T, vec_len, sym, ap, subst, ◌∙◌, arith}
 use Rattle.std.proofs.lemmas.Bool.Decides.{nat_tests}
 use Rattle.std.specs.FinMap.{is_sorted, find}
 use Rattle.eden_workcopy.specs.Layers.{by_bytes}
@@ -19,47 +19,47 @@ returns-then-at-len-clause-there c =
     let is : c.block_for-at.result ≡ block_for c.args.path.now c.deref.result.now = c.block_for-at.ensures.is in
     let nothing : flat c.args.blocks.now.items ≡ [] =
     ap flat (sym c.deref.ensures.value) ∙ nothing_flat c.args.path.now c.deref.result.now (omega (arith, is, c.deref.ensures.len, c.len.ensures)) in
-    sym (ap (λ es. is_some (find by_bytes c.args.path.now es)) nothing)
+    sym (ap (find by_bytes c.args.path.now) nothing)
 
-pub take_out-was_there-requires : goal.take_out-was_there-requires
-take_out-was_there-requires c =
+pub take_out-said-requires : goal.take_out-said-requires
+take_out-said-requires c =
     subst (λ es. T (is_sorted by_bytes es)) (sym (ap (λ b. b.items) c.index_mut-block.ensures.value))
     (rising_block c.args.blocks.now.items c.block_for-at.result c.index_mut-block.result.now (omega arith) c.requires.sorted)
 
 pub returns-else-is_empty-clause-left : goal.returns-else-is_empty-clause-left
 returns-else-is_empty-clause-left c =
-    without_flat c.args.path.now c.args.blocks.now.items c.block_for-at.result c.index_mut-block.result.now c.take_out-was_there.new.entries c.requires.sorted c.requires.filled
+    without_flat c.args.path.now c.args.blocks.now.items c.block_for-at.result c.index_mut-block.result.now c.take_out-said.new.entries c.requires.sorted c.requires.filled
     (c.block_for-at.ensures.is ∙ ap (block_for c.args.path.now) c.deref.ensures.value) (omega arith)
-    (c.take_out-was_there.ensures.left ∙ ap (λ b. without c.args.path.now b.items) c.index_mut-block.ensures.value)
+    (c.take_out-said.ensures.left ∙ ap (λ b. without c.args.path.now b.items) c.index_mut-block.ensures.value)
 
 pub returns-else-is_empty-clause-filled : goal.returns-else-is_empty-clause-filled
 returns-else-is_empty-clause-filled c =
-    let some : 0 < vec_len c.take_out-was_there.new.entries = grind (arith, nat_tests) in
-    filled_set c.args.blocks.now.items c.block_for-at.result c.take_out-was_there.new.entries c.requires.filled (omega (arith, some, c.take_out-was_there.new.entries.ok.0))
+    let some : 0 < vec_len c.take_out-said.new.entries = grind (arith, nat_tests) in
+    filled_set c.args.blocks.now.items c.block_for-at.result c.take_out-said.new.entries c.requires.filled (omega (arith, some, c.take_out-said.new.entries.ok.0))
 
 pub returns-then-is_empty-clause-left : goal.returns-then-is_empty-clause-left
 returns-then-is_empty-clause-left c =
-    let zero : vec_len c.take_out-was_there.new.entries ≡ 0 = grind (arith, nat_tests) in
+    let zero : vec_len c.take_out-said.new.entries ≡ 0 = grind (arith, nat_tests) in
     ap flat c.remove.ensures.items
-    ∙ flat_emptied c.args.blocks.now.items c.block_for-at.result c.take_out-was_there.new.entries (omega arith) (no_items c.take_out-was_there.new.entries zero)
-    ∙ without_flat c.args.path.now c.args.blocks.now.items c.block_for-at.result c.index_mut-block.result.now c.take_out-was_there.new.entries c.requires.sorted c.requires.filled
+    ∙ flat_emptied c.args.blocks.now.items c.block_for-at.result c.take_out-said.new.entries (omega arith) (no_items c.take_out-said.new.entries zero)
+    ∙ without_flat c.args.path.now c.args.blocks.now.items c.block_for-at.result c.index_mut-block.result.now c.take_out-said.new.entries c.requires.sorted c.requires.filled
     (c.block_for-at.ensures.is ∙ ap (block_for c.args.path.now) c.deref.ensures.value) (omega arith)
-    (c.take_out-was_there.ensures.left ∙ ap (λ b. without c.args.path.now b.items) c.index_mut-block.ensures.value)
+    (c.take_out-said.ensures.left ∙ ap (λ b. without c.args.path.now b.items) c.index_mut-block.ensures.value)
 
 pub returns-then-is_empty-clause-filled : goal.returns-then-is_empty-clause-filled
 returns-then-is_empty-clause-filled c =
-    subst AllFilled (sym c.remove.ensures.items) (filled_removed c.args.blocks.now.items c.block_for-at.result c.take_out-was_there.new.entries c.requires.filled)
+    subst AllFilled (sym c.remove.ensures.items) (filled_removed c.args.blocks.now.items c.block_for-at.result c.take_out-said.new.entries c.requires.filled)
 
 pub returns-then-is_empty-clause-there : goal.returns-then-is_empty-clause-there
 returns-then-is_empty-clause-there c =
-    c.take_out-was_there.ensures.there
-    ∙ ap (λ b. is_some (find by_bytes c.args.path.now b.items)) c.index_mut-block.ensures.value
-    ∙ ap is_some (sym (find_flat c.args.path.now c.args.blocks.now.items c.block_for-at.result c.index_mut-block.result.now c.requires.sorted c.requires.filled
-    (c.block_for-at.ensures.is ∙ ap (block_for c.args.path.now) c.deref.ensures.value) (omega arith)))
+    c.take_out-said.ensures.there
+    ∙ ap (λ b. find by_bytes c.args.path.now b.items) c.index_mut-block.ensures.value
+    ∙ sym (find_flat c.args.path.now c.args.blocks.now.items c.block_for-at.result c.index_mut-block.result.now c.requires.sorted c.requires.filled
+    (c.block_for-at.ensures.is ∙ ap (block_for c.args.path.now) c.deref.ensures.value) (omega arith))
 
 pub returns-else-is_empty-clause-there : goal.returns-else-is_empty-clause-there
 returns-else-is_empty-clause-there c =
-    c.take_out-was_there.ensures.there
-    ∙ ap (λ b. is_some (find by_bytes c.args.path.now b.items)) c.index_mut-block.ensures.value
-    ∙ ap is_some (sym (find_flat c.args.path.now c.args.blocks.now.items c.block_for-at.result c.index_mut-block.result.now c.requires.sorted c.requires.filled
-    (c.block_for-at.ensures.is ∙ ap (block_for c.args.path.now) c.deref.ensures.value) (omega arith)))
+    c.take_out-said.ensures.there
+    ∙ ap (λ b. find by_bytes c.args.path.now b.items) c.index_mut-block.ensures.value
+    ∙ sym (find_flat c.args.path.now c.args.blocks.now.items c.block_for-at.result c.index_mut-block.result.now c.requires.sorted c.requires.filled
+    (c.block_for-at.ensures.is ∙ ap (block_for c.args.path.now) c.deref.ensures.value) (omega arith))

@@ -1,6 +1,6 @@
-use Rattle.std.proofs.Common.{true, false, is_some, subst, sym, ap, ◌∙◌}
+use Rattle.std.proofs.Common.{Some, true, false, subst, sym, ap, ◌∙◌}
 use Rattle.eden_workcopy.specs.internal.Places.{place, IsThere}
-use Rattle.eden_workcopy.proofs.Placing.{out_there, not_there, sorted_without, told_there, not_told}
+use Rattle.eden_workcopy.proofs.Placing.{out_there, not_there, sorted_without, told_is, not_told}
 use Rattle.eden_workcopy.proofs.entries.take_out.Goals as goal
 
 pub returns-then-is_there-clause-left : goal.returns-then-is_there-clause-left
@@ -26,13 +26,13 @@ returns-then-is_there-clause-there c =
     let there : IsThere true c.args.path.now c.args.entries.now.items c.place-at.result =
     subst (λ b. IsThere b c.args.path.now c.args.entries.now.items c.place-at.result) c.if-is_there.true
     (subst (λ es. IsThere c.is_there.result c.args.path.now es c.place-at.result) c.deref-2.ensures.value c.is_there.ensures) in
-    sym (ap is_some (told_there c.args.path.now c.args.entries.now.items
-    (subst (IsThere true c.args.path.now c.args.entries.now.items) (c.place-at.ensures ∙ ap (place c.args.path.now) c.deref.ensures.value) there)).1)
+    ap (λ e. Some e.1) c.remove.ensures.value
+    ∙ told_is c.args.path.now c.args.entries.now.items c.place-at.result c.remove.result (c.place-at.ensures ∙ ap (place c.args.path.now) c.deref.ensures.value) there
 
 pub returns-clause-there : goal.returns-clause-there
 returns-clause-there c =
     let apart : IsThere false c.args.path.now c.args.entries.now.items c.place-at.result =
     subst (λ b. IsThere b c.args.path.now c.args.entries.now.items c.place-at.result) c.if-is_there.false
     (subst (λ es. IsThere c.is_there.result c.args.path.now es c.place-at.result) c.deref-2.ensures.value c.is_there.ensures) in
-    sym (ap is_some (not_told c.args.path.now c.args.entries.now.items c.requires
-    (subst (IsThere false c.args.path.now c.args.entries.now.items) (c.place-at.ensures ∙ ap (place c.args.path.now) c.deref.ensures.value) apart)))
+    sym (not_told c.args.path.now c.args.entries.now.items c.requires
+    (subst (IsThere false c.args.path.now c.args.entries.now.items) (c.place-at.ensures ∙ ap (place c.args.path.now) c.deref.ensures.value) apart))

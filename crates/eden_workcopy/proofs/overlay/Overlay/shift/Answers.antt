@@ -32,7 +32,7 @@ pub returns-clause-err : goal.returns-clause-err
 returns-clause-err c =
     let none = ap (fin.get c.args.self.now) (sym c.as_bytes.ensures.bytes)
     ∙ not_told_of c.get.result (fin.get c.args.self.now c.as_bytes.result.now) c.get.ensures (sym c.is_some.ensures ∙ c.if-is_some.false) in
-    c.forget.ensures
+    c.forget.ensures.left
     ∙ ap (fin.remove c.set-3.new.self) (c.as_bytes-in-Err.ensures.bytes ∙ c.in_ok-marked.ensures)
     ∙ ap (λ m. fin.remove m c.args.from) (c.in-Err.ensures.err ∙ c.in_ok-set-2.ensures.ok)
     ∙ taken_back c.args.self.now c.args.from None none

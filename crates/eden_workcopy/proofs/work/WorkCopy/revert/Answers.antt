@@ -14,7 +14,7 @@ use Rattle.eden_workcopy.proofs.work.WorkCopy.revert.Goals as goal
 pub returns-clause-files : goal.returns-clause-files
 returns-clause-files g c =
     over-forgotten (commit_files c.args.store.now c.args.self.now.root) c.args.self.now.overlay c.forget.new.self c.args.path.now
-    (c.forget.ensures ∙ ap (fin.remove c.args.self.now.overlay) c.as_bytes.ensures.bytes)
+    (c.forget.ensures.left ∙ ap (fin.remove c.args.self.now.overlay) c.as_bytes.ensures.bytes)
 
 pub returns-clause-fits : goal.returns-clause-fits
 returns-clause-fits g c =

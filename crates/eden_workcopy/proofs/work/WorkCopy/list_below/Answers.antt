@@ -1,0 +1,43 @@
+use Rattle.std.proofs.Common.{◌≡◌, ℕ, T, List, Err, IfOk, filter, sym, ap, subst, ◌∙◌}
+use Rattle.std.specs.FinMap as fin
+use Rattle.std.specs.FinMap.{is_sorted}
+use Rattle.eden_globs.specs.Filters.{admits}
+use Rattle.eden_ids.specs.FileMaps.{listing}
+use Rattle.eden_ids.specs.Paths.{lies_below}
+use Rattle.eden_objects.specs.Commits.{commit_rows, rows_where}
+use Rattle.eden_objects.specs.Listings.{Lists}
+use Rattle.eden_objects.specs.Files.{commit_files}
+use Rattle.eden_workcopy.specs.Layers.{Mark, by_bytes, marks}
+use Rattle.eden_workcopy.specs.internal.Blocks.{before}
+use Rattle.eden_workcopy.specs.Listings.{shown_over}
+use Rattle.eden_workcopy.proofs.Works.{listed_below_there}
+use Rattle.eden_workcopy.proofs.WovenBelow.{files_below, row_paths_below, marks_beneath, shown_below, sorted_below, all_wanted}
+use Rattle.eden_workcopy.proofs.WovenRows.{layer_shown, marks_up}
+use Rattle.eden_workcopy.proofs.work.WorkCopy.list_below.Goals as goal
+
+pub returns : goal.returns
+returns g c =
+    let top = c.args.top.now in
+    let base = commit_files c.args.store.now c.args.self.now.root in
+    let layer = c.args.self.now.overlay in
+    let wanted = c.all-wanted.result in
+    let P : List (List ℕ) → Type 0 = λ ps. IfOk c.weave.result (λ paths. paths.items ≡ ps) in
+    subst P
+    (all_wanted wanted (listing (shown_over (files_below top base) (marks (before c.below.result.end.items c.below.result.walk)))) c.all-wanted.ensures
+    ∙ ap (λ (ms : List Mark). listing (shown_over (files_below top base) ms)) (c.below.ensures ∙ marks_beneath top (fin.entries layer))
+    ∙ shown_below base (marks (fin.entries layer)) top
+    ∙ ap (filter (λ p. lies_below p top)) (layer_shown base layer))
+    (c.weave.ensures (files_below top base)
+    (row_paths_below c.args.store.now c.closed_law.ensures.closed c.args.self.now.root top wanted c.in-Ok.rows.items c.in-Ok.ensures))
+
+pub weave-requires : goal.weave-requires
+weave-requires g c =
+    let top = c.args.top.now in
+    let layer = c.args.self.now.overlay in
+    subst (λ (ms : List Mark). T (is_sorted by_bytes ms)) (sym (c.below.ensures ∙ marks_beneath top (fin.entries layer))) (sorted_below top (marks (fin.entries layer)) (marks_up layer))
+
+pub unreachable-requires : goal.unreachable-requires
+unreachable-requires g c =
+    let rows = rows_where (admits c.all-wanted.result) (rows_where (λ p. lies_below p c.args.top.now) (commit_rows c.args.store.now c.args.self.now.root)) in
+    listed_below_there c.args.store.now c.args.self.now.root (admits c.all-wanted.result) (λ p. lies_below p c.args.top.now)
+    (subst (λ fault. Lists (Err fault) rows) c.in-Err-NoCommit.field-0-is c.in-Err-NoCommit.ensures) c.requires

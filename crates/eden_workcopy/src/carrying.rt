@@ -1,0 +1,138 @@
+//! The files below a directory, each carried to the same place below another.
+
+ghost use Rattle.std.specs.Prelude.{◌≡◌, ◌≢◌, true, false, None, Some, if◌then◌else◌, IfOk, IfErr, OnOk, is_some, IsSome};
+ghost use Rattle.std.specs.List.{list_any, AllByRecursion};
+ghost use Rattle.std.specs.FinMap as fin;
+ghost use Rattle.eden_ids.specs.FileMaps.{file_at, paths, put_option};
+ghost use Rattle.eden_ids.specs.Paths.{lies_below, path_fault};
+ghost use Rattle.eden_objects.specs.Commits.{commit_map};
+ghost use Rattle.eden_objects.specs.Files.{commit_files};
+ghost use Rattle.eden_history.specs.Carried.{carried};
+ghost use Rattle.eden_history.specs.Changes.{below};
+ghost use Rattle.eden_history.specs.DirRenames.{free_fault};
+ghost use Rattle.eden_workcopy.specs.internal.Carrying.{breaks, each_carried};
+ghost use Rattle.eden_workcopy.specs.Layers.{over};
+ghost use Rattle.eden_workcopy.specs.Meanings.{means};
+
+use crate::overlay::Overlay;
+use crate::work::WorkCopy;
+use eden_history::{ChangeFault, free_fault};
+use eden_ids::{Content, FileTree, Naming, NoMemory, Path, has_file};
+use eden_objects::Store;
+use std::alloc::Global;
+
+/// Why a directory can't be put at a new path, as far as its own files have no say in it.
+pub(crate) fn way_fault<T: FileTree>(files: &T, old: &Path, new: &Path) -> Option<ChangeFault>
+    ensures { result ≡ (if lies_below new.now old.now then Some ChangeFault.IntoItself else free_fault (T.files files.now) new.now) }
+{
+    if new.is_below(old) {
+        Some(ChangeFault::IntoItself)
+    } else {
+        free_fault(files, new)
+    }
+}
+
+/// What a path below the old one is to be below the new one.
+fn carried_bytes(alloc: Global, path: &Path, old: &Path, new: &Path) -> Result<Vec<u8>, NoMemory>
+    requires { lies_below path.now old.now ≡ true }
+    ensures { IfOk result (λ bytes. bytes.items ≡ carried old.now new.now path.now) }
+{
+    let front = new.as_bytes();
+    let rest = &path.as_bytes()[old.as_bytes().len()..];
+    let mut bytes = Vec::with_capacity(alloc, front.len() + rest.len())?;
+    bytes.extend_from_slice(front)?;
+    bytes.extend_from_slice(rest)?;
+    Ok(bytes)
+}
+
+/// The same place below the new path as a path has below the old one. `PathTooLong` comes where that is no path.
+fn carried_path(alloc: Global, path: &Path, old: &Path, new: &Path) -> Result<Path, ChangeFault>
+    requires { lies_below path.now old.now ≡ true }
+    ensures place { IfOk result (λ place. place ≡ carried old.now new.now path.now) }
+    ensures accepts { IfOk result (λ _. breaks old.now new.now path.now ≡ false) }
+    ensures cause { IfErr result (λ fault. fault ≢ ChangeFault.NoMemory → fault ≡ ChangeFault.PathTooLong) }
+    ensures refuses { IfErr result (λ fault. fault ≢ ChangeFault.NoMemory → breaks old.now new.now path.now ≡ true) }
+{
+    match Path::from_vec(carried_bytes(alloc, path, old, new)?) {
+        Ok(path) => Ok(path),
+        Err(_) => Err(ChangeFault::PathTooLong),
+    }
+}
+
+/// Says of a path that no file stands there, at the least by what lies below, and says nothing where that has none.
+fn hide<B: FileTree>(base: &B, overlay: &mut Overlay, path: Path) -> Result<(), NoMemory>
+    requires { fin.get overlay.old path ≡ None }
+    ensures { OnOk result (over (B.files base.now) overlay.new ≡ fin.remove (over (B.files base.now) overlay.old) path) }
+{
+    if has_file(base, path.as_bytes()) {
+        overlay.set(path, None)?;
+    }
+    Ok(())
+}
+
+/// Takes the file that is seen at a path away, and gives it back. What the overlay said is moved, and the bytes of a file below it are
+/// copied.
+fn take<B: FileTree>(
+    base: &B,
+    overlay: &mut Overlay,
+    path: Path,
+) -> Result<Option<Content>, NoMemory>
+    ensures file { IfOk result (λ file. file ≡ file_at (over (B.files base.now) overlay.old) path) }
+    ensures files { OnOk result (over (B.files base.now) overlay.new ≡ fin.remove (over (B.files base.now) overlay.old) path) }
+{
+    let file = match overlay.forget(path.as_bytes()) {
+        Some(file) => file,
+        None => Content::of_lent(overlay.allocator(), base.file(path.as_bytes()))?,
+    };
+    hide(base, overlay, path)?;
+    Ok(file)
+}
+
+/// Carries the file at each of some paths below the old path.
+fn carry_each<B: FileTree>(
+    base: &B,
+    overlay: &mut Overlay,
+    moved: Vec<Path>,
+    old: &Path,
+    new: &Path,
+) -> Result<(), ChangeFault>
+    requires { AllByRecursion (λ path. lies_below path old.now ≡ true) moved.items }
+    ensures files { OnOk result (over (B.files base.now) overlay.new
+        ≡ each_carried old.now new.now (over (B.files base.now) overlay.old) moved.items) }
+    ensures accepts { OnOk result (list_any (breaks old.now new.now) moved.items ≡ false) }
+    ensures cause { IfErr result (λ fault. fault ≢ ChangeFault.NoMemory → fault ≡ ChangeFault.PathTooLong) }
+    ensures refuses { IfErr result (λ fault. fault ≢ ChangeFault.NoMemory → list_any (breaks old.now new.now) moved.items ≡ true) }
+{
+    for path in moved {
+        let place = carried_path(overlay.allocator(), &path, old, new)?;
+        let file = take(base, overlay, path)?;
+        overlay.set(place, file)?;
+    }
+    Ok(())
+}
+
+impl WorkCopy {
+    /// What is to be said of the paths where each file below the old path is carried to the same place below the new one.
+    ///
+    /// `PathTooLong` comes where one would come to stand at what is no path, and `NoMemory` where a growth was refused.
+    pub(crate) fn carried<N: Naming + Drop>(
+        &self,
+        store: &Store<N>,
+        old: &Path,
+        new: &Path,
+    ) -> Result<Overlay, ChangeFault>
+        requires { IsSome (commit_map store.now self.now.root) }
+        ensures files { IfOk result (λ overlay. over (commit_files store.now self.now.root) overlay
+            ≡ each_carried old.now new.now (means store.now self.now) (below old.now (paths (means store.now self.now)))) }
+        ensures accepts { IfOk result (λ _. list_any (breaks old.now new.now) (below old.now (paths (means store.now self.now))) ≡ false) }
+        ensures cause { IfErr result (λ fault. fault ≢ ChangeFault.NoMemory → fault ≡ ChangeFault.PathTooLong) }
+        ensures refuses { IfErr result (λ fault. fault ≢ ChangeFault.NoMemory
+            → list_any (breaks old.now new.now) (below old.now (paths (means store.now self.now))) ≡ true) }
+    {
+        let moved = self.list_below(store, old)?;
+        let mut overlay = self.overlay.copy()?;
+        let base = store.commit_files(self.root);
+        carry_each(&base, &mut overlay, moved, old, new)?;
+        Ok(overlay)
+    }
+}
