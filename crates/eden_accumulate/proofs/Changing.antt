@@ -2,13 +2,14 @@
 use Rattle.std.proofs.Common.{◌≡◌, ◌≢◌, ℕ, ◌-◌, ◌^◌, ◌<◌, Bool, true, false, not, nat_lt, List, [], ◌∷◌, Option, Some, None, is_some, refl, sym, ap, subst, ◌∙◌, arith}
 use Rattle.std.specs.Prelude.{if◌then◌else◌}
 use Rattle.std.specs.FinMap as fin
+use Rattle.std.specs.Option.{option_or}
 use Rattle.eden_ids.specs.declared.content.Content.{Content}
 use Rattle.eden_ids.specs.declared.content.Kind.{Kind}
 use Rattle.eden_ids.specs.FileMaps.{FileMap, file_at}
 use Rattle.eden_ids.proofs.FileMapLemmas.{file_at-insert_here, file_at-insert_other, file_at-remove_here}
 use Rattle.eden_journal.specs.FilesChanged.{FilesChanged, Touched}
 use Rattle.eden_journal.specs.declared.delta.Delta.TheVariants.{File}
-use Rattle.eden_journal.specs.Deltas.{touch, touched_at, moved_over}
+use Rattle.eden_journal.specs.Deltas.{touch, touched_at, moved_over, renamed_dir}
 use Rattle.eden_objects.specs.Objects.{Held}
 use Rattle.eden_journal.specs.Histories as journal
 use Rattle.eden_journal.specs.Histories.{History, flushed, recorded}
@@ -16,12 +17,13 @@ use Rattle.eden_ranges.specs.Histories.{history_of}
 use Rattle.eden_workcopy.specs.declared.work.WorkCopy.{WorkCopy}
 use Rattle.eden_workcopy.specs.Meanings.{FitsIn, means}
 use Rattle.eden_history.specs.declared.change.Change.{Change}
-use Rattle.eden_history.specs.declared.change.Change.TheVariants.{Write, Remove, Rename, Flush, Remount}
+use Rattle.eden_history.specs.declared.change.Change.TheVariants.{Write, Remove, Rename, RenameDir, Flush, Remount}
 use Rattle.eden_history.specs.declared.change.ChangeFault.{ChangeFault}
 use Rattle.eden_history.specs.declared.change.ChangeFault.TheVariants.{GenerationNotNew, NoEntry, SequenceExhausted}
 use Rattle.eden_history.specs.Worlds.{Row, Commits, WorldState, commits_of, now}
 use Rattle.eden_history.specs.Recorded.{delta_of, starts}
 use Rattle.eden_history.specs.Renames.{absent_fault, moved, place_fault, rename_fault, renamed, write_fault}
+use Rattle.eden_history.specs.DirRenames.{dir_renamed, rename_dir_fault, source_fault, target_fault}
 use Rattle.eden_ids.specs.Sameness.{same_bytes}
 use Rattle.eden_history.specs.Outcome.{event_at, is_event, next_files, next_root, next_row, refusal, row_after, takes_number}
 use Rattle.eden_history.specs.Spellable.{IsChange}
@@ -217,6 +219,67 @@ stood {held} {work} {log} {mount} old new view at judged =
     let free = allowed_files (commits_of world) (now world) (Rename old new) (sym (judged world h)) in
     ap (λ files. is_some (file_at files old)) (files_are held work log mount view world h)
     ∙ present (now world).files old (first-none (absent_fault (now world).files old) _ free).0
+
+-- ---- rename of a directory
+
+delta-dir_renamed : (commits : Commits) (row : Row) (old new : List ℕ)
+    → File (renamed_dir old new) ≡ delta_of row (event_at commits row (RenameDir old new) (next_row commits row (RenameDir old new)))
+unfolding next_row next_files
+delta-dir_renamed commits row old new = refl
+
+files-dir_renamed : (commits : Commits) (row : Row) (old new : List ℕ) → dir_renamed row.files old new ≡ next_files commits row (RenameDir old new)
+unfolding next_files
+files-dir_renamed commits row old new = refl
+
+-- to itself: the old path alone is judged
+pub rename_dir-itself : {held : List Held} {work : WorkCopy} {log : journal.Log} {mount : State} (old new : List ℕ) (fault : Option ChangeFault) → state held work log ≡ mount
+    → fault ≡ source_fault (means held work) old → same_bytes old new ≡ true → IsRefusal mount (RenameDir old new) fault
+rename_dir-itself {held} {work} {log} {mount} old new fault view is same world h =
+    refusal-free world (RenameDir old new) fault
+    (is ∙ ap (λ m. source_fault m old) (files_are held work log mount view world h)
+    ∙ alone (source_fault (now world).files old)
+    ∙ ap (λ b. option_or (source_fault (now world).files old) (if b then None else target_fault (now world).files old new)) (sym same))
+    (ap not same)
+  where
+    alone : (found : Option ChangeFault) → found ≡ option_or found None
+    alone None = refl
+    alone (Some found) = refl
+
+-- where nothing stands against it and a number is left
+pub rename_dir-judged : {held : List Held} {work : WorkCopy} {log : journal.Log} {mount : State} (old new : List ℕ) → state held work log ≡ mount
+    → rename_dir_fault (means held work) old new ≡ None → number_fault mount.log.head ≡ None → same_bytes old new ≡ false → IsRefusal mount (RenameDir old new) None
+rename_dir-judged {held} {work} {log} {mount} old new view none left distinct world h =
+    sym left
+    ∙ refusal-numbered mount (RenameDir old new) None world h
+    (sym (ap (λ m. rename_dir_fault m old new) (sym (files_are held work log mount view world h)) ∙ none)) (ap not distinct)
+
+-- and where something does
+pub rename_dir-refused : {held : List Held} {work : WorkCopy} {log : journal.Log} {mount : State} (old new : List ℕ) (fault : ChangeFault) → state held work log ≡ mount
+    → rename_dir_fault (means held work) old new ≡ Some fault → same_bytes old new ≡ false → Refuses mount (RenameDir old new) fault
+rename_dir-refused {held} {work} {log} {mount} old new fault view is distinct world h =
+    answer-refused world (RenameDir old new) fault
+    (sym (refusal-numbered mount (RenameDir old new) (Some fault) world h
+    (sym (ap (λ m. rename_dir_fault m old new) (sym (files_are held work log mount view world h)) ∙ is)) (ap not distinct)))
+
+-- or no number is left
+pub rename_dir-exhausted : (mount : State) (old new : List ℕ) (fault : ChangeFault) → rename_dir_fault (files_of mount) old new ≡ None → number_fault mount.log.head ≡ Some fault
+    → same_bytes old new ≡ false → Refuses mount (RenameDir old new) fault
+rename_dir-exhausted mount old new fault none out distinct world h =
+    answer-refused world (RenameDir old new) fault
+    (sym (refusal-numbered mount (RenameDir old new) None world h (sym (ap (λ m. rename_dir_fault m old new) (sym h.files) ∙ none)) (ap not distinct)) ∙ out)
+
+-- a directory that was renamed, where nothing stood against it
+pub rename_dir_follows : {held : List Held} {before after : WorkCopy} {log other more : journal.Log} {mount : State} (old new : List ℕ) → state held before log ≡ mount
+    → IsRefusal mount (RenameDir old new) None → IsChange (RenameDir old new) → same_bytes old new ≡ false → after.root ≡ before.root → FitsIn held after
+    → means held after ≡ dir_renamed (means held before) old new
+    → (delta : FilesChanged) → delta ≡ renamed_dir old new → other ≡ log → GrowsBy other more delta
+    → Follows mount (RenameDir old new) (state held after more)
+rename_dir_follows {held} {before} {after} {log} {other} {more} {mount} old new view judged text distinct root fits files delta is same grows world h =
+    file_stands held before after log more mount view world h (RenameDir old new) refl refl (sym (judged world h)) (ap not distinct) text fits root
+    (files ∙ ap (λ m. dir_renamed m old new) (files_are held before log mount view world h) ∙ files-dir_renamed (commits_of world) (now world) old new)
+    delta
+    (ap File is ∙ delta-dir_renamed (commits_of world) (now world) old new)
+    (grown_by log other more delta same grows)
 
 -- ---- flush and remount
 

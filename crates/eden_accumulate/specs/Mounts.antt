@@ -1,5 +1,5 @@
 -- What a mount holds, and of which history of changes it is the present.
-use Rattle.std.specs.Prelude.{◌≡◌, ◌-◌, List, []}
+use Rattle.std.specs.Prelude.{◌≡◌, List, []}
 use Rattle.eden_ids.specs.FileMaps.{FileMap}
 use Rattle.eden_objects.specs.Objects.{Held}
 use Rattle.eden_objects.specs.Closed.{AllNamed, IsClosed}

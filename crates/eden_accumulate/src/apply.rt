@@ -68,6 +68,7 @@ impl<N: Naming + Drop> Mount<N> {
             )),
             Change::Remove { path } => answer_at(self.remove(path)),
             Change::Rename { old, new } => answer_at(self.rename(old, new)),
+            Change::RenameDir { old, new } => answer_at(self.rename_dir(old, new)),
             Change::Checkout { commit, mode } => answer_checked(self.checkout(*commit, *mode)),
             Change::Reset { commit } => answer_at(self.reset(*commit)),
             Change::Flush => answer_at(self.flush()),

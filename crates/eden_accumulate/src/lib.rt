@@ -27,6 +27,7 @@ pub use eden_ranges::{Range, accumulate, expand};
 
 mod apply;
 mod change;
+mod directory;
 mod import;
 mod importer;
 mod laws;
