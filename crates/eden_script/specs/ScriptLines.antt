@@ -93,6 +93,7 @@ change_of first words =
     if same_bytes first (codes "write") then changes (three Some kind_of Some change.Write words) else
     if same_bytes first (codes "remove") then changes (one Some change.Remove words) else
     if same_bytes first (codes "rename") then changes (two Some Some change.Rename words) else
+    if same_bytes first (codes "renamedir") then changes (two Some Some change.RenameDir words) else
     if same_bytes first (codes "reset") then changes (one label_read change.Reset words) else
     if same_bytes first (codes "flush") then changes (none change.Flush words) else
     if same_bytes first (codes "remount") then changes (one number_of change.Remount words) else

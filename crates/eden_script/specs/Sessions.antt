@@ -164,6 +164,7 @@ abbrev pub change_of : List Binding → ChangeLine → Result Change Refusal
 change_of bindings (changing.Write path kind bytes) = changing_to (path_refusal path) (change.Write path kind bytes)
 change_of bindings (changing.Remove path) = changing_to (path_refusal path) (change.Remove path)
 change_of bindings (changing.Rename old new) = changing_to (first_cause (path_refusal old) (path_refusal new)) (change.Rename old new)
+change_of bindings (changing.RenameDir old new) = changing_to (first_cause (path_refusal old) (path_refusal new)) (change.RenameDir old new)
 change_of bindings (changing.Reset label) = to_commit (bound bindings label) (λ commit. change.Reset commit)
 change_of bindings changing.Flush = Ok change.Flush
 change_of bindings (changing.Remount generation) = Ok (change.Remount generation)

@@ -97,6 +97,13 @@ pub enum ChangeLine {
         /// The path at which it is to stand, not looked at yet.
         new: Word,
     },
+    /// Moves each file below one path to the same place below another.
+    RenameDir {
+        /// The path below which the files stand, not looked at yet.
+        old: Word,
+        /// The path below which they are to stand, not looked at yet.
+        new: Word,
+    },
     /// Goes over to another commit, and leaves the files as they are.
     Reset {
         /// The label of the commit.

@@ -143,6 +143,9 @@ fn read_change(first: &Word, words: Unread) -> Option<Command>
     } else if is_named(first, b"rename".as_slice()) {
         let (old, new) = words.two()?;
         Some(Command::Change(ChangeLine::Rename { old, new }))
+    } else if is_named(first, b"renamedir".as_slice()) {
+        let (old, new) = words.two()?;
+        Some(Command::Change(ChangeLine::RenameDir { old, new }))
     } else if is_named(first, b"reset".as_slice()) {
         let label = Label::read(words.one()?)?;
         Some(Command::Change(ChangeLine::Reset { label }))

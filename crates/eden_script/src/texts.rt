@@ -87,6 +87,8 @@ fn change_fault_name(fault: ChangeFault) -> &'static [u8]
         ChangeFault::IsADirectory => b"IsADirectory".as_slice(),
         ChangeFault::NoEntry => b"NoEntry".as_slice(),
         ChangeFault::TooLarge => b"TooLarge".as_slice(),
+        ChangeFault::IntoItself => b"IntoItself".as_slice(),
+        ChangeFault::PathTooLong => b"PathTooLong".as_slice(),
         ChangeFault::NoCommit => b"NoCommit".as_slice(),
         ChangeFault::SequenceExhausted => b"SequenceExhausted".as_slice(),
         ChangeFault::GenerationNotNew => b"GenerationNotNew".as_slice(),
