@@ -22,11 +22,13 @@ fn is_displayed<F: Display>(alloc: Global, fault: &F, cause: Refusal) -> Result<
     Ok(shown == refused(alloc, cause)?)
 }
 
-const OF_CHANGES: [ChangeFault; 8] = [
+const OF_CHANGES: [ChangeFault; 10] = [
     ChangeFault::NotADirectory,
     ChangeFault::IsADirectory,
     ChangeFault::NoEntry,
     ChangeFault::TooLarge,
+    ChangeFault::IntoItself,
+    ChangeFault::PathTooLong,
     ChangeFault::NoCommit,
     ChangeFault::SequenceExhausted,
     ChangeFault::GenerationNotNew,

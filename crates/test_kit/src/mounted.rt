@@ -122,13 +122,14 @@ impl<P: Played + Drop> Mounted<P> {
         Ok(Err(absent_fault(files.as_slice(), path)))
     }
 
-    /// What changed since a number of a generation and up to which position, or why that isn't told.
+    /// What changed since a number of a generation: up to which position, what is said of paths, and the directories that were renamed; or
+    /// why that isn't told.
     pub(crate) fn poll(
         &mut self,
         alloc: Global,
         generation: u64,
         sequence: u64,
-    ) -> Result<Result<(Position, Sequence<Marked>), SinceFault>, Fail> {
+    ) -> Result<Result<(Position, Sequence<Marked>, Sequence<Path>), SinceFault>, Fail> {
         let since = Position {
             generation,
             sequence,
@@ -141,7 +142,12 @@ impl<P: Played + Drop> Mounted<P> {
             filter,
         };
         match self.ask(alloc, &request)? {
-            Reply::ChangesAre { target, marked, .. } => Ok(Ok((target, marked))),
+            Reply::ChangesAre {
+                target,
+                marked,
+                prefixes,
+                ..
+            } => Ok(Ok((target, marked, prefixes))),
             Reply::Refused { cause, .. } => Ok(Err(since_fault(cause)?)),
             _ => Err(Fail::new("a poll is answered otherwise")),
         }

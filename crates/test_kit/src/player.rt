@@ -53,6 +53,10 @@ fn change_of(alloc: Global, labels: &Labels, line: &ChangeLine) -> Result<Change
             old: path_of(alloc, old)?,
             new: path_of(alloc, new)?,
         },
+        ChangeLine::RenameDir { old, new } => Change::RenameDir {
+            old: path_of(alloc, old)?,
+            new: path_of(alloc, new)?,
+        },
         ChangeLine::Reset { label } => Change::Reset {
             commit: commit_of(labels, label)?,
         },
@@ -133,12 +137,15 @@ fn tell_since<P: Played + Drop>(
     text: &mut Vec<u8>,
 ) -> Result<(), Fail> {
     match mounted.poll(alloc, since.0, since.1)? {
-        Ok((target, marked)) => {
+        Ok((target, marked, prefixes)) => {
             push_bytes(text, b"changes ".as_slice())?;
             push_number(text, marked.len() as u64)?;
             push_bytes(text, b" to ".as_slice())?;
             labels.push_position(text, &target)?;
             push_all_marked(text, marked.as_slice())?;
+            if !prefixes.is_empty() {
+                push_listed(text, b"prefixes ".as_slice(), prefixes.as_slice())?;
+            }
         }
         Err(fault) => push_refusal(text, Refusal::Since(fault))?,
     }

@@ -12,7 +12,7 @@ pub struct Row {
 }
 
 /// Scripts that were worked out by hand: what changes and checkouts do, and what is told of them.
-pub const CHANGE_ROWS: [Row; 19] = [
+pub const CHANGE_ROWS: [Row; 20] = [
     Row {
         name: "first_run",
         script: "mount empty 7 1000;since 7 1;write a plain hi;write b plain yo;remove a;since 7 1;since 7 3;since 7 4",
@@ -91,6 +91,14 @@ pub const CHANGE_ROWS: [Row; 19] = [
         script: "mount empty 7 1000;write a plain 1;write b plain 2;rename a b;since 7 3;since 7 1;rename b b;rename a a",
         prints: "at 7 1 empty;at 7 2 empty;at 7 3 empty;at 7 4 empty;changes 2 to 7 4 empty;Removed a;Changed b;changes 2 to 7 4 empty;\
             Changed a;Created b;at 7 4 empty;refused NoEntry",
+    },
+    Row {
+        name: "rename_directory",
+        script: "mount empty 7 1000;write d/x plain 1;write d/y plain 2;renamedir d e;since 7 3;since 7 1;list;renamedir e e/f;\
+            renamedir z q;renamedir e e;write f plain 1;renamedir e f;renamedir f g;read e/x",
+        prints: "at 7 1 empty;at 7 2 empty;at 7 3 empty;at 7 4 empty;changes 0 to 7 4 empty;prefixes 2;d;e;changes 2 to 7 4 empty;\
+            Created d/x;Created d/y;prefixes 2;d;e;files 2;e/x;e/y;refused IntoItself;refused NoEntry;at 7 4 empty;at 7 5 empty;\
+            refused NotADirectory;refused NotADirectory;plain 1",
     },
     Row {
         name: "path_refusals",

@@ -87,6 +87,8 @@ fn write(alloc: Global, at: &str, text: &str) -> Result<Change, Fail> {
 pub(crate) enum Step {
     /// A plain file with this text is written at the path.
     Write(&'static str, &'static str),
+    /// A directory is renamed.
+    RenameDir(&'static str, &'static str),
     /// The daemon goes over to this generation.
     Remount(u64),
     /// The daemon forgets what changed.
@@ -189,6 +191,10 @@ impl<D: Daemon + Drop> Pair<D> {
     fn happens(&mut self, step: &Step) -> Result<(), Fail> {
         match *step {
             Step::Write(at, text) => self.daemon.change(&write(self.alloc, at, text)?),
+            Step::RenameDir(old, new) => self.daemon.change(&Change::RenameDir {
+                old: path(self.alloc, old)?,
+                new: path(self.alloc, new)?,
+            }),
             Step::Remount(generation) => self.daemon.change(&Change::Remount { generation }),
             Step::Flush => self.daemon.change(&Change::Flush),
             Step::Begin => self.begin(),

@@ -132,3 +132,46 @@ fn truncated_in_a_round(rt: HostRuntime) -> Result<(), Fail> {
     ];
     followed(rt.alloc(), &[&PLACED, &GATHERING, &steps])
 }
+
+/// A mirror is placed at 7/3, and has two files below `d`.
+const BELOW: [Step; 8] = [
+    Step::Write("d/x", "1"),
+    Step::Write("d/y", "2"),
+    Step::Begin,
+    Step::Goes(Said::Basis(1, (7, 3), &["d/x", "d/y"]), Outcome::Taken),
+    Step::Asks(&[
+        Said::Content(1, (7, 3), "d/x", "1"),
+        Said::Content(1, (7, 3), "d/y", "2"),
+    ]),
+    Step::Comes(Said::Content(1, (7, 3), "d/x", "1"), Outcome::Taken),
+    Step::Comes(Said::Content(1, (7, 3), "d/y", "2"), Outcome::Placed),
+    Step::Holds(Some((7, 3)), &[("d/x", "1"), ("d/y", "2")]),
+];
+
+// The directory is renamed: what stands below its old path and below its new one is listed, and fetched.
+#[test]
+fn mirror_lists_prefix(rt: HostRuntime) -> Result<(), Fail> {
+    let steps = [
+        Step::RenameDir("d", "e"),
+        Step::Begin,
+        Step::Goes(Said::Moved(2, (7, 4), &["d", "e"]), Outcome::Taken),
+        Step::Asks(&[
+            Said::Listed(2, (7, 4), "d", &[]),
+            Said::Listed(2, (7, 4), "e", &["e/x", "e/y"]),
+        ]),
+        Step::Comes(Said::Listed(2, (7, 4), "d", &[]), Outcome::Taken),
+        Step::Holds(Some((7, 3)), &[]),
+        Step::Goes(
+            Said::Listed(2, (7, 4), "e", &["e/x", "e/y"]),
+            Outcome::Taken,
+        ),
+        Step::Asks(&[
+            Said::Content(2, (7, 4), "e/x", "1"),
+            Said::Content(2, (7, 4), "e/y", "2"),
+        ]),
+        Step::Comes(Said::Content(2, (7, 4), "e/x", "1"), Outcome::Taken),
+        Step::Comes(Said::Content(2, (7, 4), "e/y", "2"), Outcome::Placed),
+        Step::Holds(Some((7, 4)), &[("e/x", "1"), ("e/y", "2")]),
+    ];
+    followed(rt.alloc(), &[&BELOW, &steps])
+}

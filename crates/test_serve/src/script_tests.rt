@@ -131,7 +131,7 @@ const BEHIND: [(&[u8], u64); 20] = [
     (b"mount empty 7 1000\nlisten\n", 0),
     (b"mount empty 7 1000\r\nlisten\r\n\r\n# b\r\nflush\r\n", 0),
     (
-        b"mount empty 7 1000\nlisten\nwrite a plain x\nremove a\nrename b c\n",
+        b"mount empty 7 1000\nlisten\nwrite a plain x\nremove a\nrename b c\nwrite d/x plain x\nrenamedir d e\n",
         0,
     ),
     (

@@ -49,6 +49,9 @@ impl Mounted {
             return Ok(self.work.revert(&self.store, &at).err());
         }
         let new = path(alloc, rest)?;
+        if call == "renamedir" {
+            return Ok(self.work.rename_dir(&self.store, &at, &new).err());
+        }
         Ok(self.work.rename(&self.store, &at, &new).err())
     }
 

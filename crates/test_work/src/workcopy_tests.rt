@@ -115,6 +115,115 @@ fn changes_over_a_commit(rt: HostRuntime) -> Result<(), Fail> {
     Ok(())
 }
 
+/// Renames of directories over a commit with the files `a`, `d/e/y`, `d/x` and `d.x`.
+const OF_DIRECTORIES: [Step; 17] = [
+    (
+        "renamedir a b",
+        Some(ChangeFault::NotADirectory),
+        "a d.x d/e/y d/x ",
+        "",
+    ),
+    (
+        "renamedir d/x/z b",
+        Some(ChangeFault::NotADirectory),
+        "a d.x d/e/y d/x ",
+        "",
+    ),
+    (
+        "renamedir b d",
+        Some(ChangeFault::NoEntry),
+        "a d.x d/e/y d/x ",
+        "",
+    ),
+    ("renamedir d d", None, "a d.x d/e/y d/x ", ""),
+    (
+        "renamedir d d/f",
+        Some(ChangeFault::IntoItself),
+        "a d.x d/e/y d/x ",
+        "",
+    ),
+    (
+        "renamedir d/e a",
+        Some(ChangeFault::NotADirectory),
+        "a d.x d/e/y d/x ",
+        "",
+    ),
+    (
+        "renamedir d/e a/b",
+        Some(ChangeFault::NotADirectory),
+        "a d.x d/e/y d/x ",
+        "",
+    ),
+    (
+        "renamedir d/e d",
+        Some(ChangeFault::IsADirectory),
+        "a d.x d/e/y d/x ",
+        "",
+    ),
+    (
+        "renamedir d b/c",
+        None,
+        "a b/c/e/y b/c/x d.x ",
+        "b/c/e/y b/c/x d/e/y d/x ",
+    ),
+    (
+        "write d/n 2",
+        None,
+        "a b/c/e/y b/c/x d.x d/n ",
+        "b/c/e/y b/c/x d/e/y d/n d/x ",
+    ),
+    (
+        "renamedir b/c b",
+        Some(ChangeFault::IsADirectory),
+        "a b/c/e/y b/c/x d.x d/n ",
+        "b/c/e/y b/c/x d/e/y d/n d/x ",
+    ),
+    (
+        "remove d/n",
+        None,
+        "a b/c/e/y b/c/x d.x ",
+        "b/c/e/y b/c/x d/e/y d/x ",
+    ),
+    // Back again: nothing is told of the paths in between.
+    ("renamedir b/c d", None, "a d.x d/e/y d/x ", ""),
+    // A path that hides a file of the commit is not in the way.
+    ("remove d/x", None, "a d.x d/e/y ", "d/x "),
+    ("renamedir d/e f", None, "a d.x f/y ", "d/e/y d/x f/y "),
+    ("renamedir f d", None, "a d.x d/y ", "d/e/y d/x d/y "),
+    ("renamedir d f", None, "a d.x f/y ", "d/e/y d/x f/y "),
+];
+
+#[test]
+fn directories_over_a_commit(rt: HostRuntime) -> Result<(), Fail> {
+    let alloc = rt.alloc();
+    let script = "blob b 1;blob n 2;tree e 100644 y n;tree d 40000 e e 100644 x b;\
+        tree t 100644 a b 100644 d.x b 40000 d d;commit c t";
+    let objects = Objects::of(alloc, script)?;
+    let root = objects.id("c");
+    let mut mounted = Mounted::over(alloc, objects.store, root)?;
+    let wrong = first_wrong(alloc, &mut mounted, &OF_DIRECTORIES)?;
+    assert_eq!(rt; wrong, None);
+    assert!(rt; mounted.reads(alloc, "f/y", Kind::Plain, "2")?);
+    assert_eq!(rt; mounted.work.root(), root);
+    Ok(())
+}
+
+// A path of 64 names is the deepest that there is.
+#[test]
+fn a_directory_with_a_deep_path(rt: HostRuntime) -> Result<(), Fail> {
+    let alloc = rt.alloc();
+    let mut mounted = Mounted::over(alloc, Store::new(alloc, GitNaming), Id::ZERO)?;
+    let names = "a/".repeat(alloc, 62)?;
+    let write = format!(in alloc; "write d/{names}x 1")?;
+    assert_eq!(rt; mounted.change(alloc, &write)?, None);
+    assert_eq!(rt; mounted.change(alloc, "renamedir d e")?, None);
+    let deeper = mounted.change(alloc, "renamedir e f/g")?;
+    assert_eq!(rt; deeper, Some(ChangeFault::PathTooLong));
+    let wanted = format!(in alloc; "e/{names}x ")?;
+    assert_eq!(rt; mounted.list(alloc)?.as_slice(), wanted.as_bytes());
+    Ok(())
+}
+
 #[test]
 fn changes_over_nothing(rt: HostRuntime) -> Result<(), Fail> {
     let alloc = rt.alloc();
