@@ -51,6 +51,11 @@ pub fn change_of(labels: &Labels, line: ChangeLine) -> Result<Change, Refusal>
             let new = path_of(new)?;
             Ok(Change::Rename { old, new })
         }
+        ChangeLine::RenameDir { old, new } => {
+            let old = path_of(old)?;
+            let new = path_of(new)?;
+            Ok(Change::RenameDir { old, new })
+        }
         ChangeLine::Reset { label } => {
             let commit = commit_of(labels, &label)?;
             Ok(Change::Reset { commit })

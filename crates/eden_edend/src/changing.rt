@@ -134,8 +134,8 @@ fn run_batch<I: Read + Drop, C: Changer>(
 
 /// Makes the changes of an input's lines behind `listen`, whose number is `from`, and gives the number of the last line.
 ///
-/// The lines are those of a script that change a mount: write, remove, rename, checkout, reset, flush and remount. Each is read by these
-/// labels as in a script, and nothing is printed: one that is refused, for a label, for a path or by the mount, changes nothing. Empty lines
+/// The lines are those of a script that change a mount: write, remove, rename, renamedir, checkout, reset, flush and remount. Each is read by
+/// these labels as in a script, and nothing is printed: one that is refused, for a label, for a path or by the mount, changes nothing. Empty lines
 /// and comments are skipped and counted.
 ///
 /// Any number of reads may be made. Each line is run as soon as it was read.

@@ -17,8 +17,8 @@ use std::alloc::Global;
 /// with `#` are skipped and counted. The other lines are those of the script's table, with words parted by single spaces:
 /// `blob L TEXT`, `tree L` and any number of `MODE NAME LABEL`, `commit L TREE` and `id L` for objects, and
 /// `mount L GENERATION LIMIT` for the mount, once; for what changes it `write PATH KIND TEXT`, `remove PATH`, `rename OLD NEW`,
-/// `reset L`, `checkout L MODE`, `flush` and `remount GENERATION`; and for what is asked of it `position`, `list` and any number of
-/// patterns, `dirty`, `read PATH` and `since GENERATION SEQUENCE`. Objects are put before the mount.
+/// `renamedir OLD NEW`, `reset L`, `checkout L MODE`, `flush` and `remount GENERATION`; and for what is asked of it `position`, `list` and
+/// any number of patterns, `dirty`, `read PATH` and `since GENERATION SEQUENCE`. Objects are put before the mount.
 ///
 /// Whole lines are answered before the next read, of 64 KiB each; what they print is gathered, and written before the next
 /// read and whenever there are 64 KiB of it.
