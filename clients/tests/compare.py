@@ -3,10 +3,10 @@
 
     EDEND=PROGRAM clients/tests/compare.py [--rounds N] [--seeds N]
 
-Of each seed 100 rounds of up to twelve lines go to `edend serve`: writes, removals, renames, checkouts, resets, flushes and remounts, some of
-which are refused. After each round a mirror of all files, one with patterns, and each seventh time one that has fallen behind, go on until they
-are placed at the position that `edend run` prints after the same lines, and have to hold just the files that its `list` and `read` print there.
-In the end `edend serve` has to print `audit ok`. Status 1 at the first difference.
+Of each seed 100 rounds of up to twelve lines go to `edend serve`: writes, removals, renames of files and of directories, checkouts, resets,
+flushes and remounts, some of which are refused. After each round a mirror of all files, one with patterns, and each seventh time one that has
+fallen behind, go on until they are placed at the position that `edend run` prints after the same lines, and have to hold just the files that its
+`list` and `read` print there. In the end `edend serve` has to print `audit ok`. Status 1 at the first difference.
 """
 import argparse
 import os
@@ -57,10 +57,10 @@ def generated(seed, rounds):
         if how < 0.55:
             text = chance.choice([b"\\e", b"hi", b"more\\stext\\n", b"%d" % chance.randrange(1000), b"\x00\xff" * chance.randrange(1, 5000)])
             return b"write %s %s %s" % (path(), chance.choice([b"plain", b"plain", b"exec", b"link"]), text)
-        if how < 0.7:
+        if how < 0.65:
             return b"remove " + path()
         if how < 0.85:
-            return b"rename %s %s" % (path(), path())
+            return b"%s %s %s" % (chance.choice([b"rename", b"renamedir"]), path(), path())
         if how < 0.92:
             return b"checkout %s %s" % (chance.choice([b"one", b"two", b"empty"]), chance.choice([b"normal", b"force", b"dry"]))
         if how < 0.95:

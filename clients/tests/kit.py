@@ -15,10 +15,6 @@ CLIENTS = os.path.dirname(HERE)
 sys.path.insert(0, os.path.join(CLIENTS, "python"))
 
 
-# Of what the stand-in serves, this alone can't be asked of edend yet.
-moves_directories = unittest.skipIf(os.environ.get("EDEND"), "edend has no line that moves a directory")
-
-
 def free_port():
     """A port that nobody listens on."""
     with socket.create_server(("127.0.0.1", 0)) as server:

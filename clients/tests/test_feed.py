@@ -83,6 +83,12 @@ class Fed(InFolder):
         with open(path, "wb") as file:
             file.write(text)
 
+    def move(self, *moves):
+        """Moves files or directories one after another, and counts the lines up to here."""
+        self.count = len(self.lines_of)
+        for old, new in moves:
+            os.rename(self.path("w", old), self.path("w", new))
+
     def since(self, count):
         """The first words of the lines behind so many."""
         return [line.rstrip(b"\n") for line in self.lines_of[count:]]
@@ -116,7 +122,7 @@ class Following(Fed):
         count = len(self.lines_of)
         os.rename(self.path("w", "d"), self.path("w", "moved"))
         self.equal()
-        self.assertEqual(sorted(self.since(count)), [b"rename d/e/y moved/e/y", b"rename d/x moved/x", b"rename d/z moved/z"])
+        self.assertEqual(self.since(count), [b"renamedir d moved"])
         # What an editor does: a file beside, moved over the old one.
         count = len(self.lines_of)
         self.write(b"b.tmp", b"edited")
@@ -132,6 +138,80 @@ class Following(Fed):
         os.rmdir(self.path("w", "b"))
         os.rename(self.path("w", "t"), self.path("w", "b"))
         self.equal()
+
+    def test_moved_directories(self):
+        for name in (b"d/x", b"d/e/y", b"other/z", b"f"):
+            self.write(name, b"text of " + name)
+        os.mkdir(self.path("w", "empty"))
+        self.feed("--empty", "--settle", "0.3")
+        self.settled()
+        self.move(("d", "m"), ("m", "empty"), ("other", "d"))
+        self.equal()
+        self.assertEqual(self.since(self.count), [b"renamedir d m", b"renamedir m empty", b"renamedir other d"])
+        # There and back, below another one, and out of a directory that moved just before.
+        self.move(("d", "m"), ("m", "d"), ("d", "empty/e/d"))
+        self.equal()
+        self.assertEqual(self.since(self.count), [b"renamedir d m", b"renamedir m d", b"renamedir d empty/e/d"])
+        self.move(("empty", "m"), ("m/e", "e"))
+        self.equal()
+        self.assertEqual(self.since(self.count)[0], b"renamedir empty m")
+        # What changed before it moved, and what came after that.
+        self.write(b"m/x", b"other text")
+        self.move(("m", "n"))
+        self.write(b"n/new", b"new")
+        self.equal()
+        self.assertEqual([self.since(self.count)[0], *sorted(self.since(self.count)[1:])],
+                         [b"renamedir m n", b"write n/new plain new", b"write n/x plain other\\stext"])
+
+    def test_directories_that_move_otherwise(self):
+        """Out of what is followed and into it, to a name that is left out, in the place of files, and where paths get too long."""
+        deep = b"/".join([b"deep"] + [b"n"] * 62)
+        for name in (b"d/x", b"d/y", b"other/x", deep):
+            self.write(name, b"text of " + name[:9])
+        os.makedirs(self.path("w", "a", "b"))
+        self.feed("--empty", "--settle", "0.3")
+        self.settled()
+        for old, new, lines in (
+            ("d", "../d", [b"remove d/x", b"remove d/y"]),
+            ("../d", "d", [b"write d/x plain text\\sof\\sd/x", b"write d/y plain text\\sof\\sd/y"]),
+            ("d", ".git", [b"remove d/x", b"remove d/y"]),
+            (".git", "d", [b"write d/x plain text\\sof\\sd/x", b"write d/y plain text\\sof\\sd/y"]),
+        ):
+            self.move((old, new))
+            self.equal()
+            self.assertEqual(sorted(self.since(self.count)), lines)
+        # Each of the two stands for a while where the other one did.
+        self.move(("d", "../t"), ("other", "d"), ("../t", "other"))
+        self.equal()
+        self.assertNotIn(b"renamedir other d", self.since(self.count))
+        # One stands where a file was that is gone.
+        self.write(b"f", b"1")
+        self.equal()
+        os.unlink(self.path("w", "f"))
+        self.move(("d", "f"))
+        self.equal()
+        self.move(("deep", "a/b/c"))
+        self.assertTrue(wait_until(lambda: self.since(self.count) == [b"remove " + deep]), self.since(self.count))
+        self.assertIn(b"64 names", self.text("stderr"))
+        self.assertIsNone(self.fault)
+
+    def test_a_moved_directory_with_more_than_lines_hold(self):
+        for name in (b"d/large", b"d/x", b"e/large"):
+            self.write(name, b"x" * (1 if name == b"d/x" else 70_000))
+        self.feed("--empty")
+        self.assertTrue(wait_until(lambda: b"following" in self.text("stderr")))
+        self.move(("d", "m"))
+        self.assertTrue(wait_until(lambda: set(self.world.files) == {b"m/x"}), self.since(self.count))
+        self.assertTrue(wait_until(lambda: self.since(self.count)[-1] == b"remove m/large"), self.since(self.count))
+        self.assertEqual([line for line in self.since(self.count) if not line.startswith(b"write")],
+                         [b"remove d/large", b"renamedir d m", b"remove m/large"])
+        self.assertIn(b"m/large: 70,000 bytes", self.text("stderr"))
+        # No file of it is in the mount.
+        self.move(("e", "n"))
+        self.assertTrue(wait_until(lambda: b"n/large: 70,000 bytes" in self.text("stderr")))
+        self.assertTrue(wait_until(lambda: self.since(self.count)[-1:] == [b"remove n/large"]), self.since(self.count))
+        self.assertNotIn(b"renamedir e n", self.since(self.count))
+        self.assertIsNone(self.fault)
 
     def test_touched(self):
         self.write(b"a", b"1")

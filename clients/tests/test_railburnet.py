@@ -6,7 +6,7 @@ import struct
 import threading
 import unittest
 
-from kit import CLIENTS, InFolder, moves_directories
+from kit import CLIENTS, InFolder
 
 import railburnet
 from railburnet import (Basis, BasisIs, Below, Cause, ChangesAre, ContentIs, Fetch, File, FrameFault, Kind, ListIs, Mark, Mirror, Outcome, Poll,
@@ -342,7 +342,6 @@ class Connections(InFolder):
         except OSError:
             pass
 
-    @moves_directories
     def test_a_moved_directory(self):
         port, server = self.server(b"mount empty 7 1000000\n")
         self.lines(server, b"write d/x.c plain 1", b"write d/y.h plain 2", b"write d.c plain 3")

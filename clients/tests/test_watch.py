@@ -5,7 +5,7 @@ import signal
 import subprocess
 import unittest
 
-from kit import InFolder, change, client, moves_directories, wait_until
+from kit import InFolder, change, client, wait_until
 
 COMMAND = """#!/bin/bash
 echo "begun $(date +%s%N)" >> "$LOG"
@@ -52,7 +52,6 @@ class Watching(InFolder):
         self.assertEqual(self.runs(2)[1][2], [b"word", b"d/a", b"d/z"])
         self.assertIn(b"watch: 2 paths changed: d/a, d/z; running ", self.text("stderr"))
 
-    @moves_directories
     def test_a_moved_directory(self):
         port, server = self.server(b"mount empty 7 1000000\nwrite d/x.c plain 1\nwrite d/x.h plain 1\n")
         self.watch(port, "**/*.c")
