@@ -9,4 +9,6 @@ mod file_tests;
 #[cfg(test)]
 mod message_tests;
 #[cfg(test)]
+mod renames;
+#[cfg(test)]
 mod row_tests;

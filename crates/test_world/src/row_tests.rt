@@ -1,5 +1,6 @@
 //! The table of worked scripts, played over the plain program.
 
+use crate::renames::first_wrong_case;
 use eden_history::{Answer, Change, ChangeFault, MountFault};
 use eden_ids::{GitNaming, Id};
 use eden_messages::{Reply, Request};
@@ -72,7 +73,7 @@ fn no_such_commit(rt: HostRuntime) -> Result<(), Fail> {
     Ok(())
 }
 
-// No line of a script is long enough for this one.
+// No line of a script is long enough for the first one.
 #[test]
 fn change_refusals(rt: HostRuntime) -> Result<(), Fail> {
     let alloc = rt.alloc();
@@ -81,5 +82,6 @@ fn change_refusals(rt: HostRuntime) -> Result<(), Fail> {
     let answer = world.apply(&write_too_large(alloc)?)?;
     assert!(rt; answer == Answer::Refused(ChangeFault::TooLarge));
     assert_eq!(rt; world.floor()?, 1);
+    assert_eq!(rt; first_wrong_case(alloc)?, None);
     Ok(())
 }
