@@ -75,13 +75,28 @@ fn write_all<L: Ledger + Send + Sync, R: Threads + Wait + Sync>(
     Ok(ended)
 }
 
-/// Prints which files changed, in byte order, where a reply tells that.
+/// Prints below which directories any file may have changed, since these were renamed.
+fn print_renamed(rt: &impl Print, prefixes: &[Path]) -> anyhow::Result<()> {
+    for prefix in prefixes {
+        let path = str::from_utf8(prefix.as_bytes())?;
+        println!(rt; "Renamed {path}/")?;
+    }
+    Ok(())
+}
+
+/// Prints which files and directories changed, each in byte order, where a reply tells that.
 fn print_changes(rt: &impl Print, reply: &Reply) -> anyhow::Result<()> {
-    if let Reply::ChangesAre { marked, .. } = reply {
+    if let Reply::ChangesAre {
+        marked,
+        prefixes,
+        ..
+    } = reply
+    {
         for change in marked.as_slice() {
             let path = str::from_utf8(change.path.as_bytes())?;
             println!(rt; "{:?} {path}", change.mark)?;
         }
+        print_renamed(rt, prefixes.as_slice())?;
     }
     Ok(())
 }

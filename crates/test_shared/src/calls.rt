@@ -56,7 +56,11 @@ fn change_of(alloc: Global, draw: Draw) -> Result<Option<Change>, Fail> {
             let objects = Sequence::from_vec(vec![in alloc; Object { word, payload }]?);
             Change::Import { objects }
         }
-        6..=10 => write(alloc, draw.path, draw.text)?,
+        6 => Change::RenameDir {
+            old: path(alloc, draw.path)?,
+            new: path(alloc, draw.other)?,
+        },
+        7..=10 => write(alloc, draw.path, draw.text)?,
         _ => return Ok(None),
     }))
 }
