@@ -1,7 +1,8 @@
 //! Audits of what was drawn by lot: callers note what the world says, and a mount that stores its history is audited by that.
 
-use crate::imports::{Imported, Roots};
+use crate::imports::Roots;
 use crate::lot::Lot;
+use crate::outcomes::Outcomes;
 use crate::stores::{Commits, family};
 use eden_accumulate::Mount;
 use eden_audit::{Answer, AuditFault, Audited, Call, CallLog, LogEntry, audit};
@@ -28,8 +29,8 @@ struct Scribes {
 impl Scribes {
     /// Of a commit, with a journal of this limit. Nothing is noted yet.
     fn opened(alloc: Global, commits: &mut Commits<4>, limit: u64) -> Result<Scribes, Fail> {
-        let mount = Mount::mount(alloc, commits.store.share()?, commits.ids[1], 7, limit)?;
-        let world = World::mount(alloc, commits.store.share()?, commits.ids[1], 7, limit)?;
+        let mount = Mount::mount(alloc, commits.store.share()?, commits.ids[2], 7, limit)?;
+        let world = World::mount(alloc, commits.store.share()?, commits.ids[2], 7, limit)?;
         Ok(Scribes {
             audited: Audited::new(alloc, mount)?,
             world,
@@ -53,17 +54,17 @@ impl Scribes {
         alloc: Global,
         lot: &mut Lot,
         roots: &mut Roots,
-        imported: &mut Imported,
+        outcomes: &mut Outcomes,
     ) -> Result<(), Fail> {
         let caller = lot.below(3) as u64;
-        let change = lot.change(alloc, roots, self.world.position().generation)?;
+        let change = lot.change(alloc, roots, self.world.now())?;
         let _ = self.audited.apply(caller, &change)?;
         let told = self.world.apply(&change)?;
-        imported.count(&change, &told, roots);
+        outcomes.count(&change, &told, roots);
         self.note(caller, Call::Change(change), Answer::from(told))
     }
 
-    /// A caller asks for a basis, a poll and a fetch.
+    /// A caller asks for a basis, a poll, a fetch and a list.
     fn ask(&mut self, alloc: Global, lot: &mut Lot) -> Result<(), Fail> {
         let caller = lot.below(3) as u64;
         let query = Query {
@@ -160,12 +161,12 @@ impl Scribes {
         alloc: Global,
         seed: u64,
         first: &[Id; 4],
-        imported: &mut Imported,
+        outcomes: &mut Outcomes,
     ) -> Result<(), Fail> {
         let mut lot = Lot::new(seed);
         let mut roots = Roots::new(first);
         for _ in 0..30 {
-            self.change(alloc, &mut lot, &mut roots, imported)?;
+            self.change(alloc, &mut lot, &mut roots, outcomes)?;
             if lot.below(3) == 0 {
                 self.ask(alloc, &mut lot)?;
             }
@@ -190,10 +191,10 @@ fn audit_alike(
     alloc: Global,
     commits: &mut Commits<4>,
     seed: u64,
-    imported: &mut Imported,
+    outcomes: &mut Outcomes,
 ) -> Result<(), Fail> {
     let mut scribes = Scribes::opened(alloc, commits, 400)?;
-    scribes.go_on(alloc, seed, &commits.ids, imported)?;
+    scribes.go_on(alloc, seed, &commits.ids, outcomes)?;
     assert!(rt; scribes.said(alloc, None)? == Ok(()), "seed {seed}");
     let untold = scribes.untold(alloc)?;
     assert!(rt; untold.is_none(), "seed {seed}, ticket {untold:?}");
@@ -204,10 +205,10 @@ fn audit_alike(
 fn generated_audits(rt: HostRuntime) -> Result<(), Fail> {
     let alloc = rt.alloc();
     let mut commits = family(alloc)?;
-    let mut imported = Imported::new();
+    let mut outcomes = Outcomes::new();
     for seed in 0..12_u64 {
-        audit_alike(&rt, alloc, &mut commits, seed, &mut imported)?;
+        audit_alike(&rt, alloc, &mut commits, seed, &mut outcomes)?;
     }
-    assert!(rt; imported.has_all(), "{imported:?}");
+    assert!(rt; outcomes.has_all(), "{outcomes:?}");
     Ok(())
 }

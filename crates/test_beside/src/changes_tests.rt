@@ -15,6 +15,8 @@ enum Act {
     Write(&'static str),
     /// It goes to this path.
     Rename(&'static str),
+    /// What stands below it goes to the same place below this path.
+    RenameDir(&'static str),
     /// It goes away.
     Remove,
 }
@@ -32,6 +34,10 @@ fn change_of(alloc: Global, at: &str, act: Act) -> Result<Change, Fail> {
             old,
             new: path(alloc, new)?,
         },
+        Act::RenameDir(new) => Change::RenameDir {
+            old,
+            new: path(alloc, new)?,
+        },
         Act::Remove => Change::Remove { path: old },
     })
 }
@@ -46,6 +52,17 @@ const OF_FILES: &[(&str, Act)] = &[
     ("b", Act::Rename("f")),
     ("f", Act::Rename("d/e")),
     ("b", Act::Remove),
+    ("d", Act::RenameDir("d/g/h")),
+    ("d", Act::RenameDir("g")),
+    ("g/e", Act::RenameDir("d")),
+    ("g", Act::RenameDir("a")),
+    ("g", Act::RenameDir("a/z")),
+    ("g", Act::RenameDir("g")),
+    ("b", Act::RenameDir("b")),
+    ("g", Act::RenameDir("h/i/j")),
+    ("h/i", Act::RenameDir("h")),
+    ("h/i/j", Act::RenameDir("d")),
+    ("d/e", Act::Write("3")),
 ];
 
 /// Adds changes of the root and of the mount, of each kind and of each refusal but that of the last number.

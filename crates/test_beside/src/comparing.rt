@@ -1,11 +1,9 @@
 //! A mount and a world side by side, and what each of them says.
 
-use crate::lot::PATHS;
-use crate::stores::path;
 use eden_accumulate::{Mount, expand};
 use eden_globs::Filter;
 use eden_history::{Answer, Change, Marked, Position, SinceFault};
-use eden_ids::{Content, GitNaming, Id, Kind, Path, Sequence};
+use eden_ids::{Content, GitNaming, Id, Kind, Path, PathTable, Sequence};
 use eden_objects::Store;
 use eden_world::World;
 use std::alloc::Global;
@@ -53,10 +51,31 @@ fn file<'a>(world: &'a World<GitNaming>, path: &Path) -> Option<&'a Content> {
     world.now().files().get(path)
 }
 
+/// The paths at which two worlds have something else, in byte order.
+fn differing(
+    alloc: Global,
+    one: &World<GitNaming>,
+    other: &World<GitNaming>,
+) -> Result<Vec<Path>, Fail> {
+    let mut table = PathTable::new(alloc);
+    one.now().files().add_paths(&mut table)?;
+    other.now().files().add_paths(&mut table)?;
+    let mut paths = Vec::new(alloc);
+    for path in table.list(alloc)? {
+        if file(one, &path) != file(other, &path) {
+            paths.push(path)?;
+        }
+    }
+    Ok(paths)
+}
+
 /// The paths of the files that a mount lists.
 fn listed(alloc: Global, mount: &Mount<GitNaming>) -> Result<Vec<Path>, Fail> {
     Ok(mount.snapshot()?.files(mount.store(), &Filter::all(alloc))?)
 }
+
+/// Paths with their marks, and directories.
+type Told = (Sequence<Marked>, Sequence<Path>);
 
 /// A mount and a world over copies of one store.
 #[derive(Drop)]
@@ -109,24 +128,22 @@ impl Pair {
         Ok(World::mount(alloc, store, self.mount.work().root(), 1, 0)?)
     }
 
-    /// Of all paths that are used, just those are dirty on which the world differs from a world of its root.
+    /// Just the paths on which the world differs from a world of its root are dirty.
     pub(crate) fn same_dirty(&mut self, alloc: Global, step: &Step) -> Result<(), Fail> {
         let clean = self.clean(alloc)?;
+        let expected = differing(alloc, &self.world, &clean)?;
         let dirty = self.mount.work().dirty(self.mount.store())?;
-        for text in &PATHS {
-            let path = path(alloc, text)?;
-            let differs = file(&self.world, &path) != file(&clean, &path);
-            step.alike((text, dirty.contains(&path)), (text, differs))?;
-        }
-        Ok(())
+        step.alike(dirty.as_slice(), expected.as_slice())
     }
 
-    /// What the world says changed since a position.
-    fn world_since(&self, since: &Position) -> Result<Result<Sequence<Marked>, SinceFault>, Fail> {
-        Ok(match self.world.now().status(self.world.floor()?, *since) {
-            Some(fault) => Err(fault),
-            None => Ok(self.world.marked_since(since.sequence)?),
-        })
+    /// What the world says changed since a position: the paths with their marks, and the directories that were renamed.
+    fn world_since(&self, since: &Position) -> Result<Result<Told, SinceFault>, Fail> {
+        if let Some(fault) = self.world.now().status(self.world.floor()?, *since) {
+            return Ok(Err(fault));
+        }
+        let marked = self.world.marked_since(since.sequence)?;
+        let prefixes = self.world.prefixes_since(since.sequence)?;
+        Ok(Ok((marked, prefixes)))
     }
 
     /// Both say the same of what changed since a position.
@@ -137,9 +154,10 @@ impl Pair {
         since: &Position,
     ) -> Result<(), Fail> {
         match (self.mount.range_since(since), self.world_since(since)?) {
-            (Ok(range), Ok(expected)) => {
-                let marked = expand(alloc, self.mount.store(), &range)?;
-                step.alike((since, marked.as_slice()), (since, expected.as_slice()))
+            (Ok(range), Ok((marked, prefixes))) => {
+                let told = expand(alloc, self.mount.store(), &range)?;
+                step.alike((since, told.as_slice()), (since, marked.as_slice()))?;
+                step.alike((since, &range.prefixes), (since, &prefixes))
             }
             (told, expected) => step.alike((since, told.err()), (since, expected.err())),
         }

@@ -1,8 +1,9 @@
 //! Changes drawn by lot.
 
 use crate::comparing::{Pair, Step};
-use crate::imports::{Imported, Roots};
+use crate::imports::Roots;
 use crate::lot::Lot;
+use crate::outcomes::Outcomes;
 use crate::stores::{Commits, family};
 use std::alloc::Global;
 use std::test::Fail;
@@ -13,10 +14,10 @@ fn go_on(
     pair: &mut Pair,
     step: &Step,
     roots: &Roots,
-    imported: &mut Imported,
+    outcomes: &mut Outcomes,
 ) -> Result<(), Fail> {
     let answer = pair.apply(step)?;
-    imported.count(step.change, &answer, roots);
+    outcomes.count(step.change, &answer, roots);
     pair.same_files(alloc, step)?;
     pair.same_dirty(alloc, step)?;
     pair.same_past(alloc, step)
@@ -27,19 +28,19 @@ fn go_alike(
     alloc: Global,
     commits: &mut Commits<4>,
     limit: u64,
-    imported: &mut Imported,
+    outcomes: &mut Outcomes,
 ) -> Result<(), Fail> {
-    let mut pair = Pair::mounted(alloc, &mut commits.store, commits.ids[1], limit)?;
+    let mut pair = Pair::mounted(alloc, &mut commits.store, commits.ids[2], limit)?;
     let mut lot = Lot::new(limit);
     let mut roots = Roots::new(&commits.ids);
     for number in 1..=80 {
-        let change = lot.change(alloc, &mut roots, pair.mount.position().generation)?;
+        let change = lot.change(alloc, &mut roots, pair.world.now())?;
         let step = Step {
             seed: limit,
             number,
             change: &change,
         };
-        go_on(alloc, &mut pair, &step, &roots, imported)?;
+        go_on(alloc, &mut pair, &step, &roots, outcomes)?;
     }
     Ok(())
 }
@@ -48,10 +49,10 @@ fn go_alike(
 fn generated_changes(rt: HostRuntime) -> Result<(), Fail> {
     let alloc = rt.alloc();
     let mut commits = family(alloc)?;
-    let mut imported = Imported::new();
+    let mut outcomes = Outcomes::new();
     for limit in [0, 150, 400, 2000, 1_000_000] {
-        go_alike(alloc, &mut commits, limit, &mut imported)?;
+        go_alike(alloc, &mut commits, limit, &mut outcomes)?;
     }
-    assert!(rt; imported.has_all(), "{imported:?}");
+    assert!(rt; outcomes.has_all(), "{outcomes:?}");
     Ok(())
 }

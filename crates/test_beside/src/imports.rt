@@ -25,7 +25,8 @@ const TREES: [&[Branch]; 4] = [
     &[("b", &[]), ("d", &[])],
 ];
 
-/// The commits that changes go over to: four that the store has from the beginning, and the one that the last import was to put into it.
+/// The commits that changes go over to: four that the store has from the beginning, and the one that the last import was to put into it,
+/// in whose place the third one stands as long as there was none.
 #[derive(Drop)]
 pub(crate) struct Roots {
     first: [Id; 4],
@@ -37,7 +38,7 @@ impl Roots {
     pub(crate) fn new(first: &[Id; 4]) -> Roots {
         Roots {
             first: *first,
-            newest: first[0],
+            newest: first[2],
         }
     }
 

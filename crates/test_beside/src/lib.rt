@@ -12,6 +12,8 @@ mod changes_tests;
 #[cfg(test)]
 mod comparing;
 #[cfg(test)]
+mod directories;
+#[cfg(test)]
 mod filters_tests;
 #[cfg(test)]
 mod frames;
@@ -27,6 +29,8 @@ mod lot;
 mod messages_tests;
 #[cfg(test)]
 mod mount_tests;
+#[cfg(test)]
+mod outcomes;
 #[cfg(test)]
 mod past;
 #[cfg(test)]

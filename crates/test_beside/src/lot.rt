@@ -8,6 +8,7 @@ use eden_globs::Filter;
 use eden_history::{Change, Mode, Position};
 use eden_ids::{Kind, Path, Sequence};
 use eden_messages::{Query, Request};
+use eden_world::Row;
 use rand_core::utils::NextWord;
 use rand_pcg::Pcg32;
 use std::alloc::Global;
@@ -59,7 +60,7 @@ impl Lot {
         Ok(Filter::parse(alloc, &patterns[..self.below(3)])?)
     }
 
-    /// A basis, a poll since a place not far from the present one, and a fetch, by a filter.
+    /// A basis, a poll since a place not far from the present one, a fetch, and a list of what stands below a directory, by a filter.
     pub(crate) fn requests(
         &mut self,
         alloc: Global,
@@ -88,6 +89,11 @@ impl Lot {
         requests.push(Request::Fetch {
             query,
             path: self.path(alloc)?,
+        })?;
+        requests.push(Request::List {
+            query,
+            prefix: self.directory(alloc)?,
+            filter: filter.copy()?,
         })?;
         Ok(requests)
     }
@@ -166,15 +172,15 @@ impl Lot {
         })
     }
 
-    /// A change of any kind, to a mount of this generation; a remount is of it or the next one.
+    /// A change of any kind, to what a mount is now; a remount is of its generation or the next one.
     pub(crate) fn change(
         &mut self,
         alloc: Global,
         roots: &mut Roots,
-        generation: u64,
+        now: &Row,
     ) -> Result<Change, Fail> {
         let commit = roots.one(self);
-        Ok(match self.below(16) {
+        Ok(match self.below(26) {
             0 | 1 => Change::Checkout {
                 commit,
                 mode: self.mode(),
@@ -182,9 +188,10 @@ impl Lot {
             2 => Change::Reset { commit },
             3 => Change::Flush,
             4 => Change::Remount {
-                generation: generation.saturating_add(self.below(2) as u64),
+                generation: now.generation().saturating_add(self.below(2) as u64),
             },
-            5 | 6 => self.import(alloc, roots)?,
+            5..=8 => self.import(alloc, roots)?,
+            9..=16 => self.rename_dir(alloc, now.files())?,
             _ => self.file_change(alloc)?,
         })
     }

@@ -2,9 +2,10 @@
 
 use crate::comparing::{Pair, Step};
 use crate::frames::replied;
-use crate::imports::{Imported, Roots};
+use crate::imports::Roots;
 use crate::lot::Lot;
-use crate::stores::{Commits, family, path};
+use crate::outcomes::Outcomes;
+use crate::stores::{Commits, family};
 use eden_globs::Filter;
 use eden_history::Change;
 use eden_ids::GitNaming;
@@ -13,9 +14,6 @@ use eden_objects::Store;
 use eden_query::{Raw, Served, answer};
 use std::alloc::Global;
 use std::test::Fail;
-
-/// The directories of which lists are asked.
-const PREFIXES: [&str; 4] = ["a", "d", "a/b", "b"];
 
 /// What a mount held for a request, with the objects that it had then, and what it was to reply then.
 #[derive(Drop)]
@@ -75,10 +73,10 @@ struct Replies {
 }
 
 impl Replies {
-    /// Of the second commit, with a journal of this limit. Nothing is held yet.
+    /// Of the third commit, with a journal of this limit. Nothing is held yet.
     fn opened(alloc: Global, commits: &mut Commits<4>, limit: u64) -> Result<Replies, Fail> {
         Ok(Replies {
-            pair: Pair::mounted(alloc, &mut commits.store, commits.ids[1], limit)?,
+            pair: Pair::mounted(alloc, &mut commits.store, commits.ids[2], limit)?,
             lot: Lot::new(limit),
             roots: Roots::new(&commits.ids),
             kept: Vec::new(alloc),
@@ -87,8 +85,8 @@ impl Replies {
 
     /// The change that both make next.
     fn next_change(&mut self, alloc: Global) -> Result<Change, Fail> {
-        let generation = self.pair.mount.position().generation;
-        self.lot.change(alloc, &mut self.roots, generation)
+        self.lot
+            .change(alloc, &mut self.roots, self.pair.world.now())
     }
 
     /// That what was held is still answered as it was to be.
@@ -120,12 +118,7 @@ impl Replies {
         };
         let filter = self.lot.filter(alloc)?;
         let now = self.pair.mount.position();
-        let mut requests = self.lot.requests(alloc, query, &now, &filter)?;
-        requests.push(Request::List {
-            query,
-            prefix: path(alloc, PREFIXES[step.number % 4])?,
-            filter: filter.copy()?,
-        })?;
+        let requests = self.lot.requests(alloc, query, &now, &filter)?;
         Ok((requests, filter))
     }
 
@@ -139,9 +132,9 @@ impl Replies {
     }
 
     /// Makes the change on both, and asks.
-    fn go_on(&mut self, alloc: Global, step: &Step, imported: &mut Imported) -> Result<(), Fail> {
+    fn go_on(&mut self, alloc: Global, step: &Step, outcomes: &mut Outcomes) -> Result<(), Fail> {
         let answer = self.pair.apply(step)?;
-        imported.count(step.change, &answer, &self.roots);
+        outcomes.count(step.change, &answer, &self.roots);
         self.keep(alloc, step)?;
         if step.number % 4 == 0 {
             self.kept.clear();
@@ -155,7 +148,7 @@ fn reply_alike(
     alloc: Global,
     commits: &mut Commits<4>,
     limit: u64,
-    imported: &mut Imported,
+    outcomes: &mut Outcomes,
 ) -> Result<(), Fail> {
     let mut replies = Replies::opened(alloc, commits, limit)?;
     for number in 1..=80 {
@@ -165,7 +158,7 @@ fn reply_alike(
             number,
             change: &change,
         };
-        replies.go_on(alloc, &step, imported)?;
+        replies.go_on(alloc, &step, outcomes)?;
     }
     Ok(())
 }
@@ -174,10 +167,10 @@ fn reply_alike(
 fn generated_requests(rt: HostRuntime) -> Result<(), Fail> {
     let alloc = rt.alloc();
     let mut commits = family(alloc)?;
-    let mut imported = Imported::new();
+    let mut outcomes = Outcomes::new();
     for limit in [0, 150, 400, 2000, 1_000_000] {
-        reply_alike(alloc, &mut commits, limit, &mut imported)?;
+        reply_alike(alloc, &mut commits, limit, &mut outcomes)?;
     }
-    assert!(rt; imported.has_all(), "{imported:?}");
+    assert!(rt; outcomes.has_all(), "{outcomes:?}");
     Ok(())
 }

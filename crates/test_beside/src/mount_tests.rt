@@ -38,6 +38,7 @@ enum Act {
     Write(&'static str),
     Remove(&'static str),
     Rename(&'static str, &'static str),
+    RenameDir(&'static str, &'static str),
     /// To a commit that is given, as the next one.
     Reset,
     Checkout(Mode),
@@ -57,6 +58,7 @@ fn change_file(
         Act::Write(at) => mount.write(&path(alloc, at)?, Kind::Plain, b"1".as_slice()),
         Act::Remove(at) => mount.remove(&path(alloc, at)?),
         Act::Rename(old, new) => mount.rename(&path(alloc, old)?, &path(alloc, new)?),
+        Act::RenameDir(old, new) => mount.rename_dir(&path(alloc, old)?, &path(alloc, new)?),
         _ => return Err(Fail::new("no change of a file")),
     })
 }
@@ -118,33 +120,43 @@ fn sequence_exhausted(rt: HostRuntime) -> Result<(), Fail> {
     Ok(())
 }
 
-/// Calls at the last number, and whether they are made. An import takes no number.
-const AT_LAST: [(Act, bool); 9] = [
-    (Act::Write("a"), false),
-    (Act::Remove("a"), false),
-    (Act::Rename("a", "n"), false),
-    (Act::Rename("a", "a"), true),
-    (Act::Reset, false),
-    (Act::Checkout(Mode::Force), false),
-    (Act::Checkout(Mode::Dry), true),
-    (Act::Flush, false),
-    (Act::Import, true),
+/// What refuses a call that takes a number, where nothing else does and there is none left.
+const EXHAUSTED: Option<ChangeFault> = Some(ChangeFault::SequenceExhausted);
+
+/// Calls at the last number, and why they are refused; none where they are made. What stands against a path is told first, and an import
+/// takes no number.
+const AT_LAST: [(Act, Option<ChangeFault>); 16] = [
+    (Act::Write("f"), EXHAUSTED),
+    (Act::Remove("f"), EXHAUSTED),
+    (Act::Rename("f", "n"), EXHAUSTED),
+    (Act::Rename("f", "f"), None),
+    (Act::RenameDir("z", "n"), EXHAUSTED),
+    (Act::RenameDir("z", "z"), None),
+    (Act::RenameDir("f", "n"), Some(ChangeFault::NotADirectory)),
+    (Act::RenameDir("n", "n"), Some(ChangeFault::NoEntry)),
+    (Act::RenameDir("z", "z/n"), Some(ChangeFault::IntoItself)),
+    (Act::RenameDir("z", "f"), Some(ChangeFault::NotADirectory)),
+    (Act::RenameDir("z/a", "z"), Some(ChangeFault::IsADirectory)),
+    (Act::Reset, EXHAUSTED),
+    (Act::Checkout(Mode::Force), EXHAUSTED),
+    (Act::Checkout(Mode::Dry), None),
+    (Act::Flush, EXHAUSTED),
+    (Act::Import, None),
 ];
 
 #[test]
 fn sequence_exhausted_over_files(rt: HostRuntime) -> Result<(), Fail> {
     let alloc = rt.alloc();
-    let mut commits = two_commits(alloc)?;
+    let mut commits = sharing(alloc, 1)?;
     let [first, second] = commits.ids;
     let mut mount = last(alloc, &mut commits, first)?;
     let now = mount.position();
-    for (act, made) in &AT_LAST {
+    for (act, fault) in &AT_LAST {
         let answer = make(alloc, &mut mount, *act, second)?;
-        let refused = Err(ChangeFault::SequenceExhausted);
-        assert!(rt; answer == if *made { Ok(now) } else { refused });
+        assert!(rt; answer == fault.map_or(Ok(now), |fault| Err(fault)));
         assert!(rt; mount.position() == now);
     }
-    assert!(rt; holds(alloc, &mount, "a", (Kind::Plain, b"x".as_slice()))?);
+    assert!(rt; holds(alloc, &mount, "f", (Kind::Plain, b"x".as_slice()))?);
     let opening = Position {
         generation: 8,
         sequence: 1,

@@ -2,7 +2,7 @@
 
 use eden_history::{Answer, Change, Position};
 use eden_ids::{Content, Files, GitNaming, Path};
-use eden_world::World;
+use eden_world::{Row, World};
 use std::alloc::Global;
 use std::test::Fail;
 
@@ -48,6 +48,21 @@ impl Past {
     /// The present position.
     pub(crate) fn position(&self) -> Position {
         self.world.position()
+    }
+
+    /// Adds the paths of the present files that are not among these.
+    pub(crate) fn add_paths(&self, paths: &mut Vec<Path>) -> Result<(), Fail> {
+        for path in self.now().files().paths() {
+            if !paths.contains(path) {
+                paths.push(path.copy()?)?;
+            }
+        }
+        Ok(())
+    }
+
+    /// What there is now.
+    pub(crate) fn now(&self) -> &Row {
+        self.world.now()
     }
 
     /// Whether the world was at a place.

@@ -1,17 +1,18 @@
 //! A mount, mirrors of it, and every frame that was ever sent between them.
 
 use crate::frames::{asked, replied, reply_in, served};
-use crate::imports::{Imported, Roots};
+use crate::imports::Roots;
 use crate::lot::PATHS;
+use crate::outcomes::Outcomes;
 use crate::past::Past;
 use crate::stores::path;
 use eden_accumulate::Mount;
 use eden_globs::Filter;
 use eden_history::{Change, Marked, Position, SinceFault};
 use eden_ids::{Content, GitNaming, Kind, Path};
-use eden_messages::{Cause, Query, Reply, Request};
+use eden_messages::{Cause, Outcome, Query, Reply, Request};
 use eden_mirror::Mirror;
-use eden_world::World;
+use eden_world::{Row, World};
 use std::alloc::Global;
 use std::test::Fail;
 
@@ -56,7 +57,8 @@ pub(crate) struct Follower {
 }
 
 /// In how many states, after a step, a mirror had a place, had one at the head, held something else than the working copy, and then was
-/// refused what changed since or was told it by a list; how often two mirrors at the head held the same file; and what was imported.
+/// refused what changed since or was told it by a list; how often two mirrors at the head held the same file; how often one took a list of
+/// the files below a directory, and one of none; and what became of imports and of renames of directories.
 #[derive(Clone, Copy, Debug, PartialEq)]
 pub(crate) struct Tally {
     placed: u64,
@@ -65,7 +67,9 @@ pub(crate) struct Tally {
     refused: u64,
     told: u64,
     together: u64,
-    imported: Imported,
+    listed: u64,
+    emptied: u64,
+    outcomes: Outcomes,
 }
 
 /// The kind and the bytes of a file.
@@ -147,7 +151,9 @@ impl Tally {
             refused: 0,
             told: 0,
             together: 0,
-            imported: Imported::new(),
+            listed: 0,
+            emptied: 0,
+            outcomes: Outcomes::new(),
         }
     }
 
@@ -158,12 +164,22 @@ impl Tally {
             && self.behind > 0
             && self.refused > 0
             && self.together > 0
-            && self.imported.has_all()
+            && self.outcomes.has_all()
     }
 
-    /// Whether a list told a mirror what it lacks.
+    /// Whether a list told a mirror what it lacks, and what stands below a directory was listed to one, files and no file.
     pub(crate) fn has_told(&self) -> bool {
-        self.told > 0
+        self.told > 0 && self.listed > 0 && self.emptied > 0
+    }
+
+    /// One more list of what stands below a directory, where it is one that a mirror took.
+    fn count_list(&mut self, reply: &Reply, outcome: Outcome) {
+        if let Reply::ListIs { paths, .. } = reply {
+            let taken = outcome != Outcome::Ignored;
+            let empty = paths.as_slice().is_empty();
+            count(&mut self.listed, taken && !empty);
+            count(&mut self.emptied, taken && empty);
+        }
     }
 
     /// One more reply by which a mirror learned that it is behind.
@@ -256,7 +272,7 @@ impl Follower {
     }
 }
 
-/// All of it, a world that goes through the mount's changes, and the paths at which there may be a file.
+/// All of it, a world that goes through the mount's changes, and the paths at which there may be a file or has been one.
 #[derive(Drop)]
 pub(crate) struct Scene {
     paths: Vec<Path>,
@@ -295,13 +311,18 @@ impl Scene {
         })
     }
 
+    /// What the world is now.
+    pub(crate) fn now(&self) -> &Row {
+        self.past.now()
+    }
+
     /// The mount and the world make a change, or refuse it.
     fn change(&mut self, change: &Change, roots: &Roots, tally: &mut Tally) -> Result<(), Fail> {
         let told = self.mount.apply(change)?;
         let expected = self.past.apply(change)?;
-        tally.imported.count(change, &told, roots);
+        tally.outcomes.count(change, &told, roots);
         if told == expected && self.mount.position() == self.past.position() {
-            return Ok(());
+            return self.past.add_paths(&mut self.paths);
         }
         Err(Fail::new(format_args!("the mount says {told:?}, and the world {expected:?}")))
     }
@@ -324,11 +345,18 @@ impl Scene {
     }
 
     /// A reply comes to a mirror, if both are there.
-    fn come(&mut self, alloc: Global, reply: usize, mirror: usize) -> Result<(), Fail> {
+    fn come(
+        &mut self,
+        alloc: Global,
+        reply: usize,
+        mirror: usize,
+        tally: &mut Tally,
+    ) -> Result<(), Fail> {
         if let Some(given) = self.replies.get(reply) {
             let reply = reply_in(alloc, given.frame.as_slice())?;
             if let Some(follower) = self.followers.get_mut(mirror) {
-                follower.mirror.deliver(&reply)?;
+                let outcome = follower.mirror.deliver(&reply)?;
+                tally.count_list(&reply, outcome);
             }
         }
         Ok(())
@@ -385,7 +413,7 @@ impl Scene {
             Step::Begin(mirror) => self.begin(*mirror),
             Step::Send(mirror) => self.ask(alloc, *mirror),
             Step::Serve(place) => self.serve(alloc, *place),
-            Step::Come { reply, mirror } => self.come(alloc, *reply, *mirror),
+            Step::Come { reply, mirror } => self.come(alloc, *reply, *mirror, tally),
             Step::Refilter(mirror, filter) => self.refilter(*mirror, filter),
             Step::Restart(mirror, filter) => self.restart(alloc, *mirror, filter),
             Step::Strange(request) => {

@@ -35,11 +35,11 @@ impl ScheduleLot {
     }
 
     pub(crate) fn filter(&mut self, alloc: Global) -> Result<Filter, Fail> {
-        let parsed = match self.lot.below(5) {
-            0 => Ok(Filter::all(alloc)),
-            1 => Filter::parse(alloc, &[b"a*".as_slice()]),
-            2 => Filter::parse(alloc, &[b"a/**".as_slice()]),
-            3 => Filter::parse(alloc, &[b"b".as_slice(), b"d/?".as_slice()]),
+        let parsed = match self.lot.below(8) {
+            0..=3 => Ok(Filter::all(alloc)),
+            4 => Filter::parse(alloc, &[b"a*".as_slice(), b"**/e".as_slice()]),
+            5 => Filter::parse(alloc, &[b"a/**".as_slice()]),
+            6 => Filter::parse(alloc, &[b"b".as_slice(), b"d/?".as_slice()]),
             _ => Filter::parse(
                 alloc,
                 &[b"a?b".as_slice(), b"d".as_slice(), b"a".as_slice()],
@@ -55,7 +55,7 @@ impl ScheduleLot {
             life: 0,
             number: 1,
         };
-        Ok(match self.lot.below(3) {
+        Ok(match self.lot.below(4) {
             0 => Request::Basis {
                 query,
                 filter: self.filter(alloc)?,
@@ -63,6 +63,11 @@ impl ScheduleLot {
             1 => Request::Poll {
                 query,
                 since: scene.mount.position(),
+                filter: self.filter(alloc)?,
+            },
+            2 => Request::List {
+                query,
+                prefix: self.lot.directory(alloc)?,
                 filter: self.filter(alloc)?,
             },
             _ => Request::Fetch {
@@ -74,7 +79,7 @@ impl ScheduleLot {
 
     /// The next one after a place; sometimes one is lost.
     fn after(&mut self, place: usize) -> usize {
-        let lost = usize::from(self.lot.below(12) == 0);
+        let lost = usize::from(self.lot.below(16) == 0);
         place.saturating_add(1).saturating_add(lost)
     }
 
@@ -109,21 +114,18 @@ impl ScheduleLot {
         scene: &Scene,
     ) -> Result<Step, Fail> {
         let mirror = self.any(scene.followers.len());
-        Ok(match self.lot.below(32) {
-            0..=4 => {
-                let generation = scene.mount.position().generation;
-                Step::Change(self.lot.change(alloc, roots, generation)?)
-            }
-            5 => Step::Refilter(mirror, self.filter(alloc)?),
-            6 => Step::Restart(mirror, self.filter(alloc)?),
-            7 => Step::Strange(self.strange(alloc, scene)?),
-            8 => Step::Serve(self.any(scene.sent.len())),
-            9 => Step::Come {
+        Ok(match self.lot.below(40) {
+            0..=5 => Step::Change(self.lot.change(alloc, roots, scene.now())?),
+            6 => Step::Refilter(mirror, self.filter(alloc)?),
+            7 => Step::Restart(mirror, self.filter(alloc)?),
+            8 => Step::Strange(self.strange(alloc, scene)?),
+            9 => Step::Serve(self.any(scene.sent.len())),
+            10 => Step::Come {
                 reply: self.any(scene.replies.len()),
                 mirror,
             },
-            10 => Step::Send(mirror),
-            11 => Step::Begin(mirror),
+            11 => Step::Send(mirror),
+            12 => Step::Begin(mirror),
             _ => self.onwards(scene, mirror),
         })
     }

@@ -8,14 +8,14 @@ use crate::stores::{Commits, family};
 use std::alloc::Global;
 use std::test::Fail;
 
-/// A mount with this limit and a world of the second commit, and three mirrors with filters drawn by lot.
+/// A mount with this limit and a world of the third commit, and three mirrors with filters drawn by lot.
 fn opened(
     alloc: Global,
     commits: &mut Commits<4>,
     limit: u64,
     lot: &mut ScheduleLot,
 ) -> Result<Scene, Fail> {
-    let Pair { mount, world } = Pair::mounted(alloc, &mut commits.store, commits.ids[1], limit)?;
+    let Pair { mount, world } = Pair::mounted(alloc, &mut commits.store, commits.ids[2], limit)?;
     let mut filters = Vec::new(alloc);
     for _ in 0..3 {
         filters.push(lot.filter(alloc)?)?;

@@ -45,9 +45,9 @@ pub(crate) fn sharing(alloc: Global, levels: u32) -> Result<Commits<2>, Fail> {
 
 /// Commits of files and directories in each other's places, and of other kinds.
 const FAMILY: &str =
-    "blob x x;blob y y;tree below 100644 b y;tree deeper 100644 c x;tree far 40000 b deeper;\
+    "blob x x;blob y y;tree below 100644 b y;tree deeper 100644 c x;tree far 40000 b deeper;tree other 100644 e x;\
     tree t 100644 a x 100644 a.b x 100755 b y;commit one t;\
-    tree t 100644 a.b x 40000 a below 120000 a0 y;commit two t;\
+    tree t 100644 a.b x 40000 a below 120000 a0 y 40000 d other;commit two t;\
     tree t 100755 a.b x 40000 a far 100644 d y;commit three t";
 
 /// These commits, behind the empty one.
