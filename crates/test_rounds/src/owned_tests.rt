@@ -1,6 +1,7 @@
 //! A mirror that is given a reply does what one does that is lent it.
 
 use crate::daemon::{path, plain};
+use crate::wanted::Said;
 use eden_globs::Filter;
 use eden_history::{Mark, Marked, Position};
 use eden_ids::{Content, Id, Sequence};
@@ -118,20 +119,6 @@ fn moved(alloc: Global) -> Result<Reply, Fail> {
     })
 }
 
-/// These paths below a directory hold a file.
-fn below(alloc: Global, prefix: &str, texts: &[&str]) -> Result<Reply, Fail> {
-    let mut paths = Vec::new(alloc);
-    for text in texts {
-        paths.push(path(alloc, text)?)?;
-    }
-    Ok(Reply::ListIs {
-        query: NEXT,
-        position: TARGET,
-        prefix: path(alloc, prefix)?,
-        paths: Sequence::from_vec(paths),
-    })
-}
-
 /// The mirror in its second round, which awaits a list of `d` and the content of `p`. It has the file `d/a`.
 fn told_mirror(alloc: Global) -> Result<Mirror, Fail> {
     let file = content(alloc, QUERY, "d/a", Some(plain(alloc, "x")?))?;
@@ -141,24 +128,26 @@ fn told_mirror(alloc: Global) -> Result<Mirror, Fail> {
     Ok(mirror)
 }
 
+/// What comes to that mirror, and with which outcome.
+const COMES: [(Said, Outcome); 7] = [
+    (Said::Listed(2, (7, 2), "d", &[]), Outcome::Taken),
+    (
+        Said::Listed(2, (7, 2), "d", &["d/a", "d/b"]),
+        Outcome::Taken,
+    ),
+    (Said::Listed(2, (7, 2), "e", &["e/a"]), Outcome::Ignored),
+    (Said::Content(2, (7, 2), "p", "x"), Outcome::Taken),
+    (Said::Content(2, (7, 2), "d", "x"), Outcome::Ignored),
+    (Said::Moved(2, (7, 2), &["d"]), Outcome::Ignored),
+    (Said::Refused(2, Cause::TooLarge), Outcome::Ended),
+];
+
 #[test]
 fn given_lists_of_directories(rt: HostRuntime) -> Result<(), Fail> {
     let alloc = rt.alloc();
-    let too_large = Reply::Refused {
-        query: NEXT,
-        cause: Cause::TooLarge,
-    };
-    for (reply, wanted) in [
-        (below(alloc, "d", &[])?, Outcome::Taken),
-        (below(alloc, "d", &["d/a", "d/b"])?, Outcome::Taken),
-        (below(alloc, "e", &["e/a"])?, Outcome::Ignored),
-        (content(alloc, NEXT, "p", None)?, Outcome::Taken),
-        (content(alloc, NEXT, "d", None)?, Outcome::Ignored),
-        (moved(alloc)?, Outcome::Ignored),
-        (too_large, Outcome::Ended),
-    ] {
+    for (said, wanted) in &COMES {
         let (lent, given) = (told_mirror(alloc)?, told_mirror(alloc)?);
-        comes_alike(alloc, lent, given, reply, wanted)?;
+        comes_alike(alloc, lent, given, said.reply(alloc)?, *wanted)?;
     }
     Ok(())
 }
