@@ -144,17 +144,31 @@ const AT_LAST: [(Act, Option<ChangeFault>); 16] = [
     (Act::Import, None),
 ];
 
+/// Whether a call is refused so, or made, and leaves the mount where it is.
+fn stays(
+    alloc: Global,
+    mount: &mut Mount<GitNaming>,
+    act: Act,
+    commit: Id,
+    fault: Option<ChangeFault>,
+) -> Result<bool, Fail> {
+    let now = mount.position();
+    let wanted = match fault {
+        Some(fault) => Err(fault),
+        None => Ok(now),
+    };
+    let answer = make(alloc, mount, act, commit)?;
+    Ok(answer == wanted && mount.position() == now)
+}
+
 #[test]
 fn sequence_exhausted_over_files(rt: HostRuntime) -> Result<(), Fail> {
     let alloc = rt.alloc();
     let mut commits = sharing(alloc, 1)?;
     let [first, second] = commits.ids;
     let mut mount = last(alloc, &mut commits, first)?;
-    let now = mount.position();
     for (act, fault) in &AT_LAST {
-        let answer = make(alloc, &mut mount, *act, second)?;
-        assert!(rt; answer == fault.map_or(Ok(now), |fault| Err(fault)));
-        assert!(rt; mount.position() == now);
+        assert!(rt; stays(alloc, &mut mount, *act, second, *fault)?);
     }
     assert!(rt; holds(alloc, &mount, "f", (Kind::Plain, b"x".as_slice()))?);
     let opening = Position {

@@ -3,9 +3,11 @@
 use crate::daemon::{Pair, Step, opened_mount, path};
 use crate::rounds_tests::PLACED;
 use crate::wanted::{Said, position};
+use eden_accumulate::Mount;
 use eden_history::ChangeFault;
-use eden_ids::{GitNaming, Kind};
+use eden_ids::{GitNaming, Kind, Path};
 use eden_messages::Outcome;
+use eden_mirror::Mirror;
 use eden_objects::{PutFault, Store};
 use eden_query::{DecodeFault, decode_reply};
 use std::alloc::Global;
@@ -30,6 +32,30 @@ const TOLD: [Step; 2] = [
     Step::Goes(Said::Created(2, (7, 2), "p"), Outcome::Taken),
 ];
 
+/// Whether a mount takes these bytes as a plain file, and is at 7/2 then.
+fn takes(mount: &mut Mount<GitNaming>, at: &Path, bytes: &[u8]) -> bool {
+    mount.write(at, Kind::Plain, bytes) == Ok(position(7, 2))
+}
+
+/// Whether each reply to what is asked places the mirror.
+fn places(pair: &mut Pair<Mount<GitNaming>>) -> Result<bool, Fail> {
+    for reply in &pair.asked()? {
+        if pair.delivered(reply)? != Outcome::Placed {
+            return Ok(false);
+        }
+    }
+    Ok(true)
+}
+
+/// Whether a mirror at 7/2 has a plain file of these bytes.
+fn has_file(mirror: &Mirror, at: &Path, bytes: &[u8]) -> bool {
+    let Some(read) = mirror.get(at) else {
+        return false;
+    };
+    let here = mirror.position() == Some(position(7, 2));
+    here && read.kind == Kind::Plain && read.bytes.as_slice() == bytes
+}
+
 #[test]
 fn largest_content(rt: HostRuntime) -> Result<(), Fail> {
     let alloc = rt.alloc();
@@ -38,17 +64,10 @@ fn largest_content(rt: HostRuntime) -> Result<(), Fail> {
     assert_eq!(rt; bytes.len(), LARGEST);
     let mut pair = Pair::new(alloc, opened_mount(alloc)?);
     pair.goes(&PLACED)?;
-    let written = pair.daemon.write(&at, Kind::Plain, bytes.as_slice());
-    assert_eq!(rt; written, Ok(position(7, 2)));
+    assert!(rt; takes(&mut pair.daemon, &at, bytes.as_slice()));
     pair.goes(&TOLD)?;
-    for reply in &pair.asked()? {
-        assert_eq!(rt; pair.delivered(reply)?, Outcome::Placed);
-    }
-    assert_eq!(rt; pair.mirror.position(), Some(position(7, 2)));
-    let Some(read) = pair.mirror.get(&at) else {
-        return Err(Fail::new("no file"));
-    };
-    assert!(rt; read.kind == Kind::Plain && read.bytes.as_slice() == bytes.as_slice());
+    assert!(rt; places(&mut pair)?);
+    assert!(rt; has_file(&pair.mirror, &at, bytes.as_slice()));
     Ok(())
 }
 
