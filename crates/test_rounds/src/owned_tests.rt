@@ -76,6 +76,16 @@ fn are_alike(lent: &Mirror, given: &Mirror, said: &str) -> Result<(), Fail> {
     Err(Fail::new(format_args!("{said}: what is held is not the same")))
 }
 
+/// What comes of a reply that is lent to a mirror.
+fn lend(mirror: &mut Mirror, reply: &Reply) -> Result<Outcome, Fail> {
+    Ok(mirror.deliver(reply)?)
+}
+
+/// What comes of a reply that is given to a mirror.
+fn give(mirror: &mut Mirror, reply: Reply) -> Result<Outcome, Fail> {
+    Ok(mirror.deliver_owned(reply)?)
+}
+
 /// A reply that is lent to the one mirror and given to the other, which are alike, has this outcome at both, and leaves them alike.
 fn comes_alike(
     alloc: Global,
@@ -85,7 +95,7 @@ fn comes_alike(
     wanted: Outcome,
 ) -> Result<(), Fail> {
     let said = format!(in alloc; "{reply:?}")?;
-    let outcomes = (lent.deliver(&reply)?, given.deliver_owned(reply)?);
+    let outcomes = (lend(&mut lent, &reply)?, give(&mut given, reply)?);
     if outcomes != (wanted, wanted) {
         return Err(Fail::new(format_args!("{said}: {outcomes:?}")));
     }
