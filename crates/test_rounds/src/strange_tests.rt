@@ -174,24 +174,40 @@ const LISTS: [Strange; 8] = [
     ("a directory below", 1, 1, 3, 7, 2, "d/e"),
 ];
 
-#[test]
-fn strange_replies(rt: HostRuntime) -> Result<(), Fail> {
-    let alloc = rt.alloc();
-    let (mut pair, asked) = mirror_in(alloc, Round::Gathering)?;
+/// Delivers strange contents to a mirror that awaits one.
+fn ignores_contents(pair: &mut Pair<World<GitNaming>>) -> Result<(), Fail> {
     for (said, mirror, life, number, generation, sequence, at) in &CONTENTS {
         let query = asked_by(*mirror, *life, *number);
         let here = position(*generation, *sequence);
-        let reply = content(alloc, query, here, at, "strange")?;
-        ignores(&mut pair, &reply, said)?;
+        let reply = content(pair.alloc, query, here, at, "strange")?;
+        ignores(pair, &reply, said)?;
     }
-    let again = created(alloc, asked, position(7, 2), "p")?;
-    ignores(&mut pair, &again, "the list again")?;
-    let refusal = reply_of(alloc, asked, Kind::TooLarge)?;
-    ignores(&mut pair, &refusal, "a refusal of the list")?;
-    pair.goes(&[
-        Step::Goes(Said::Content(2, (7, 2), "p", "x"), Outcome::Placed),
-        Step::Holds(Some((7, 2)), &[("p", "x")]),
-    ])
+    Ok(())
+}
+
+/// Delivers what would have answered the question of such a mirror, which was answered before.
+fn ignores_answers(
+    pair: &mut Pair<World<GitNaming>>,
+    asked: Query,
+    kind: Kind,
+) -> Result<(), Fail> {
+    let reply = reply_of(pair.alloc, asked, kind)?;
+    ignores(pair, &reply, "an answer that comes again")
+}
+
+/// Then the content comes.
+const RIGHT: [Step; 2] = [
+    Step::Goes(Said::Content(2, (7, 2), "p", "x"), Outcome::Placed),
+    Step::Holds(Some((7, 2)), &[("p", "x")]),
+];
+
+#[test]
+fn strange_replies(rt: HostRuntime) -> Result<(), Fail> {
+    let (mut pair, asked) = mirror_in(rt.alloc(), Round::Gathering)?;
+    ignores_contents(&mut pair)?;
+    ignores_answers(&mut pair, asked, Kind::Changes)?;
+    ignores_answers(&mut pair, asked, Kind::TooLarge)?;
+    pair.goes(&RIGHT)
 }
 
 #[test]
