@@ -89,23 +89,24 @@ fn give(mirror: &mut Mirror, reply: Reply) -> Result<Outcome, Fail> {
 /// A reply that is lent to the one mirror and given to the other, which are alike, has this outcome at both, and leaves them alike.
 fn comes_alike(
     alloc: Global,
-    mut lent: Mirror,
-    mut given: Mirror,
+    lent: &mut Mirror,
+    given: &mut Mirror,
     reply: Reply,
     wanted: Outcome,
 ) -> Result<(), Fail> {
     let said = format!(in alloc; "{reply:?}")?;
-    let outcomes = (lend(&mut lent, &reply)?, give(&mut given, reply)?);
+    let outcomes = (lend(lent, &reply)?, give(given, reply)?);
     if outcomes != (wanted, wanted) {
         return Err(Fail::new(format_args!("{said}: {outcomes:?}")));
     }
-    are_alike(&lent, &given, said.as_str())
+    are_alike(lent, given, said.as_str())
 }
 
 /// A reply that comes after others has this outcome, lent or given.
 fn either_way(alloc: Global, came: &[Reply], reply: Reply, wanted: Outcome) -> Result<(), Fail> {
-    let (lent, given) = (mirror_after(alloc, came)?, mirror_after(alloc, came)?);
-    comes_alike(alloc, lent, given, reply, wanted)
+    let mut lent = mirror_after(alloc, came)?;
+    let mut given = mirror_after(alloc, came)?;
+    comes_alike(alloc, &mut lent, &mut given, reply, wanted)
 }
 
 /// The second question of mirror 1.
@@ -156,8 +157,9 @@ const COMES: [(Said, Outcome); 7] = [
 fn given_lists_of_directories(rt: HostRuntime) -> Result<(), Fail> {
     let alloc = rt.alloc();
     for (said, wanted) in &COMES {
-        let (lent, given) = (told_mirror(alloc)?, told_mirror(alloc)?);
-        comes_alike(alloc, lent, given, said.reply(alloc)?, *wanted)?;
+        let mut lent = told_mirror(alloc)?;
+        let mut given = told_mirror(alloc)?;
+        comes_alike(alloc, &mut lent, &mut given, said.reply(alloc)?, *wanted)?;
     }
     Ok(())
 }
