@@ -167,42 +167,46 @@ fn given_lists_of_directories(rt: HostRuntime) -> Result<(), Fail> {
 #[test]
 fn given_lists_and_refusals(rt: HostRuntime) -> Result<(), Fail> {
     let alloc = rt.alloc();
-    for (reply, wanted) in [
-        (list(alloc, &["p", "q"])?, Outcome::Taken),
-        (list(alloc, &[])?, Outcome::Placed),
-        (refused(Cause::TooLarge), Outcome::Ended),
-        (refused(Cause::Stale(8)), Outcome::Unplaced),
-        (content(alloc, QUERY, "p", None)?, Outcome::Ignored),
-    ] {
-        either_way(alloc, &[], reply, wanted)?;
-    }
-    Ok(())
+    either_way(alloc, &[], list(alloc, &["p", "q"])?, Outcome::Taken)?;
+    either_way(alloc, &[], list(alloc, &[])?, Outcome::Placed)?;
+    either_way(alloc, &[], refused(Cause::TooLarge), Outcome::Ended)?;
+    either_way(alloc, &[], refused(Cause::Stale(8)), Outcome::Unplaced)?;
+    let early = content(alloc, QUERY, "p", None)?;
+    either_way(alloc, &[], early, Outcome::Ignored)
 }
+
+/// A reply comes to a mirror that awaits the contents of these paths.
+fn behind(alloc: Global, paths: &[&str], reply: Reply, wanted: Outcome) -> Result<(), Fail> {
+    let came = [list(alloc, paths)?];
+    either_way(alloc, came.as_slice(), reply, wanted)
+}
+
+/// What a life of the mirror is told of a path: a plain file with this text, or none.
+fn told_content(alloc: Global, life: u64, at: &str, text: Option<&str>) -> Result<Reply, Fail> {
+    let file = match text {
+        Some(text) => Some(plain(alloc, text)?),
+        None => None,
+    };
+    content(alloc, Query { life, ..QUERY }, at, file)
+}
+
+/// The life, the path and the text of a content that comes where that of `p` is awaited in the first life.
+const CONTENTS: [(u64, &str, Option<&str>, Outcome); 4] = [
+    (1, "p", Some("x"), Outcome::Placed),
+    (1, "p", None, Outcome::Placed),
+    (1, "r", Some("x"), Outcome::Ignored),
+    (2, "p", Some("x"), Outcome::Ignored),
+];
 
 #[test]
 fn given_contents(rt: HostRuntime) -> Result<(), Fail> {
     let alloc = rt.alloc();
-    let text = plain(alloc, "x")?;
-    let other = Query { life: 2, ..QUERY };
-    for (reply, wanted) in [
-        (
-            content(alloc, QUERY, "p", Some(text.copy()?))?,
-            Outcome::Placed,
-        ),
-        (content(alloc, QUERY, "p", None)?, Outcome::Placed),
-        (
-            content(alloc, QUERY, "r", Some(text.copy()?))?,
-            Outcome::Ignored,
-        ),
-        (
-            content(alloc, other, "p", Some(text.copy()?))?,
-            Outcome::Ignored,
-        ),
-        (list(alloc, &["p"])?, Outcome::Ignored),
-        (refused(Cause::TooLarge), Outcome::Ignored),
-    ] {
-        either_way(alloc, &[list(alloc, &["p"])?], reply, wanted)?;
+    for (life, at, text, wanted) in &CONTENTS {
+        let reply = told_content(alloc, *life, at, *text)?;
+        behind(alloc, &["p"], reply, *wanted)?;
     }
-    let first = content(alloc, QUERY, "q", Some(text))?;
-    either_way(alloc, &[list(alloc, &["p", "q"])?], first, Outcome::Taken)
+    behind(alloc, &["p"], list(alloc, &["p"])?, Outcome::Ignored)?;
+    behind(alloc, &["p"], refused(Cause::TooLarge), Outcome::Ignored)?;
+    let first = told_content(alloc, 1, "q", Some("x"))?;
+    behind(alloc, &["p", "q"], first, Outcome::Taken)
 }
