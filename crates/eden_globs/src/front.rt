@@ -71,6 +71,25 @@ impl Front {
         Ok(Some(length))
     }
 
+    /// Puts a name behind what stands before it, for who asks more of the path than a filter, and tells what `leave` goes back to.
+    ///
+    /// `NoMemory` comes where a growth was refused.
+    pub fn add(&mut self, name: &[u8]) -> Result<usize, NoMemory>
+        ensures added { OnOk result (self.new ≡ self.old ++ name.now) }
+        ensures length { IfOk result (λ long. long ≡ length self.old) }
+    {
+        let length = self.bytes.len();
+        self.bytes.extend_from_slice(name)?;
+        Ok(length)
+    }
+
+    /// The bytes. It takes no memory.
+    pub fn as_bytes(&self) -> &[u8]
+        ensures { result.now ≡ self.now }
+    {
+        self.bytes.as_slice()
+    }
+
     /// Goes back to the directory of which a length was told.
     pub fn leave(&mut self, length: usize)
         ensures { self.new ≡ take length self.old }

@@ -9,7 +9,7 @@ use Rattle.eden_ids.specs.declared.content.Content.{Content}
 use Rattle.eden_ids.specs.FileMaps.{FileMap, file_at}
 use Rattle.eden_ids.specs.Paths.{path_fault}
 use Rattle.eden_ids.specs.Sameness.{same_bytes, same_id}
-use Rattle.eden_ids.specs.Texts.{AreBytes, IsContentText, IsPathText}
+use Rattle.eden_ids.specs.Texts.{AreBytes, AreTexts, IsContentText, IsPathText}
 use Rattle.eden_ids.proofs.Members.{all_joined, all_parts}
 use Rattle.eden_ids.proofs.FileMapLemmas.{bytes_same}
 use Rattle.eden_git.specs.declared.fault.EntryFault.{EntryFault}
@@ -20,10 +20,13 @@ use Rattle.eden_objects.specs.Objects.{Held, find, payload_of}
 use Rattle.eden_objects.specs.Trees.{tree_fold}
 use Rattle.eden_objects.specs.Commits.{Row, commit_map, commit_rows, content_of, entries_rows, entry_rows, find_row, map_of_rows, rows_of_kind, tree_rows, under}
 use Rattle.eden_objects.specs.Closed.{IsClosed}
+use Rattle.eden_objects.specs.Files.{IsTreeIn, files_at}
 use Rattle.eden_objects.specs.Laws.{CommitsHoldTexts}
 use Rattle.eden_objects.specs.Small.{AreSmall}
 use Rattle.eden_objects.specs.Walks.{content_found}
 use Rattle.eden_objects.proofs.Closed.{find-here, find-there, fold-here, fold-there}
+use Rattle.eden_objects.proofs.Fitting.{fitting_law}
+use Rattle.eden_objects.proofs.Maps.{file_at-map_of}
 use Rattle.eden_objects.proofs.CommitLaws.{on_rows, rows_files, rows_legal}
 
 -- ---- the names of a tree's entries
@@ -120,3 +123,12 @@ by_rows held closed small commit (Some rows) files is some map path file at =
 
 pub commits_texts : CommitsHoldTexts
 commits_texts held closed small commit files map = by_rows held closed small commit (commit_rows held commit) files refl map map
+
+-- the files of a tree of the store, or of none
+pub texts_at : (held : List Held) (at : Option Id) (files : FileMap) → IsClosed held → AreSmall held → IsTreeIn held at → files_at held at ≡ files → AreTexts files
+texts_at held at files closed small has view = subst AreTexts view (by at has)
+  where
+    by : (at : Option Id) → IsTreeIn held at → AreTexts (files_at held at)
+    by None has path file is = map_texts held [] small tt tt path file (sym (file_at-map_of held [] path) ∙ is)
+    by (Some tree) has path file is =
+        map_texts held (tree_rows held tree) small (fitting_law held closed tree has) (rows_tree held small tree) path file (sym (file_at-map_of held (tree_rows held tree) path) ∙ is)

@@ -19,7 +19,7 @@ use Rattle.eden_objects.specs.Files.{IsTreeIn, files_at, rows_at}
 use Rattle.eden_objects.proofs.Maps.{file_at-map_of, paths-map_of}
 use Rattle.eden_objects.proofs.Rising.{rising_law}
 
-rises : (held : List Held) → IsClosed held → (tree : Option Id) → IsTreeIn held tree → IsStrictlySortedBy (slice_cmp nat_cmp) (map (λ row. row.0) (rows_at held tree))
+pub rises : (held : List Held) → IsClosed held → (tree : Option Id) → IsTreeIn held tree → IsStrictlySortedBy (slice_cmp nat_cmp) (map (λ row. row.0) (rows_at held tree))
 unfolding IsStrictlySortedBy
 rises held closed None has = tt
 rises held closed (Some tree) has = rising_law held closed tree has

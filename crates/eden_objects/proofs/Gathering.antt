@@ -1,8 +1,9 @@
 -- A listing that is gathered entry by entry.
-use Rattle.std.proofs.Common.{◌≡◌, ℕ, ◌<◌, ◌≤◌, ◌++◌, ◌&&◌, Bool, true, false, cond, List, [], ◌∷◌, map, take, length, Some, None, refl, sym, ap, subst, ◌∙◌, arith, append_assoc}
+use Rattle.std.proofs.Common.{◌≡◌, ℕ, ◌<◌, ◌≤◌, ◌++◌, ◌&&◌, Bool, true, false, not, cond, List, [], ◌∷◌, map, take, length, Option, Some, None, refl, sym, ap, subst, ◌∙◌, arith, append_assoc}
 use Rattle.std.proofs.lemmas.Bool.{eq-eqb}
 use Rattle.std.proofs.lemmas.List.{append-nil, map-append}
 use Rattle.std.proofs.lemmas.List.Elements.{filter-append}
+use Rattle.std.proofs.Math.Bool.{and_comm}
 use Rattle.std.proofs.Math.Seq.{take-append_seam}
 use Rattle.std.specs.Prelude.{filter}
 use Rattle.std.specs.List.{AllByRecursion}
@@ -17,7 +18,9 @@ use Rattle.eden_objects.specs.Trees.{entries_depth, tree_depth}
 use Rattle.eden_objects.specs.Commits.{Row, under, rows_of_kind, entry_rows, entries_rows, tree_rows}
 use Rattle.eden_objects.specs.Puts.{word_wanted}
 use Rattle.eden_objects.specs.Closed.{IsHeld, HasTree, IsClosed}
+use Rattle.eden_objects.specs.Passing.{is_shown}
 use Rattle.eden_objects.specs.internal.Below.{behind, rows_behind}
+use Rattle.eden_objects.specs.internal.Passed.{EntersBut}
 use Rattle.eden_objects.proofs.Closed.{depth_of_tree, child_below, later_below}
 use Rattle.eden_objects.proofs.WalkSteps.{entries_in, tree_here, rows_here}
 
@@ -125,13 +128,23 @@ behind_nothing : (rows : List Row) → map (behind []) rows ≡ rows
 behind_nothing [] = refl
 behind_nothing (row ∷ rows) = ap (λ (more : List Row). row ∷ more) (behind_nothing rows)
 
-pub nothing_before : (test : List ℕ → Bool) (front : List ℕ) (rows found : List Row) → front ≡ [] → found ≡ rows_behind test front rows → filter (λ row. test row.0) rows ≡ found
-nothing_before test front rows found none is =
-    sym (is ∙ ap (λ p. rows_behind test p rows) none ∙ ap (filter (λ row. test row.0)) (behind_nothing rows))
+pub nothing_before : (test : List ℕ → Bool) (rows found : List Row) → found ≡ rows_behind test [] rows → filter (λ row. test row.0) rows ≡ found
+nothing_before test rows found is = sym (is ∙ ap (filter (λ row. test row.0)) (behind_nothing rows))
 
--- a directory that is not entered has nothing that is wanted
-pub none_entered : (patterns : List (List ℕ)) (top old new : List ℕ) (rows : List Row) → old ≡ [] → Enters patterns top old new None
-    → rows_behind (admits patterns) (top ++ 47 ∷ []) rows ≡ []
-none_entered patterns top old new rows nothing is =
-    none_wanted (admits patterns) top rows
+-- a directory that is not entered has nothing that is shown
+pub none_entered : (shows : List ℕ → Bool) (top old new : List ℕ) (rows : List Row) → old ≡ [] → EntersBut shows top old new None
+    → rows_behind shows (top ++ 47 ∷ []) rows ≡ []
+none_entered shows top old new rows nothing is =
+    none_wanted shows top rows
     (λ path below. is.1 path (ap (λ front. lies_below path (front ++ top)) nothing ∙ below))
+
+-- a list enters a directory where its filter does and not all of it is passed over
+
+pub enters_both : (passes : List ℕ → Bool) (patterns : List (List ℕ)) (name old new : List ℕ) (entered : Option ℕ) → Enters patterns name old new entered
+    → EntersBut (is_shown passes patterns) name old new entered
+enters_both passes patterns name old new None is = (is.0, λ path below. ap (λ b. not (passes path) && b) (is.1 path below) ∙ and_comm (not (passes path)) false)
+enters_both passes patterns name old new (Some long) is = is
+
+pub passes_all : (passes : List ℕ → Bool) (patterns : List (List ℕ)) (name old new : List ℕ) → new ≡ old
+    → ((path : List ℕ) → lies_below path (old ++ name) ≡ true → passes path ≡ true) → EntersBut (is_shown passes patterns) name old new None
+passes_all passes patterns name old new same all = (same, λ path below. ap (λ b. not b && admits patterns path) (all path below))

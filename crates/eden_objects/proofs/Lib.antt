@@ -21,5 +21,6 @@ pub mod Legal
 mod Below
 mod Refusals
 mod Noted
+mod Searched
 mod Judging
 mod Judged

@@ -67,7 +67,7 @@ pub paths-map_of : (held : List Held) (rows : List Row) → IsStrictlySortedBy (
 paths-map_of held rows rise =
     ap (map (λ e. e.0)) (entries_are (contents held rows) (subst (IsStrictlySortedBy (slice_cmp nat_cmp)) (sym (keys_alone held rows)) rise)) ∙ keys_alone held rows
 
-is_found : (held : List Held) (o : Option (Kind × Id)) → is_some (content_found held o) ≡ is_some o
+pub is_found : (held : List Held) (o : Option (Kind × Id)) → is_some (content_found held o) ≡ is_some o
 is_found held None = refl
 is_found held (Some found) = refl
 

@@ -13,4 +13,5 @@ pub mod Readings
 pub mod Copies
 pub mod Files
 pub mod Counts
+pub mod Passing
 pub mod internal

@@ -2,5 +2,6 @@
 pub mod Below
 pub mod Earlier
 pub mod Kept
+pub mod Passed
 pub mod Placed
 pub mod Roots

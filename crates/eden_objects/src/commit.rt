@@ -1,14 +1,19 @@
 //! A commit of a store that is found once, and asked for its files.
-ghost use Rattle.std.specs.Prelude.{◌≡◌, filter, length, nat_le};
+ghost use Rattle.std.specs.Prelude.{◌≡◌, ◌&&◌, IfOk, filter, length, map, nat_le, not};
+ghost use Rattle.std.specs.List.{list_any};
 ghost use Rattle.eden_ids.specs.FileMaps.{file_at, lent, paths};
 ghost use Rattle.eden_ids.specs.Paths.{lies_below};
+ghost use Rattle.eden_ids.specs.Texts.{AreTexts};
 ghost use Rattle.eden_objects.specs.Commits.{commit_map};
 ghost use Rattle.eden_objects.specs.Counts.{capped};
 ghost use Rattle.eden_objects.specs.Files.{commit_files};
+ghost use Rattle.eden_objects.specs.Passing.{TellsPaths, is_shown, told};
 
 use crate::fault::NoCommit;
+use crate::passing::Passes;
 use crate::store::Store;
-use eden_ids::{FileTree, Id, Kind, Naming, Path};
+use eden_globs::Filter;
+use eden_ids::{FileTree, Id, Kind, Naming, NoMemory, Path};
 use std::marker::Model;
 
 /// A commit of a store, found once: its files are asked for without its id being looked up again.
@@ -66,11 +71,74 @@ impl<'a, N: Naming + Drop> Commit<'a, N> {
         }
     }
 
+    /// Whether a file stands below a path that is not passed over, where each is told as though the path's directory stood at another.
+    ///
+    /// This takes no memory. It goes depth first and ends at the first such file. It reads no directory without files, and none below
+    /// which all is passed over.
+    pub fn has_below_but<S: Passes>(&self, top: &[u8], seen: &Path, passed: &S) -> bool
+        ensures { result ≡ list_any (λ p. lies_below p top.now && not (S.passes passed.now (told top.now seen.now p))) (paths self.now) }
+    {
+        self.store.closed_law();
+        match self.tree {
+            Some(tree) => self.store.has_below_but(tree, top, seen, passed),
+            None => false,
+        }
+    }
+
+    /// The files that a filter admits and that are not passed over, each with its path, its kind and its blob, in byte order of the paths.
+    ///
+    /// `NoMemory` comes where a growth was refused. Each directory is read once, but for those without files, those below which the
+    /// filter admits nothing (`Filter::admits_below`), and those below which all is passed over.
+    pub fn list<S: Passes>(
+        &self,
+        wanted: &Filter,
+        passed: &S,
+    ) -> Result<Vec<(Path, Kind, Id)>, NoMemory>
+        ensures { IfOk result (λ rows. map (λ row. row.0) rows.items ≡ filter (is_shown (S.passes passed.now) wanted.now) (paths self.now)) }
+    {
+        self.store.closed_law();
+        match self.tree {
+            Some(tree) => self.store.gather_all(tree, wanted, passed),
+            None => Ok(Vec::new(self.store.allocator())),
+        }
+    }
+
+    /// The files below a path, where each is told as though the path's directory stood at another: those that a filter admits and that are
+    /// not passed over, each with its path, its kind and its blob, in byte order of the paths.
+    ///
+    /// Condition: what is not passed over is told by a path. `NoMemory` comes where a growth was refused. It reads what `list` would.
+    pub fn list_seen<S: Passes>(
+        &self,
+        top: &[u8],
+        seen: &Path,
+        wanted: &Filter,
+        passed: &S,
+    ) -> Result<Vec<(Path, Kind, Id)>, NoMemory>
+        requires { TellsPaths (S.passes passed.now) top.now seen.now self.now }
+        ensures { IfOk result (λ rows. map (λ row. row.0) rows.items
+            ≡ filter (is_shown (S.passes passed.now) wanted.now) (map (told top.now seen.now) (filter (λ p. lies_below p top.now) (paths self.now)))) }
+    {
+        self.store.closed_law();
+        match self.tree {
+            Some(tree) => self.store.gather_seen(tree, top, seen, wanted, passed),
+            None => Ok(Vec::new(self.store.allocator())),
+        }
+    }
+
     /// Whether at least so many files stand below a path, at the cost of `files_below`.
     pub fn has_below(&self, top: &[u8], count: usize) -> bool
         ensures { result ≡ nat_le count (length (filter (λ p. lies_below p top.now) (paths self.now))) }
     {
         self.files_below(top) >= count
+    }
+}
+
+impl<'a, N: Naming + Drop> Commit<'a, N> {
+    /// What holds of every commit: each of its paths is one, and each file is within its limit.
+    pub fn texts_law(&self)
+        ensures { AreTexts self.now }
+    {
+        self.store.closed_law();
     }
 }
 

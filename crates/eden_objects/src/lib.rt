@@ -40,6 +40,7 @@ pub use crate::fault::{CommitFault, NoCommit, PutFault};
 pub use crate::import::{ImportFault, Object};
 pub use crate::importer::Importer;
 pub use crate::laws::{commit_map_law, grown_law, same_object_law, tree_law};
+pub use crate::passing::{Nothing, Passes};
 pub use crate::store::Store;
 pub use eden_git::{RawEntry, Rows, Word, key_order, next_entry};
 
@@ -55,6 +56,9 @@ mod laws;
 mod list;
 mod lookups;
 mod outline;
+mod passing;
+mod search;
 mod size;
 mod store;
 mod stored;
+mod trail;

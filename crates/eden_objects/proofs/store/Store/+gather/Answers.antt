@@ -1,15 +1,14 @@
 use Rattle.std.proofs.Common.{rules, Some, ◌≡◌, ℕ, ◌<◌, ◌++◌, ◌∷◌, [], true, false, List, length, take, drop, refl, ◌+◌, None, ap, sym, subst, ◌∙◌, arith}
 use Rattle.std.specs.List.{slice_get}
-use Rattle.eden_globs.specs.Filters.{admits}
-use Rattle.eden_globs.specs.Fronts.{Enters}
-use Rattle.eden_ids.specs.Paths.{IsPath, lies_below}
+use Rattle.eden_ids.specs.Paths.{lies_below}
 use Rattle.eden_objects.specs.Objects.{Held}
 use Rattle.eden_git.specs.Entries.{plain}
 use Rattle.eden_git.specs.Trees.{Entry}
 use Rattle.eden_objects.specs.Trees.{tree_depth}
-use Rattle.eden_objects.specs.Commits.{tree_rows}
-use Rattle.eden_objects.specs.Listings.{ArePaths}
+use Rattle.eden_objects.specs.Commits.{entries_rows, tree_rows}
+use Rattle.eden_objects.specs.Passing.{is_shown}
 use Rattle.eden_objects.specs.internal.Below.{rows_behind}
+use Rattle.eden_objects.specs.internal.Passed.{ArePathsBut, EntersBut, IsPathBut}
 use Rattle.eden_objects.proofs.Gathering.{all_listed, all_held, depth_here, dir_is_below, dir_is_held, no_dir, one_dir, one_file, left, later_held, later_is_below}
 use Rattle.eden_objects.proofs.Legal.{dir_paths, file_path, later_paths, paths_here}
 use Rattle.eden_objects.proofs.WalkSteps.{entries_in, next_row, rows_lent, some_row}
@@ -20,10 +19,10 @@ entries-init g t c =
     let held : List Held = c.args.self.now in
     let depth = depth_here held c.args.tree c.closed_law.ensures.closed c.requires.tree in
     record {
-      listed = all_listed (admits c.args.filter.now) c.args.listing.now.front held c.args.tree c.args.listing.now.rows.items c.closed_law.ensures.closed c.requires.tree;
+      listed = all_listed (is_shown (g.S.Passes.passes c.args.passed.now) c.args.filter.now) c.args.listing.now.front held c.args.tree c.args.listing.now.rows.items c.closed_law.ensures.closed c.requires.tree;
       front = refl {A = List ℕ} {a = c.args.listing.now.front};
       held = all_held held c.args.tree c.closed_law.ensures.closed c.requires.tree;
-      paths = paths_here c.args.listing.now.front held c.args.tree (entries_in held c.args.tree) c.closed_law.ensures.closed c.requires.tree refl c.requires.paths;
+      paths = paths_here (IsPathBut (g.S.Passes.passes c.args.passed.now)) c.args.listing.now.front held c.args.tree (entries_in held c.args.tree) c.closed_law.ensures.closed c.requires.tree refl c.requires.paths;
       below = omega (arith, depth);
     }
 
@@ -40,19 +39,20 @@ entries-preserved-in_default-2 g t c =
     let next : drop c.entries.row es ≡ plain c.in-Some-entry.entry ∷ drop (c.entries.row + 1) es =
     next_row es c.entries.row (plain c.in-Some-entry.entry) (c.in-Some-entry.ensures ∙ ap (λ rows. slice_get rows c.entries.row) lent) in
     let front : List ℕ = c.args.listing.now.front in
-    let kept : Enters c.args.filter.now c.in-Some-entry.entry.name.now c.entries.listing.front c.enter.new.self None =
-    subst (Enters c.args.filter.now c.in-Some-entry.entry.name.now c.entries.listing.front c.enter.new.self) c.in_default-2.is c.in_ok-length.ensures.entered in
-    let outside : (path : List ℕ) → lies_below path (front ++ c.in-Some-entry.entry.name.now) ≡ true → admits c.args.filter.now path ≡ false =
-    subst (λ bytes. (path : List ℕ) → lies_below path (bytes ++ c.in-Some-entry.entry.name.now) ≡ true → admits c.args.filter.now path ≡ false)
+    let kept : EntersBut (is_shown (g.S.Passes.passes c.args.passed.now) c.args.filter.now) c.in-Some-entry.entry.name.now c.entries.listing.front c.enter.new.self.front None =
+    subst (EntersBut (is_shown (g.S.Passes.passes c.args.passed.now) c.args.filter.now) c.in-Some-entry.entry.name.now c.entries.listing.front c.enter.new.self.front) c.in_default-2.is c.in_ok-length.ensures.entered in
+    let outside : (path : List ℕ) → lies_below path (front ++ c.in-Some-entry.entry.name.now) ≡ true → is_shown (g.S.Passes.passes c.args.passed.now) c.args.filter.now path ≡ false =
+    subst (λ bytes. (path : List ℕ) → lies_below path (bytes ++ c.in-Some-entry.entry.name.now) ≡ true → is_shown (g.S.Passes.passes c.args.passed.now) c.args.filter.now path ≡ false)
     c.entries.invariant.front kept.1 in
     record {
       listed =
-          no_dir (admits c.args.filter.now) front (tree_rows c.args.self.now)
-          (c.args.listing.now.rows.items ++ rows_behind (admits c.args.filter.now) front (tree_rows c.args.self.now c.args.tree)) c.entries.listing.rows.items (plain c.in-Some-entry.entry)
-          (drop (c.entries.row + 1) es) (drop c.entries.row es) next c.in_default-kind.is outside c.entries.invariant.listed;
+          no_dir (is_shown (g.S.Passes.passes c.args.passed.now) c.args.filter.now) front (tree_rows c.args.self.now)
+          (c.args.listing.now.rows.items ++ rows_behind (is_shown (g.S.Passes.passes c.args.passed.now) c.args.filter.now) front (tree_rows c.args.self.now c.args.tree)) c.enter.new.self.rows.items (plain c.in-Some-entry.entry)
+          (drop (c.entries.row + 1) es) (drop c.entries.row es) next c.in_default-kind.is outside
+          (c.entries.invariant.listed ∙ ap (λ found. found.items ++ rows_behind (is_shown (g.S.Passes.passes c.args.passed.now) c.args.filter.now) front (entries_rows (tree_rows c.args.self.now) (drop c.entries.row es))) (sym c.in_ok-length.ensures.rows));
       front = kept.0 ∙ c.entries.invariant.front;
       held = later_held c.args.self.now (plain c.in-Some-entry.entry) (drop (c.entries.row + 1) es) (drop c.entries.row es) next c.entries.invariant.held;
-      paths = later_paths front (tree_rows c.args.self.now) (plain c.in-Some-entry.entry) (drop (c.entries.row + 1) es) (drop c.entries.row es) next c.entries.invariant.paths;
+      paths = later_paths (IsPathBut (g.S.Passes.passes c.args.passed.now)) front (tree_rows c.args.self.now) (plain c.in-Some-entry.entry) (drop (c.entries.row + 1) es) (drop c.entries.row es) next c.entries.invariant.paths;
       below =
           later_is_below (tree_depth c.args.self.now) (plain c.in-Some-entry.entry) (drop (c.entries.row + 1) es) (drop c.entries.row es)
           (tree_depth c.args.self.now c.args.tree) next c.entries.invariant.below;
@@ -65,24 +65,25 @@ entries-preserved-in_default-kind g t c =
     let next : drop c.entries.row es ≡ plain c.in-Some-entry.entry ∷ drop (c.entries.row + 1) es =
     next_row es c.entries.row (plain c.in-Some-entry.entry) (c.in-Some-entry.ensures ∙ ap (λ rows. slice_get rows c.entries.row) lent) in
     let front : List ℕ = c.args.listing.now.front in
-    let there : Enters c.args.filter.now c.in-Some-entry.entry.name.now c.entries.listing.front c.enter.new.self (Some c.in-Some-2.length) =
-    subst (Enters c.args.filter.now c.in-Some-entry.entry.name.now c.entries.listing.front c.enter.new.self) c.in-Some-2.is c.in_ok-length.ensures.entered in
-    let entered : c.enter.new.self ≡ front ++ c.in-Some-entry.entry.name.now ++ 47 ∷ [] =
+    let there : EntersBut (is_shown (g.S.Passes.passes c.args.passed.now) c.args.filter.now) c.in-Some-entry.entry.name.now c.entries.listing.front c.enter.new.self.front (Some c.in-Some-2.length) =
+    subst (EntersBut (is_shown (g.S.Passes.passes c.args.passed.now) c.args.filter.now) c.in-Some-entry.entry.name.now c.entries.listing.front c.enter.new.self.front) c.in-Some-2.is c.in_ok-length.ensures.entered in
+    let entered : c.enter.new.self.front ≡ front ++ c.in-Some-entry.entry.name.now ++ 47 ∷ [] =
     there.0 ∙ ap (λ bytes. bytes ++ c.in-Some-entry.entry.name.now ++ 47 ∷ []) c.entries.invariant.front in
     let rows : c.gather.new.listing.rows.items
-    ≡ c.entries.listing.rows.items ++ rows_behind (admits c.args.filter.now) c.enter.new.self (tree_rows c.args.self.now c.in-Some-entry.entry.id) =
-    c.in_ok-gather.ensures.rows in
+    ≡ c.entries.listing.rows.items ++ rows_behind (is_shown (g.S.Passes.passes c.args.passed.now) c.args.filter.now) c.enter.new.self.front (tree_rows c.args.self.now c.in-Some-entry.entry.id) =
+    c.in_ok-gather.ensures.rows
+    ∙ ap (λ found. found.items ++ rows_behind (is_shown (g.S.Passes.passes c.args.passed.now) c.args.filter.now) c.enter.new.self.front (tree_rows c.args.self.now c.in-Some-entry.entry.id)) c.in_ok-length.ensures.rows in
     let length_is : c.in-Some-2.length ≡ length front = there.1 ∙ ap length c.entries.invariant.front in
     record {
       listed =
-          one_dir (admits c.args.filter.now) front c.enter.new.self (tree_rows c.args.self.now)
-          (c.args.listing.now.rows.items ++ rows_behind (admits c.args.filter.now) front (tree_rows c.args.self.now c.args.tree)) c.entries.listing.rows.items c.gather.new.listing.rows.items (plain c.in-Some-entry.entry)
+          one_dir (is_shown (g.S.Passes.passes c.args.passed.now) c.args.filter.now) front c.enter.new.self.front (tree_rows c.args.self.now)
+          (c.args.listing.now.rows.items ++ rows_behind (is_shown (g.S.Passes.passes c.args.passed.now) c.args.filter.now) front (tree_rows c.args.self.now c.args.tree)) c.entries.listing.rows.items c.gather.new.listing.rows.items (plain c.in-Some-entry.entry)
           (drop (c.entries.row + 1) es) (drop c.entries.row es) next c.in_default-kind.is entered c.entries.invariant.listed rows;
       front =
           c.leave.ensures ∙ ap (λ n. take n c.gather.new.listing.front) length_is
           ∙ left front c.gather.new.listing.front c.in-Some-entry.entry.name.now (c.in_ok-gather.ensures.front ∙ entered);
       held = later_held c.args.self.now (plain c.in-Some-entry.entry) (drop (c.entries.row + 1) es) (drop c.entries.row es) next c.entries.invariant.held;
-      paths = later_paths front (tree_rows c.args.self.now) (plain c.in-Some-entry.entry) (drop (c.entries.row + 1) es) (drop c.entries.row es) next c.entries.invariant.paths;
+      paths = later_paths (IsPathBut (g.S.Passes.passes c.args.passed.now)) front (tree_rows c.args.self.now) (plain c.in-Some-entry.entry) (drop (c.entries.row + 1) es) (drop c.entries.row es) next c.entries.invariant.paths;
       below =
           later_is_below (tree_depth c.args.self.now) (plain c.in-Some-entry.entry) (drop (c.entries.row + 1) es) (drop c.entries.row es)
           (tree_depth c.args.self.now c.args.tree) next c.entries.invariant.below;
@@ -96,19 +97,19 @@ gather-requires g t c κs within =
     next_row es c.entries.row (plain c.in-Some-entry.entry) (c.in-Some-entry.ensures ∙ ap (λ rows. slice_get rows c.entries.row) lent) in
     let held : List Held = c.args.self.now in
     let front : List ℕ = c.args.listing.now.front in
-    let there : Enters c.args.filter.now c.in-Some-entry.entry.name.now c.entries.listing.front c.enter.new.self (Some c.in-Some-2.length) =
-    subst (Enters c.args.filter.now c.in-Some-entry.entry.name.now c.entries.listing.front c.enter.new.self) c.in-Some-2.is c.in_ok-length.ensures.entered in
-    let entered : c.enter.new.self ≡ front ++ c.in-Some-entry.entry.name.now ++ 47 ∷ [] =
+    let there : EntersBut (is_shown (g.S.Passes.passes c.args.passed.now) c.args.filter.now) c.in-Some-entry.entry.name.now c.entries.listing.front c.enter.new.self.front (Some c.in-Some-2.length) =
+    subst (EntersBut (is_shown (g.S.Passes.passes c.args.passed.now) c.args.filter.now) c.in-Some-entry.entry.name.now c.entries.listing.front c.enter.new.self.front) c.in-Some-2.is c.in_ok-length.ensures.entered in
+    let entered : c.enter.new.self.front ≡ front ++ c.in-Some-entry.entry.name.now ++ 47 ∷ [] =
     there.0 ∙ ap (λ bytes. bytes ++ c.in-Some-entry.entry.name.now ++ 47 ∷ []) c.entries.invariant.front in
     let tree =
     dir_is_held held (plain c.in-Some-entry.entry) (drop (c.entries.row + 1) es) (drop c.entries.row es) next c.in_default-kind.is c.entries.invariant.held in
     let less : tree_depth held c.in-Some-entry.entry.id < tree_depth held c.args.tree =
     dir_is_below (tree_depth held) (plain c.in-Some-entry.entry) (drop (c.entries.row + 1) es) (drop c.entries.row es) (tree_depth held c.args.tree) next
     c.in_default-kind.is c.entries.invariant.below in
-    let paths : ArePaths c.enter.new.self (tree_rows held c.in-Some-entry.entry.id) =
-    dir_paths front c.enter.new.self (tree_rows held) (plain c.in-Some-entry.entry) (drop (c.entries.row + 1) es) (drop c.entries.row es) next
+    let paths : ArePathsBut (g.S.Passes.passes c.args.passed.now) c.enter.new.self.front (tree_rows held c.in-Some-entry.entry.id) =
+    dir_paths (IsPathBut (g.S.Passes.passes c.args.passed.now)) front c.enter.new.self.front (tree_rows held) (plain c.in-Some-entry.entry) (drop (c.entries.row + 1) es) (drop c.entries.row es) next
     c.in_default-kind.is entered c.entries.invariant.paths in
-    (search rules, (search rules, (tree, paths)))
+    (search rules, (search rules, (search rules, (tree, paths))))
 
 pub add-requires : goal.add-requires
 add-requires g t c =
@@ -116,8 +117,8 @@ add-requires g t c =
     let lent : c.in-Some.rows ≡ es = rows_lent c.args.self.now c.args.tree c.in-Some.rows c.requires.tree (sym c.in-Some.is ∙ c.rows.ensures) in
     let next : drop c.entries.row es ≡ plain c.in-Some-entry.entry ∷ drop (c.entries.row + 1) es =
     next_row es c.entries.row (plain c.in-Some-entry.entry) (c.in-Some-entry.ensures ∙ ap (λ rows. slice_get rows c.entries.row) lent) in
-    subst (λ p. IsPath (p ++ c.in-Some-entry.entry.name.now)) (sym c.entries.invariant.front)
-    (file_path c.args.listing.now.front (tree_rows c.args.self.now) (plain c.in-Some-entry.entry) (drop (c.entries.row + 1) es) (drop c.entries.row es) c.in-Some-kind.kind next
+    subst (λ p. IsPathBut (g.S.Passes.passes c.args.passed.now) (p ++ c.in-Some-entry.entry.name.now)) (sym c.entries.invariant.front)
+    (file_path (IsPathBut (g.S.Passes.passes c.args.passed.now)) c.args.listing.now.front (tree_rows c.args.self.now) (plain c.in-Some-entry.entry) (drop (c.entries.row + 1) es) (drop c.entries.row es) c.in-Some-kind.kind next
     c.in-Some-kind.is c.entries.invariant.paths)
 
 pub entries-preserved : goal.entries-preserved
@@ -129,13 +130,13 @@ entries-preserved g t c =
     let front : List ℕ = c.args.listing.now.front in
     record {
       listed =
-          one_file (admits c.args.filter.now) front (tree_rows c.args.self.now)
-          (c.args.listing.now.rows.items ++ rows_behind (admits c.args.filter.now) front (tree_rows c.args.self.now c.args.tree)) c.entries.listing.rows.items c.add.new.self.rows.items
+          one_file (is_shown (g.S.Passes.passes c.args.passed.now) c.args.filter.now) front (tree_rows c.args.self.now)
+          (c.args.listing.now.rows.items ++ rows_behind (is_shown (g.S.Passes.passes c.args.passed.now) c.args.filter.now) front (tree_rows c.args.self.now c.args.tree)) c.entries.listing.rows.items c.add.new.self.rows.items
           (plain c.in-Some-entry.entry) (drop (c.entries.row + 1) es) (drop c.entries.row es) c.in-Some-kind.kind next c.in-Some-kind.is c.entries.invariant.listed
-          (c.in_ok-add.ensures.rows ∙ ap (λ p. c.entries.listing.rows.items ++ rows_behind (admits c.args.filter.now) p ((c.in-Some-entry.entry.name.now, c.in-Some-kind.kind, c.in-Some-entry.entry.id) ∷ [])) c.entries.invariant.front);
+          (c.in_ok-add.ensures.rows ∙ ap (λ p. c.entries.listing.rows.items ++ rows_behind (is_shown (g.S.Passes.passes c.args.passed.now) c.args.filter.now) p ((c.in-Some-entry.entry.name.now, c.in-Some-kind.kind, c.in-Some-entry.entry.id) ∷ [])) c.entries.invariant.front);
       front = c.in_ok-add.ensures.front ∙ c.entries.invariant.front;
       held = later_held c.args.self.now (plain c.in-Some-entry.entry) (drop (c.entries.row + 1) es) (drop c.entries.row es) next c.entries.invariant.held;
-      paths = later_paths front (tree_rows c.args.self.now) (plain c.in-Some-entry.entry) (drop (c.entries.row + 1) es) (drop c.entries.row es) next c.entries.invariant.paths;
+      paths = later_paths (IsPathBut (g.S.Passes.passes c.args.passed.now)) front (tree_rows c.args.self.now) (plain c.in-Some-entry.entry) (drop (c.entries.row + 1) es) (drop c.entries.row es) next c.entries.invariant.paths;
       below =
           later_is_below (tree_depth c.args.self.now) (plain c.in-Some-entry.entry) (drop (c.entries.row + 1) es) (drop c.entries.row es)
           (tree_depth c.args.self.now c.args.tree) next c.entries.invariant.below;

@@ -1,6 +1,9 @@
-use Rattle.eden_objects.proofs.Legal.{below_paths}
+use Rattle.std.proofs.Common.{◌++◌, ◌∷◌, [], false}
+use Rattle.eden_objects.specs.Commits.{tree_rows}
+use Rattle.eden_objects.proofs.Legal.{below_paths, paths_but}
 use Rattle.eden_objects.proofs.store.Store.list_directory.Goals as goal
 
 pub gather_below-requires-clause-paths : goal.gather_below-requires-clause-paths
 gather_below-requires-clause-paths g c =
-    below_paths c.args.self.now c.args.tree c.args.path.now c.in-Some.dir c.closed_law.ensures.closed c.requires c.in-Some.ensures
+    paths_but (λ path. false) (c.args.path.now ++ 47 ∷ []) (tree_rows c.args.self.now c.in-Some.dir)
+    (below_paths c.args.self.now c.args.tree c.args.path.now c.in-Some.dir c.closed_law.ensures.closed c.requires c.in-Some.ensures)

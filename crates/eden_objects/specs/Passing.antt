@@ -1,0 +1,18 @@
+-- What is passed over, of files that are told as though their directory stood at another place.
+use Rattle.std.specs.Prelude.{◌≡◌, ℕ, Bool, true, false, not, ◌&&◌, IsSome, List, ◌++◌, drop, length}
+use Rattle.eden_globs.specs.Filters.{admits}
+use Rattle.eden_ids.specs.FileMaps.{FileMap, file_at}
+use Rattle.eden_ids.specs.Paths.{IsPath, lies_below}
+
+-- a path below one directory, told as though that stood at another place
+abbrev pub told : List ℕ → List ℕ → List ℕ → List ℕ
+told top seen path = seen ++ drop (length top) path
+
+-- what a list shows: what a filter admits of that which is not passed over
+abbrev pub is_shown : (List ℕ → Bool) → List (List ℕ) → List ℕ → Bool
+is_shown passes patterns path = not (passes path) && admits patterns path
+
+-- each file below the directory that is not passed over is told by a path
+abbrev pub TellsPaths : (List ℕ → Bool) → List ℕ → List ℕ → FileMap → Type 0
+TellsPaths passes top seen files =
+    (path : List ℕ) → lies_below path top ≡ true → IsSome (file_at files path) → passes (told top seen path) ≡ false → IsPath (told top seen path)

@@ -1,0 +1,34 @@
+-- The rows of a directory of which some are passed over, behind the bytes that its paths begin with.
+use Rattle.std.specs.Prelude.{◌≡◌, ℕ, Bool, true, false, not, List, [], ◌∷◌, ◌++◌, filter, length, map, Option, Some, None}
+use Rattle.std.specs.List.{AllByRecursion, list_any}
+use Rattle.eden_ids.specs.Paths.{IsPath, lies_below}
+use Rattle.eden_objects.specs.Commits.{Row}
+use Rattle.eden_objects.specs.Passing.{told}
+
+-- there is one that is not passed over
+abbrev pub any_but : (List ℕ → Bool) → List ℕ → List Row → Bool
+any_but passes front rows = list_any (λ row. not (passes (front ++ row.0))) rows
+
+-- a path that is not passed over is a path
+abbrev pub IsPathBut : (List ℕ → Bool) → List ℕ → Type 0
+IsPathBut passes path = passes path ≡ false → IsPath path
+
+-- each of them that is not passed over has a path
+abbrev pub ArePathsBut : (List ℕ → Bool) → List ℕ → List Row → Type 0
+ArePathsBut passes front rows = AllByRecursion (λ row. IsPathBut passes (front ++ row.0)) rows
+
+-- and each below a directory, told as though that stood at another place
+abbrev pub AreToldPaths : (List ℕ → Bool) → List ℕ → List ℕ → List Row → Type 0
+AreToldPaths passes top seen rows = AllByRecursion (λ row. lies_below row.0 top ≡ true → IsPathBut passes (told top seen row.0)) rows
+
+-- the rows that are shown, told so
+abbrev pub retold : List ℕ → List ℕ → Row → Row
+retold top seen row = (told top seen row.0, row.1, row.2)
+
+abbrev pub rows_shown : (List ℕ → Bool) → List ℕ → List ℕ → List Row → List Row
+rows_shown shows top seen rows = filter (λ row. shows row.0) (map (retold top seen) rows)
+
+-- the directory of this name is entered, with the length that leads back; or nothing that is shown lies below it, and all is as it was
+abbrev pub EntersBut : (List ℕ → Bool) → List ℕ → List ℕ → List ℕ → Option ℕ → Type 0
+EntersBut shows name old new None = (new ≡ old) × ((path : List ℕ) → lies_below path (old ++ name) ≡ true → shows path ≡ false)
+EntersBut shows name old new (Some long) = (new ≡ old ++ name ++ 47 ∷ []) × (long ≡ length old)

@@ -1,0 +1,77 @@
+//! A search for a file that is not passed over.
+
+ghost use Rattle.std.specs.Prelude.{◌≡◌, ◌+◌, ◌≤◌, ◌&&◌, false, length, not};
+ghost use Rattle.std.specs.List.{list_any};
+ghost use Rattle.eden_ids.specs.Paths.{lies_below};
+ghost use Rattle.eden_objects.specs.Closed.{HasTree};
+ghost use Rattle.eden_objects.specs.Commits.{tree_rows};
+ghost use Rattle.eden_objects.specs.Passing.{told};
+ghost use Rattle.eden_objects.specs.Trees.{tree_reach};
+ghost use Rattle.eden_objects.specs.internal.Passed.{any_but};
+
+use crate::passing::Passes;
+use crate::store::Store;
+use crate::trail::Trail;
+use eden_ids::{Id, Naming, Path};
+
+impl<N: Naming + Drop> Store<N> {
+    /// Whether a tree has a file below a path that is not passed over, where each is told as though the path's directory stood at another.
+    pub(crate) fn has_below_but<S: Passes>(
+        &self,
+        tree: Id,
+        top: &[u8],
+        seen: &Path,
+        passed: &S,
+    ) -> bool
+        requires { HasTree self.now tree }
+        ensures { result ≡ list_any (λ row. lies_below row.0 top.now && not (S.passes passed.now (told top.now seen.now row.0))) (tree_rows self.now tree) }
+    {
+        self.closed_law();
+        let Some(directory) = self.directory_below(tree, top) else {
+            return false;
+        };
+        let mut trail = Trail::new();
+        match trail.enter(passed, seen.as_bytes()) {
+            Some(_) => self.has_but(directory, passed, &mut trail),
+            None => false,
+        }
+    }
+
+    /// Whether a tree has a file that is not passed over, directory by directory. A directory without files is not read, nor is one below
+    /// which all is passed over.
+    fn has_but<S: Passes>(&self, tree: Id, passed: &S, trail: &mut Trail) -> bool
+        requires tree { HasTree self.now tree }
+        requires room { length trail.old + tree_reach self.now tree ≤ 2049 }
+        ensures found { result ≡ any_but (S.passes passed.now) trail.old (tree_rows self.now tree) }
+        ensures trail { result ≡ false → trail.new ≡ trail.old }
+    {
+        self.closed_law();
+        if self.count_of_tree(tree) == 0 {
+            return false;
+        }
+        let Some(rows) = self.rows(tree) else {
+            // The tree is there.
+            unreachable!()
+        };
+        'entries: for row in 0..rows.len() {
+            let Some(entry) = rows.entry(row) else {
+                // The row is one of them.
+                unreachable!()
+            };
+            let Some(_) = entry.kind else {
+                let Some(length) = trail.enter(passed, entry.name) else {
+                    continue;
+                };
+                if self.has_but(entry.id, passed, trail) {
+                    return true;
+                }
+                trail.leave(length);
+                continue;
+            };
+            if !trail.passes(passed, entry.name) {
+                return true;
+            }
+        }
+        false
+    }
+}
