@@ -92,7 +92,8 @@ carried-within old new p q below other =
 
 -- ---- at each path
 
-mapped : (f : List ℕ → List ℕ) (ks : List (List ℕ)) (p : List ℕ) → list_any (λ q. same_path p q) ks ≡ true → list_any (λ q. same_path (f p) q) (map f ks) ≡ true
+-- a path that is listed is listed by what a function makes of it
+pub mapped : (f : List ℕ → List ℕ) (ks : List (List ℕ)) (p : List ℕ) → list_any (λ q. same_path p q) ks ≡ true → list_any (λ q. same_path (f p) q) (map f ks) ≡ true
 mapped f [] p listed = absurd (cc)
 mapped f (k ∷ ks) p listed =
     elim (same_path p k) as (λ b. same_path p k ≡ b → (b || list_any (λ q. same_path p q) ks) ≡ true → (same_path (f p) (f k) || list_any (λ q. same_path (f p) q) (map f ks)) ≡ true) [

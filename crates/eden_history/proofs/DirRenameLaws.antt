@@ -76,11 +76,11 @@ carried_path m old new p whole there below =
     (sym (ap (λ b. b && is_some (path_fault (carried old new p))) below)
     ∙ unlisted (λ q. lies_below q old && is_some (path_fault (carried old new q))) (paths m) p whole (held m p there))
 
-no_fault : (b : Bool) (fault : PathFault) (rest : Option PathFault) → (if b then Some fault else rest) ≡ None → (b ≡ false) × (rest ≡ None)
+pub no_fault : (b : Bool) (fault : PathFault) (rest : Option PathFault) → (if b then Some fault else rest) ≡ None → (b ≡ false) × (rest ≡ None)
 no_fault true fault rest e = let bad : ◌≡◌ {A = Option PathFault} (Some fault) None = e in cc
 no_fault false fault rest e = (refl, e)
 
-unless : (b : Bool) → not b ≡ false → b ≡ true
+pub unless : (b : Bool) → not b ≡ false → b ≡ true
 unless true e = refl
 unless false e = let bad : true ≡ false = e in cc
 
@@ -91,7 +91,7 @@ names_alone p is =
     let short = no_fault (nat_lt 1024 (length p)) TooLong _ filled.1 in
     unless (list_all is_component (components p)) (no_fault (not (list_all is_component (components p))) BadComponent _ short.1).0
 
-and_both : (a b : Bool) → (a && b) ≡ true → (a ≡ true) × (b ≡ true)
+pub and_both : (a b : Bool) → (a && b) ≡ true → (a ≡ true) × (b ≡ true)
 and_both true true e = (refl, refl)
 and_both true false e = let bad : false ≡ true = e in cc
 and_both false b e = let bad : false ≡ true = e in cc
@@ -101,7 +101,7 @@ onto_both b [] qs some = absurd (omega arith)
 onto_both b (p ∷ ps) qs some = refl
 
 -- the components on both sides of a slash
-parts_joined : (top rest : List ℕ) → components (top ++ 47 ∷ rest) ≡ components top ++ components rest
+pub parts_joined : (top rest : List ℕ) → components (top ++ 47 ∷ rest) ≡ components top ++ components rest
 parts_joined [] rest = refl
 parts_joined (b ∷ top) rest = by (b == 47) refl (parts_joined top rest)
   where
@@ -116,7 +116,7 @@ parts_joined (b ∷ top) rest = by (b == 47) refl (parts_joined top rest)
         ∙ sym (ap (λ ps. ps ++ components rest) (slice_split-cons_no (λ c. c == 47) b top e))
 
 -- names alone on both sides of a slash
-names_joined : (top rest : List ℕ) → list_all is_component (components (top ++ 47 ∷ rest))
+pub names_joined : (top rest : List ℕ) → list_all is_component (components (top ++ 47 ∷ rest))
     ≡ (list_all is_component (components top) && list_all is_component (components rest))
 names_joined top rest = ap (list_all is_component) (parts_joined top rest) ∙ list_all-append is_component (components top) (components rest)
 

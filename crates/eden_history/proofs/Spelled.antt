@@ -107,7 +107,7 @@ texts_carried files old new texts path unbroken p file at =
     by false true apart e = absurd (let bad : ◌≡◌ {A = Option Content} None (Some file) = e in cc)
     by false false apart e = texts p file e
 
-texts_dir_renamed : (files : FileMap) (old new : List ℕ) → AreTexts files → IsPathText new → rename_dir_fault files old new ≡ None → AreTexts (dir_renamed files old new)
+pub texts_dir_renamed : (files : FileMap) (old new : List ℕ) → AreTexts files → IsPathText new → rename_dir_fault files old new ≡ None → AreTexts (dir_renamed files old new)
 texts_dir_renamed files old new texts path allowed = by (same_bytes old new) (first-none (source_fault files old) _ allowed).1
   where
     by : (same : Bool) → (if same then None else target_fault files old new) ≡ None → AreTexts (if same then files else carried_files files old new)

@@ -28,14 +28,14 @@ legal_begins held front side closed is h = subst (ArePaths front) (side_whole he
 
 pub legal_after : (held : List Held) (front : List ℕ) (all : List Entry) (o : Option Entry) (es : List Entry) → all ≡ listed o ++ es → AreLegal held front all → AreLegal held front es
 legal_after held front all None es is h = subst (AreLegal held front) is h
-legal_after held front all (Some e) es is h = later_paths front (tree_rows held) e es all is h
+legal_after held front all (Some e) es is h = later_paths IsPath front (tree_rows held) e es all is h
 
 file_legal : (held : List Held) (front : List ℕ) (e : Entry) (es all : List Entry) (a b : Option Id) → all ≡ e ∷ es → directory_of e.name e.kind a b ≡ None → AreLegal held front all
     → IsPath (front ++ e.name)
 file_legal held front e es all a b is file h = by e.kind refl file where
   by : (kind : Option Kind) → e.kind ≡ kind → directory_of e.name kind a b ≡ None → IsPath (front ++ e.name)
   by None kind none = absurd (cc)
-  by (Some k) kind none = file_path front (tree_rows held) e es all k is kind h
+  by (Some k) kind none = file_path IsPath front (tree_rows held) e es all k is kind h
 
 -- a file that is found
 pub found_legal : (held : List Held) (front : List ℕ) (es fs : List Entry) (next : Next) → IsNext es fs next → AreLegal held front es → AreLegal held front fs → directory next.0 next.1 ≡ None
@@ -65,16 +65,16 @@ entered_legal held front inner es fs next d rest others met one two is entered =
       by None None left right meet name names some = absurd meet
       by (Some e) None left right meet name names some =
           let dir = dir_inside e.name e.kind (Some e.id) None d some in
-          subst (BothLegal held inner) dir.1 (dir_paths front inner (tree_rows held) e next.2 es left dir.0 (behind_name e.name (Some e.id) None dir.1) one, tt)
+          subst (BothLegal held inner) dir.1 (dir_paths IsPath front inner (tree_rows held) e next.2 es left dir.0 (behind_name e.name (Some e.id) None dir.1) one, tt)
       by None (Some f) left right meet name names some =
           let dir = dir_inside f.name f.kind None (Some f.id) d some in
-          subst (BothLegal held inner) dir.1 (tt, dir_paths front inner (tree_rows held) f next.3 fs right dir.0 (behind_name f.name None (Some f.id) dir.1) two)
+          subst (BothLegal held inner) dir.1 (tt, dir_paths IsPath front inner (tree_rows held) f next.3 fs right dir.0 (behind_name f.name None (Some f.id) dir.1) two)
       by (Some e) (Some f) left right meet name names some =
           let dir = dir_inside e.name e.kind (Some e.id) (Some f.id) d some in
           let other : f.kind ≡ None = also_dir e.name f.name f.kind names (ap (key_of e.name) (sym dir.0) ∙ meet) in
           let same : e.name ≡ f.name = one_name e.name f.name e.kind f.kind name names meet in
           let here = behind_name e.name (Some e.id) (Some f.id) dir.1 in
           subst (BothLegal held inner) dir.1 (
-            dir_paths front inner (tree_rows held) e next.2 es left dir.0 here one,
-            dir_paths front inner (tree_rows held) f next.3 fs right other (here ∙ ap (λ n. front ++ n ++ 47 ∷ []) same) two,
+            dir_paths IsPath front inner (tree_rows held) e next.2 es left dir.0 here one,
+            dir_paths IsPath front inner (tree_rows held) f next.3 fs right other (here ∙ ap (λ n. front ++ n ++ 47 ∷ []) same) two,
           )

@@ -1,0 +1,296 @@
+-- What is seen below a directory: by the directory itself, and by each further one below it of which something is said.
+use Rattle.std.proofs.Common.{◌≡◌, ℕ, ◌+◌, ◌<◌, ◌⊎◌, inl, inr, Bool, true, false, not, cond, nat_lt, ◌&&◌, ◌||◌, List, [], ◌∷◌, ◌++◌, length, Option, Some, None, is_some, refl, sym, ap, subst, ◌∙◌, arith, append_assoc, length-append}
+use Rattle.std.specs.Prelude.{IsSome, filter, if◌then◌else◌, option_copied}
+use Rattle.std.specs.Borrow.{Bor}
+use Rattle.std.specs.Option.{option_or}
+use Rattle.std.specs.List.{AllByRecursion, list_any}
+use Rattle.std.specs.FinMap as fin
+use Rattle.std.proofs.lemmas.Bool.{cases_Bool, or_left, or_right}
+use Rattle.eden_ids.specs.Paths.{lies_below}
+use Rattle.eden_ids.specs.FileMaps.{FileMap, file_at, paths, same_path}
+use Rattle.eden_ids.specs.Texts.{AreTexts}
+use Rattle.eden_ids.proofs.FileMapLemmas.{held, same_path-is}
+use Rattle.eden_ids.proofs.TreeMaps.{entries_found}
+use Rattle.eden_ids.proofs.TreeQuestions.{any_witness}
+use Rattle.eden_history.specs.Carried.{carried}
+use Rattle.eden_history.proofs.CarriedLemmas.{below-trans, carried-back, carried-below, carried_there, nested, rest_below}
+use Rattle.eden_objects.specs.Passing.{told}
+use Rattle.eden_moves.specs.Moves.{Entry, Moves, file_from, nearest, own_or, seen_through, source_by, source_of}
+use Rattle.eden_moves.specs.internal.Regions.{is_apart, is_past, region_has, seen_dir}
+use Rattle.eden_moves.proofs.Nearest.{IsNearest, is_none, nearest-is, no, source_is}
+use Rattle.eden_moves.proofs.Seen.{file_at-seen}
+use Rattle.eden_moves.proofs.Settled.{too_long}
+
+-- ---- tests
+
+same_bool : (a b : Bool) → (a ≡ true → b ≡ true) → (b ≡ true → a ≡ true) → a ≡ b
+same_bool true b to back = sym (to refl)
+same_bool false false to back = refl
+same_bool false true to back = back refl
+
+both : (a b : Bool) → (a && b) ≡ true → (a ≡ true) × (b ≡ true)
+both true b h = (refl, h)
+both false b h = no (sym h)
+
+paired : (a b : Bool) → a ≡ true → b ≡ true → (a && b) ≡ true
+paired a b x y = ap (λ a. a && b) x ∙ y
+
+negated : (b : Bool) → not b ≡ true → b ≡ false
+negated true h = no (sym h)
+negated false h = refl
+
+neither : (a b : Bool) → (a || b) ≡ false → (a ≡ false) × (b ≡ false)
+neither true b h = no h
+neither false b h = (refl, h)
+
+is_less : (a b : ℕ) → a < b → nat_lt a b ≡ true
+is_less a b h = grind (arith, h)
+
+is_not_less : (a : ℕ) → nat_lt a a ≡ false
+is_not_less a = grind arith
+
+-- a test of a map's paths, and a file at one that passes
+passing : (test : List ℕ → Bool) (ks : List (List ℕ)) (p : List ℕ) → list_any (λ q. same_path p q) ks ≡ true → test p ≡ true → list_any test ks ≡ true
+passing test [] p listed here = no (sym listed)
+passing test (k ∷ ks) p listed here =
+    elim (same_path p k) as (λ b. same_path p k ≡ b → (b || list_any (λ q. same_path p q) ks) ≡ true → (test k || list_any test ks) ≡ true) [
+      | true ↦ λ same _. or_left _ _ (ap test (sym (same_path-is p k same)) ∙ here)
+      | false ↦ λ _ more. or_right (test k) _ (passing test ks p more here)
+    ] refl listed
+
+file_passes : (test : List ℕ → Bool) (files : FileMap) (p : List ℕ) → IsSome (file_at files p) → test p ≡ true → list_any test (paths files) ≡ true
+file_passes test files p there here = passing test (paths files) p (held files p there) here
+
+passing_file : (test : List ℕ → Bool) (files : FileMap) → list_any test (paths files) ≡ true → (p : List ℕ) × IsSome (file_at files p) × (test p ≡ true)
+passing_file test files some =
+    let found = any_witness test (paths files) some in
+    (found.0, fin.contains_key-keys files found.0 ∙ found.1, found.2)
+
+-- ---- the nearest directory above a path
+
+longer : (path top : List ℕ) → lies_below path top ≡ true → length top < length path
+longer path top below =
+    let at = rest_below path top below in
+    let whole : length path ≡ length (top ++ 47 ∷ at.0) = ap length at.1 in
+    let parts : length (top ++ 47 ∷ at.0) ≡ length top + length (47 ∷ at.0) = length-append top (47 ∷ at.0) in
+    omega (arith, whole, parts)
+
+-- where something is said of a longer directory above the path, the nearest one is longer too
+pub past_if : (moves : Moves) (path d : List ℕ) (long : ℕ) (x : Option (List ℕ)) → fin.get moves d ≡ Some x → lies_below path d ≡ true → long < length d
+    → is_past long (nearest (fin.entries moves) path) ≡ true
+past_if moves path d long x said above more = by (nearest (fin.entries moves) path) (nearest-is moves path)
+  where
+    by : (o : Option Entry) → IsNearest moves path o → is_past long o ≡ true
+    by None none = is_none x (sym said ∙ none d above)
+    by (Some e) near = at (nested path e.0 d near.1 above)
+      where
+        at : (e.0 ≡ d) ⊎ ((lies_below e.0 d ≡ true) ⊎ (lies_below d e.0 ≡ true)) → nat_lt long (length e.0) ≡ true
+        at (inl same) = let n : length e.0 ≡ length d = ap length same in is_less long (length e.0) (omega (arith, n, more))
+        at (inr (inl below)) = let n = longer e.0 d below in is_less long (length e.0) (omega (arith, n, more))
+        at (inr (inr below)) = is_none x (sym said ∙ near.2 d above below)
+
+pub past_some : (moves : Moves) (d : List ℕ) (long : ℕ) (o : Option (Bor (Option (List ℕ)))) → option_copied o ≡ fin.get moves d → is_some o ≡ true → long < length d
+    → (path : List ℕ) → lies_below path d ≡ true → is_past long (nearest (fin.entries moves) path) ≡ true
+past_some moves d long None said some more path below = no (sym some)
+past_some moves d long (Some x) said some more path below = past_if moves path d long x.now (sym said) below more
+
+pub past_told : (moves : Moves) (directory path : List ℕ) (long : ℕ) → lies_below path directory ≡ true → is_past long (nearest (fin.entries moves) directory) ≡ true
+    → is_past long (nearest (fin.entries moves) path) ≡ true
+past_told moves directory path long below past = by (nearest (fin.entries moves) directory) (nearest-is moves directory) past
+  where
+    by : (o : Option Entry) → IsNearest moves directory o → is_past long o ≡ true → is_past long (nearest (fin.entries moves) path) ≡ true
+    by None none h = no (sym h)
+    by (Some e) near h = past_if moves path e.0 long e.1 near.0 (below-trans path directory e.0 below near.1) (grind (arith, h))
+
+-- of what is not past a directory, what is seen is told by what is seen at the directory
+source_near : (moves : Moves) (p top : List ℕ) → lies_below p top ≡ true → is_past (length top) (nearest (fin.entries moves) p) ≡ false
+    → source_of moves p ≡ source_by (Some (top, seen_dir moves top)) p
+source_near moves p top below near = by (fin.get moves top) refl
+  where
+    further : (d : List ℕ) → lies_below p d ≡ true → lies_below d top ≡ true → fin.get moves d ≡ None
+    further d above inner = at (fin.get moves d) refl
+      where
+        at : (o : Option (Option (List ℕ))) → fin.get moves d ≡ o → o ≡ None
+        at None said = refl
+        at (Some x) said = no (sym (past_if moves p d (length top) x said above (longer d top inner)) ∙ near)
+
+    by : (o : Option (Option (List ℕ))) → fin.get moves top ≡ o → source_of moves p ≡ source_by (Some (top, own_or (fin.get moves top) (source_of moves top))) p
+    by (Some x) said =
+        source_is moves p (Some (top, x)) (said, below, further)
+        ∙ ap (λ o. source_by (Some (top, own_or o (source_of moves top))) p) (sym said)
+    by None said =
+        source_is moves p (nearest (fin.entries moves) top) (as_near (nearest (fin.entries moves) top) (nearest-is moves top))
+        ∙ on (nearest (fin.entries moves) top) (nearest-is moves top)
+        ∙ ap (λ o. source_by (Some (top, own_or o (source_of moves top))) p) (sym said)
+      where
+        outer : (d : List ℕ) → lies_below p d ≡ true → (lies_below top d ≡ true → fin.get moves d ≡ None) → fin.get moves d ≡ None
+        outer d above none = at (nested p d top above below)
+          where
+            at : (d ≡ top) ⊎ ((lies_below d top ≡ true) ⊎ (lies_below top d ≡ true)) → fin.get moves d ≡ None
+            at (inl same) = ap (fin.get moves) same ∙ said
+            at (inr (inl inner)) = further d above inner
+            at (inr (inr outside)) = none outside
+
+        as_near : (o : Option Entry) → IsNearest moves top o → IsNearest moves p o
+        as_near None none = λ d above. outer d above (none d)
+        as_near (Some e) is = (is.0, below-trans p top e.0 below is.1, λ d above inner. outer d above (λ outside. is.2 d outside inner))
+
+        on : (o : Option Entry) → IsNearest moves top o → source_by o p ≡ source_by (Some (top, source_by o top)) p
+        on None is = ap Some (sym (let at = rest_below p top below in ap (carried top top) at.1 ∙ carried_there top top (47 ∷ at.0) ∙ sym at.1))
+        on (Some (t, None)) is = refl
+        on (Some (t, Some s)) is =
+            let low = rest_below p top below in
+            let high = rest_below top t is.1 in
+            let whole : p ≡ t ++ (47 ∷ high.0 ++ 47 ∷ low.0) = low.1 ∙ ap (λ q. q ++ 47 ∷ low.0) high.1 ∙ append_assoc t (47 ∷ high.0) (47 ∷ low.0) in
+            let straight : carried t s p ≡ s ++ (47 ∷ high.0 ++ 47 ∷ low.0) = ap (carried t s) whole ∙ carried_there t s (47 ∷ high.0 ++ 47 ∷ low.0) in
+            let inner : carried t s top ≡ s ++ 47 ∷ high.0 = ap (carried t s) high.1 ∙ carried_there t s (47 ∷ high.0) in
+            let twice : carried top (carried t s top) p ≡ (s ++ 47 ∷ high.0) ++ 47 ∷ low.0 =
+            ap (carried top (carried t s top)) low.1 ∙ carried_there top (carried t s top) (47 ∷ low.0) ∙ ap (λ q. q ++ 47 ∷ low.0) inner in
+            ap Some (straight ∙ sym (append_assoc s (47 ∷ high.0) (47 ∷ low.0)) ∙ sym twice)
+
+-- ---- one directory
+
+module _ (passes : List ℕ → Bool) (files : FileMap) (moves : Moves) where
+  -- a file that is seen below a directory and not passed over
+  abbrev pub IsFound : List ℕ → List ℕ → Type 0
+  IsFound top p = IsSome (file_at (seen_through files moves) p) × (lies_below p top ≡ true) × (passes p ≡ false)
+
+  abbrev pub region : List ℕ → Bool
+  region top = region_has (is_apart moves (length top) passes) files (seen_dir moves top) top
+
+  one_found : (top : List ℕ) → region top ≡ true → (p : List ℕ) × IsFound top p
+  one_found top has = by (seen_dir moves top) refl has
+    where
+      by : (o : Option (List ℕ)) → seen_dir moves top ≡ o → region_has (is_apart moves (length top) passes) files o top ≡ true → (p : List ℕ) × IsFound top p
+      by None is some = no (sym some)
+      by (Some source) is some =
+          let found = passing_file (λ q. lies_below q source && not (is_apart moves (length top) passes (told source top q))) files some in
+          let q : List ℕ = found.0 in
+          let p : List ℕ = carried source top q in
+          let parts = both _ _ found.2 in
+          let kept = neither _ _ (negated _ parts.1) in
+          let below : lies_below p top ≡ true = carried-below source top q parts.0 in
+          let from : source_of moves p ≡ Some q =
+          source_near moves p top below kept.1 ∙ ap (λ o. source_by (Some (top, o)) p) is ∙ ap Some (carried-back source top q parts.0) in
+          (p, (subst (IsSome {T = _}) (sym (file_at-seen files moves p ∙ ap (file_from files) from)) found.1, below, kept.0))
+
+  one_has : (top p : List ℕ) → IsFound top p → is_past (length top) (nearest (fin.entries moves) p) ≡ false → region top ≡ true
+  one_has top p found near = by (seen_dir moves top) refl
+    where
+      from : file_at (seen_through files moves) p ≡ file_from files (source_by (Some (top, seen_dir moves top)) p)
+      from = file_at-seen files moves p ∙ ap (file_from files) (source_near moves p top found.1 near)
+
+      by : (o : Option (List ℕ)) → seen_dir moves top ≡ o → region_has (is_apart moves (length top) passes) files o top ≡ true
+      by None is = no (sym (subst (IsSome {T = _}) (from ∙ ap (λ o. file_from files (source_by (Some (top, o)) p)) is) found.0))
+      by (Some source) is =
+          let q : List ℕ = carried top source p in
+          let there : IsSome (file_at files q) = subst (IsSome {T = _}) (from ∙ ap (λ o. file_from files (source_by (Some (top, o)) p)) is) found.0 in
+          let again : told source top q ≡ p = carried-back top source p found.1 in
+          let shown : is_apart moves (length top) passes (told source top q) ≡ false =
+          ap (is_apart moves (length top) passes) again ∙ ap (λ b. b || is_past (length top) (nearest (fin.entries moves) p)) found.2 ∙ near in
+          file_passes (λ r. lies_below r source && not (is_apart moves (length top) passes (told source top r))) files q there
+          (paired _ _ (carried-below top source p found.1) (ap not shown))
+
+  -- ---- and each further one
+
+  abbrev pub entry_has : Entry → Bool
+  entry_has e = region_has (is_apart moves (length e.0) passes) files e.1 e.0
+
+  entry_is : (e : Entry) → fin.get moves e.0 ≡ Some e.1 → region e.0 ≡ entry_has e
+  entry_is e said = ap (λ o. region_has (is_apart moves (length e.0) passes) files (own_or o (source_of moves e.0)) e.0) said
+
+  further_found : (top : List ℕ) (es : List Entry) → AllByRecursion (λ e. fin.get moves e.0 ≡ Some e.1) es → list_any entry_has (filter (λ e. lies_below e.0 top) es) ≡ true
+      → (p : List ℕ) × IsFound top p
+  further_found top [] all some = no (sym some)
+  further_found top (e ∷ es) all some =
+      elim (lies_below e.0 top) as (λ b. lies_below e.0 top ≡ b → list_any entry_has (cond b (e ∷ filter (λ f. lies_below f.0 top) es) (filter (λ f. lies_below f.0 top) es)) ≡ true → (p : List ℕ) × IsFound top p) [
+        | true ↦ λ below some.
+            elim (entry_has e) as (λ b. entry_has e ≡ b → (b || list_any entry_has (filter (λ f. lies_below f.0 top) es)) ≡ true → (p : List ℕ) × IsFound top p) [
+              | true ↦ λ has _. let found = one_found e.0 (entry_is e all.0 ∙ has) in (found.0, (found.1.0, below-trans found.0 e.0 top found.1.1 below, found.1.2))
+              | false ↦ λ _ more. further_found top es all.1 more
+            ] refl some
+        | false ↦ λ _ more. further_found top es all.1 more
+      ] refl some
+
+  listed_has : (top p : List ℕ) (e : Entry) (es : List Entry) → nearest es p ≡ Some e → lies_below e.0 top ≡ true → entry_has e ≡ true
+      → list_any entry_has (filter (λ f. lies_below f.0 top) es) ≡ true
+  listed_has top p e [] near below has = is_none e (sym near)
+  listed_has top p e (x ∷ es) near below has = by (λ near. listed_has top p e es near below has) (nearest es p) refl near
+    where
+      same : (f g : Entry) → Some f ≡ Some g → f ≡ g
+      same f g h = cc
+
+      later : (b : Bool) → list_any entry_has (filter (λ f. lies_below f.0 top) es) ≡ true
+          → list_any entry_has (cond b (x ∷ filter (λ f. lies_below f.0 top) es) (filter (λ f. lies_below f.0 top) es)) ≡ true
+      later true more = or_right (entry_has x) _ more
+      later false more = more
+
+      here : (b : Bool) → (if b then Some x else None) ≡ Some e → list_any entry_has (filter (λ f. lies_below f.0 top) (x ∷ es)) ≡ true
+      here true is =
+          let one : x ≡ e = same x e is in
+          ap (λ b. list_any entry_has (cond b (x ∷ filter (λ f. lies_below f.0 top) es) (filter (λ f. lies_below f.0 top) es))) (ap (λ (f : Entry). lies_below f.0 top) one ∙ below)
+          ∙ or_left _ _ (ap entry_has one ∙ has)
+      here false is = is_none e (sym is)
+
+      by : (nearest es p ≡ Some e → list_any entry_has (filter (λ f. lies_below f.0 top) es) ≡ true) → (o : Option Entry) → nearest es p ≡ o → option_or o (if lies_below p x.0 then Some x else None) ≡ Some e
+          → list_any entry_has (filter (λ f. lies_below f.0 top) (x ∷ es)) ≡ true
+      by rest (Some f) is told_e = later (lies_below x.0 top) (rest (is ∙ told_e))
+      by rest None is told_e = here (lies_below p x.0) told_e
+
+  -- a file that is found is found by the directory itself, or by the nearest one above it
+  found_by : (top p : List ℕ) → IsFound top p → (region top || list_any entry_has (filter (λ e. lies_below e.0 top) (fin.entries moves))) ≡ true
+  found_by top p found = by (nearest (fin.entries moves) p) refl (nearest-is moves p)
+    where
+      by : (o : Option Entry) → nearest (fin.entries moves) p ≡ o → IsNearest moves p o → (region top || list_any entry_has (filter (λ e. lies_below e.0 top) (fin.entries moves))) ≡ true
+      by None is near = or_left _ _ (one_has top p found (ap (is_past (length top)) is))
+      by (Some e) is near = at (cases_Bool (nat_lt (length top) (length e.0)))
+        where
+          at : (nat_lt (length top) (length e.0) ≡ true) ⊎ (nat_lt (length top) (length e.0) ≡ false) → (region top || list_any entry_has (filter (λ e. lies_below e.0 top) (fin.entries moves))) ≡ true
+          at (inr short) = or_left _ _ (one_has top p found (ap (is_past (length top)) is ∙ short))
+          at (inl long) = or_right (region top) _ (listed_has top p e (fin.entries moves) is (inner (nested p e.0 top near.1 found.1)) own)
+            where
+              more : length top < length e.0
+              more = grind (arith, long)
+
+              inner : (e.0 ≡ top) ⊎ ((lies_below e.0 top ≡ true) ⊎ (lies_below top e.0 ≡ true)) → lies_below e.0 top ≡ true
+              inner (inl same) = absurd (let n : length e.0 ≡ length top = ap length same in omega (arith, n, more))
+              inner (inr (inl below)) = below
+              inner (inr (inr above)) = absurd (let n = longer top e.0 above in omega (arith, n, more))
+
+              own : entry_has e ≡ true
+              own = sym (entry_is e near.0) ∙ one_has e.0 p (found.0, near.1, found.2) (ap (is_past (length e.0)) is ∙ is_not_less (length e.0))
+
+  pub regions : (top : List ℕ) → (region top || list_any entry_has (filter (λ e. lies_below e.0 top) (fin.entries moves)))
+      ≡ list_any (λ p. lies_below p top && not (passes p)) (paths (seen_through files moves))
+  regions top = same_bool _ _ to back
+    where
+      seen : (p : List ℕ) × IsFound top p → list_any (λ p. lies_below p top && not (passes p)) (paths (seen_through files moves)) ≡ true
+      seen found = file_passes (λ p. lies_below p top && not (passes p)) (seen_through files moves) found.0 found.1.0 (paired _ _ found.1.1 (ap not found.1.2))
+
+      to : (region top || list_any entry_has (filter (λ e. lies_below e.0 top) (fin.entries moves))) ≡ true → list_any (λ p. lies_below p top && not (passes p)) (paths (seen_through files moves)) ≡ true
+      to some = by (region top) refl some
+        where
+          by : (b : Bool) → region top ≡ b → (b || list_any entry_has (filter (λ e. lies_below e.0 top) (fin.entries moves))) ≡ true
+              → list_any (λ p. lies_below p top && not (passes p)) (paths (seen_through files moves)) ≡ true
+          by true has some = seen (one_found top has)
+          by false has some = seen (further_found top (fin.entries moves) (entries_found moves) some)
+
+      back : list_any (λ p. lies_below p top && not (passes p)) (paths (seen_through files moves)) ≡ true → (region top || list_any entry_has (filter (λ e. lies_below e.0 top) (fin.entries moves))) ≡ true
+      back some =
+          let found = passing_file (λ p. lies_below p top && not (passes p)) (seen_through files moves) some in
+          let parts = both _ _ found.2 in
+          found_by top found.0 (found.1, parts.0, negated _ parts.1)
+
+-- below what is longer than a path stands no file
+pub none_so_long : (passes : List ℕ → Bool) (files : FileMap) (source top : List ℕ) → AreTexts files → 1024 < length source → false ≡ region_has passes files (Some source) top
+none_so_long passes files source top texts long = by (region_has passes files (Some source) top) refl
+  where
+    bad : (p : List ℕ) × IsSome (file_at files p) × ((lies_below p source && not (passes (told source top p))) ≡ true) → ⊥
+    bad found =
+        let more = longer found.0 source (both _ _ found.2).0 in
+        let none = too_long files texts found.0 (omega (arith, more, long)) in
+        no (sym (ap is_some none ∙ found.1))
+
+    by : (b : Bool) → region_has passes files (Some source) top ≡ b → false ≡ b
+    by false is = refl
+    by true is = absurd (bad (passing_file (λ p. lies_below p source && not (passes (told source top p))) files is))

@@ -1,0 +1,116 @@
+-- Where no entry governs a path the commit's own file is seen there; and each path at which a file is seen after a rename is one.
+use Rattle.std.proofs.Common.{◌≡◌, ℕ, ◌<◌, Bool, true, false, ◌&&◌, ◌||◌, List, ◌∷◌, ◌++◌, length, Option, Some, None, is_some, refl, sym, ap, subst, ◌∙◌, arith, nat_lt, ◌≤◌, Result, Ok, Err, OnOk}
+use Rattle.std.specs.Prelude.{IsOk, IsSome, ◌==◌, if◌then◌else◌}
+use Rattle.std.specs.Option.{is_none}
+use Rattle.std.specs.Result.{is_err}
+use Rattle.std.specs.FinMap as fin
+use Rattle.std.proofs.lemmas.Bool.{or_parts}
+use Rattle.eden_ids.specs.declared.content.Content.{Content}
+use Rattle.eden_ids.specs.declared.path.PathFault.TheVariants.{Empty, TooLong}
+use Rattle.eden_ids.specs.Paths.{IsPath, lies_below}
+use Rattle.eden_ids.specs.FileMaps.{FileMap, file_at, has, path_set, paths}
+use Rattle.eden_ids.specs.Texts.{AreBytes, AreTexts, IsContentText, IsPathText}
+use Rattle.eden_ids.proofs.FileMapLemmas.{has-append, has-path_set, has-where, unlisted}
+use Rattle.eden_ids.proofs.Members.{all_joined, all_parts}
+use Rattle.eden_history.specs.Carried.{carried, carried_files}
+use Rattle.eden_history.proofs.CarriedLemmas.{carried-back, carried-below, carried_there, file_at-carried, rest_below}
+use Rattle.eden_history.proofs.DirRenameLaws.{no_fault}
+use Rattle.eden_moves.specs.Moves.{Moves, file_from, is_governed, is_path, seen_through, source_of, unsettled}
+use Rattle.eden_moves.proofs.Nearest.{is_none as none_some, no, source_is}
+use Rattle.eden_moves.proofs.Seen.{file_at-seen}
+
+-- ---- the commit's own files
+
+absent : {X : Type 0} (o : Option X) → is_some o ≡ false → o ≡ None
+absent None e = refl
+absent (Some x) e = no e
+
+-- no entry stands above the path
+own_source : (moves : Moves) (p : List ℕ) → is_governed moves p ≡ false → source_of moves p ≡ Some p
+own_source moves p free =
+    source_is moves p None
+    (λ d above. absent (fin.get moves d) (by d above (fin.contains_key moves d) refl))
+  where
+    by : (d : List ℕ) → lies_below p d ≡ true → (b : Bool) → fin.contains_key moves d ≡ b → b ≡ false
+    by d above true is = no (sym above ∙ unlisted (λ top. lies_below p top) (fin.keys moves) d free (sym (fin.contains_key-keys moves d) ∙ is))
+    by d above false is = refl
+
+pub own_file : (files : FileMap) (moves : Moves) (p : List ℕ) → is_governed moves p ≡ false → file_at (seen_through files moves) p ≡ file_at files p
+own_file files moves p free = file_at-seen files moves p ∙ ap (file_from files) (own_source moves p free)
+
+pub has-unsettled : (files : FileMap) (moves : Moves) (p : List ℕ)
+    → has (unsettled files moves) p ≡ ((is_governed moves p && is_path p) && (is_some (file_at files p) || is_some (file_at (seen_through files moves) p)))
+unfolding unsettled
+has-unsettled files moves p =
+    has-where (path_set (paths files ++ paths (seen_through files moves))) (λ path. is_governed moves path && is_path path) p
+    ∙ ap (λ b. (is_governed moves p && is_path p) && b)
+    (has-append (paths files) (paths (seen_through files moves)) p
+    ∙ (λ i. has-path_set (paths files) p i || has-path_set (paths (seen_through files moves)) p i)
+    ∙ (λ i. sym (fin.contains_key-keys files p) i || sym (fin.contains_key-keys (seen_through files moves) p) i))
+
+-- outside of the unsettled paths the files that are seen are the commit's
+pub settled : (files : FileMap) (moves : Moves) (p : List ℕ) → IsPath p → has (unsettled files moves) p ≡ false → file_at (seen_through files moves) p ≡ file_at files p
+settled files moves p path out = by (is_governed moves p) refl (ap (λ b. (is_governed moves p && b) && (is_some (file_at files p) || is_some (file_at (seen_through files moves) p))) (sym (ap is_none path)) ∙ sym (has-unsettled files moves p) ∙ out)
+  where
+    by : (b : Bool) → is_governed moves p ≡ b → ((b && true) && (is_some (file_at files p) || is_some (file_at (seen_through files moves) p))) ≡ false → file_at (seen_through files moves) p ≡ file_at files p
+    by true is gone =
+        let parts = or_parts (is_some (file_at files p)) (is_some (file_at (seen_through files moves) p)) gone in
+        absent (file_at (seen_through files moves) p) parts.1 ∙ sym (absent (file_at files p) parts.0)
+    by false is gone = own_file files moves p is
+
+-- ---- paths
+
+-- a path that was moved has the bytes of the new directory and of the old path
+moved_bytes : (old new p : List ℕ) → lies_below p new ≡ true → AreBytes new → AreBytes (carried new old p) → AreBytes p
+moved_bytes old new p into there bytes =
+    let at = rest_below p new into in
+    let place : carried new old p ≡ old ++ 47 ∷ at.0 = ap (carried new old) at.1 ∙ carried_there new old (47 ∷ at.0) in
+    let rest = (all_parts (λ b. b < 256) old (47 ∷ at.0) (subst AreBytes place bytes)).1 in
+    subst AreBytes (sym at.1) (all_joined (λ b. b < 256) new (47 ∷ at.0) there rest)
+
+-- where each moved path is a path, all stay paths, and the files stay within their limits
+pub carried_texts : (files : FileMap) (old new : List ℕ) → AreTexts files → AreBytes new
+    → ((p : List ℕ) → IsSome (file_at files p) → lies_below p old ≡ true → IsPath (carried old new p)) → AreTexts (carried_files files old new)
+carried_texts files old new are there moved p file at = by (lies_below p new) (lies_below p old) refl (sym (file_at-carried files old new p) ∙ at)
+  where
+    by : (into outof : Bool) → lies_below p new ≡ into
+        → (if into then file_at files (carried new old p) else if outof then None else file_at files p) ≡ Some file → IsPathText p × IsContentText file
+    by true outof into is =
+        let text = are (carried new old p) file is in
+        let back : carried old new (carried new old p) ≡ p = carried-back new old p into in (
+          record {
+            path = subst IsPath back (moved (carried new old p) (ap is_some is) (carried-below new old p into));
+            bytes = moved_bytes old new p into there text.0.bytes;
+          },
+          text.1,
+        )
+    by false true into is = none_some file (sym is)
+    by false false into is = are p file is
+
+-- ---- what is longer than a path
+
+no_long : (path : List ℕ) → IsPath path → 1024 < length path → ⊥
+no_long path is long =
+    let short = (no_fault (nat_lt 1024 (length path)) TooLong _ (no_fault (length path == 0) Empty _ is).1).0 in
+    let bad : length path ≤ 1024 = grind (arith, short) in
+    absurd (omega (arith, bad, long))
+
+pub too_long : (files : FileMap) → AreTexts files → (path : List ℕ) → 1024 < length path → None ≡ file_at files path
+too_long files are path long = by (file_at files path) refl
+  where
+    by : (o : Option Content) → file_at files path ≡ o → None ≡ file_at files path
+    by None is = sym is
+    by (Some file) is = absurd (no_long path (are path file is).0.path long)
+
+-- a growth of a buffer that was refused, and one that was not
+pub refused : {A E : Type 0} (r : Result A E) (n most : ℕ) → (n ≤ most → IsOk r) → is_err r ≡ true → most < n
+refused (Ok x) n most fits bad = no (sym bad)
+refused (Err e) n most fits bad = by (nat_lt most n) refl
+  where
+    by : (b : Bool) → nat_lt most n ≡ b → most < n
+    by true is = grind (arith, is)
+    by false is = let within : n ≤ most = grind (arith, is) in no (sym (fits within))
+
+pub granted : {A E : Type 0} (P : Type 0) (r : Result A E) → is_err r ≡ false → OnOk r P → P
+granted P (Ok x) good h = h
+granted P (Err e) good h = no good

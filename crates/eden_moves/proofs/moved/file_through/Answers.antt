@@ -1,0 +1,23 @@
+use Rattle.std.proofs.Common.{◌++◌, ap, sym, ◌∙◌}
+use Rattle.eden_ids.specs.FileMaps.{file_at}
+use Rattle.eden_moves.specs.Moves.{file_from}
+use Rattle.eden_moves.proofs.Seen.{file_at-seen}
+use Rattle.eden_moves.proofs.moved.file_through.Goals as goal
+
+pub returns-in-Own : goal.returns-in-Own
+returns-in-Own g c =
+    c.file.ensures
+    ∙ ap (file_from c.args.commit.now) c.in-Own.ensures
+    ∙ sym (file_at-seen c.args.commit.now c.args.moves.now c.args.path.now)
+
+pub returns-in-Nothing : goal.returns-in-Nothing
+returns-in-Nothing g c =
+    ap (file_from c.args.commit.now) c.in-Nothing.ensures
+    ∙ sym (file_at-seen c.args.commit.now c.args.moves.now c.args.path.now)
+
+pub returns-in-Below : goal.returns-in-Below
+returns-in-Below g c =
+    c.file_behind.ensures
+    ∙ ap (λ p. file_at c.args.commit.now (p ++ c.in-Below.rest.now)) c.as_bytes.ensures.bytes
+    ∙ ap (file_from c.args.commit.now) c.in-Below.ensures
+    ∙ sym (file_at-seen c.args.commit.now c.args.moves.now c.args.path.now)

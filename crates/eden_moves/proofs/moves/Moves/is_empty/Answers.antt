@@ -1,0 +1,19 @@
+use Rattle.std.proofs.Common.{◌≡◌, true, length, ap, sym, ◌∙◌, arith}
+use Rattle.std.specs.Ordering.{nat_cmp}
+use Rattle.std.specs.Cmp.Lexicographic.{slice_cmp}
+use Rattle.std.specs.Prelude.{ℕ, List, Option, ◌==◌}
+use Rattle.std.specs.FinMap as fin
+use Rattle.eden_moves.proofs.moves.Moves.is_empty.Goals as goal
+
+pub returns : goal.returns
+returns c =
+    let many : length c.entries.result.now ≡ fin.len c.args.self.now = ap length c.entries.ensures ∙ sym (fin.len-entries c.args.self.now) in (
+      λ none.
+          let zero : fin.len c.args.self.now ≡ 0 = sym many ∙ none_there (length c.entries.result.now) (sym c.is_empty.ensures ∙ none) in
+          fin.empty_of_len c.args.self.now zero,
+      λ empty.
+          c.is_empty.ensures ∙ ap (λ n. n == 0) (many ∙ ap fin.len empty ∙ fin.len-empty (slice_cmp nat_cmp) (Option (List ℕ))),
+    )
+  where
+    none_there : (n : ℕ) → (n == 0) ≡ true → n ≡ 0
+    none_there n is = grind (arith, is)

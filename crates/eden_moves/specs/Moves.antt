@@ -1,0 +1,117 @@
+-- Renamed directories: for some directories, which directory of a commit is seen there, or that nothing is. A path is governed by the
+-- nearest of them above it; where none stands above it, the commit's own files are seen.
+use Rattle.std.specs.Prelude.{◌≡◌, ℕ, Bool, ◌&&◌, if◌then◌else◌, List, [], ◌∷◌, ◌++◌, map, Option, Some, None, is_some}
+use Rattle.std.specs.Option.{is_none, option_or}
+use Rattle.std.specs.declared.cmp.Ordering.{Ordering}
+use Rattle.std.specs.Ordering.{nat_cmp}
+use Rattle.std.specs.Cmp.Lexicographic.{slice_cmp}
+use Rattle.std.specs.List.{list_any}
+use Rattle.std.specs.FinMap as fin
+use Rattle.eden_ids.specs.declared.content.Content.{Content}
+use Rattle.eden_ids.specs.Paths.{IsPath, lies_below, path_fault}
+use Rattle.eden_ids.specs.FileMaps.{FileMap, PathSet, file_at, path_set, paths, same_path, tabulate}
+use Rattle.eden_history.specs.Carried.{carried}
+
+-- byte order
+abbrev pub by_bytes : List ℕ → List ℕ → Ordering
+by_bytes = slice_cmp nat_cmp
+
+-- some directories: the commit's directory that is seen there, or that nothing is
+abbrev pub Moves : Type 0
+Moves = fin.FinMap (slice_cmp nat_cmp) (Option (List ℕ))
+
+-- a directory, and what is seen there
+abbrev pub Entry : Type 0
+Entry = List ℕ × Option (List ℕ)
+
+-- of entries in byte order the last one above a path is the nearest
+abbrev pub nearest : List Entry → List ℕ → Option Entry
+nearest [] path = None
+nearest (e ∷ es) path = option_or (nearest es path) (if lies_below path e.0 then Some e else None)
+
+-- the commit's path that is seen at a path, where this directory is the nearest above it
+abbrev pub source_by : Option Entry → List ℕ → Option (List ℕ)
+source_by None path = Some path
+source_by (Some (top, None)) path = None
+source_by (Some (top, Some source)) path = Some (carried top source path)
+
+-- the commit's path that is seen at a path, or that nothing is seen there
+abbrev pub source_of : Moves → List ℕ → Option (List ℕ)
+source_of moves path = source_by (nearest (fin.entries moves) path) path
+
+-- the file there
+abbrev pub file_from : FileMap → Option (List ℕ) → Option Content
+file_from files None = None
+file_from files (Some source) = file_at files source
+
+-- the paths at which the files below one directory are seen: those below the source of an entry, told below its directory
+abbrev pub seen_by : List (List ℕ) → Entry → List (List ℕ)
+seen_by ps (top, None) = []
+seen_by ps (top, Some source) = map (carried source top) ps
+
+-- a file is seen at its own path, or below a directory that has an entry
+abbrev pub seen_paths : List (List ℕ) → List Entry → List (List ℕ)
+seen_paths ps [] = ps
+seen_paths ps (e ∷ es) = seen_by ps e ++ seen_paths ps es
+
+-- the files of a commit as they are seen
+unfoldable pub seen_through : FileMap → Moves → FileMap
+seen_through files moves = tabulate (seen_paths (paths files) (fin.entries moves)) (λ path. file_from files (source_of moves path))
+
+-- the commit's directory that is seen at a directory, by its own entry or by the nearest one above
+abbrev pub own_or : Option (Option (List ℕ)) → Option (List ℕ) → Option (List ℕ)
+own_or None above = above
+own_or (Some source) above = source
+
+-- below what is no path no commit has a file, so nothing is seen there
+abbrev pub path_alone : Option (List ℕ) → Option (List ℕ)
+path_alone None = None
+path_alone (Some source) = if is_some (path_fault source) then None else Some source
+
+abbrev pub source_dir : Moves → List ℕ → Option (List ℕ)
+source_dir moves dir = own_or (fin.get moves dir) (path_alone (source_of moves dir))
+
+-- what is said of a directory after one was renamed: what stood at the new path and below it is forgotten, the same is seen there as at the
+-- old one before, and nothing at the old one
+abbrev pub moved_rule : Moves → List ℕ → List ℕ → List ℕ → Option (Option (List ℕ))
+moved_rule moves old new dir =
+    if same_path dir new then Some (source_dir moves old) else
+    if lies_below dir new then fin.get moves (carried new old dir) else
+    if same_path dir old then Some None else
+    if lies_below dir old then None else fin.get moves dir
+
+abbrev pub put_entry : Moves → List ℕ → Option (Option (List ℕ)) → Moves
+put_entry moves dir None = fin.remove moves dir
+put_entry moves dir (Some source) = fin.insert moves dir source
+
+-- what a rule says of each of these directories, and nothing of others
+unfoldable pub said_of : List (List ℕ) → (List ℕ → Option (Option (List ℕ))) → Moves
+said_of [] rule = fin.empty
+said_of (dir ∷ dirs) rule = put_entry (said_of dirs rule) dir (rule dir)
+
+-- the renamed directories after one more was renamed
+unfoldable pub dir_moved : Moves → List ℕ → List ℕ → Moves
+dir_moved moves old new = said_of (new ∷ old ∷ (fin.keys moves ++ map (carried old new) (fin.keys moves))) (moved_rule moves old new)
+
+-- a path below the old one would be none below the new one
+abbrev pub breaks : List ℕ → List ℕ → List ℕ → Bool
+breaks old new path = is_some (path_fault (carried old new path))
+
+-- so would one of the directories that have an entry
+abbrev pub breaks_an_entry : Moves → List ℕ → List ℕ → Bool
+breaks_an_entry moves old new = list_any (λ dir. lies_below dir old && breaks old new dir) (fin.keys moves)
+
+-- a directory above the path has an entry: elsewhere the commit's own files are seen
+abbrev pub is_governed : Moves → List ℕ → Bool
+is_governed moves path = list_any (λ top. lies_below path top) (fin.keys moves)
+
+abbrev pub is_path : List ℕ → Bool
+is_path bytes = is_none (path_fault bytes)
+
+-- the paths, of the commit's files and of those that are seen, that an entry governs: at each other path the commit's own file is seen
+unfoldable pub unsettled : FileMap → Moves → PathSet
+unsettled files moves = fin.retain_keys (path_set (paths files ++ paths (seen_through files moves))) (λ path. is_governed moves path && is_path path)
+
+-- each file stands at a path, as those of a commit do
+abbrev pub ArePaths : FileMap → Type 0
+ArePaths files = (path : List ℕ) (file : Content) → file_at files path ≡ Some file → IsPath path

@@ -1,0 +1,5 @@
+-- What the implementation alone speaks of.
+pub mod Regions
+pub mod Shifted
+pub mod Told
+pub mod Unsettling

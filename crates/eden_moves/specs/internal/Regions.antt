@@ -1,0 +1,26 @@
+-- The files below one directory of a commit, where they are seen.
+use Rattle.std.specs.Prelude.{ℕ, Bool, false, not, ◌&&◌, ◌||◌, nat_lt, List, length, Option, Some, None}
+use Rattle.std.specs.List.{list_any}
+use Rattle.std.specs.FinMap as fin
+use Rattle.eden_ids.specs.FileMaps.{FileMap, paths}
+use Rattle.eden_ids.specs.Paths.{lies_below}
+use Rattle.eden_objects.specs.Passing.{told}
+use Rattle.eden_moves.specs.Moves.{Entry, Moves, nearest, own_or, source_of}
+
+-- the commit's directory that is seen at a directory, whether that is a path or not
+abbrev pub seen_dir : Moves → List ℕ → Option (List ℕ)
+seen_dir moves dir = own_or (fin.get moves dir) (source_of moves dir)
+
+-- the entry is that of a longer path than so many bytes
+abbrev pub is_past : ℕ → Option Entry → Bool
+is_past long None = false
+is_past long (Some e) = nat_lt long (length e.0)
+
+-- what stands below a directory of so many bytes and isn't seen by it, or is passed over
+abbrev pub is_apart : Moves → ℕ → (List ℕ → Bool) → List ℕ → Bool
+is_apart moves long passes path = passes path || is_past long (nearest (fin.entries moves) path)
+
+-- a file below a directory of the commit that is not passed over where it is seen
+abbrev pub region_has : (List ℕ → Bool) → FileMap → Option (List ℕ) → List ℕ → Bool
+region_has passes files None top = false
+region_has passes files (Some source) top = list_any (λ p. lies_below p source && not (passes (told source top p))) (paths files)

@@ -1,0 +1,20 @@
+-- What a look-up in renamed directories answers, and what it stands for.
+use Rattle.std.specs.Prelude.{ℕ, if◌then◌else◌, nat_eq, List, take, Option, Some, None}
+use Rattle.std.specs.List.{slice_index_or}
+use Rattle.std.specs.FinMap as fin
+use Rattle.std.specs.Borrow.{Bor}
+use Rattle.eden_ids.specs.FileMaps.{same_path}
+use Rattle.eden_moves.specs.Moves.{Entry, Moves}
+
+-- what an entry says of a directory
+abbrev pub said_by : Entry → List ℕ → Option (Option (List ℕ))
+said_by e dir = if same_path dir e.0 then Some e.1 else None
+
+-- what is said of the directory that ends before a slash of a path
+abbrev pub said_before : Moves → List ℕ → ℕ → Option (Option (List ℕ))
+said_before moves path at = if nat_eq (slice_index_or path at 0) 47 then fin.get moves (take at path) else None
+
+-- the directory above the path that ends at a place, and what is said of it
+abbrev pub entry_told : List ℕ → Option (ℕ × Bor (Option (List ℕ))) → Option Entry
+entry_told path None = None
+entry_told path (Some found) = Some (take found.0 path, found.1.now)

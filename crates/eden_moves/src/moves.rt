@@ -1,0 +1,134 @@
+//! Renamed directories: which directory of the commit is seen at each.
+
+ghost use Rattle.std.specs.Prelude.{◌≡◌, ◌<◌, ◌↔◌, IsTrue, IfOk, MatchOption, length, option_copied};
+ghost use Rattle.std.specs.FinMap as fin;
+ghost use Rattle.eden_moves.specs.Moves.{nearest, source_of};
+ghost use Rattle.eden_moves.specs.Sources.{path_meant};
+ghost use Rattle.eden_moves.specs.internal.Told.{entry_told, said_before};
+
+use crate::entries::find;
+use crate::source::Source;
+use crate::table::Table;
+use eden_ids::{NoMemory, Path};
+use std::alloc::Global;
+use std::marker::Model;
+
+/// Renamed directories: for some directories, the commit's directory that is seen there, or that nothing is.
+///
+/// A call that wants memory answers `NoMemory` where a growth was refused, and then nothing is changed.
+#[derive(Drop)]
+pub struct Moves {
+    /// In byte order.
+    entries: Vec<(Path, Option<Path>)>,
+}
+
+impl Model for Moves {
+    ghost use Rattle.std.specs.Prelude.{T};
+    ghost use Rattle.std.specs.Coded.{coded_list, coded_ℕ, coded_option};
+    ghost use Rattle.std.specs.FinMap as fin;
+    ghost use Rattle.eden_moves.specs.Moves.{Moves as Directories, by_bytes};
+
+    ghost Value = { Directories };
+
+    ghost coded = { fin.code (coded_list coded_ℕ) (coded_option (coded_list coded_ℕ)) };
+
+    ghost view = { λ m. fin.from_sorted m.entries.items };
+
+    ghost invariant = { λ m. T (fin.is_sorted by_bytes m.entries.items) };
+}
+
+impl Moves {
+    /// No renamed directory. It takes no memory.
+    pub fn new(alloc: Global) -> Moves
+        ensures { result ≡ fin.empty }
+    {
+        Moves {
+            entries: Vec::new(alloc),
+        }
+    }
+
+    /// Whether no directory was renamed.
+    pub fn is_empty(&self) -> bool
+        ensures { IsTrue result ↔ self.now ≡ fin.empty }
+    {
+        self.entries().is_empty()
+    }
+
+    /// The directories in byte order, each with the commit's directory that is seen there, or with none. It takes no memory.
+    pub fn entries(&self) -> &[(Path, Option<Path>)]
+        ensures { result.now ≡ fin.entries self.now }
+    {
+        self.entries.as_slice()
+    }
+
+    /// What is said of a directory, if something is: the commit's directory that is seen there, or that nothing is. It is searched for by
+    /// halves, and takes no memory.
+    pub fn get(&self, dir: &[u8]) -> Option<&Option<Path>>
+        ensures { option_copied result ≡ fin.get self.now dir.now }
+    {
+        find(self.entries.as_slice(), dir)
+    }
+
+    /// What is said of the directory that ends before a place of a path, where a slash stands there.
+    fn said_before(&self, path: &[u8], at: usize) -> Option<&Option<Path>>
+        requires { at < length path.now }
+        ensures { option_copied result ≡ said_before self.now path.now at }
+    {
+        if path[at] == b'/' {
+            self.get(&path[..at])
+        } else {
+            None
+        }
+    }
+
+    /// The nearest directory above a path of which something is said: how many bytes of the path it is, and what is said of it.
+    ///
+    /// Each directory above the path is searched for by halves, the nearest one last. It takes no memory.
+    pub fn nearest(&self, path: &[u8]) -> Option<(usize, &Option<Path>)>
+        ensures told { nearest (fin.entries self.now) path.now ≡ entry_told path.now result }
+        ensures within { MatchOption result (Unit {0}) (λ found. found.0 < length path.now) }
+    {
+        let mut found = None;
+        for at in 0..path.len() {
+            if let Some(source) = self.said_before(path, at) {
+                found = Some((at, source));
+            }
+        }
+        found
+    }
+
+    /// What of the commit is seen at a path. It takes no memory.
+    pub fn source<'a>(&'a self, path: &'a [u8]) -> Source<'a>
+        ensures { path_meant result path.now ≡ source_of self.now path.now }
+    {
+        match self.nearest(path) {
+            Some((at, source)) => match source {
+                Some(directory) => Source::Below(directory, &path[at..]),
+                None => Source::Nothing,
+            },
+            None => Source::Own,
+        }
+    }
+
+    /// What new vectors take their memory from.
+    pub(crate) fn allocator(&self) -> Global {
+        *self.entries.allocator()
+    }
+
+    /// The renamed directories of a table.
+    pub(crate) fn of(table: Table, alloc: Global) -> Result<Moves, NoMemory>
+        ensures { IfOk result (λ moves. moves ≡ table) }
+    {
+        Ok(Moves {
+            entries: table.list(alloc)?,
+        })
+    }
+
+    /// Renamed directories that are equal to these. `NoMemory` comes where a growth was refused.
+    pub fn copy(&self) -> Result<Moves, NoMemory>
+        ensures { IfOk result (λ moves. moves ≡ self.now) }
+    {
+        let entries = self.entries.clone()?;
+        Ok(Moves { entries })
+    }
+}
