@@ -1,5 +1,5 @@
 -- Files that are carried from below one path to below another, one after the other, where an overlay lies over a file map.
-use Rattle.std.proofs.Common.{◌≡◌, ◌≢◌, ℕ, ◌<◌, Less, ◌⊎◌, inl, inr, Bool, true, false, cond, ◌&&◌, ◌||◌, List, [], ◌∷◌, drop, length, Option, Some, None, is_some, refl, sym, ap, subst, ◌∙◌}
+use Rattle.std.proofs.Common.{◌≡◌, ◌≢◌, ℕ, Less, ◌⊎◌, inl, inr, Bool, true, false, cond, ◌&&◌, ◌||◌, List, [], ◌∷◌, Option, Some, None, is_some, refl, sym, ap, subst, ◌∙◌}
 use Rattle.std.specs.Prelude.{if◌then◌else◌}
 use Rattle.std.specs.List.{list_any, AllByRecursion}
 use Rattle.std.specs.List.Sorted.{IsStrictlySortedBy}
@@ -7,27 +7,23 @@ use Rattle.std.specs.Option.{option_or}
 use Rattle.std.specs.Ordering.{is_eq, nat_cmp}
 use Rattle.std.specs.Cmp.Lexicographic.{slice_cmp, nat_list_cmp_total}
 use Rattle.std.specs.FinMap as fin
-use Rattle.std.proofs.lemmas.List.Elements.{All-drop, All-from_recursion, recursion_from_All}
 use Rattle.eden_ids.specs.declared.content.Content.{Content}
 use Rattle.eden_ids.specs.Paths.{lies_below}
 use Rattle.eden_ids.specs.FileMaps.{FileMap, file_at, has_file_below, paths, put_option, same_path}
 use Rattle.eden_ids.specs.Sameness.{same_bytes}
 use Rattle.eden_ids.proofs.ByteOrder.{fin_keys_rise}
 use Rattle.eden_ids.proofs.FileMapLemmas.{bytes_itself, not_below, put_option-at, file_at-remove, same_file_map, same_path-is, same_path-other, same_path-refl}
-use Rattle.eden_ids.specs.Texts.{AreBytes, AreTexts, IsContentText, IsPathText}
-use Rattle.eden_ids.proofs.Members.{all_joined}
 use Rattle.eden_ids.proofs.Sifted.{has-sifted, keys-sifted, sifted}
 use Rattle.eden_ids.proofs.TreeQuestions.{any_witness}
 use Rattle.eden_history.specs.declared.change.ChangeFault.{ChangeFault}
 use Rattle.eden_history.specs.declared.change.ChangeFault.TheVariants.{NotADirectory, IsADirectory, NoEntry, IntoItself, PathTooLong}
 use Rattle.eden_history.specs.Carried.{carried, carried_files}
 use Rattle.eden_history.specs.Changes.{below}
-use Rattle.eden_history.specs.DirRenames.{breaks_a_path, dir_renamed, free_fault, has_file_upward, rename_dir_fault, source_fault, target_fault}
-use Rattle.eden_history.proofs.DirRenameLaws.{carried_path, is_allowed}
-use Rattle.eden_history.proofs.RenameLaws.{first-none}
+use Rattle.eden_history.specs.DirRenames.{breaks_a_path, dir_renamed, free_fault, has_file_upward, rename_dir_fault, source_fault}
 use Rattle.eden_history.proofs.CarriedLemmas.{below-trans, carried-back, carried-below, file_at-carried, nested}
 use Rattle.eden_workcopy.specs.Layers.{Layer, over}
-use Rattle.eden_workcopy.specs.internal.Carrying.{breaks, each_carried, one_carried}
+use Rattle.eden_moves.specs.Moves.{breaks}
+use Rattle.eden_workcopy.specs.internal.Carrying.{each_carried, one_carried, way_fault}
 use Rattle.eden_workcopy.proofs.Reverted.{over-forgotten}
 use Rattle.eden_workcopy.proofs.Touched.{set_over}
 use Rattle.eden_workcopy.proofs.Works.{file_below}
@@ -276,7 +272,7 @@ all_carried m old new some none outside other =
 
 -- ---- the judgement
 
-broken_below : (old new : List ℕ) (ps : List (List ℕ)) → list_any (breaks old new) (below old ps) ≡ list_any (λ p. lies_below p old && breaks old new p) ps
+pub broken_below : (old new : List ℕ) (ps : List (List ℕ)) → list_any (breaks old new) (below old ps) ≡ list_any (λ p. lies_below p old && breaks old new p) ps
 broken_below old new [] = refl
 broken_below old new (p ∷ ps) = step (lies_below p old) (broken_below old new ps)
   where
@@ -284,9 +280,6 @@ broken_below old new (p ∷ ps) = step (lies_below p old) (broken_below old new 
         → list_any (breaks old new) (cond b (p ∷ below old ps) (below old ps)) ≡ ((b && breaks old new p) || list_any (λ p. lies_below p old && breaks old new p) ps)
     step true more = ap (λ b. breaks old new p || b) more
     step false more = more
-
-abbrev pub way_fault : FileMap → List ℕ → List ℕ → Option ChangeFault
-way_fault m old new = if lies_below new old then Some IntoItself else free_fault m new
 
 clear : (m : FileMap) (old new : List ℕ) → way_fault m old new ≡ None → (lies_below new old ≡ false) × (free_fault m new ≡ None)
 clear m old new e = by (lies_below new old) refl e
@@ -327,32 +320,3 @@ dir_carried m old new source distinct way =
     all_carried m old new (has_source m old source) (none_beneath m new free.1) free.0
     (λ is. let bad : true ≡ false = sym (bytes_itself old) ∙ ap (same_bytes old) is ∙ distinct in cc)
     ∙ sym (ap (λ b. if b then m else carried_files m old new) distinct)
-
--- ---- paths and bytes
-
-dropped : (n : ℕ) (bytes : List ℕ) → AreBytes bytes → AreBytes (drop n bytes)
-dropped n bytes are = recursion_from_All (λ b. b < 256) (drop n bytes) (All-drop (λ b. b < 256) n bytes (All-from_recursion (λ b. b < 256) bytes are))
-
--- a carried path is one, and its bytes are those of the new directory and of the old path
-texts_carried : (m : FileMap) (old new : List ℕ) → AreTexts m → IsPathText new → breaks_a_path m old new ≡ false → AreTexts (carried_files m old new)
-texts_carried m old new texts path unbroken p file at = by (lies_below p new) (lies_below p old) refl (sym (file_at-carried m old new p) ∙ at)
-  where
-    arrived : lies_below p new ≡ true → file_at m (carried new old p) ≡ Some file → IsPathText p × IsContentText file
-    arrived into there =
-        let before = texts (carried new old p) file there in
-        let is = carried_path m old new (carried new old p) unbroken (ap is_some there) (carried-below new old p into) in
-        let bytes = all_joined (λ b. b < 256) new (drop (length old) (carried new old p)) path.bytes (dropped (length old) (carried new old p) before.0.bytes) in
-        (subst IsPathText (carried-back new old p into) (record { path = is; bytes = bytes }), before.1)
-
-    by : (into outof : Bool) → lies_below p new ≡ into → (if into then file_at m (carried new old p) else if outof then None else file_at m p) ≡ Some file
-        → IsPathText p × IsContentText file
-    by true outof into e = arrived into e
-    by false true apart e = absurd (let bad : ◌≡◌ {A = Option Content} None (Some file) = e in cc)
-    by false false apart e = texts p file e
-
-pub texts_dir_renamed : (m : FileMap) (old new : List ℕ) → AreTexts m → IsPathText new → rename_dir_fault m old new ≡ None → AreTexts (dir_renamed m old new)
-texts_dir_renamed m old new texts path allowed = by (same_bytes old new) (first-none (source_fault m old) _ allowed).1
-  where
-    by : (same : Bool) → (if same then None else target_fault m old new) ≡ None → AreTexts (if same then m else carried_files m old new)
-    by true e = texts
-    by false e = texts_carried m old new texts path (is_allowed m old new e).1

@@ -18,6 +18,7 @@ use Rattle.eden_ids.proofs.ByteOrder.{both, first, less, second}
 use Rattle.eden_workcopy.specs.Layers.{Entry, by_bytes}
 use Rattle.eden_workcopy.specs.internal.Places.{place}
 use Rattle.eden_workcopy.specs.internal.Blocks.{flat, AllFilled, begins_at_or_before, begun, block_for}
+use Rattle.eden_workcopy.specs.internal.Seams.{AllBefore}
 use Rattle.eden_workcopy.proofs.Placing.{is_less, turned, trans, below_later, none_above, without, without_none}
 
 abbrev pub Rising : List Entry → Type 0
@@ -25,11 +26,6 @@ Rising es = T (is_sorted by_bytes es)
 
 abbrev pub Above : List ℕ → List Entry → Type 0
 Above k es = T (below_all by_bytes k es)
-
--- all paths come before one
-abbrev pub AllBefore : List ℕ → List Entry → Type 0
-AllBefore k [] = Unit {0}
-AllBefore k (e ∷ es) = T (is_lt (by_bytes e.0 k)) × AllBefore k es
 
 -- ---- two lists in order, one behind the other
 
@@ -71,15 +67,15 @@ back_after k e ys h t =
     ] refl t in
     both _ _ ahead (below_later k e.0 ys ahead (first _ _ h))
 
-before_both : (k : List ℕ) (xs ys : List Entry) → AllBefore k xs → AllBefore k ys → AllBefore k (xs ++ ys)
+pub before_both : (k : List ℕ) (xs ys : List Entry) → AllBefore k xs → AllBefore k ys → AllBefore k (xs ++ ys)
 before_both k [] ys a b = b
 before_both k (x ∷ xs) ys a b = (a.0, before_both k xs ys a.1 b)
 
 -- ---- the entries before the block of a path, and those behind it
 
-record Around (k : List ℕ) (bs : List (Vec Entry)) (at : ℕ) : Type 0 where
-  front : AllBefore k (flat (take at bs))
-  back : Above k (flat (drop (suc at) bs))
+pub record Around (k : List ℕ) (bs : List (Vec Entry)) (at : ℕ) : Type 0 where
+  pub front : AllBefore k (flat (take at bs))
+  pub back : Above k (flat (drop (suc at) bs))
 
 around : (k : List ℕ) (b : Vec Entry) (bs : List (Vec Entry)) → Rising (b.items ++ flat bs) → AllFilled bs → Around k (b ∷ bs) (begun k bs)
 around k b [] h filled = record { front = tt; back = tt }
@@ -118,7 +114,7 @@ pub nothing_flat : (k : List ℕ) (bs : List (Vec Entry)) → length bs ≤ bloc
 nothing_flat k [] over = refl
 nothing_flat k (b ∷ bs) over = let within = begun_within k bs in absurd (omega (arith, within))
 
-around_spot : (k : List ℕ) (bs : List (Vec Entry)) → Rising (flat bs) → AllFilled bs → Around k bs (block_for k bs)
+pub around_spot : (k : List ℕ) (bs : List (Vec Entry)) → Rising (flat bs) → AllFilled bs → Around k bs (block_for k bs)
 around_spot k [] h filled = record { front = tt; back = tt }
 around_spot k (b ∷ bs) h filled = around k b bs h filled.1
 
@@ -203,12 +199,12 @@ put_ahead k v (y ∷ ys) zs h =
       | Greater ↦ ap (λ es. y ∷ es) (put_ahead k v ys zs h)
     ]
 
-find_behind : (k : List ℕ) (xs ys : List Entry) → AllBefore k xs → find by_bytes k (xs ++ ys) ≡ find by_bytes k ys
+pub find_behind : (k : List ℕ) (xs ys : List Entry) → AllBefore k xs → find by_bytes k (xs ++ ys) ≡ find by_bytes k ys
 find_behind k [] ys h = refl
 find_behind k (x ∷ xs) ys h =
     ap (λ r. cond (is_eq r) (Some x.1) (find by_bytes k (xs ++ ys))) (behind k x h.0) ∙ find_behind k xs ys h.1
 
-find_ahead : (k : List ℕ) (ys zs : List Entry) → Above k zs → find by_bytes k (ys ++ zs) ≡ find by_bytes k ys
+pub find_ahead : (k : List ℕ) (ys zs : List Entry) → Above k zs → find by_bytes k (ys ++ zs) ≡ find by_bytes k ys
 find_ahead k [] zs h = none_above k zs h
 find_ahead k (y ∷ ys) zs h = ap (λ o. cond (is_eq (by_bytes k y.0)) (Some y.1) o) (find_ahead k ys zs h)
 

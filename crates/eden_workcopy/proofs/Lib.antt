@@ -1,5 +1,6 @@
 pub mod Placing
 pub mod Flattened
+pub mod Seamed
 pub mod Shifted
 pub mod Overs
 pub mod Works
@@ -12,3 +13,8 @@ pub mod Rerooted
 pub mod Reverted
 pub mod Within
 pub mod CarriedOver
+pub mod CarriedEntries
+pub mod CarriedBlocks
+pub mod Placings
+pub mod CarriedLayers
+pub mod CarriedWhole

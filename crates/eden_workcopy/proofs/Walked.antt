@@ -62,17 +62,17 @@ all_out p (e ∷ es) out k apart h =
     let past = not_from e.0 k (upto p) apart (first _ _ h) in
     ap (λ b. cond b (e ∷ filter (λ e. lies_below e.0 p) es) (filter (λ e. lies_below e.0 p) es)) (out e past) ∙ all_out p es out k apart (second _ _ h)
 
-out_end : (p q : List ℕ) → is_lt (by_bytes q (upto p)) ≡ false → lies_below q p ≡ false
+pub out_end : (p q : List ℕ) → is_lt (by_bytes q (upto p)) ≡ false → lies_below q p ≡ false
 out_end p q apart = below_between q p ∙ ap (λ b. not (is_lt (by_bytes q (from p))) && b) apart ∙ none (not (is_lt (by_bytes q (from p))))
   where
     none : (b : Bool) → (b && false) ≡ false
     none true = refl
     none false = refl
 
-in_range : (p q : List ℕ) → is_lt (by_bytes q (from p)) ≡ false → is_lt (by_bytes q (upto p)) ≡ true → lies_below q p ≡ true
+pub in_range : (p q : List ℕ) → is_lt (by_bytes q (from p)) ≡ false → is_lt (by_bytes q (upto p)) ≡ true → lies_below q p ≡ true
 in_range p q low high = below_between q p ∙ ap (λ b. not b && is_lt (by_bytes q (upto p))) low ∙ high
 
-out_start : (p q : List ℕ) → is_lt (by_bytes q (from p)) ≡ true → lies_below q p ≡ false
+pub out_start : (p q : List ℕ) → is_lt (by_bytes q (from p)) ≡ true → lies_below q p ≡ false
 out_start p q low = below_between q p ∙ ap (λ b. not b && is_lt (by_bytes q (upto p))) low
 
 -- of entries from its beginning on

@@ -3,4 +3,5 @@ pub mod Agreements
 pub mod Blocks
 pub mod Carrying
 pub mod Places
+pub mod Seams
 pub mod Woven

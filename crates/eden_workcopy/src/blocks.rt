@@ -7,6 +7,7 @@ ghost use Rattle.eden_ids.specs.FileMaps.{same_path};
 ghost use Rattle.eden_workcopy.specs.Layers.{by_bytes};
 ghost use Rattle.eden_workcopy.specs.internal.Places.{place};
 ghost use Rattle.eden_workcopy.specs.internal.Blocks.{flat, block_for, begins_at_or_before, AllFilled};
+ghost use Rattle.eden_workcopy.specs.internal.Seams.{block_at, IsCutInTwo};
 
 use crate::entries;
 use crate::entries::{place, put, take_out};
@@ -30,7 +31,7 @@ fn begins_at_or_before(block: &Block, path: &[u8]) -> bool
 }
 
 /// Which block has the entry of a path, or would have it: the last one that begins by it, or the first block.
-fn block_for(blocks: &[Block], path: &[u8]) -> usize
+pub(crate) fn block_for(blocks: &[Block], path: &[u8]) -> usize
     requires sorted { T (is_sorted by_bytes (flat blocks.now)) }
     requires filled { AllFilled blocks.now }
     ensures is { result ≡ block_for path.now blocks.now }
@@ -85,6 +86,23 @@ fn lower_size(blocks: &[Block], at: usize) -> usize
     }
 }
 
+/// Cuts a block in two, of which the first keeps some entries. `NoMemory` changes nothing.
+pub(crate) fn cut_block(blocks: &mut Vec<Block>, at: usize, kept: usize) -> Result<(), NoMemory>
+    requires at { at < length blocks.old.items }
+    requires some { 0 < kept }
+    requires fewer { kept < length (block_at blocks.old.items at) }
+    ensures cut { OnOk result (IsCutInTwo at kept blocks.old.items blocks.new.items) }
+    ensures err { OnErr result (blocks.new.items ≡ blocks.old.items) }
+{
+    blocks.reserve(1)?;
+    let upper = blocks[at].split_off(kept)?;
+    let Ok(_) = blocks.insert(at + 1, upper) else {
+        // There is room.
+        unreachable!();
+    };
+    Ok(())
+}
+
 /// Splits a full block in two. Where a growth is refused, it stays whole.
 fn split(blocks: &mut Vec<Block>, at: usize)
     requires at { at < length blocks.old.items }
@@ -95,16 +113,9 @@ fn split(blocks: &mut Vec<Block>, at: usize)
     if blocks[at].len() < FULL {
         return;
     }
-    let Ok(_) = blocks.reserve(1) else {
-        return;
-    };
     let kept = lower_size(blocks, at);
-    let Ok(upper) = blocks[at].split_off(kept) else {
+    let Ok(()) = cut_block(blocks, at, kept) else {
         return;
-    };
-    let Ok(_) = blocks.insert(at + 1, upper) else {
-        // There is room.
-        unreachable!();
     };
 }
 

@@ -9,8 +9,8 @@ ghost use Rattle.eden_objects.specs.Commits.{commit_map};
 ghost use Rattle.eden_objects.specs.Files.{commit_files};
 ghost use Rattle.eden_history.specs.Carried.{carried};
 ghost use Rattle.eden_history.specs.Changes.{below};
-ghost use Rattle.eden_history.specs.DirRenames.{free_fault};
-ghost use Rattle.eden_workcopy.specs.internal.Carrying.{breaks, each_carried};
+ghost use Rattle.eden_moves.specs.Moves.{breaks};
+ghost use Rattle.eden_workcopy.specs.internal.Carrying.{each_carried, way_fault};
 ghost use Rattle.eden_workcopy.specs.Layers.{over};
 ghost use Rattle.eden_workcopy.specs.Meanings.{means};
 
@@ -18,12 +18,12 @@ use crate::overlay::Overlay;
 use crate::work::WorkCopy;
 use eden_history::{ChangeFault, free_fault};
 use eden_ids::{Content, FileTree, Naming, NoMemory, Path, has_file};
+use eden_moves::carried_path;
 use eden_objects::Store;
-use std::alloc::Global;
 
 /// Why a directory can't be put at a new path, as far as its own files have no say in it.
 pub(crate) fn way_fault<T: FileTree>(files: &T, old: &Path, new: &Path) -> Option<ChangeFault>
-    ensures { result ≡ (if lies_below new.now old.now then Some ChangeFault.IntoItself else free_fault (T.files files.now) new.now) }
+    ensures { result ≡ way_fault (T.files files.now) old.now new.now }
 {
     if new.is_below(old) {
         Some(ChangeFault::IntoItself)
@@ -32,34 +32,7 @@ pub(crate) fn way_fault<T: FileTree>(files: &T, old: &Path, new: &Path) -> Optio
     }
 }
 
-/// What a path below the old one is to be below the new one.
-fn carried_bytes(alloc: Global, path: &Path, old: &Path, new: &Path) -> Result<Vec<u8>, NoMemory>
-    requires { lies_below path.now old.now ≡ true }
-    ensures { IfOk result (λ bytes. bytes.items ≡ carried old.now new.now path.now) }
-{
-    let front = new.as_bytes();
-    let rest = &path.as_bytes()[old.as_bytes().len()..];
-    let mut bytes = Vec::with_capacity(alloc, front.len() + rest.len())?;
-    bytes.extend_from_slice(front)?;
-    bytes.extend_from_slice(rest)?;
-    Ok(bytes)
-}
-
-/// The same place below the new path as a path has below the old one. `PathTooLong` comes where that is no path.
-fn carried_path(alloc: Global, path: &Path, old: &Path, new: &Path) -> Result<Path, ChangeFault>
-    requires { lies_below path.now old.now ≡ true }
-    ensures place { IfOk result (λ place. place ≡ carried old.now new.now path.now) }
-    ensures accepts { IfOk result (λ _. breaks old.now new.now path.now ≡ false) }
-    ensures cause { IfErr result (λ fault. fault ≢ ChangeFault.NoMemory → fault ≡ ChangeFault.PathTooLong) }
-    ensures refuses { IfErr result (λ fault. fault ≢ ChangeFault.NoMemory → breaks old.now new.now path.now ≡ true) }
-{
-    match Path::from_vec(carried_bytes(alloc, path, old, new)?) {
-        Ok(path) => Ok(path),
-        Err(_) => Err(ChangeFault::PathTooLong),
-    }
-}
-
-/// Says of a path that no file stands there, at the least by what lies below, and says nothing where that has none.
+/// Lets no file be seen at a path of which nothing is said: where one lies below, the overlay says that none stands there.
 fn hide<B: FileTree>(base: &B, overlay: &mut Overlay, path: Path) -> Result<(), NoMemory>
     requires { fin.get overlay.old path ≡ None }
     ensures { OnOk result (over (B.files base.now) overlay.new ≡ fin.remove (over (B.files base.now) overlay.old) path) }

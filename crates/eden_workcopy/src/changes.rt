@@ -150,7 +150,7 @@ impl WorkCopy {
         if let Some(fault) = way_fault(&files, old, new) {
             return Err(fault);
         }
-        self.overlay = self.carried(store, old, new)?;
+        self.carry_dir(store, old, new)?;
         Ok(())
     }
 

@@ -13,9 +13,9 @@ use std::marker::Model;
 /// Some paths, in byte order, each with the file that is to stand there, or with none.
 #[derive(Drop)]
 pub(crate) struct Overlay {
-    blocks: Vec<Block>,
+    pub(crate) blocks: Vec<Block>,
     /// How many entries there are, in all blocks together.
-    count: usize,
+    pub(crate) count: usize,
 }
 
 /// There are no more entries than so many, so that one more than there are is a number too. No memory reaches as far, though the lengths of
