@@ -4,6 +4,8 @@
 #![tactic(auto)]
 
 #[cfg(test)]
+mod directory_tests;
+#[cfg(test)]
 mod listener;
 #[cfg(test)]
 mod lost_tests;

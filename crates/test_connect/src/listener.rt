@@ -1,7 +1,7 @@
 //! What listens in the tests: it serves a mount, or does what a service should not.
 
 use eden_accumulate::Mount;
-use eden_ids::GitNaming;
+use eden_ids::{GitNaming, Path};
 use eden_query::serve;
 use eden_stream::Counted;
 use std::alloc::Global;
@@ -23,6 +23,8 @@ pub(crate) enum Act {
     Serve,
     /// So many requests are answered, then the mount goes over to generation 8, and the others are answered until the client ends it.
     Remount(u32),
+    /// So many requests are answered, then the directory `d` is renamed to `e`, and the others are answered until the client ends it.
+    RenameDir(u32),
     /// So many requests are answered twice each, and the others once until the client ends it.
     Twice(u32),
 }
@@ -95,6 +97,16 @@ fn say_half(alloc: Global, stream: &TcpStream, mount: &mut Mount<GitNaming>) {
     }
 }
 
+/// Renames the directory `d` to `e`. Where it can't be renamed, the client finds its files where they were.
+fn rename_dir(alloc: Global, mount: &mut Mount<GitNaming>) {
+    if let (Ok(old), Ok(new)) = (
+        Path::parse(alloc, b"d".as_slice()),
+        Path::parse(alloc, b"e".as_slice()),
+    ) {
+        let _ = mount.rename_dir(&old, &new);
+    }
+}
+
 fn play(alloc: Global, stream: &TcpStream, mount: &mut Mount<GitNaming>, act: Act) {
     match act {
         Act::Close => {}
@@ -111,6 +123,11 @@ fn play(alloc: Global, stream: &TcpStream, mount: &mut Mount<GitNaming>, act: Ac
         Act::Remount(requests) => {
             answer(alloc, stream, mount, requests, 1);
             let _ = mount.remount(8);
+            answer_all(alloc, stream, mount);
+        }
+        Act::RenameDir(requests) => {
+            answer(alloc, stream, mount, requests, 1);
+            rename_dir(alloc, mount);
             answer_all(alloc, stream, mount);
         }
         Act::Twice(requests) => {

@@ -40,6 +40,7 @@ fn examples(rt: HostRuntime) -> Result<(), Fail> {
     eden_logs_example(&rt, alloc)?;
     eden_headline_example(&rt, alloc)?;
     eden_follow_example(&rt, alloc)?;
+    eden_moves_example(&rt, alloc)?;
     eden_workcopy_example(&rt, alloc)?;
     eden_checkout_example(&rt, alloc)?;
     eden_ranges_example(&rt, alloc)?;
@@ -361,6 +362,22 @@ fn eden_follow_example(rt: &impl Abort, alloc: Global) -> Result<(), Fail> {
     };
     follower.deliver(1, &reply)?;
     assert!(rt; matches!(vouch(alloc, &[], &follower), Err(VouchFault::StrangeReply)));
+    Ok(())
+}
+
+fn eden_moves_example(rt: &impl Abort, alloc: Global) -> Result<(), Fail> {
+    use eden_ids::{GitNaming, Id, Path};
+    use eden_moves::{Moved, Moves};
+    use eden_objects::Store;
+
+    let store = Store::new(alloc, GitNaming);
+    let mut moves = Moves::new(alloc);
+    let old = Path::parse(alloc, b"src".as_slice())?;
+    let new = Path::parse(alloc, b"lib".as_slice())?;
+    moves.rename(&old, &new)?;
+    assert_eq!(rt; moves.entries().len(), 2);
+    let moved = Moved::of(store.commit_files(Id::ZERO), &moves);
+    assert!(rt; moved.file(b"lib/main".as_slice()).is_none());
     Ok(())
 }
 

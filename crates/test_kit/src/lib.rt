@@ -1,5 +1,6 @@
 //! What tests share: stores that lines of a script put, changes, payloads in Git's format, right or wrong as the test wants them, a naming
-//! under which objects collide, and a table of scripts with what each prints, which can be played over whatever stands for a mount.
+//! under which objects collide, a batch that Git printed, bodies of messages and ones that are drawn by lot, and a table of scripts with what each
+//! prints, which can be played over whatever stands for a mount.
 //!
 //! ```rust
 //! use eden_ids::Id;
@@ -14,7 +15,10 @@
 //! ```
 #![tactic(auto)]
 
+pub use crate::batch::{GIT_PRINTED, GIT_PRINTED_IDS};
+pub use crate::bodies::{PLACE_BYTES, QUERY_BYTES, REPLY_BODIES, REQUEST_BODIES};
 pub use crate::changes::{path, plain, remove, rename, write, write_too_large};
+pub use crate::generated::{Bodies, framed};
 pub use crate::naming::FirstByte;
 pub use crate::objects::Objects;
 pub use crate::payload::{commit_of, push_entry, tree_of};
@@ -23,7 +27,10 @@ pub use crate::player::first_wrong;
 pub use crate::rows::{ANSWER_ROWS, CHANGE_ROWS, LABEL_ROWS, OBJECT_ROWS, Row};
 pub use crate::text::{differing_line, joined, lines, spaced};
 
+mod batch;
+mod bodies;
 mod changes;
+mod generated;
 mod labels;
 mod mounted;
 mod naming;

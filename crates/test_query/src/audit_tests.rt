@@ -279,38 +279,62 @@ fn said(
     Ok(verdict(alloc, &mut audited, logs.as_slice()))
 }
 
-/// The number to which the first answer leads, the object that the second one says is refused, why, and whether both are right.
-const ANSWERS: [(u64, u64, PutFault, bool); 4] = [
-    (1, 1, PutFault::CutShort, true),
-    (2, 1, PutFault::CutShort, false),
-    (1, 0, PutFault::CutShort, false),
-    (1, 1, PutFault::BadMode, false),
-];
+/// What is noted as the second answer.
+#[derive(Clone, Copy, Debug)]
+enum Later {
+    Bad(u64, PutFault),
+    At(u64),
+    Unanswered,
+}
 
-/// Another object, the two in another order, one less, and one more.
-const OTHERS: [&[&str]; 4] = [&["x", "z"], &["y", "x"], &["x"], &["x", "y", "y"]];
+/// The texts of the files of the first import as it is noted, the number to which its answer leads, the second answer, and what is said of both.
+type TwoCalls = (&'static [&'static str], u64, Later, Result<(), AuditFault>);
+
+const BOTH: &[&str] = &["x", "y"];
+
+const RIGHT: Later = Later::Bad(1, PutFault::CutShort);
+
+const WRONG: Result<(), AuditFault> = Err(AuditFault::WrongReply);
+
+const UNKNOWN: Result<(), AuditFault> = Err(AuditFault::UnknownCall);
+
+// An import takes no number.
+const OF_TWO_CALLS: [TwoCalls; 10] = [
+    (BOTH, 1, RIGHT, Ok(())),
+    (BOTH, 2, RIGHT, WRONG),
+    (BOTH, 1, Later::Bad(0, PutFault::CutShort), WRONG),
+    (BOTH, 1, Later::Bad(1, PutFault::BadMode), WRONG),
+    (BOTH, 1, Later::Unanswered, Ok(())),
+    (BOTH, 1, Later::At(1), WRONG),
+    // Another object, the two in another order, one less, and one more.
+    (&["x", "z"], 1, RIGHT, UNKNOWN),
+    (&["y", "x"], 1, RIGHT, UNKNOWN),
+    (&["x"], 1, RIGHT, UNKNOWN),
+    (&["x", "y", "y"], 1, RIGHT, UNKNOWN),
+];
 
 fn at(number: u64) -> Answer {
     Answer::At(position(number))
 }
 
-// An import takes no number.
+fn answer(second: Later) -> Answer {
+    match second {
+        Later::Bad(place, fault) => bad(place, fault),
+        Later::At(number) => at(number),
+        Later::Unanswered => Answer::Unanswered,
+    }
+}
+
+/// Whether that is said of what a row notes.
+fn is_said(alloc: Global, row: &TwoCalls) -> Result<bool, Fail> {
+    let (texts, number, second, wanted) = row;
+    Ok(said(alloc, texts, at(*number), answer(*second))? == *wanted)
+}
+
 #[test]
 fn imports_are_audited(rt: HostRuntime) -> Result<(), Fail> {
-    let alloc = rt.alloc();
-    let (texts, wrong) = (["x", "y"], Err(AuditFault::WrongReply));
-    for (number, place, fault, is_right) in &ANSWERS {
-        let told = said(alloc, &texts, at(*number), bad(*place, *fault))?;
-        assert!(rt;
-            told == if *is_right { Ok(()) } else { wrong },
-            "{number}, {place}, {fault}"
-        );
-    }
-    assert!(rt; said(alloc, &texts, at(1), Answer::Unanswered)? == Ok(()));
-    assert!(rt; said(alloc, &texts, at(1), at(1))? == wrong);
-    for texts in &OTHERS {
-        let told = said(alloc, texts, at(1), bad(1, PutFault::CutShort))?;
-        assert!(rt; told == Err(AuditFault::UnknownCall), "{texts:?}");
+    for (number, row) in OF_TWO_CALLS.iter().enumerate() {
+        assert!(rt; is_said(rt.alloc(), row)?, "row {number}");
     }
     Ok(())
 }

@@ -8,6 +8,10 @@ mod asked_tests;
 #[cfg(test)]
 mod audit_tests;
 #[cfg(test)]
+mod device_tests;
+#[cfg(test)]
+mod generated_tests;
+#[cfg(test)]
 mod held_tests;
 #[cfg(test)]
 mod message_tests;

@@ -7,7 +7,9 @@ use eden_messages::{Cause, Query, Reply, Request};
 use eden_query::{DecodeFault, decode_reply, decode_request, encode_reply, encode_request};
 use std::alloc::Global;
 use std::test::Fail;
-use test_kit::{joined, path};
+use test_kit::{
+    PLACE_BYTES as P, QUERY_BYTES as Q, REPLY_BODIES, REQUEST_BODIES, framed, joined, path,
+};
 
 /// The query of which each number is 1.
 const QUERY: Query = Query {
@@ -22,17 +24,6 @@ const PLACE: Position = Position {
     sequence: 1,
     root: Id([0; 20]),
 };
-
-/// The bytes of `QUERY`.
-const Q: [u8; 24] = [
-    0, 0, 0, 0, 0, 0, 0, 1, 0, 0, 0, 0, 0, 0, 0, 1, 0, 0, 0, 0, 0, 0, 0, 1,
-];
-
-/// The bytes of `PLACE`.
-const P: [u8; 36] = [
-    0, 0, 0, 0, 0, 0, 0, 7, 0, 0, 0, 0, 0, 0, 0, 1, 0, 0, 0, 0, 0, 0, 0, 0, 0, 0, 0, 0, 0, 0, 0, 0,
-    0, 0, 0, 0,
-];
 
 /// The head, the bytes of `QUERY` and those of `PLACE`, and the tail.
 fn placed(alloc: Global, head: &[u8], tail: &[u8]) -> Result<Vec<u8>, Fail> {
@@ -143,12 +134,10 @@ fn list(alloc: Global) -> Result<Request, Fail> {
 /// A basis, a poll, a fetch of `a` and a list of `d`, each with its body.
 pub(crate) fn requests(alloc: Global) -> Result<Vec<(Request, Vec<u8>)>, Fail> {
     let mut all = Vec::new(alloc);
-    all.push((basis(alloc), joined(alloc, &[&[2, 1], &Q, &[0]])?))?;
-    all.push((poll(alloc)?, placed(alloc, &[2, 2], &[0])?))?;
-    let body = joined(alloc, &[&[2, 3], &Q, &[0, 1, b'a']])?;
-    all.push((fetch(alloc)?, body))?;
-    let body = joined(alloc, &[&[2, 4], &Q, &[0, 1, b'd', 0]])?;
-    all.push((list(alloc)?, body))?;
+    all.push((basis(alloc), joined(alloc, REQUEST_BODIES[0])?))?;
+    all.push((poll(alloc)?, joined(alloc, REQUEST_BODIES[1])?))?;
+    all.push((fetch(alloc)?, joined(alloc, REQUEST_BODIES[2])?))?;
+    all.push((list(alloc)?, joined(alloc, REQUEST_BODIES[3])?))?;
     Ok(all)
 }
 
@@ -194,43 +183,21 @@ fn refused(cause: Cause) -> Reply {
     }
 }
 
-/// What stands behind the position in the bodies of the replies with two files, with two changes, with two directories, without a file,
-/// and with what stands below a directory.
-const FILES: [u8; 12] = [0, 0, 0, 2, 0, 1, b'a', 0, 3, b'a', b'/', b'b'];
-
-const CHANGES: [u8; 16] = [0, 0, 0, 2, 2, 0, 1, b'a', 4, 0, 1, b'b', 0, 0, 0, 0];
-
-const MOVED: [u8; 14] = [0, 0, 0, 0, 0, 0, 0, 2, 0, 1, b'd', 0, 1, b'e'];
-
-const NO_FILE: [u8; 4] = [0, 1, b'a', 0];
-
-const BELOW: [u8; 12] = [0, 1, b'd', 0, 0, 0, 1, 0, 3, b'd', b'/', b'x'];
-
 /// Replies of each kind, each with its body.
 pub(crate) fn replies(alloc: Global) -> Result<Vec<(Reply, Vec<u8>)>, Fail> {
     let mut all = Vec::new(alloc);
-    all.push((two_files(alloc)?, placed(alloc, &[2, 0x81], &FILES)?))?;
-    all.push((two_changes(alloc)?, placed(alloc, &[2, 0x82], &CHANGES)?))?;
-    all.push((moved(alloc)?, placed(alloc, &[2, 0x82], &MOVED)?))?;
-    all.push((
-        content_is(alloc, None)?,
-        placed(alloc, &[2, 0x83], &NO_FILE)?,
-    ))?;
-    for (kind, byte) in [(Kind::Plain, 1), (Kind::Exec, 2), (Kind::Link, 3)] {
+    all.push((two_files(alloc)?, joined(alloc, REPLY_BODIES[0])?))?;
+    all.push((two_changes(alloc)?, joined(alloc, REPLY_BODIES[1])?))?;
+    all.push((moved(alloc)?, joined(alloc, REPLY_BODIES[2])?))?;
+    all.push((content_is(alloc, None)?, joined(alloc, REPLY_BODIES[3])?))?;
+    for (kind, place) in [(Kind::Plain, 4), (Kind::Exec, 5), (Kind::Link, 6)] {
         let content = Content::from_bytes(alloc, kind, b"hi".as_slice())?;
-        let fields = [0, 1, b'a', byte, 0, 0, 0, 2, b'h', b'i'];
-        let body = placed(alloc, &[2, 0x83], &fields)?;
+        let body = joined(alloc, REPLY_BODIES[place])?;
         all.push((content_is(alloc, Some(content))?, body))?;
     }
-    let body = joined(alloc, &[&[2, 0x84], &Q, &[4, 0, 0, 0, 0, 0, 0, 0, 0]])?;
-    all.push((refused(Cause::TooLarge), body))?;
-    all.push((one_below(alloc)?, placed(alloc, &[2, 0x85], &BELOW)?))?;
+    all.push((refused(Cause::TooLarge), joined(alloc, REPLY_BODIES[7])?))?;
+    all.push((one_below(alloc)?, joined(alloc, REPLY_BODIES[8])?))?;
     Ok(all)
-}
-
-/// The frame of a short body.
-pub(crate) fn framed(alloc: Global, body: &[u8]) -> Result<Vec<u8>, Fail> {
-    Ok(joined(alloc, &[&[0, 0, 0, (body.len() % 256) as u8], body])?)
 }
 
 /// Whether a request has the frame of a body, which is read as that request, as a copy of it is.
@@ -269,11 +236,11 @@ fn each_reply_is_spelled_and_read(rt: HostRuntime) -> Result<(), Fail> {
     Ok(())
 }
 
-/// Whether a reply has the frame of these parts, and the body of that is read as the reply.
-fn has_frame(alloc: Global, reply: &Reply, parts: &[&[u8]]) -> Result<bool, Fail> {
-    let spelled = frame_of_reply(alloc, reply)?;
-    let body = spelled.get(4..).unwrap_or(&[]);
-    Ok(spelled == joined(alloc, parts)? && read_reply(alloc, body)? == *reply)
+/// Whether a reply has the frame of this length and this body, which is read as the reply.
+fn has_frame(alloc: Global, reply: &Reply, length: u8, body: &[&[u8]]) -> Result<bool, Fail> {
+    let body = joined(alloc, body)?;
+    let frame = joined(alloc, &[&[0, 0, 0, length], body.as_slice()])?;
+    Ok(frame_of_reply(alloc, reply)? == frame && read_reply(alloc, body.as_slice())? == *reply)
 }
 
 #[test]
@@ -285,23 +252,19 @@ fn replies_have_their_frames(rt: HostRuntime) -> Result<(), Fail> {
         marked: Sequence::new(alloc),
         prefixes: Sequence::new(alloc),
     };
-    let frame: [&[u8]; 4] = [&[0, 0, 0, 0x46, 2, 0x82], &Q, &P, &[0; 8]];
-    assert!(rt; has_frame(alloc, &none, &frame)?);
-    let value = [2, 0, 0, 0, 0, 0, 0, 0, 1];
-    let frame: [&[u8]; 3] = [&[0, 0, 0, 0x23, 2, 0x84], &Q, &value];
-    assert!(rt; has_frame(alloc, &refused(Cause::Ahead(1)), &frame)?);
-    let frame: [&[u8]; 4] = [&[0, 0, 0, 0x4c, 2, 0x82], &Q, &P, &MOVED];
-    assert!(rt; has_frame(alloc, &moved(alloc)?, &frame)?);
-    let frame: [&[u8]; 4] = [&[0, 0, 0, 0x4a, 2, 0x85], &Q, &P, &BELOW];
-    assert!(rt; has_frame(alloc, &one_below(alloc)?, &frame)?);
+    let body: [&[u8]; 4] = [&[2, 0x82], &Q, &P, &[0; 8]];
+    assert!(rt; has_frame(alloc, &none, 0x46, &body)?);
+    let body: [&[u8]; 3] = [&[2, 0x84], &Q, &[2, 0, 0, 0, 0, 0, 0, 0, 1]];
+    assert!(rt; has_frame(alloc, &refused(Cause::Ahead(1)), 0x23, &body)?);
+    assert!(rt; has_frame(alloc, &moved(alloc)?, 0x4c, REPLY_BODIES[2])?);
+    assert!(rt; has_frame(alloc, &one_below(alloc)?, 0x4a, REPLY_BODIES[8])?);
     Ok(())
 }
 
 #[test]
 fn paths_ascend(rt: HostRuntime) -> Result<(), Fail> {
     let alloc = rt.alloc();
-    let frame: [&[u8]; 4] = [&[0, 0, 0, 0x4e, 2, 0x82], &Q, &P, &CHANGES];
-    assert!(rt; has_frame(alloc, &two_changes(alloc)?, &frame)?);
+    assert!(rt; has_frame(alloc, &two_changes(alloc)?, 0x4e, REPLY_BODIES[1])?);
     for (first, second) in [(b'b', b'a'), (b'a', b'a')] {
         let list = [0, 0, 0, 2, 1, 0, 1, first, 1, 0, 1, second];
         let body = placed(alloc, &[2, 0x82], &list)?;

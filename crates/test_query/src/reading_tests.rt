@@ -1,14 +1,14 @@
 //! Each change of one byte of a body of each message, judged by a plain reader.
 
 use crate::message_tests::{
-    frame_of_reply, frame_of_request, framed, read_reply, read_request, replies, requests,
+    frame_of_reply, frame_of_request, read_reply, read_request, replies, requests,
 };
 use eden_ids::Kind;
 use eden_messages::Reply;
 use eden_query::DecodeFault;
 use std::alloc::Global;
 use std::test::Fail;
-use test_kit::joined;
+use test_kit::{framed, joined};
 
 /// What is left of a body that is being read.
 #[derive(Drop)]
@@ -206,8 +206,13 @@ fn is_pattern(bytes: &[u8]) -> bool {
     !escaped && !empty
 }
 
+/// The tags of requests, and of replies.
+pub(crate) const REQUEST_TAGS: [u64; 4] = [1, 2, 3, 4];
+
+const REPLY_TAGS: [u64; 5] = [0x81, 0x82, 0x83, 0x84, 0x85];
+
 /// The first fault of a body with one of these tags, if it has one.
-fn plain_fault(bytes: &[u8], tags: &[u64]) -> Option<DecodeFault> {
+pub(crate) fn plain_fault(bytes: &[u8], tags: &[u64]) -> Option<DecodeFault> {
     let mut left = Left { bytes };
     left.body(tags).err()
 }
@@ -232,11 +237,11 @@ fn spelled_again(
 }
 
 /// Whether a body is read as the plain reader reads it, as one of these messages, and is spelled again as it was.
-fn is_read_plainly(alloc: Global, body: &[u8], is_request: bool) -> Result<bool, Fail> {
+pub(crate) fn is_read_plainly(alloc: Global, body: &[u8], is_request: bool) -> Result<bool, Fail> {
     let tags = if is_request {
-        [1, 2, 3, 4].as_slice()
+        REQUEST_TAGS.as_slice()
     } else {
-        [0x81, 0x82, 0x83, 0x84, 0x85].as_slice()
+        REPLY_TAGS.as_slice()
     };
     let again = spelled_again(alloc, body, is_request)?;
     Ok(match (again, plain_fault(body, tags)) {

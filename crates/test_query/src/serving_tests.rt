@@ -67,7 +67,7 @@ const NO_LIST: &[&[u8]] = &[
 ];
 
 /// A poll since a position of these last bytes of its generation and its sequence.
-fn poll(alloc: Global, generation: u8, sequence: u8) -> Result<Vec<u8>, Fail> {
+pub(crate) fn poll(alloc: Global, generation: u8, sequence: u8) -> Result<Vec<u8>, Fail> {
     let mut frame = joined(alloc, POLL)?;
     for (place, byte) in [(37, generation), (45, sequence)] {
         if let Some(last) = frame.get_mut(place) {
@@ -78,13 +78,13 @@ fn poll(alloc: Global, generation: u8, sequence: u8) -> Result<Vec<u8>, Fail> {
 }
 
 /// A refusal for this cause, with a number below 256.
-fn refusal(alloc: Global, cause: u8, number: u8) -> Result<Vec<u8>, Fail> {
+pub(crate) fn refusal(alloc: Global, cause: u8, number: u8) -> Result<Vec<u8>, Fail> {
     let value = [cause, 0, 0, 0, 0, 0, 0, 0, number];
     Ok(joined(alloc, &[&[0, 0, 0, 0x23, 2, 0x84], &Q, &value])?)
 }
 
 /// A mount of the empty commit, in generation 7.
-fn opened(alloc: Global, limit: u64) -> Result<Mount<GitNaming>, Fail> {
+pub(crate) fn opened(alloc: Global, limit: u64) -> Result<Mount<GitNaming>, Fail> {
     let store = Store::new(alloc, GitNaming);
     Ok(Mount::mount(alloc, store, Id::ZERO, 7, limit)?)
 }
@@ -129,7 +129,7 @@ fn stops(number: u64, fault: FrameFault) -> Result<u64, ServeFault> {
 }
 
 /// Whether a mount writes this text to these bytes, in such pieces, and ends so.
-fn is_served(
+pub(crate) fn is_served(
     alloc: Global,
     mount: &mut Mount<GitNaming>,
     bytes: &[u8],
@@ -177,7 +177,7 @@ fn is_refused(alloc: Global, generation: u8, sequence: u8, cause: (u8, u8)) -> R
 }
 
 /// A frame and its reply.
-const KNOWN: [(&[&[u8]], &[&[u8]]); 4] = [
+pub(crate) const KNOWN: [(&[&[u8]], &[&[u8]]); 4] = [
     (FETCH, ABSENT),
     (BASIS, NO_PATHS),
     (POLL, NO_CHANGES),

@@ -61,3 +61,105 @@ fn failing_devices(rt: HostRuntime) -> Result<(), Fail> {
     }
     Ok(())
 }
+
+/// A line of each kind, and what it prints.
+const LINES: [(&str, &str); 24] = [
+    ("# a comment", ""),
+    ("blob x x", "ok\n"),
+    ("tree t 100644 a x", "ok\n"),
+    ("commit c t", "ok\n"),
+    ("id x", "id c1b0730e0133447badcfd47fd144e254807b06e1\n"),
+    ("mount empty 7 1000", "at 7 1 empty\n"),
+    ("write d/e plain k", "at 7 2 empty\n"),
+    ("rename d/e d/f", "at 7 3 empty\n"),
+    ("renamedir d g", "at 7 4 empty\n"),
+    ("since 7 3", "changes 0 to 7 4 empty\nprefixes 2\nd\ng\n"),
+    ("read g/f", "plain k\n"),
+    ("checkout c normal", "at 7 5 c\nconflicts 0\n"),
+    ("list", "files 2\na\ng/f\n"),
+    ("list g/**", "files 1\ng/f\n"),
+    ("dirty", "dirty 1\ng/f\n"),
+    ("remove g/f", "at 7 6 c\n"),
+    ("reset empty", "at 7 7 empty\n"),
+    ("since 7 6", "changes 1 to 7 7 empty\nRoot a\n"),
+    ("flush", "at 7 8 empty\n"),
+    ("position", "at 7 8 empty\n"),
+    ("since 7 7", "refused Truncated 8\n"),
+    ("remount 8", "at 8 1 empty\n"),
+    ("write .. plain x", "refused BadComponent\n"),
+    ("", ""),
+];
+
+/// The script of these lines, what it prints, and where each line and what is printed by then end.
+#[derive(Drop)]
+struct Lines {
+    script: Vec<u8>,
+    text: Vec<u8>,
+    ends: Vec<(usize, usize)>,
+}
+
+fn all_lines(alloc: Global) -> Result<Lines, Fail> {
+    let mut script = Vec::new(alloc);
+    let mut text = Vec::new(alloc);
+    let mut ends = Vec::new(alloc);
+    for (line, prints) in &LINES {
+        script.extend_from_slice(line.as_bytes())?;
+        script.push(b'\n')?;
+        text.extend_from_slice(prints.as_bytes())?;
+        ends.push((script.len(), text.len()))?;
+    }
+    Ok(Lines { script, text, ends })
+}
+
+impl Lines {
+    /// What the lines print that end at a place of the script or before it.
+    fn text_before(&self, place: usize) -> &[u8] {
+        let mut last = 0;
+        for (end, text) in &self.ends {
+            if *end <= place {
+                last = *text;
+            }
+        }
+        self.text.get(..last).unwrap_or(&[])
+    }
+
+    /// Whether a reader that fails at this place leaves what the lines before it print.
+    fn is_run_before(&self, alloc: Global, place: usize, most: usize) -> bool {
+        let mut source = Source::new(self.script.as_slice());
+        source.cut = place;
+        source.fails_at = place;
+        source.most = most;
+        let mut sink = Sink::new(alloc);
+        let ended = ran(alloc, source, &mut sink);
+        ended == Err(RunFault::Read) && sink.bytes.as_slice() == self.text_before(place)
+    }
+
+    /// Whether a writer that fails behind so many bytes has the first bytes of the text.
+    fn is_written_to(&self, alloc: Global, place: usize, most: usize) -> bool {
+        let mut sink = Sink::new(alloc);
+        sink.full_at = place;
+        sink.most = most;
+        let ended = ran(alloc, Source::new(self.script.as_slice()), &mut sink);
+        ended == Err(RunFault::Write) && Some(sink.bytes.as_slice()) == self.text.get(..place)
+    }
+}
+
+#[test]
+fn devices_that_fail_at_each_byte(rt: HostRuntime) -> Result<(), Fail> {
+    let alloc = rt.alloc();
+    let lines = all_lines(alloc)?;
+    let (script, text) = (lines.script.len(), lines.text.len());
+    let mut sink = Sink::new(alloc);
+    let ended = ran(alloc, Source::new(lines.script.as_slice()), &mut sink);
+    assert_eq!(rt; ended, Ok(24));
+    assert!(rt; sink.bytes == lines.text);
+    for most in [usize::MAX, 1, 3] {
+        for place in 0..=script {
+            assert!(rt; lines.is_run_before(alloc, place, most), "read to {place}");
+        }
+        for place in 0..text {
+            assert!(rt; lines.is_written_to(alloc, place, most), "write to {place}");
+        }
+    }
+    Ok(())
+}

@@ -182,10 +182,10 @@ fn bad_lines(rt: HostRuntime) -> Result<(), Fail> {
 }
 
 /// Parts that stand one behind the other, each so many times.
-type Parts = &'static [(&'static str, usize)];
+pub(crate) type Parts = &'static [(&'static str, usize)];
 
 /// What these parts come to.
-fn repeated(alloc: Global, parts: &[(&str, usize)]) -> Result<Vec<u8>, Fail> {
+pub(crate) fn repeated(alloc: Global, parts: &[(&str, usize)]) -> Result<Vec<u8>, Fail> {
     let mut text = Vec::new(alloc);
     for (part, times) in parts {
         for _ in 0..*times {

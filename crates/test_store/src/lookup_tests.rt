@@ -8,28 +8,28 @@ use std::test::Fail;
 use test_kit::{Objects, path};
 
 /// A commit `c` of the files `a-b`, `a/x`, `a0` and `d/e/f`.
-const FILES: &str =
+pub(crate) const FILES: &str =
     "blob one one\\n;blob two two\\n;blob link a-b;blob three three\\n;tree a 100755 x two;tree e 100644 f three;tree d 40000 e e;\
     tree t 100644 a-b one 40000 a a 120000 a0 link 40000 d d;commit c t";
 
 /// A file: its path, its kind, and the id that Git gives its blob.
-type Row = (&'static str, Kind, &'static str);
+pub(crate) type Row = (&'static str, Kind, &'static str);
 
-const A_B: Row = (
+pub(crate) const A_B: Row = (
     "a-b",
     Kind::Plain,
     "5626abf0f72e58d7a153368ba57db4c673c0e171",
 );
 
-const A_X: Row = (
+pub(crate) const A_X: Row = (
     "a/x",
     Kind::Exec,
     "f719efd430d52bcfc8566a43b2eb655688d38871",
 );
 
-const A0: Row = ("a0", Kind::Link, "5c7796f622a1e15babe6f341a239b0de7af1ba49");
+pub(crate) const A0: Row = ("a0", Kind::Link, "5c7796f622a1e15babe6f341a239b0de7af1ba49");
 
-const F: Row = (
+pub(crate) const F: Row = (
     "d/e/f",
     Kind::Plain,
     "2bdf67abb163a4ffb2d7f3f0880c9fe5068ce782",
@@ -44,7 +44,7 @@ fn is_row(listed: &(Path, Kind, Id), row: &Row) -> bool {
 }
 
 /// Whether the listing has just these rows.
-fn has_rows(listed: &[(Path, Kind, Id)], rows: &[Row]) -> bool {
+pub(crate) fn has_rows(listed: &[(Path, Kind, Id)], rows: &[Row]) -> bool {
     listed.len() == rows.len() && listed.iter().zip(rows).all(|(one, row)| is_row(one, row))
 }
 
@@ -259,7 +259,7 @@ fn file_becomes_directory(rt: HostRuntime) -> Result<(), Fail> {
 
 /// A commit `c` of forty levels, each with two entries that name the level below: the lowest tree stands in it two to the 40 times, as
 /// a file `a` alone, or without any. And a commit `d` of the first of these trees below `d`, and of a file `x`.
-fn levels(alloc: Global, lowest: &str) -> Result<Objects, Fail> {
+pub(crate) fn levels(alloc: Global, lowest: &str) -> Result<Objects, Fail> {
     let mut objects = Objects::of(alloc, "blob x x")?;
     objects.put(alloc, lowest)?;
     objects.repeat(alloc, "tree t 40000 a t 40000 b t", 40)?;

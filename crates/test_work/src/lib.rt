@@ -8,6 +8,8 @@ mod checkout_tests;
 #[cfg(test)]
 mod mounted;
 #[cfg(test)]
+mod moved_tests;
+#[cfg(test)]
 mod overlay_tests;
 #[cfg(test)]
 mod range_tests;
