@@ -1,5 +1,5 @@
-# Sourced first by each script of bench/ and tests-with-git/, which says in `most` how many numbers it takes. For any other word, as `--help`,
-# it prints the comment at the script's head, and ends it. It sets `root`, the top of the repository.
+# Sourced first by each script of bench/, tests-with-git/ and tests-refused/, which says in `most` how many numbers it takes. For any other word, as
+# `--help`, it prints the comment at the script's head, and ends it. It sets `root`, the top of the repository.
 numbers=0
 for word; do
     case $word in
