@@ -34,7 +34,7 @@ pub use crate::id::Id;
 pub use crate::laws::{file_map_law, path_set_law};
 pub use crate::memory::NoMemory;
 pub use crate::naming::{GitNaming, Naming};
-pub use crate::path::{NoPath, Path, PathFault, is_component};
+pub use crate::path::{NoPath, Path, PathFault, is_component, is_path};
 pub use crate::path_table::PathTable;
 pub use crate::sequence::Sequence;
 pub use crate::text_laws::{bytes_law, id_law, path_law};

@@ -2,6 +2,7 @@
 
 ghost use Rattle.std.specs.Prelude.{◌≡◌, ◌≢◌, ◌++◌, ℕ, None, Some, IfOk, IfErr, not, nat_eq, length};
 ghost use Rattle.std.specs.List.{list_all};
+ghost use Rattle.std.specs.Option.{is_none};
 ghost use Rattle.std.specs.Ordering.{nat_cmp, as_partial_cmp};
 ghost use Rattle.std.specs.Cmp.Lexicographic.{pointwise, slice_cmp};
 ghost use Rattle.std.specs.Cmp.{partial_order_from_own_ties};
@@ -116,6 +117,13 @@ fn fault_of(bytes: &[u8]) -> Option<PathFault>
     } else {
         None
     }
+}
+
+/// Whether bytes are a path: those that `Path::parse` takes. Unlike that it takes no memory.
+pub fn is_path(bytes: &[u8]) -> bool
+    ensures { result ≡ is_none (path_fault bytes.now) }
+{
+    fault_of(bytes).is_none()
 }
 
 impl Path {
