@@ -6,3 +6,6 @@ pub mod Finding
 pub mod Shifting
 pub mod Regions
 pub mod Unsettling
+pub mod Listed
+pub mod InOrder
+pub mod Apart

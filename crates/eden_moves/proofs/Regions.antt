@@ -15,11 +15,11 @@ use Rattle.eden_ids.proofs.TreeQuestions.{any_witness}
 use Rattle.eden_history.specs.Carried.{carried}
 use Rattle.eden_history.proofs.CarriedLemmas.{below-trans, carried-back, carried-below, carried_there, nested, rest_below}
 use Rattle.eden_objects.specs.Passing.{told}
-use Rattle.eden_moves.specs.Moves.{Entry, Moves, file_from, nearest, own_or, seen_through, source_by, source_of}
+use Rattle.eden_moves.specs.Moves.{Entry, Moves, file_from, is_governed, nearest, own_or, seen_through, source_by, source_of}
 use Rattle.eden_moves.specs.internal.Regions.{is_apart, is_past, region_has, seen_dir}
 use Rattle.eden_moves.proofs.Nearest.{IsNearest, is_none, nearest-is, no, source_is}
 use Rattle.eden_moves.proofs.Seen.{file_at-seen}
-use Rattle.eden_moves.proofs.Settled.{too_long}
+use Rattle.eden_moves.proofs.Settled.{own_file, too_long}
 
 -- ---- tests
 
@@ -35,11 +35,11 @@ both false b h = no (sym h)
 paired : (a b : Bool) → a ≡ true → b ≡ true → (a && b) ≡ true
 paired a b x y = ap (λ a. a && b) x ∙ y
 
-negated : (b : Bool) → not b ≡ true → b ≡ false
+pub negated : (b : Bool) → not b ≡ true → b ≡ false
 negated true h = no (sym h)
 negated false h = refl
 
-neither : (a b : Bool) → (a || b) ≡ false → (a ≡ false) × (b ≡ false)
+pub neither : (a b : Bool) → (a || b) ≡ false → (a ≡ false) × (b ≡ false)
 neither true b h = no h
 neither false b h = (refl, h)
 
@@ -68,7 +68,7 @@ passing_file test files some =
 
 -- ---- the nearest directory above a path
 
-longer : (path top : List ℕ) → lies_below path top ≡ true → length top < length path
+pub longer : (path top : List ℕ) → lies_below path top ≡ true → length top < length path
 longer path top below =
     let at = rest_below path top below in
     let whole : length path ≡ length (top ++ 47 ∷ at.0) = ap length at.1 in
@@ -94,6 +94,33 @@ pub past_some : (moves : Moves) (d : List ℕ) (long : ℕ) (o : Option (Bor (Op
 past_some moves d long None said some more path below = no (sym some)
 past_some moves d long (Some x) said some more path below = past_if moves path d long x.now (sym said) below more
 
+pub governed_if : (moves : Moves) (path d : List ℕ) (x : Option (List ℕ)) → fin.get moves d ≡ Some x → lies_below path d ≡ true → is_governed moves path ≡ true
+governed_if moves path d x said above = passing (λ top. lies_below path top) (fin.keys moves) d (sym (fin.contains_key-keys moves d) ∙ ap is_some said) above
+
+pub governed_some : (moves : Moves) (d : List ℕ) (o : Option (Bor (Option (List ℕ)))) → option_copied o ≡ fin.get moves d → is_some o ≡ true
+    → (path : List ℕ) → lies_below path d ≡ true → is_governed moves path ≡ true
+governed_some moves d None said some path below = no (sym some)
+governed_some moves d (Some x) said some path below = governed_if moves path d x.now (sym said) below
+
+pub governed_told : (moves : Moves) (directory path : List ℕ) → lies_below path directory ≡ true → is_governed moves directory ≡ true → is_governed moves path ≡ true
+governed_told moves directory path below governed =
+    let found = any_witness (λ top. lies_below directory top) (fin.keys moves) governed in
+    passing (λ top. lies_below path top) (fin.keys moves) found.0 found.1 (below-trans path directory found.0 below found.2)
+
+-- an entry governs a path where one is the nearest above it
+pub governed_near : (moves : Moves) (path : List ℕ) → is_governed moves path ≡ is_some (nearest (fin.entries moves) path)
+governed_near moves path = by (nearest (fin.entries moves) path) (nearest-is moves path)
+  where
+    by : (o : Option Entry) → IsNearest moves path o → is_governed moves path ≡ is_some o
+    by (Some e) near = governed_if moves path e.0 e.1 near.0 near.1
+    by None none = free (is_governed moves path) refl
+      where
+        free : (b : Bool) → is_governed moves path ≡ b → b ≡ false
+        free false is = refl
+        free true is =
+            let found = any_witness (λ top. lies_below path top) (fin.keys moves) is in
+            no (sym (fin.contains_key-keys moves found.0 ∙ found.1) ∙ ap is_some (none found.0 found.2))
+
 pub past_told : (moves : Moves) (directory path : List ℕ) (long : ℕ) → lies_below path directory ≡ true → is_past long (nearest (fin.entries moves) directory) ≡ true
     → is_past long (nearest (fin.entries moves) path) ≡ true
 past_told moves directory path long below past = by (nearest (fin.entries moves) directory) (nearest-is moves directory) past
@@ -102,17 +129,22 @@ past_told moves directory path long below past = by (nearest (fin.entries moves)
     by None none h = no (sym h)
     by (Some e) near h = past_if moves path e.0 long e.1 near.0 (below-trans path directory e.0 below near.1) (grind (arith, h))
 
--- of what is not past a directory, what is seen is told by what is seen at the directory
+-- of what is not past a directory nothing is said further down
+pub none_nearer : (moves : Moves) (p top : List ℕ) → is_past (length top) (nearest (fin.entries moves) p) ≡ false
+    → (d : List ℕ) → lies_below p d ≡ true → lies_below d top ≡ true → fin.get moves d ≡ None
+none_nearer moves p top near d above inner = at (fin.get moves d) refl
+  where
+    at : (o : Option (Option (List ℕ))) → fin.get moves d ≡ o → o ≡ None
+    at None said = refl
+    at (Some x) said = no (sym (past_if moves p d (length top) x said above (longer d top inner)) ∙ near)
+
+-- so what is seen is told by what is seen at the directory
 source_near : (moves : Moves) (p top : List ℕ) → lies_below p top ≡ true → is_past (length top) (nearest (fin.entries moves) p) ≡ false
     → source_of moves p ≡ source_by (Some (top, seen_dir moves top)) p
 source_near moves p top below near = by (fin.get moves top) refl
   where
     further : (d : List ℕ) → lies_below p d ≡ true → lies_below d top ≡ true → fin.get moves d ≡ None
-    further d above inner = at (fin.get moves d) refl
-      where
-        at : (o : Option (Option (List ℕ))) → fin.get moves d ≡ o → o ≡ None
-        at None said = refl
-        at (Some x) said = no (sym (past_if moves p d (length top) x said above (longer d top inner)) ∙ near)
+    further = none_nearer moves p top near
 
     by : (o : Option (Option (List ℕ))) → fin.get moves top ≡ o → source_of moves p ≡ source_by (Some (top, own_or (fin.get moves top) (source_of moves top))) p
     by (Some x) said =
@@ -147,6 +179,22 @@ source_near moves p top below near = by (fin.get moves top) refl
             let twice : carried top (carried t s top) p ≡ (s ++ 47 ∷ high.0) ++ 47 ∷ low.0 =
             ap (carried top (carried t s top)) low.1 ∙ carried_there top (carried t s top) (47 ∷ low.0) ∙ ap (λ q. q ++ 47 ∷ low.0) inner in
             ap Some (straight ∙ sym (append_assoc s (47 ∷ high.0) (47 ∷ low.0)) ∙ sym twice)
+
+-- the nearest one is among the entries
+near_passes : (test : Entry → Bool) (p : List ℕ) (e : Entry) (es : List Entry) → nearest es p ≡ Some e → test e ≡ true → list_any test es ≡ true
+near_passes test p e [] near passes = is_none e (sym near)
+near_passes test p e (x ∷ es) near passes = by (λ near. near_passes test p e es near passes) (nearest es p) refl near
+  where
+    same : (f g : Entry) → Some f ≡ Some g → f ≡ g
+    same f g h = cc
+
+    here : (b : Bool) → (if b then Some x else None) ≡ Some e → list_any test (x ∷ es) ≡ true
+    here true is = or_left (test x) _ (ap test (same x e is) ∙ passes)
+    here false is = is_none e (sym is)
+
+    by : (nearest es p ≡ Some e → list_any test es ≡ true) → (o : Option Entry) → nearest es p ≡ o → option_or o (if lies_below p x.0 then Some x else None) ≡ Some e → list_any test (x ∷ es) ≡ true
+    by rest (Some f) is told_e = or_right (test x) _ (rest (is ∙ told_e))
+    by rest None is told_e = here (lies_below p x.0) told_e
 
 -- ---- one directory
 
@@ -280,6 +328,53 @@ module _ (passes : List ℕ → Bool) (files : FileMap) (moves : Moves) where
           let found = passing_file (λ p. lies_below p top && not (passes p)) (seen_through files moves) some in
           let parts = both _ _ found.2 in
           found_by top found.0 (found.1, parts.0, negated _ parts.1)
+
+  -- ---- all that is seen
+
+  -- a file that is seen and not passed over
+  abbrev IsSeen : List ℕ → Type 0
+  IsSeen p = IsSome (file_at (seen_through files moves) p) × (passes p ≡ false)
+
+  entry_seen : (es : List Entry) → AllByRecursion (λ e. fin.get moves e.0 ≡ Some e.1) es → list_any entry_has es ≡ true → (p : List ℕ) × IsSeen p
+  entry_seen [] all some = no (sym some)
+  entry_seen (e ∷ es) all some =
+      elim (entry_has e) as (λ b. entry_has e ≡ b → (b || list_any entry_has es) ≡ true → (p : List ℕ) × IsSeen p) [
+        | true ↦ λ has _. let found = one_found e.0 (entry_is e all.0 ∙ has) in (found.0, (found.1.0, found.1.2))
+        | false ↦ λ _ more. entry_seen es all.1 more
+      ] refl some
+
+  abbrev own_test : List ℕ → Bool
+  own_test q = not (is_governed moves q) && not (passes q)
+
+  -- a file that is seen stands there in the commit, or the nearest directory above it shows it
+  pub all_regions : (list_any (λ q. not (is_governed moves q) && not (passes q)) (paths files) || list_any entry_has (fin.entries moves))
+      ≡ list_any (λ q. not (passes q)) (paths (seen_through files moves))
+  all_regions = same_bool _ _ (λ some. to (list_any own_test (paths files)) refl some) back
+    where
+      seen : (p : List ℕ) × IsSeen p → list_any (λ q. not (passes q)) (paths (seen_through files moves)) ≡ true
+      seen found = file_passes (λ q. not (passes q)) (seen_through files moves) found.0 found.1.0 (ap not found.1.1)
+
+      to : (b : Bool) → list_any own_test (paths files) ≡ b → (b || list_any entry_has (fin.entries moves)) ≡ true → list_any (λ q. not (passes q)) (paths (seen_through files moves)) ≡ true
+      to true has some =
+          let found = passing_file own_test files has in
+          let parts = both (not (is_governed moves found.0)) (not (passes found.0)) found.2 in
+          seen (found.0, (subst (IsSome {T = _}) (sym (own_file files moves found.0 (negated _ parts.0))) found.1, negated _ parts.1))
+      to false has some = seen (entry_seen (fin.entries moves) (entries_found moves) some)
+
+      back : list_any (λ q. not (passes q)) (paths (seen_through files moves)) ≡ true → (list_any own_test (paths files) || list_any entry_has (fin.entries moves)) ≡ true
+      back some =
+          let found = passing_file (λ q. not (passes q)) (seen_through files moves) some in
+          by found.0 found.1 (negated _ found.2) (nearest (fin.entries moves) found.0) refl (nearest-is moves found.0)
+        where
+          by : (p : List ℕ) → IsSome (file_at (seen_through files moves) p) → passes p ≡ false → (o : Option Entry) → nearest (fin.entries moves) p ≡ o → IsNearest moves p o
+              → (list_any own_test (paths files) || list_any entry_has (fin.entries moves)) ≡ true
+          by p there kept None is near =
+              let free : is_governed moves p ≡ false = governed_near moves p ∙ ap is_some is in
+              or_left _ _ (file_passes own_test files p (subst (IsSome {T = _}) (own_file files moves p free) there) (paired (not (is_governed moves p)) (not (passes p)) (ap not free) (ap not kept)))
+          by p there kept (Some e) is near =
+              or_right (list_any own_test (paths files)) _
+              (near_passes entry_has p e (fin.entries moves) is
+              (sym (entry_is e near.0) ∙ one_has e.0 p (there, near.1, kept) (ap (is_past (length e.0)) is ∙ is_not_less (length e.0))))
 
 -- below what is longer than a path stands no file
 pub none_so_long : (passes : List ℕ → Bool) (files : FileMap) (source top : List ℕ) → AreTexts files → 1024 < length source → false ≡ region_has passes files (Some source) top

@@ -19,7 +19,8 @@ use Rattle.eden_history.proofs.CarriedLemmas.{below-trans, carried-back, carried
 use Rattle.eden_history.proofs.DirRenameLaws.{and_both, names_joined, no_fault, parts_joined, unless}
 use Rattle.eden_moves.specs.Moves.{ArePaths, Entry, Moves, dir_moved, file_from, moved_rule, nearest, own_or, path_alone, put_entry, said_of, seen_through, source_by, source_dir, source_of}
 use Rattle.eden_moves.proofs.Nearest.{IsNearest, is_none, nearest-is, no, same_above, source_is}
-use Rattle.eden_moves.proofs.Seen.{enough, file_at-seen, is_listed}
+use Rattle.eden_moves.specs.internal.Listed.{is_listed}
+use Rattle.eden_moves.proofs.Seen.{enough, file_at-seen}
 
 -- ---- what a rule says
 

@@ -4,7 +4,6 @@ use Rattle.std.specs.Prelude.{IsSome, if◌then◌else◌}
 use Rattle.std.specs.Option.{option_or}
 use Rattle.std.specs.Ordering.{nat_cmp}
 use Rattle.std.specs.Cmp.Lexicographic.{slice_cmp}
-use Rattle.std.specs.List.{list_any}
 use Rattle.std.specs.FinMap as fin
 use Rattle.std.proofs.lemmas.Bool.{or_left, or_right}
 use Rattle.std.proofs.lemmas.List.Folds.{list_any-append}
@@ -15,10 +14,8 @@ use Rattle.eden_ids.proofs.FileMapLemmas.{file_at-tabulate, held, same_file_map}
 use Rattle.eden_history.specs.Carried.{carried}
 use Rattle.eden_history.proofs.CarriedLemmas.{carried-back, mapped}
 use Rattle.eden_moves.specs.Moves.{Entry, Moves, file_from, nearest, seen_by, seen_paths, seen_through, source_by, source_of}
+use Rattle.eden_moves.specs.internal.Listed.{is_listed}
 use Rattle.eden_moves.proofs.Nearest.{source_is}
-
-abbrev pub is_listed : List (List ℕ) → List ℕ → Bool
-is_listed ps p = list_any (λ q. same_path p q) ps
 
 no_file : {A : Type 0} → IsSome {T = Content} None → A
 no_file h = absurd (let bad : false ≡ true = h in cc)

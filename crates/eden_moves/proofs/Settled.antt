@@ -89,7 +89,7 @@ carried_texts files old new are there moved p file at = by (lies_below p new) (l
 
 -- ---- what is longer than a path
 
-no_long : (path : List ℕ) → IsPath path → 1024 < length path → ⊥
+pub no_long : (path : List ℕ) → IsPath path → 1024 < length path → ⊥
 no_long path is long =
     let short = (no_fault (nat_lt 1024 (length path)) TooLong _ (no_fault (length path == 0) Empty _ is).1).0 in
     let bad : length path ≤ 1024 = grind (arith, short) in

@@ -7,20 +7,19 @@ use Rattle.std.specs.List.{AllByRecursion, list_any, slice_index_or}
 use Rattle.std.specs.FinMap as fin
 use Rattle.std.proofs.lemmas.Bool.{and_parts, or_left, or_right}
 use Rattle.eden_ids.specs.declared.content.Content.{Content}
-use Rattle.eden_ids.specs.declared.content.Kind.{Kind}
-use Rattle.eden_ids.specs.declared.id.Id.{Id}
 use Rattle.eden_globs.specs.Filters.{admits}
 use Rattle.eden_ids.specs.Paths.{IsPath, lies_below}
 use Rattle.eden_ids.specs.FileMaps.{FileMap, PathSet, file_at, has, paths, same_path}
 use Rattle.eden_ids.specs.Texts.{AreTexts}
-use Rattle.eden_ids.proofs.FileMapLemmas.{same_path-is, same_path-refl, same_path_set, some_cond}
+use Rattle.eden_ids.proofs.FileMapLemmas.{same_path-is, same_path-refl, same_path_set}
 use Rattle.eden_history.specs.Carried.{carried}
 use Rattle.eden_history.proofs.CarriedLemmas.{carried-back, carried-below, carried_there, rest_below}
 use Rattle.eden_objects.specs.Passing.{told}
-use Rattle.eden_moves.specs.Moves.{Entry, Moves, file_from, is_governed, is_path, nearest, seen_through, source_by, unsettled}
-use Rattle.eden_moves.specs.internal.Unsettling.{IsWith, is_shown, is_unsettled_by, own_below, put_if, seen_below}
+use Rattle.eden_moves.specs.Moves.{Entry, Moves, by_bytes, file_from, is_governed, is_path, nearest, seen_through, source_by, unsettled}
+use Rattle.eden_moves.specs.internal.Unsettling.{is_shown, is_unsettled_by, own_below, put_if, seen_below}
 use Rattle.eden_moves.proofs.Nearest.{is_none as none_some, no}
-use Rattle.eden_moves.proofs.Seen.{file_at-seen, is_listed}
+use Rattle.eden_moves.specs.internal.Listed.{IsWith, Row, is_listed}
+use Rattle.eden_moves.proofs.Seen.{file_at-seen}
 use Rattle.eden_moves.proofs.Settled.{has-unsettled}
 use Rattle.eden_moves.proofs.Shifting.{both_ways}
 
@@ -142,11 +141,15 @@ places_below files seen source dir p =
 
 -- ---- one path more in a set
 
-pub has-more : (set : PathSet) (q p : List ℕ) → has (fin.insert set q tt) p ≡ (same_path p q || has set p)
-has-more set q p = ap is_some (fin.get-insert nat_list_cmp_total set q tt p) ∙ some_cond (same_path p q) (fin.get set p)
+pub has-more : {X : Type 0} (m : fin.FinMap by_bytes X) (q : List ℕ) (x : X) (p : List ℕ) → fin.contains_key (fin.insert m q x) p ≡ (same_path p q || fin.contains_key m p)
+has-more m q x p = ap is_some (fin.get-insert nat_list_cmp_total m q x p) ∙ one x (same_path p q) (fin.get m p)
+  where
+    one : {X : Type 0} (x : X) (b : Bool) (o : Option X) → is_some (cond b (Some x) o) ≡ (b || is_some o)
+    one x true o = refl
+    one x false o = refl
 
 pub has-put_if : (shown : Bool) (set : PathSet) (q p : List ℕ) → has (put_if shown set q) p ≡ ((same_path p q && shown) || has set p)
-has-put_if true set q p = has-more set q p ∙ ap (λ b. b || has set p) (sym (all (same_path p q)))
+has-put_if true set q p = has-more set q tt p ∙ ap (λ b. b || has set p) (sym (all (same_path p q)))
   where
     all : (b : Bool) → (b && true) ≡ b
     all true = refl
@@ -160,7 +163,7 @@ has-put_if false set q p = ap (λ b. b || has set p) (sym (none (same_path p q))
 -- ---- all entries
 
 -- a path of a file keeps the limits, and so it is one
-known_path : (files : FileMap) → AreTexts files → (p : List ℕ) → is_some (file_at files p) ≡ true → is_path p ≡ true
+pub known_path : (files : FileMap) → AreTexts files → (p : List ℕ) → is_some (file_at files p) ≡ true → is_path p ≡ true
 known_path files are p there = by (file_at files p) refl there
   where
     by : (o : Option Content) → file_at files p ≡ o → is_some o ≡ true → is_path p ≡ true
@@ -298,22 +301,18 @@ shuffled true true r = refl
 shuffled true false r = refl
 shuffled false h r = refl
 
-or-none : (b : Bool) → (b || false) ≡ b
+pub or-none : (b : Bool) → (b || false) ≡ b
 or-none true = refl
 or-none false = refl
-
--- a row of a listing
-abbrev pub Row : Type 0
-Row = List ℕ × Kind × Id
 
 abbrev pub marked : List Row → List (List ℕ)
 marked rows = map (λ row. row.0) rows
 
-pub one_own : (t next : PathSet) (row : Row) (rest : List Row) (p : List ℕ) → next ≡ fin.insert t row.0 tt
-    → (has next p || is_listed (marked rest) p) ≡ (has t p || is_listed (marked (row ∷ rest)) p)
-one_own t next row rest p is =
-    ap (λ n. has n p || is_listed (marked rest) p) is ∙ ap (λ b. b || is_listed (marked rest) p) (has-more t row.0 p)
-    ∙ shuffled (same_path p row.0) (has t p) (is_listed (marked rest) p)
+pub one_own : {X : Type 0} (t next : fin.FinMap by_bytes X) (x : X) (row : Row) (rest : List Row) (p : List ℕ) → next ≡ fin.insert t row.0 x
+    → (fin.contains_key next p || is_listed (marked rest) p) ≡ (fin.contains_key t p || is_listed (marked (row ∷ rest)) p)
+one_own t next x row rest p is =
+    ap (λ n. fin.contains_key n p || is_listed (marked rest) p) is ∙ ap (λ b. b || is_listed (marked rest) p) (has-more t row.0 x p)
+    ∙ shuffled (same_path p row.0) (fin.contains_key t p) (is_listed (marked rest) p)
 
 pub one_seen : (seen : FileMap) (source dir : List ℕ) (t next : PathSet) (row : Row) (rest : List Row) (p : List ℕ)
     → next ≡ put_if (is_shown seen (carried source dir row.0)) t (carried source dir row.0)

@@ -108,6 +108,10 @@ is_governed moves path = list_any (λ top. lies_below path top) (fin.keys moves)
 abbrev pub is_path : List ℕ → Bool
 is_path bytes = is_none (path_fault bytes)
 
+-- the files that stand at paths
+abbrev pub at_paths : FileMap → FileMap
+at_paths files = fin.retain_keys files is_path
+
 -- the paths, of the commit's files and of those that are seen, that an entry governs: at each other path the commit's own file is seen
 unfoldable pub unsettled : FileMap → Moves → PathSet
 unsettled files moves = fin.retain_keys (path_set (paths files ++ paths (seen_through files moves))) (λ path. is_governed moves path && is_path path)

@@ -1,4 +1,5 @@
 -- What the implementation alone speaks of.
+pub mod Listed
 pub mod Regions
 pub mod Shifted
 pub mod Told

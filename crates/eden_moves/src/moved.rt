@@ -1,17 +1,21 @@
 //! A commit over which directories were renamed, asked for its files as they are seen.
 
-ghost use Rattle.std.specs.Prelude.{◌≡◌, ◌++◌, ◌&&◌, not};
+ghost use Rattle.std.specs.Prelude.{◌≡◌, ◌++◌, ◌&&◌, IfOk, filter, map, not};
 ghost use Rattle.std.specs.List.{list_any};
 ghost use Rattle.eden_ids.specs.FileMaps.{file_at, lent, paths};
 ghost use Rattle.eden_ids.specs.Paths.{lies_below};
-ghost use Rattle.eden_moves.specs.Moves.{seen_through};
+ghost use Rattle.eden_globs.specs.Filters.{admits};
+ghost use Rattle.eden_moves.specs.Moves.{at_paths, seen_through};
 
+use crate::listing::{list_all, list_below};
 use crate::moves::Moves;
+use crate::parts::joined;
 use crate::searching::has_below_but;
 use crate::source::Source;
-use arrayvec::ArrayVec;
-use eden_ids::{Kind, Naming, Path};
-use eden_objects::{Commit, Passes};
+use eden_globs::Filter;
+use eden_ids::{FileTree, Id, Kind, Naming, NoMemory, Path};
+use eden_objects::{Commit, Nothing, Passes};
+use std::alloc::Global;
 use std::marker::Model;
 
 /// A commit over which directories were renamed.
@@ -46,14 +50,10 @@ fn file_behind<'a, N: Naming + Drop>(
     ensures { lent result ≡ file_at commit.now (front.now ++ rest.now) }
 {
     commit.texts_law();
-    let mut path: ArrayVec<u8, 1024> = ArrayVec::new();
-    if path.try_extend_from_slice(front).is_err() {
-        return None;
+    match joined(front, rest) {
+        Some(path) => commit.file(path.as_slice()),
+        None => None,
     }
-    if path.try_extend_from_slice(rest).is_err() {
-        return None;
-    }
-    commit.file(path.as_slice())
 }
 
 /// The file of a commit that is seen at a path through renamed directories.
@@ -96,5 +96,42 @@ impl<'a, N: Naming + Drop> Moved<'a, N> {
         ensures { result ≡ list_any (λ p. lies_below p top.now && not (S.passes passed.now p)) (paths self.now) }
     {
         has_below_but(&self.commit, self.moves, top, passed)
+    }
+
+    /// The files that are seen at paths and that a filter admits, each with its path, its kind and its blob, in byte order of the paths.
+    ///
+    /// `NoMemory` comes where a growth was refused. Each directory is read once for each place at which it is seen, but for those below which
+    /// the filter admits nothing (`Filter::admits_below`). Where no directory was renamed it is the commit's own list; else the rows are put
+    /// in order by one sort, and none of their paths is copied.
+    pub fn list(&self, alloc: Global, wanted: &Filter) -> Result<Vec<(Path, Kind, Id)>, NoMemory>
+        ensures { IfOk result (λ rows. map (λ row. row.0) rows.items ≡ filter (admits wanted.now) (paths (at_paths self.now))) }
+    {
+        list_all(alloc, &self.commit, self.moves, wanted)
+    }
+
+    /// The same of those below a directory alone: of the commit the directories on the way are searched and those that are seen below it are
+    /// read, and no others. Rows are put in order where a further directory below it was renamed, and else they come so.
+    pub fn list_below(
+        &self,
+        alloc: Global,
+        top: &Path,
+        wanted: &Filter,
+    ) -> Result<Vec<(Path, Kind, Id)>, NoMemory>
+        ensures { IfOk result (λ rows. map (λ row. row.0) rows.items
+            ≡ filter (admits wanted.now) (filter (λ p. lies_below p top.now) (paths (at_paths self.now)))) }
+    {
+        list_below(alloc, &self.commit, self.moves, top, wanted)
+    }
+}
+
+impl<'a, N: Naming + Drop> FileTree for Moved<'a, N> {
+    ghost files = { λ moved. moved };
+
+    fn file(&self, path: &[u8]) -> Option<(Kind, &[u8])> {
+        Moved::file(self, path)
+    }
+
+    fn has_file_below(&self, path: &Path) -> bool {
+        self.has_below_but(path, &Nothing)
     }
 }

@@ -1,61 +1,19 @@
 //! A search for a file that is seen below a directory and is not passed over.
 
-ghost use Rattle.std.specs.Prelude.{◌≡◌, ◌++◌, ◌&&◌, ℕ, List, Some, filter, length, not, true};
+ghost use Rattle.std.specs.Prelude.{◌≡◌, ◌++◌, ◌&&◌, Some, filter, length, not};
 ghost use Rattle.std.specs.FinMap as fin;
 ghost use Rattle.std.specs.List.{list_any};
 ghost use Rattle.eden_ids.specs.FileMaps.{paths};
 ghost use Rattle.eden_ids.specs.Paths.{lies_below};
-ghost use Rattle.eden_moves.specs.Moves.{nearest, seen_through, source_of};
-ghost use Rattle.eden_moves.specs.internal.Regions.{is_apart, is_past, region_has, seen_dir};
+ghost use Rattle.eden_moves.specs.Moves.{seen_through, source_of};
+ghost use Rattle.eden_moves.specs.internal.Regions.{is_apart, region_has, seen_dir};
 
 use crate::moves::Moves;
+use crate::parts::joined;
+use crate::region::Region;
 use crate::source::Source;
-use arrayvec::ArrayVec;
 use eden_ids::{Naming, Path, paths_below};
 use eden_objects::{Commit, Passes};
-
-/// Whether the nearest directory above a path of which something is said is a longer path than so many bytes.
-fn is_past(moves: &Moves, path: &[u8], long: usize) -> bool
-    ensures { result ≡ is_past long (nearest (fin.entries moves.now) path.now) }
-{
-    match moves.nearest(path) {
-        Some((at, _)) => at > long,
-        None => false,
-    }
-}
-
-/// Whether that is so of all paths below a directory, since something is said of it, or of a directory above it.
-fn is_past_below(moves: &Moves, directory: &[u8], long: usize) -> bool
-    ensures { result ≡ true → (path : List ℕ) → lies_below path directory.now ≡ true → is_past long (nearest (fin.entries moves.now) path) ≡ true }
-{
-    if directory.len() > long && moves.get(directory).is_some() {
-        return true;
-    }
-    is_past(moves, directory, long)
-}
-
-/// What the search of one directory's files passes over: what its caller does, and what is seen by a further directory.
-#[derive(Drop)]
-struct Region<'r, S: Passes> {
-    moves: &'r Moves,
-    /// How many bytes the directory's path has.
-    long: usize,
-    passed: &'r S,
-}
-
-impl<'r, S: Passes> Passes for Region<'r, S> {
-    ghost use Rattle.eden_moves.specs.internal.Regions.{is_apart};
-
-    ghost passes = { λ region path. is_apart region.moves.now region.long (S.passes region.passed.now) path };
-
-    fn passes_file(&self, path: &[u8]) -> bool {
-        self.passed.passes_file(path) || is_past(self.moves, path, self.long)
-    }
-
-    fn passes_below(&self, directory: &[u8]) -> bool {
-        self.passed.passes_below(directory) || is_past_below(self.moves, directory, self.long)
-    }
-}
 
 /// Whether a file below a directory of the commit is seen below another, and not passed over.
 fn has_in<N: Naming + Drop, S: Passes>(
@@ -87,14 +45,10 @@ fn has_behind<N: Naming + Drop, S: Passes>(
     ensures { result ≡ region_has (is_apart moves.now (length top.now) (S.passes passed.now)) commit.now (Some (front.now ++ rest.now)) top.now }
 {
     commit.texts_law();
-    let mut source: ArrayVec<u8, 1024> = ArrayVec::new();
-    if source.try_extend_from_slice(front).is_err() {
-        return false;
+    match joined(front, rest) {
+        Some(source) => has_in(commit, moves, source.as_slice(), top, passed),
+        None => false,
     }
-    if source.try_extend_from_slice(rest).is_err() {
-        return false;
-    }
-    has_in(commit, moves, source.as_slice(), top, passed)
 }
 
 /// The same of what is seen at a directory by those above it.

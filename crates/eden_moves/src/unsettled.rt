@@ -5,7 +5,8 @@ ghost use Rattle.eden_ids.specs.FileMaps.{listing, paths};
 ghost use Rattle.eden_ids.specs.Paths.{lies_below};
 ghost use Rattle.eden_history.specs.Carried.{carried};
 ghost use Rattle.eden_moves.specs.Moves.{seen_through, unsettled};
-ghost use Rattle.eden_moves.specs.internal.Unsettling.{IsWith, is_shown, is_unsettled_by, own_below, put_if, seen_below};
+ghost use Rattle.eden_moves.specs.internal.Listed.{IsWith};
+ghost use Rattle.eden_moves.specs.internal.Unsettling.{is_shown, is_unsettled_by, own_below, put_if, seen_below};
 
 use crate::moved::file_through;
 use crate::moves::Moves;

@@ -1,8 +1,8 @@
 -- The unsettled paths, entry by entry.
-use Rattle.std.specs.Prelude.{◌≡◌, ℕ, Bool, false, if◌then◌else◌, ◌&&◌, ◌||◌, List, Some, None, is_some}
+use Rattle.std.specs.Prelude.{ℕ, Bool, false, if◌then◌else◌, ◌&&◌, ◌||◌, List, Some, None, is_some}
 use Rattle.std.specs.FinMap as fin
 use Rattle.eden_ids.specs.Paths.{lies_below}
-use Rattle.eden_ids.specs.FileMaps.{FileMap, PathSet, file_at, has}
+use Rattle.eden_ids.specs.FileMaps.{FileMap, PathSet, file_at}
 use Rattle.eden_history.specs.Carried.{carried}
 use Rattle.eden_moves.specs.Moves.{Entry, is_path}
 
@@ -24,7 +24,3 @@ seen_below files seen (dir, Some source) path = lies_below path dir && (is_shown
 
 abbrev pub is_unsettled_by : FileMap → FileMap → List ℕ → Entry → Bool
 is_unsettled_by files seen path e = own_below files e.0 path || seen_below files seen e path
-
--- the set with what passes a test
-abbrev pub IsWith : (List ℕ → Bool) → PathSet → PathSet → Type 0
-IsWith test set next = (path : List ℕ) → has next path ≡ (has set path || test path)

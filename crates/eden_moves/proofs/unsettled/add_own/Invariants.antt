@@ -1,6 +1,6 @@
 use Rattle.std.proofs.Common.{◌≡◌, ℕ, List, ◌||◌, drop}
 use Rattle.eden_ids.specs.FileMaps.{has}
-use Rattle.eden_moves.proofs.Seen.{is_listed}
+use Rattle.eden_moves.specs.internal.Listed.{is_listed}
 use Rattle.eden_moves.proofs.Unsettling.{marked}
 use Rattle.eden_moves.proofs.unsettled.add_own.Given as goal
 

@@ -1,8 +1,9 @@
-use Rattle.std.proofs.Common.{◌≡◌, true, length, ap, sym, ◌∙◌, arith}
+use Rattle.std.proofs.Common.{◌≡◌, length, ap, sym, ◌∙◌}
 use Rattle.std.specs.Ordering.{nat_cmp}
 use Rattle.std.specs.Cmp.Lexicographic.{slice_cmp}
 use Rattle.std.specs.Prelude.{ℕ, List, Option, ◌==◌}
 use Rattle.std.specs.FinMap as fin
+use Rattle.eden_moves.proofs.InOrder.{none_there}
 use Rattle.eden_moves.proofs.moves.Moves.is_empty.Goals as goal
 
 pub returns : goal.returns
@@ -14,6 +15,3 @@ returns c =
       λ empty.
           c.is_empty.ensures ∙ ap (λ n. n == 0) (many ∙ ap fin.len empty ∙ fin.len-empty (slice_cmp nat_cmp) (Option (List ℕ))),
     )
-  where
-    none_there : (n : ℕ) → (n == 0) ≡ true → n ≡ 0
-    none_there n is = grind (arith, is)

@@ -1,6 +1,6 @@
 use Rattle.std.proofs.Common.{rules, ◌≡◌, ◌<◌, true, is_some, length, sym, ◌∙◌}
 use Rattle.eden_moves.proofs.Regions.{past_some, past_told}
-use Rattle.eden_moves.proofs.searching.is_past_below.Goals as goal
+use Rattle.eden_moves.proofs.region.is_past_below.Goals as goal
 
 pub returns-then-is_some : goal.returns-then-is_some
 returns-then-is_some c = λ holds path below.

@@ -1,0 +1,269 @@
+-- No path is listed by two directories. So what all of them list, put in order, is the whole list.
+use Rattle.std.proofs.Common.{◌≡◌, ℕ, suc, ◌+◌, ◌<◌, Bool, true, false, cond, not, ◌&&◌, ◌||◌, nat_lt, List, [], ◌∷◌, ◌++◌, map, length, Option, Some, None, is_some, refl, sym, ap, subst, ◌∙◌, arith}
+use Rattle.std.proofs.Math.ListN.{get_or}
+use Rattle.std.specs.Prelude.{filter}
+use Rattle.std.specs.declared.cmp.Ordering.TheVariants.{Less, Equal, Greater}
+use Rattle.std.specs.Ordering.{is_eq, is_lt, ordering_reverse}
+use Rattle.std.specs.Cmp.Lexicographic.{nat_list_cmp_total}
+use Rattle.std.specs.List.{AllByRecursion, IsDistinct, flat_map, list_any}
+use Rattle.std.specs.List.Sorted.{IsPermutation, IsStrictlySortedBy}
+use Rattle.std.specs.FinMap as fin
+use Rattle.std.proofs.lemmas.Bool.{and_parts, or_left, or_right}
+use Rattle.std.proofs.lemmas.List.Folds.{list_any-append}
+use Rattle.std.proofs.lemmas.List.Kept.{IsStrictlySortedBy-filter}
+use Rattle.std.proofs.lemmas.List.Sorted.{list_any-IsPermutation}
+use Rattle.std.proofs.lemmas.Map.Keys.{IsDistinct-IsPermutation, IsDistinct-from_sorted}
+use Rattle.std.proofs.lemmas.Map.Made.{IsDistinct-keys_filter}
+use Rattle.eden_globs.specs.Filters.{admits}
+use Rattle.eden_ids.specs.Paths.{lies_below}
+use Rattle.eden_ids.specs.FileMaps.{FileMap, paths, same_path}
+use Rattle.eden_ids.specs.Texts.{AreTexts}
+use Rattle.eden_ids.proofs.ByteOrder.{fin_keys_rise, order}
+use Rattle.eden_ids.proofs.FileMapLemmas.{same_path-is, same_path-refl, same_path-turned}
+use Rattle.eden_ids.proofs.Members.{all_joined}
+use Rattle.eden_ids.proofs.Sifted.{keys-sifted, sifted}
+use Rattle.eden_ids.proofs.TreeMaps.{entries_found}
+use Rattle.eden_ids.proofs.TreeQuestions.{any_witness}
+use Rattle.eden_history.proofs.CarriedLemmas.{carried-below}
+use Rattle.eden_objects.specs.Passing.{is_shown, told}
+use Rattle.eden_moves.specs.Moves.{Entry, Moves, at_paths, is_governed, is_path, nearest, seen_through}
+use Rattle.eden_moves.specs.internal.Listed.{AreInOrder, Row, is_listed, shown_by}
+use Rattle.eden_moves.specs.internal.Regions.{is_apart, is_past, seen_dir}
+use Rattle.eden_moves.proofs.InOrder.{shown_rises, told_by_members}
+use Rattle.eden_moves.proofs.Listed.{all_but, all_known, below_known, shown_in}
+use Rattle.eden_moves.proofs.Nearest.{nearest-is, no, one_nearest}
+use Rattle.eden_moves.proofs.Regions.{governed_near, longer, negated, neither, none_nearer}
+use Rattle.eden_moves.proofs.Unsettling.{marked}
+
+unless : (b : Bool) → (b ≡ true → ⊥) → b ≡ false
+unless true bad = absurd (bad refl)
+unless false bad = refl
+
+-- ---- lists in which no path stands twice
+
+none_listed : (p : List ℕ) (ps : List (List ℕ)) → is_listed ps p ≡ false → AllByRecursion (λ q. same_path p q ≡ false) ps
+none_listed p [] none = tt
+none_listed p (q ∷ ps) none = let parts = neither (same_path p q) (is_listed ps p) none in (parts.0, none_listed p ps parts.1)
+
+joined_distinct : (ps qs : List (List ℕ)) → IsDistinct same_path ps → IsDistinct same_path qs → ((p : List ℕ) → is_listed ps p ≡ true → is_listed qs p ≡ false)
+    → IsDistinct same_path (ps ++ qs)
+unfolding IsDistinct
+joined_distinct [] qs one other apart = other
+joined_distinct (p ∷ ps) qs one other apart = (
+  all_joined (λ q. same_path p q ≡ false) ps qs one.0 (none_listed p qs (apart p (or_left (same_path p p) (is_listed ps p) (same_path-refl p)))),
+  joined_distinct ps qs one.1 other (λ q listed. apart q (or_right (same_path q p) (is_listed ps q) listed)),
+)
+
+-- ---- put in order they rise
+
+all_rows : (P : List ℕ → Type 0) (rows : List Row) → AllByRecursion P (marked rows) → AllByRecursion (λ row. P row.0) rows
+all_rows P [] all = tt
+all_rows P (row ∷ rows) all = (all.0, all_rows P rows all.1)
+
+abbrev same_row : Row → Row → Bool
+same_row one other = same_path one.0 other.0
+
+distinct_rows : (rows : List Row) → IsDistinct same_path (marked rows) → IsDistinct same_row rows
+unfolding IsDistinct
+distinct_rows [] apart = tt
+distinct_rows (row ∷ rows) apart = (all_rows (λ q. same_path row.0 q ≡ false) rows apart.0, distinct_rows rows apart.1)
+
+strictly : (p q : List ℕ) → is_lt (order q p) ≡ false → same_path p q ≡ false → order p q ≡ Less
+strictly p q high apart =
+    elim (order p q) as (λ o. order p q ≡ o → o ≡ Less) [
+      | Less ↦ λ is. refl
+      | Equal ↦ λ is. no (sym (ap is_eq is) ∙ apart)
+      | Greater ↦ λ is. no (sym (ap is_lt (nat_list_cmp_total.antisymm q p ∙ ap ordering_reverse is)) ∙ high)
+    ] refl
+
+all_later : (p q : List ℕ) (rows : List Row) → order p q ≡ Less → AllByRecursion (λ r. order q r ≡ Less) (marked rows) → AllByRecursion (λ r. order p r ≡ Less) (marked rows)
+all_later p q [] before all = tt
+all_later p q (row ∷ rows) before all = (nat_list_cmp_total.trans p q row.0 before all.0, all_later p q rows before all.1)
+
+rows_rise : (rows : List Row) → AreInOrder rows → IsDistinct same_row rows → IsStrictlySortedBy order (marked rows)
+unfolding IsDistinct IsStrictlySortedBy
+rows_rise [] up apart = tt
+rows_rise (row ∷ []) up apart = (tt, tt)
+rows_rise (row ∷ next ∷ rows) up apart =
+    let rest = rows_rise (next ∷ rows) (λ k d low within. let place : suc k + 1 ≡ suc (k + 1) = omega arith in
+    subst (λ n. is_lt (order (get_or (row ∷ next ∷ rows) n d).0 (get_or (next ∷ rows) k d).0) ≡ false) place (up (suc k) d (omega arith) (omega (arith, within)))) apart.1 in
+    let before : order row.0 next.0 ≡ Less = strictly row.0 next.0 (up 0 row (omega arith) (omega arith)) apart.0.0 in
+    ((before, all_later row.0 next.0 rows before rest.0), rest)
+
+ordered_rise : (rows next : List Row) → IsPermutation rows next → AreInOrder next → IsDistinct same_path (marked rows) → IsStrictlySortedBy order (marked next)
+ordered_rise rows next same up apart =
+    rows_rise next up (IsDistinct-IsPermutation same_row (λ one other. same_path-turned one.0 other.0) rows next same (distinct_rows rows apart))
+
+row_listed : (rows : List Row) (p : List ℕ) → is_listed (marked rows) p ≡ list_any (λ (row : Row). same_path p row.0) rows
+row_listed [] p = refl
+row_listed (row ∷ rows) p = ap (λ b. same_path p row.0 || b) (row_listed rows p)
+
+as_listed : (rows next : List Row) (p : List ℕ) → IsPermutation rows next → is_listed (marked next) p ≡ is_listed (marked rows) p
+as_listed rows next p same =
+    row_listed next p ∙ sym (list_any-IsPermutation (λ (row : Row). same_path p row.0) rows next same) ∙ sym (row_listed rows p)
+
+-- ---- what the directories list
+
+module _ (files : FileMap) (moves : Moves) (patterns : List (List ℕ)) where
+  abbrev shows : Entry → List (List ℕ)
+  shows = shown_by files moves patterns
+
+  -- it lies below the directory, and no nearer one is above it
+  shown_near : (p top : List ℕ) (o : Option (List ℕ)) → is_listed (shows (top, o)) p ≡ true → (lies_below p top ≡ true) × (is_past (length top) (nearest (fin.entries moves) p) ≡ false)
+  shown_near p top None listed = no (sym listed)
+  shown_near p top (Some source) listed =
+      let found = any_witness (λ q. lies_below q source && not (is_apart moves (length top) (all_but patterns p) (told source top q))) (paths files)
+      (sym (shown_in files moves patterns p (top, Some source)) ∙ listed) in
+      let q : List ℕ = found.0 in
+      let t : List ℕ = told source top q in
+      let parts = and_parts (lies_below q source) (not (is_apart moves (length top) (all_but patterns p) t)) found.2 in
+      let kept = neither (all_but patterns p t) (is_past (length top) (nearest (fin.entries moves) t)) (negated _ parts.1) in
+      let same : t ≡ p = sym (same_path-is p t (and_parts (same_path p t) (is_path t && admits patterns t) (doubled (same_path p t && (is_path t && admits patterns t)) kept.0)).0) in (
+        ap (λ r. lies_below r top) (sym same) ∙ carried-below source top q parts.0,
+        ap (λ r. is_past (length top) (nearest (fin.entries moves) r)) (sym same) ∙ kept.1,
+      )
+    where
+      doubled : (b : Bool) → not b ≡ false → b ≡ true
+      doubled true none = refl
+      doubled false none = no none
+
+  -- so the directory is the nearest one above it
+  abbrev Said : List Entry → Type 0
+  Said es = AllByRecursion (λ e. fin.get moves e.0 ≡ Some e.1) es
+
+  near_shown : (p : List ℕ) (e : Entry) → fin.get moves e.0 ≡ Some e.1 → is_listed (shows e) p ≡ true → nearest (fin.entries moves) p ≡ Some e
+  near_shown p e said listed =
+      let near = shown_near p e.0 e.1 listed in
+      one_nearest moves p (nearest (fin.entries moves) p) (Some e) (nearest-is moves p) (said, near.0, none_nearer moves p e.0 near.1)
+
+  -- and where none of these is, none lists it
+  not_shown : (p : List ℕ) (es : List Entry) → Said es → AllByRecursion (λ e. nearest (fin.entries moves) p ≡ Some e → ⊥) es → is_listed (flat_map shows es) p ≡ false
+  not_shown p [] said others = refl
+  not_shown p (e ∷ es) said others =
+      let here : is_listed (shows e) p ≡ false = unless _ (λ listed. others.0 (near_shown p e said.0 listed)) in
+      list_any-append (λ q. same_path p q) (shows e) (flat_map shows es) ∙ (λ i. here i || not_shown p es said.1 others.1 i)
+
+  one_distinct : (e : Entry) → IsDistinct same_path (shows e)
+  one_distinct e = IsDistinct-from_sorted order (shows e) (shown_rises files moves patterns e)
+
+  entry_of : (p : List ℕ) (e f : Entry) → nearest (fin.entries moves) p ≡ Some e → nearest (fin.entries moves) p ≡ Some f → e ≡ f
+  entry_of p e f x y = let both : Some e ≡ Some f = sym x ∙ y in cc
+
+  others : (p : List ℕ) (e : Entry) (es : List Entry) → nearest (fin.entries moves) p ≡ Some e → AllByRecursion (λ d. same_path e.0 d ≡ false) (map (λ f. f.0) es)
+      → AllByRecursion (λ f. nearest (fin.entries moves) p ≡ Some f → ⊥) es
+  others p e [] near apart = tt
+  others p e (f ∷ es) near apart =
+      ((λ other. no (sym (same_path-refl e.0) ∙ ap (λ (g : Entry). same_path e.0 g.0) (entry_of p e f near other) ∙ apart.0)), others p e es near apart.1)
+
+  all_distinct : (es : List Entry) → Said es → IsDistinct same_path (map (λ e. e.0) es) → IsDistinct same_path (flat_map shows es)
+  unfolding IsDistinct
+  all_distinct [] said apart = tt
+  all_distinct (e ∷ es) said apart =
+      joined_distinct (shows e) (flat_map shows es) (one_distinct e) (all_distinct es said.1 apart.1)
+      (λ p listed. not_shown p es said.1 (others p e es (near_shown p e said.0 listed) apart.0))
+
+  keys_distinct : IsDistinct same_path (map (λ e. e.0) (fin.entries moves))
+  keys_distinct = IsDistinct-from_sorted order (fin.keys moves) (fin_keys_rise moves)
+
+  flat_listed : (es : List Entry) (p : List ℕ) → is_listed (flat_map shows es) p ≡ list_any (λ e. is_listed (shows e) p) es
+  flat_listed [] p = refl
+  flat_listed (e ∷ es) p = list_any-append (λ q. same_path p q) (shows e) (flat_map shows es) ∙ ap (λ b. is_listed (shows e) p || b) (flat_listed es p)
+
+  both_listed : (ps : List (List ℕ)) (es : List Entry) (rows next : List Row) (p : List ℕ) → IsPermutation rows next → marked rows ≡ ps ++ flat_map shows es
+      → is_listed (marked next) p ≡ (is_listed ps p || list_any (λ e. is_listed (shows e) p) es)
+  both_listed ps es rows next p same is =
+      as_listed rows next p same ∙ ap (λ qs. is_listed qs p) is
+      ∙ list_any-append (λ q. same_path p q) ps (flat_map shows es)
+      ∙ ap (λ b. is_listed ps p || b) (flat_listed es p)
+
+  -- ---- below a directory
+
+  abbrev further : List ℕ → List Entry → List Entry
+  further top es = filter (λ (e : Entry). lies_below e.0 top) es
+
+  said_further : (top : List ℕ) (es : List Entry) → Said es → Said (further top es)
+  said_further top [] said = tt
+  said_further top (e ∷ es) said = elim (lies_below e.0 top) as (λ b. Said (cond b (e ∷ further top es) (further top es))) [
+    | true ↦ (said.0, said_further top es said.1)
+    | false ↦ said_further top es said.1
+  ]
+
+  -- no further directory is the nearest one above what is seen by the directory itself
+  none_further : (p top : List ℕ) (es : List Entry) → is_past (length top) (nearest (fin.entries moves) p) ≡ false
+      → AllByRecursion (λ f. nearest (fin.entries moves) p ≡ Some f → ⊥) (further top es)
+  none_further p top [] near = tt
+  none_further p top (e ∷ es) near = by (lies_below e.0 top) refl (none_further p top es near)
+    where
+      by : (b : Bool) → lies_below e.0 top ≡ b → AllByRecursion (λ f. nearest (fin.entries moves) p ≡ Some f → ⊥) (further top es)
+          → AllByRecursion (λ f. nearest (fin.entries moves) p ≡ Some f → ⊥) (cond b (e ∷ further top es) (further top es))
+      by false out rest = rest
+      by true below rest = (
+        (λ is. let more : length top < length e.0 = longer e.0 top below in
+            let past : nat_lt (length top) (length e.0) ≡ false = sym (ap (is_past (length top)) is) ∙ near in
+            absurd (grind (arith, more, past))),
+        rest,
+      )
+
+  put_below : (top : List ℕ) (rows next : List Row) → IsPermutation rows next → AreInOrder next
+      → marked rows ≡ shows (top, seen_dir moves top) ++ flat_map shows (further top (fin.entries moves))
+      → marked next ≡ filter (admits patterns) (filter (λ p. lies_below p top) (paths (at_paths (seen_through files moves))))
+  put_below top rows next same up is =
+      let seen = at_paths (seen_through files moves) in
+      let es : List Entry = further top (fin.entries moves) in
+      let own : List (List ℕ) = shows (top, seen_dir moves top) in
+      let apart : IsDistinct same_path (own ++ flat_map shows es) =
+      joined_distinct own (flat_map shows es) (one_distinct (top, seen_dir moves top))
+      (all_distinct es (said_further top (fin.entries moves) (entries_found moves)) (IsDistinct-keys_filter same_path (λ e. lies_below e.0 top) (fin.entries moves) keys_distinct))
+      (λ p listed. not_shown p es (said_further top (fin.entries moves) (entries_found moves)) (none_further p top (fin.entries moves) (shown_near p top (seen_dir moves top) listed).1)) in
+      told_by_members (marked next) (sifted seen (λ p. lies_below p top)) (admits patterns)
+      (ordered_rise rows next same up (subst (IsDistinct same_path) (sym is) apart))
+      (λ p. both_listed own es rows next p same is ∙ below_known files moves patterns top p)
+      ∙ ap (filter (admits patterns)) (keys-sifted seen (λ p. lies_below p top))
+
+  pub below_ordered : (top : List ℕ) (rows next : List Row) (first : List (List ℕ)) (es : List Entry) → IsPermutation rows next → AreInOrder next
+      → first ≡ shows (top, seen_dir moves top) → es ≡ filter (λ (e : Entry). lies_below e.0 top) (fin.entries moves) → marked rows ≡ first ++ flat_map shows es
+      → marked next ≡ filter (admits patterns) (filter (λ p. lies_below p top) (paths (at_paths (seen_through files moves))))
+  below_ordered top rows next first es same up own more is =
+      put_below top rows next same up (is ∙ (λ i. own i ++ flat_map shows (more i)))
+
+  -- ---- at all places
+
+  abbrev unmoved : List (List ℕ)
+  unmoved = filter (is_shown (is_governed moves) patterns) (paths files)
+
+  not_governed : (p : List ℕ) (ps : List (List ℕ)) → is_listed (filter (is_shown (is_governed moves) patterns) ps) p ≡ true → is_governed moves p ≡ false
+  not_governed p [] listed = no (sym listed)
+  not_governed p (q ∷ ps) listed = by (is_shown (is_governed moves) patterns q) refl listed (not_governed p ps)
+    where
+      here : (b : Bool) → same_path p q ≡ b → is_shown (is_governed moves) patterns q ≡ true → (b || is_listed (filter (is_shown (is_governed moves) patterns) ps) p) ≡ true
+          → (is_listed (filter (is_shown (is_governed moves) patterns) ps) p ≡ true → is_governed moves p ≡ false) → is_governed moves p ≡ false
+      here true same shown listed rest = ap (is_governed moves) (same_path-is p q same) ∙ negated _ (and_parts (not (is_governed moves q)) (admits patterns q) shown).0
+      here false same shown listed rest = rest listed
+
+      by : (b : Bool) → is_shown (is_governed moves) patterns q ≡ b → is_listed (cond b (q ∷ filter (is_shown (is_governed moves) patterns) ps) (filter (is_shown (is_governed moves) patterns) ps)) p ≡ true
+          → (is_listed (filter (is_shown (is_governed moves) patterns) ps) p ≡ true → is_governed moves p ≡ false) → is_governed moves p ≡ false
+      by true shown listed rest = here (same_path p q) refl shown listed rest
+      by false shown listed rest = rest listed
+
+  none_governs : (p : List ℕ) (es : List Entry) → is_governed moves p ≡ false → AllByRecursion (λ f. nearest (fin.entries moves) p ≡ Some f → ⊥) es
+  none_governs p [] free = tt
+  none_governs p (e ∷ es) free = ((λ is. no (sym (governed_near moves p ∙ ap is_some is) ∙ free)), none_governs p es free)
+
+  put_all : (rows next : List Row) → AreTexts files → IsPermutation rows next → AreInOrder next → marked rows ≡ unmoved ++ flat_map shows (fin.entries moves)
+      → marked next ≡ filter (admits patterns) (paths (at_paths (seen_through files moves)))
+  put_all rows next are same up is =
+      let es : List Entry = fin.entries moves in
+      let own : IsDistinct same_path unmoved =
+      IsDistinct-from_sorted order unmoved (IsStrictlySortedBy-filter order (is_shown (is_governed moves) patterns) (paths files) (fin_keys_rise files)) in
+      let apart : IsDistinct same_path (unmoved ++ flat_map shows es) =
+      joined_distinct unmoved (flat_map shows es) own (all_distinct es (entries_found moves) keys_distinct)
+      (λ p listed. not_shown p es (entries_found moves) (none_governs p es (not_governed p (paths files) listed))) in
+      told_by_members (marked next) (at_paths (seen_through files moves)) (admits patterns)
+      (ordered_rise rows next same up (subst (IsDistinct same_path) (sym is) apart))
+      (λ p. both_listed unmoved es rows next p same is ∙ all_known files moves patterns p are)
+
+  pub all_ordered : (rows next : List Row) (first : List (List ℕ)) (es : List Entry) → AreTexts files → IsPermutation rows next → AreInOrder next
+      → first ≡ filter (is_shown (is_governed moves) patterns) (paths files) → es ≡ fin.entries moves → marked rows ≡ first ++ flat_map shows es
+      → marked next ≡ filter (admits patterns) (paths (at_paths (seen_through files moves)))
+  all_ordered rows next first es are same up own more is =
+      put_all rows next are same up (is ∙ (λ i. own i ++ flat_map shows (more i)))

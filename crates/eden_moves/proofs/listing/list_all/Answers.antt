@@ -1,0 +1,20 @@
+use Rattle.std.proofs.Common.{◌≡◌, map, IfOk, sym, ap, subst, ◌∙◌}
+use Rattle.std.specs.Prelude.{filter}
+use Rattle.eden_globs.specs.Filters.{admits}
+use Rattle.eden_ids.specs.FileMaps.{paths}
+use Rattle.eden_moves.specs.Moves.{at_paths, seen_through}
+use Rattle.eden_moves.proofs.Apart.{all_ordered}
+use Rattle.eden_moves.proofs.Seen.{seen-unmoved}
+use Rattle.eden_moves.proofs.listing.list_all.Goals as goal
+
+pub returns-then-is_empty : goal.returns-then-is_empty
+returns-then-is_empty g c =
+    subst (λ files. IfOk c.list_unmoved.result (λ rows. map (λ row. row.0) rows.items ≡ filter (admits c.args.wanted.now) (paths (at_paths files))))
+    (sym (ap (seen_through c.args.commit.now) (c.is_empty.ensures.0 c.if-is_empty.true) ∙ seen-unmoved c.args.commit.now))
+    c.list_unmoved.ensures
+
+pub returns : goal.returns
+returns g c =
+    all_ordered c.args.commit.now c.args.moves.now c.args.wanted.now c.add_seen_by.new.rows.items c.sort_rows.new.rows.items _ _
+    c.texts_law.ensures c.in_ok-sort_rows.ensures.same c.in_ok-sort_rows.ensures.sorted
+    c.in_ok-rows.ensures c.entries.ensures c.in_ok-add_seen_by.ensures

@@ -1,0 +1,106 @@
+//! What a search or a list of one directory's files passes over.
+
+ghost use Rattle.std.specs.Prelude.{◌≡◌, ℕ, List, true};
+ghost use Rattle.std.specs.FinMap as fin;
+ghost use Rattle.eden_ids.specs.Paths.{lies_below};
+ghost use Rattle.eden_moves.specs.Moves.{is_governed, nearest};
+ghost use Rattle.eden_moves.specs.internal.Regions.{is_past};
+
+use crate::moves::Moves;
+use eden_ids::is_path;
+use eden_objects::Passes;
+
+/// Whether the nearest directory above a path of which something is said is a longer path than so many bytes.
+fn is_past(moves: &Moves, path: &[u8], long: usize) -> bool
+    ensures { result ≡ is_past long (nearest (fin.entries moves.now) path.now) }
+{
+    match moves.nearest(path) {
+        Some((at, _)) => at > long,
+        None => false,
+    }
+}
+
+/// Whether that is so of all paths below a directory, since something is said of it, or of a directory above it.
+fn is_past_below(moves: &Moves, directory: &[u8], long: usize) -> bool
+    ensures { result ≡ true → (path : List ℕ) → lies_below path directory.now ≡ true → is_past long (nearest (fin.entries moves.now) path) ≡ true }
+{
+    if directory.len() > long && moves.get(directory).is_some() {
+        return true;
+    }
+    is_past(moves, directory, long)
+}
+
+/// What is not seen by one directory itself: what its caller passes over, and what is seen by a further directory.
+#[derive(Drop)]
+pub(crate) struct Region<'r, S: Passes> {
+    pub(crate) moves: &'r Moves,
+    /// How many bytes the directory's path has.
+    pub(crate) long: usize,
+    pub(crate) passed: &'r S,
+}
+
+impl<'r, S: Passes> Passes for Region<'r, S> {
+    ghost use Rattle.eden_moves.specs.internal.Regions.{is_apart};
+
+    ghost passes = { λ region path. is_apart region.moves.now region.long (S.passes region.passed.now) path };
+
+    fn passes_file(&self, path: &[u8]) -> bool {
+        self.passed.passes_file(path) || is_past(self.moves, path, self.long)
+    }
+
+    fn passes_below(&self, directory: &[u8]) -> bool {
+        self.passed.passes_below(directory) || is_past_below(self.moves, directory, self.long)
+    }
+}
+
+/// Whether something is said of a directory above a path.
+fn is_governed(moves: &Moves, path: &[u8]) -> bool
+    ensures { result ≡ is_governed moves.now path.now }
+{
+    moves.nearest(path).is_some()
+}
+
+/// Whether that is so of all paths below a directory, since something is said of it, or of a directory above it.
+fn is_governed_below(moves: &Moves, directory: &[u8]) -> bool
+    ensures { result ≡ true → (path : List ℕ) → lies_below path directory.now ≡ true → is_governed moves.now path ≡ true }
+{
+    moves.get(directory).is_some() || is_governed(moves, directory)
+}
+
+/// What is not seen at its own place: all that stands below a directory of which something is said.
+#[derive(Drop)]
+pub(crate) struct Governed<'r> {
+    pub(crate) moves: &'r Moves,
+}
+
+impl<'r> Passes for Governed<'r> {
+    ghost use Rattle.eden_moves.specs.Moves.{is_governed};
+
+    ghost passes = { λ governed path. is_governed governed.moves.now path };
+
+    fn passes_file(&self, path: &[u8]) -> bool {
+        is_governed(self.moves, path)
+    }
+
+    fn passes_below(&self, directory: &[u8]) -> bool {
+        is_governed_below(self.moves, directory)
+    }
+}
+
+/// What is no path.
+#[derive(Clone, Copy)]
+pub(crate) struct Pathless;
+
+impl Passes for Pathless {
+    ghost use Rattle.eden_moves.specs.internal.Listed.{is_pathless};
+
+    ghost passes = { λ pathless path. is_pathless path };
+
+    fn passes_file(&self, path: &[u8]) -> bool {
+        !is_path(path)
+    }
+
+    fn passes_below(&self, _directory: &[u8]) -> bool {
+        false
+    }
+}
