@@ -1,61 +1,27 @@
 -- A snapshot shows the paths of the files that a mount holds.
-use Rattle.std.proofs.Common.{◌≡◌, ◌≢◌, ℕ, Bool, List, [], ◌∷◌, Option, Some, None, true, false, cond, is_some, Err, refl, sym, ap, ◌∙◌}
-use Rattle.std.specs.Prelude.{filter, IsSome}
+use Rattle.std.proofs.Common.{◌≡◌, ℕ, Bool, List, [], ◌∷◌, Some, true, false, cond, refl, sym, ap, ◌∙◌}
+use Rattle.std.specs.Prelude.{filter}
 use Rattle.eden_globs.specs.Filters.{admits}
 use Rattle.eden_ids.specs.declared.id.Id.{Id}
 use Rattle.eden_ids.specs.FileMaps.{FileMap, listing}
+use Rattle.eden_ids.specs.Texts.{AreTexts}
 use Rattle.eden_objects.specs.Objects.{Held}
-use Rattle.eden_objects.specs.Listings.{Lists}
-use Rattle.eden_objects.specs.declared.fault.CommitFault.{CommitFault}
-use Rattle.eden_objects.specs.declared.fault.CommitFault.TheVariants.{NoCommit, NoMemory}
-use Rattle.eden_objects.specs.Commits.{Row, commit_map, commit_rows, map_of_rows, rows_where}
-use Rattle.eden_objects.specs.Files.{commit_files}
+use Rattle.eden_objects.specs.Commits.{commit_map}
+use Rattle.eden_objects.specs.Files.{commit_files, files_of}
+use Rattle.eden_moves.specs.Moves.{Moves, at_paths, seen_through}
 use Rattle.eden_workcopy.specs.declared.work.WorkCopy.{WorkCopy}
 use Rattle.eden_workcopy.specs.Layers.{Mark}
 use Rattle.eden_workcopy.specs.Listings.{admitted, shown_over}
-use Rattle.eden_workcopy.specs.Meanings.{means, touched_of}
-use Rattle.eden_history.proofs.Committed.{commit_mapped}
+use Rattle.eden_workcopy.specs.Meanings.{base_of, means, touched_of}
+use Rattle.eden_workcopy.proofs.Works.{all_at_paths}
 use Rattle.eden_workcopy.proofs.WovenRows.{layer_shown}
 use Rattle.eden_accumulate.specs.Mounts.{State}
 use Rattle.eden_accumulate.proofs.Standing.{IsPresent}
 
--- a listing gives rows just where there is such a commit
-pub rows_there : (held : List Held) (root : Id) (test : List ℕ → Bool) (rows : List Row) → rows_where test (commit_rows held root) ≡ Some rows → IsSome (commit_map held root)
-rows_there held root test rows is = commit_mapped held root (by (commit_rows held root) is)
-  where
-    by : (found : Option (List Row)) → rows_where test found ≡ Some rows → is_some found ≡ true
-    by None is = absurd (cc)
-    by (Some all) is = refl
-
-no_rows : (held : List Held) (root : Id) (test : List ℕ → Bool) → rows_where test (commit_rows held root) ≡ None → commit_map held root ≡ None
-no_rows held root test is = by (commit_rows held root) is
-  where
-    by : (found : Option (List Row)) → rows_where test found ≡ None → map_of_rows held found ≡ None
-    by None is = refl
-    by (Some all) is = absurd (cc)
-
-pub unlisted : (held : List Held) (root : Id) (test : List ℕ → Bool) (fault : CommitFault) → Lists (Err fault) (rows_where test (commit_rows held root)) → fault ≢ NoMemory
-    → commit_map held root ≡ None
-unlisted held root test NoCommit is other = no_rows held root test is
-unlisted held root test NoMemory is other = absurd (other refl)
-
--- and so does one that passes one test after another
-pub below_there : (held : List Held) (root : Id) (wanted test : List ℕ → Bool) (rows : List Row) → rows_where wanted (rows_where test (commit_rows held root)) ≡ Some rows
-    → IsSome (commit_map held root)
-below_there held root wanted test rows is = by (rows_where test (commit_rows held root)) refl is
-  where
-    by : (found : Option (List Row)) → rows_where test (commit_rows held root) ≡ found → rows_where wanted found ≡ Some rows → IsSome (commit_map held root)
-    by None e is = absurd (cc)
-    by (Some all) e is = rows_there held root test all e
-
-pub unlisted_below : (held : List Held) (root : Id) (wanted test : List ℕ → Bool) (fault : CommitFault)
-    → Lists (Err fault) (rows_where wanted (rows_where test (commit_rows held root))) → fault ≢ NoMemory → commit_map held root ≡ None
-unlisted_below held root wanted test NoMemory is other = absurd (other refl)
-unlisted_below held root wanted test NoCommit is other = by (rows_where test (commit_rows held root)) refl is
-  where
-    by : (found : Option (List Row)) → rows_where test (commit_rows held root) ≡ found → rows_where wanted found ≡ None → commit_map held root ≡ None
-    by None e is = no_rows held root test e
-    by (Some all) e is = absurd (cc)
+-- a commit that is there is seen through renamed directories as its files are
+pub seen_there : (held : List Held) (root : Id) (moves : Moves) (commit seen : FileMap) → Some commit ≡ commit_map held root → seen ≡ seen_through commit moves
+    → seen ≡ seen_through (commit_files held root) moves
+seen_there held root moves commit seen there is = is ∙ ap (λ o. seen_through (files_of o) moves) there
 
 -- of two tests either may come first
 pub filters_turned : (s t : List ℕ → Bool) (ps : List (List ℕ)) → filter s (filter t ps) ≡ filter t (filter s ps)
@@ -75,13 +41,15 @@ filters_turned s t (p ∷ ps) = by (s p) (t p) refl refl (filters_turned s t ps)
     by false true sa tb more = ap (λ c. cond c (p ∷ last) last) sa ∙ more
     by false false sa tb more = more
 
--- the paths that a snapshot of a working copy shows are those of its files
-pub shows : (held : List Held) (work : WorkCopy) (root : Id) (touched : List Mark) (patterns : List (List ℕ)) (files : FileMap)
-    → root ≡ work.root → touched ≡ touched_of work → means held work ≡ files
-    → filter (admits patterns) (listing (shown_over (commit_files held root) touched)) ≡ admitted patterns files
-shows held work root touched patterns files is-root is-touched is-files =
+-- the paths that a snapshot of a working copy shows are those of its files, where the files that its overlay lies over keep the limits
+pub shows : (held : List Held) (work : WorkCopy) (root : Id) (moves : Moves) (touched : List Mark) (patterns : List (List ℕ)) (files : FileMap)
+    → root ≡ work.root → moves ≡ work.moves → touched ≡ touched_of work → means held work ≡ files → AreTexts (base_of held work)
+    → filter (admits patterns) (listing (shown_over (at_paths (seen_through (commit_files held root) moves)) touched)) ≡ admitted patterns files
+shows held work root moves touched patterns files is-root is-moves is-touched is-files texts =
     ap (filter (admits patterns))
-    ((λ i. listing (shown_over (commit_files held (is-root i)) (is-touched i))) ∙ layer_shown (commit_files held work.root) work.overlay)
+    ((λ i. listing (shown_over (at_paths (seen_through (commit_files held (is-root i)) (is-moves i))) (is-touched i)))
+    ∙ ap (λ (m : FileMap). listing (shown_over m (touched_of work))) (all_at_paths (base_of held work) texts)
+    ∙ layer_shown (base_of held work) work.overlay)
     ∙ ap (admitted patterns) is-files
 
 -- the journal's root is the working copy's

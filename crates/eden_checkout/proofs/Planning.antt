@@ -12,7 +12,7 @@ use Rattle.eden_treediff.specs.Merges.{differences}
 use Rattle.eden_history.specs.Checkouts.{checked_out, conflicts, is_conflict, is_dry, unclean}
 use Rattle.eden_history.proofs.CheckoutLaws.{checked_out_no_clash, conflict_differs, has-conflicts}
 use Rattle.eden_history.proofs.Spelled.{texts_checked_out}
-use Rattle.eden_workcopy.specs.Meanings.{FitsIn, means}
+use Rattle.eden_workcopy.specs.Meanings.{FitsIn, base_of, means}
 use Rattle.eden_workcopy.specs.declared.work.WorkCopy.{WorkCopy}
 use Rattle.eden_ids.proofs.Sifted.{listing_of}
 use Rattle.eden_history.specs.declared.change.Mode.{Mode}
@@ -66,11 +66,12 @@ files_planned held mode work start next w r t root target w_is r_is t_is begun k
     by Force begun kept made = made (λ e. absurd (let bad : Force ≡ Dry = e in cc))
 
 pub made_fits : (held : List Held) (mode : Mode) (start next : WorkCopy) (work root target : FileMap) → IsFileMap work → AreTexts work → FitsIn held start → means held start ≡ target
-    → next.root ≡ start.root → means held next ≡ checked_out mode work root target → FitsIn held next
-made_fits held mode start next work root target ok texts fits begun same files = record {
+    → next.root ≡ start.root → next.moves ≡ start.moves → means held next ≡ checked_out mode work root target → FitsIn held next
+made_fits held mode start next work root target ok texts fits begun same moves files = record {
   root = subst (λ (id : Id). IsSome (commit_map held id)) (sym same) fits.root;
   files = subst IsFileMap (sym files) (checked_out_no_clash mode work root target ok (subst IsFileMap begun fits.files));
   texts = subst AreTexts (sym files) (texts_checked_out mode work root target texts (subst AreTexts begun fits.texts));
+  below = subst AreTexts (λ i. base_of held (record start { root = sym same i; moves = sym moves i })) fits.below;
 }
 
 -- a set that nothing is added to

@@ -20,6 +20,7 @@ fn put<N: Naming + Drop>(
     file: Option<(Kind, &[u8])>,
 ) -> Result<(), NoMemory>
     ensures root { next.new.root ≡ next.old.root }
+    ensures moves { next.new.moves ≡ next.old.moves }
     ensures files { OnOk result (means store.now next.new ≡ put_option (means store.now next.old) path.now (lent file.entry)) }
 {
     if is_same_file(next.file(store, path.as_bytes()), file) {
@@ -39,6 +40,7 @@ fn apply_rule<N: Naming + Drop, W: FileTree, R: FileTree, T: FileTree, D: FileTr
     paths: &[Path],
 ) -> Result<(), NoMemory>
     ensures root { next.new.root ≡ next.old.root }
+    ensures moves { next.new.moves ≡ next.old.moves }
     ensures files { OnOk result ((q : List ℕ) → file_at (means store.now next.new) q
         ≡ (if list_any (λ p. same_path q p) paths.now
         then rule_of mode (W.files sides.now.work.now) (R.files sides.now.root.now) (T.files sides.now.target.now) q
@@ -63,6 +65,7 @@ pub(crate) fn checked_out<N: Naming + Drop, W: FileTree, R: FileTree, T: FileTre
     requires start { means store.now start ≡ T.files sides.now.target.now }
     requires found { found.now ≡ listing (conflicts (W.files sides.now.work.now) (R.files sides.now.root.now) (T.files sides.now.target.now)) }
     ensures root { IfOk result (λ next. next.root ≡ start.root) }
+    ensures moves { IfOk result (λ next. next.moves ≡ start.moves) }
     ensures files { IfOk result (λ next. means store.now next
         ≡ checked_out mode (W.files sides.now.work.now) (R.files sides.now.root.now) (T.files sides.now.target.now)) }
 {

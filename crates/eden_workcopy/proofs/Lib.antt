@@ -18,3 +18,4 @@ pub mod CarriedBlocks
 pub mod Placings
 pub mod CarriedLayers
 pub mod CarriedWhole
+pub mod FlatFiles

@@ -1,16 +1,14 @@
 -- What is seen where an overlay lies over a file map.
-use Rattle.std.proofs.Common.{◌≡◌, ℕ, suc, ◌+◌, Bool, true, false, cond, not, ◌&&◌, ◌||◌, nat_le, List, [], ◌∷◌, ◌++◌, length, Option, Some, None, is_some, refl, sym, ap, ◌∙◌, arith}
-use Rattle.std.specs.Prelude.{filter}
+use Rattle.std.proofs.Common.{◌≡◌, ℕ, Bool, true, false, cond, not, ◌&&◌, ◌||◌, List, [], ◌∷◌, ◌++◌, Option, Some, None, is_some, refl, sym, ap, ◌∙◌}
 use Rattle.std.specs.Ordering.{nat_cmp}
 use Rattle.std.specs.Cmp.Lexicographic.{slice_cmp, nat_list_cmp_total}
 use Rattle.std.specs.List.{list_any}
 use Rattle.std.specs.FinMap as fin
 use Rattle.eden_ids.specs.declared.content.Content.{Content}
 use Rattle.eden_ids.specs.Paths.{lies_below}
-use Rattle.eden_ids.specs.FileMaps.{FileMap, file_at, paths, has, path_set, same_path, has_file_below}
-use Rattle.eden_ids.proofs.FileMapLemmas.{file_at-tabulate, file_at-insert, file_at-remove, same_file_map, has-path_set}
+use Rattle.eden_ids.specs.FileMaps.{FileMap, file_at, paths, same_path, has_file_below}
+use Rattle.eden_ids.proofs.FileMapLemmas.{file_at-tabulate, file_at-insert, file_at-remove, same_file_map}
 use Rattle.eden_ids.proofs.TreeQuestions.{any_none, any_some, any_witness}
-use Rattle.eden_ids.proofs.Sifted.{sifted, keys-sifted, has-sifted, listing_of}
 use Rattle.eden_workcopy.specs.Layers.{Layer, or_below, over_rule, over}
 
 any-append : {A : Type 0} (test : A → Bool) (xs ys : List A) → list_any test (xs ++ ys) ≡ (list_any test xs || list_any test ys)
@@ -70,64 +68,15 @@ over-nothing base = same_file_map _ _ (λ p. file_at-over base fin.empty p ∙ a
 listed : (m : FileMap) (p : List ℕ) (f : Content) → file_at m p ≡ Some f → list_any (λ q. same_path p q) (paths m) ≡ true
 listed m p f is = sym (fin.contains_key-keys m p) ∙ ap is_some is
 
--- paths of two maps that pass tests alike are as many
-same_keys : {X Y : Type 0} (m : fin.FinMap (slice_cmp nat_cmp) X) (n : fin.FinMap (slice_cmp nat_cmp) Y) (s t : List ℕ → Bool) → ((p : List ℕ) → (s p && fin.contains_key m p) ≡ (t p && fin.contains_key n p))
-    → filter s (fin.keys m) ≡ filter t (fin.keys n)
-same_keys m n s t alike =
-    sym (listing_of (path_set (filter s (fin.keys m))) m s (λ p. members p))
-    ∙ listing_of (path_set (filter s (fin.keys m))) n t (λ p. members p ∙ alike p)
-  where
-    members : (p : List ℕ) → has (path_set (filter s (fin.keys m))) p ≡ (s p && fin.contains_key m p)
-    members p =
-        has-path_set (filter s (fin.keys m)) p
-        ∙ ap (list_any (λ q. same_path p q)) (sym (keys-sifted m s))
-        ∙ sym (fin.contains_key-keys (sifted m s) p)
-        ∙ has-sifted m s p
-
-len_split : (s t : List ℕ → Bool) (ks : List (List ℕ)) → length (filter s ks) ≡ length (filter (λ q. s q && t q) ks) + length (filter (λ q. s q && not (t q)) ks)
-len_split s t [] = refl
-len_split s t (k ∷ ks) =
-    let rest = len_split s t ks in
-    elim (s k) as (λ a. length (cond a (k ∷ filter s ks) (filter s ks)) ≡ length (cond (a && t k) (k ∷ filter (λ q. s q && t q) ks) (filter (λ q. s q && t q) ks)) + length (cond (a && not (t k)) (k ∷ filter (λ q. s q && not (t q)) ks) (filter (λ q. s q && not (t q)) ks))) [
-      | true ↦ elim (t k) as (λ b. suc (length (filter s ks)) ≡ length (cond b (k ∷ filter (λ q. s q && t q) ks) (filter (λ q. s q && t q) ks)) + length (cond (not b) (k ∷ filter (λ q. s q && not (t q)) ks) (filter (λ q. s q && not (t q)) ks))) [
-        | true ↦ omega (arith, rest)
-        | false ↦ omega (arith, rest)
-      ]
-      | false ↦ rest
-    ]
-
-some_left : (test : List ℕ → Bool) (ks : List (List ℕ)) (n : ℕ) → nat_le (n + 1) (n + length (filter test ks)) ≡ list_any test ks
-some_left test [] n = grind arith
-some_left test (k ∷ ks) n =
-    elim (test k) as (λ b. nat_le (n + 1) (n + length (cond b (k ∷ filter test ks) (filter test ks))) ≡ (b || list_any test ks)) [
-      | true ↦ grind arith
-      | false ↦ some_left test ks n
-    ]
-
 pub here_below : (base : FileMap) (layer : Layer) (p q : List ℕ) (f : Content) → fin.get layer q ≡ Some (Some f) → lies_below q p ≡ true → has_file_below (over base layer) p ≡ true
 here_below base layer p q f is e =
     any_some (λ r. lies_below r p) (paths (over base layer)) q (listed (over base layer) q f (file_at-over base layer q ∙ ap (λ o. or_below o (file_at base q)) is)) e
 
--- the overlay has no file below a path: then one is left of the files that stand there below it, or all are hidden
-pub left_below : (base : FileMap) (layer : Layer) (p : List ℕ) (hidden : ℕ)
-    → ((q : List ℕ) (f : Content) → fin.get layer q ≡ Some (Some f) → lies_below q p ≡ false)
-    → hidden ≡ length (filter (λ q. lies_below q p && is_some (file_at base q)) (fin.keys layer))
-    → has_file_below (over base layer) p ≡ nat_le (hidden + 1) (length (filter (λ q. lies_below q p) (paths base)))
-left_below base layer p hidden none is =
-    let touched = λ (q : List ℕ). is_some (fin.get layer q) in
-    let many : length (filter (λ q. lies_below q p && touched q) (paths base)) ≡ hidden =
-    ap length (same_keys base layer (λ q. lies_below q p && touched q) (λ q. lies_below q p && is_some (file_at base q)) (λ q. swapped (lies_below q p) (touched q) (is_some (file_at base q)))) ∙ sym is in
-    any_left
-    ∙ sym (some_left (λ q. lies_below q p && not (touched q)) (paths base) hidden)
-    ∙ ap (nat_le (hidden + 1)) (ap (λ n. n + length (filter (λ q. lies_below q p && not (touched q)) (paths base))) (sym many) ∙ sym (len_split (λ q. lies_below q p) touched (paths base)))
+-- the overlay has no file below a path: then one is seen there where the overlay says nothing of some file that stands there below it
+pub left_below : (base : FileMap) (layer : Layer) (p : List ℕ) → ((q : List ℕ) (f : Content) → fin.get layer q ≡ Some (Some f) → lies_below q p ≡ false)
+    → has_file_below (over base layer) p ≡ list_any (λ q. lies_below q p && not (is_some (fin.get layer q))) (paths base)
+left_below base layer p none = by_any (list_any (λ q. lies_below q p && not (is_some (fin.get layer q))) (paths base)) refl
   where
-    swapped : (a b c : Bool) → ((a && b) && c) ≡ ((a && c) && b)
-    swapped true true true = refl
-    swapped true true false = refl
-    swapped true false true = refl
-    swapped true false false = refl
-    swapped false b c = refl
-
     first : (a b : Bool) → (a && b) ≡ true → a ≡ true
     first true b e = refl
     first false b e = absurd (cc)
@@ -167,6 +116,3 @@ left_below base layer p hidden none is =
               absurd (none_left q e t (fin.get layer q) refl file.0 (sym (file_at-over base layer q) ∙ file.1))
           | false ↦ λ t. refl
         ] refl)
-
-    any_left : has_file_below (over base layer) p ≡ list_any (λ q. lies_below q p && not (is_some (fin.get layer q))) (paths base)
-    any_left = by_any (list_any (λ q. lies_below q p && not (is_some (fin.get layer q))) (paths base)) refl

@@ -12,7 +12,7 @@ use Rattle.eden_objects.specs.Files.{files_of}
 use Rattle.eden_objects.specs.declared.fault.CommitFault.{CommitFault}
 use Rattle.eden_objects.specs.declared.fault.CommitFault.TheVariants.{NoCommit, NoMemory}
 use Rattle.eden_treediff.specs.Merges.{differences}
-use Rattle.eden_workcopy.specs.internal.Agreements.{Agrees, AllAgree, IsKept, IsLean, IsNearer, kept_below, kept_entry}
+use Rattle.eden_workcopy.specs.internal.Agreements.{Agrees, AllAgree, IsKept, IsLean, IsNearer, kept_below, kept_each, kept_entry}
 use Rattle.eden_workcopy.specs.Layers.{Layer, Entry, over}
 use Rattle.eden_workcopy.proofs.Overs.{over-nothing}
 use Rattle.eden_workcopy.proofs.Touched.{has-touched, set_over}
@@ -89,7 +89,7 @@ pub none_leave : (wanted files next : FileMap) (es whole : List Entry) → es �
     → AllAgree wanted next (map (λ e. e.0) whole)
 none_leave wanted files next es whole is leaves nearer = leaves next nearer (subst (λ (gs : List Entry). AllAgree wanted next (map (λ e. e.0) gs)) (sym is) tt)
 
-cut : (ps : List (List ℕ)) (i : ℕ) (p : List ℕ) → i < length ps → p ≡ slice_index_or ps i p → drop i ps ≡ p ∷ drop (suc i) ps
+pub cut : (ps : List (List ℕ)) (i : ℕ) (p : List ℕ) → i < length ps → p ≡ slice_index_or ps i p → drop i ps ≡ p ∷ drop (suc i) ps
 cut [] i p within is = absurd (omega arith)
 cut (x ∷ xs) zero p within is = ap (λ y. y ∷ xs) (sym is)
 cut (x ∷ xs) (suc i) p within is = cut xs i p (omega arith) is
@@ -100,7 +100,7 @@ leaves_paths wanted before after ps i p within is leaves nearer here next later 
     leaves next (nearer_still wanted before after next nearer later)
     (subst (AllAgree wanted next) (sym (cut ps i p within is)) (later p here, subst (λ n. AllAgree wanted next (drop n ps)) (add-one i) all))
 
-past : (ps : List (List ℕ)) (n : ℕ) → length ps ≤ n → drop n ps ≡ []
+pub past : (ps : List (List ℕ)) (n : ℕ) → length ps ≤ n → drop n ps ≡ []
 past [] zero h = refl
 past [] (suc n) h = refl
 past (p ∷ ps) zero h = absurd (omega arith)
@@ -108,6 +108,19 @@ past (p ∷ ps) (suc n) h = past ps n (omega arith)
 
 pub no_paths_left : (wanted files next : FileMap) (ps : List (List ℕ)) (n : ℕ) → length ps ≤ n → Leaves wanted files (drop n ps) ps → IsNearer wanted files next → AllAgree wanted next ps
 no_paths_left wanted files next ps n within leaves nearer = leaves next nearer (subst (AllAgree wanted next) (sym (past ps n within)) tt)
+
+-- ---- the layer after each path
+
+pub each_next : (root : FileMap) (layer before after : Layer) (ps : List (List ℕ)) (i : ℕ) (p : List ℕ) (last : Layer) → i < length ps → p ≡ slice_index_or ps i p → after ≡ kept_below root layer before p
+    → kept_each root layer before (drop i ps) ≡ last → kept_each root layer after (drop (i + 1) ps) ≡ last
+each_next root layer before after ps i p last within is put all =
+    ap (λ n. kept_each root layer after (drop n ps)) (add-one i)
+    ∙ ap (λ l. kept_each root layer l (drop (suc i) ps)) put
+    ∙ ap (kept_each root layer before) (sym (cut ps i p within is))
+    ∙ all
+
+pub each_last : (root : FileMap) (layer next : Layer) (ps : List (List ℕ)) (n : ℕ) (last : Layer) → length ps ≤ n → kept_each root layer next (drop n ps) ≡ last → next ≡ last
+each_last root layer next ps n last within all = ap (kept_each root layer next) (sym (past ps n within)) ∙ all
 
 -- ---- the whole
 

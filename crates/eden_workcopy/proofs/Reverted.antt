@@ -1,6 +1,13 @@
 -- A path of which the overlay says nothing any more.
-use Rattle.std.proofs.Common.{◌≡◌, ℕ, Bool, true, false, cond, List, Option, Some, None, is_some, refl, sym, ap, ◌∙◌}
+use Rattle.std.proofs.Common.{◌≡◌, ℕ, Bool, true, false, cond, ◌||◌, List, [], ◌∷◌, map, Option, Some, None, is_some, refl, sym, ap, ◌∙◌}
+use Rattle.std.specs.Prelude.{if◌then◌else◌}
 use Rattle.std.specs.Option.{option_or}
+use Rattle.std.specs.List.{list_any}
+use Rattle.std.proofs.lemmas.Bool.{or_parts}
+use Rattle.eden_ids.specs.Paths.{lies_below}
+use Rattle.std.proofs.Common.{Bor}
+use Rattle.eden_moves.specs.Moves.{Entry, nearest}
+use Rattle.eden_moves.specs.internal.Told.{entry_told}
 use Rattle.std.specs.Cmp.Lexicographic.{nat_list_cmp_total}
 use Rattle.std.specs.FinMap as fin
 use Rattle.eden_ids.specs.declared.content.Content.{Content}
@@ -42,3 +49,40 @@ revert_fits m base k ok free = by (file_at base k) free
     by : (o : Option Content) → cond (is_some o) (place_fault m k) None ≡ None → IsFileMap (put_option m k o)
     by None e = IsFileMap-remove m k ok
     by (Some f) e = let apart = place_free (has_file_above m k) (has_file_below m k) None (ap (λ o. option_or o None) e) in IsFileMap-insert m k f ok apart.0 apart.1
+
+-- ---- whether a renamed directory stands above a path
+
+pub ungoverned : (es : List Entry) (path : List ℕ) → nearest es path ≡ None → list_any (λ top. lies_below path top) (map (λ (e : Entry). e.0) es) ≡ false
+ungoverned [] path none = refl
+ungoverned (e ∷ es) path none = by (nearest es path) (lies_below path e.0) refl refl none (ungoverned es path)
+  where
+    by : (o : Option Entry) (b : Bool) → nearest es path ≡ o → lies_below path e.0 ≡ b → option_or (nearest es path) (if lies_below path e.0 then Some e else None) ≡ None
+        → (nearest es path ≡ None → list_any (λ top. lies_below path top) (map (λ (e : Entry). e.0) es) ≡ false)
+        → (lies_below path e.0 || list_any (λ top. lies_below path top) (map (λ (e : Entry). e.0) es)) ≡ false
+    by (Some f) b far here none rest =
+        absurd (let bad : ◌≡◌ {A = Option Entry} (Some f) None = sym (ap (λ o. option_or o (if lies_below path e.0 then Some e else None)) far) ∙ none in cc)
+    by None true far here none rest =
+        absurd (let bad : ◌≡◌ {A = Option Entry} (Some e) None = (λ i. option_or (sym far i) (if sym here i then Some e else None)) ∙ none in cc)
+    by None false far here none rest = ap (λ b. b || list_any (λ top. lies_below path top) (map (λ (e : Entry). e.0) es)) here ∙ rest far
+
+pub governed : (es : List Entry) (path : List ℕ) (found : Entry) → nearest es path ≡ Some found → list_any (λ top. lies_below path top) (map (λ (e : Entry). e.0) es) ≡ true
+governed es path found there = by (list_any (λ top. lies_below path top) (map (λ (e : Entry). e.0) es)) refl
+  where
+    none_near : (es : List Entry) → list_any (λ top. lies_below path top) (map (λ (e : Entry). e.0) es) ≡ false → nearest es path ≡ None
+    none_near [] none = refl
+    none_near (e ∷ es) none =
+        let parts = or_parts (lies_below path e.0) (list_any (λ top. lies_below path top) (map (λ (e : Entry). e.0) es)) none in
+        (λ i. option_or (none_near es parts.1 i) (if parts.0 i then Some e else None))
+
+    by : (b : Bool) → list_any (λ top. lies_below path top) (map (λ (e : Entry). e.0) es) ≡ b → b ≡ true
+    by true e = refl
+    by false e = absurd (let bad : ◌≡◌ {A = Option Entry} None (Some found) = sym (none_near es e) ∙ there in cc)
+
+pub none_told : (es : List Entry) (bytes path : List ℕ) (o : Option (ℕ × Bor (Option (List ℕ)))) → bytes ≡ path → nearest es bytes ≡ entry_told bytes o → is_some o ≡ false → nearest es path ≡ None
+none_told es bytes path None same told none = ap (nearest es) (sym same) ∙ told
+none_told es bytes path (Some found) same told none = absurd (let bad : true ≡ false = none in cc)
+
+pub some_told : (es : List Entry) (bytes path : List ℕ) (o : Option (ℕ × Bor (Option (List ℕ)))) → bytes ≡ path → nearest es bytes ≡ entry_told bytes o → is_some o ≡ true
+    → list_any (λ top. lies_below path top) (map (λ (e : Entry). e.0) es) ≡ true
+some_told es bytes path None same told some = absurd (let bad : false ≡ true = some in cc)
+some_told es bytes path (Some found) same told some = governed es path _ (ap (nearest es) (sym same) ∙ told)

@@ -22,13 +22,3 @@ any_below p (e ∷ es) =
     and_false : (b : Bool) → false ≡ (b && false)
     and_false true = refl
     and_false false = refl
-
-pub each_below : (p : List ℕ) (test : Entry → Bool) (es : List Entry) → filter test (filter (λ e. lies_below e.0 p) es) ≡ filter (λ e. lies_below e.0 p && test e) es
-each_below p test [] = refl
-each_below p test (e ∷ es) =
-    let rest = each_below p test es in
-    elim (lies_below e.0 p) as (λ b. filter test (cond b (e ∷ filter (λ e. lies_below e.0 p) es) (filter (λ e. lies_below e.0 p) es))
-    ≡ cond (b && test e) (e ∷ filter (λ e. lies_below e.0 p && test e) es) (filter (λ e. lies_below e.0 p && test e) es)) [
-      | true ↦ ap (λ fs. cond (test e) (e ∷ fs) fs) rest
-      | false ↦ rest
-    ]

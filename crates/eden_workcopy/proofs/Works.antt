@@ -1,7 +1,7 @@
 -- What a working copy means, as its calls have it.
-use Rattle.std.proofs.Common.{◌≡◌, ℕ, Bool, true, false, cond, ◌&&◌, ◌||◌, ◌+◌, nat_le, List, [], ◌∷◌, map, length, Option, Some, None, is_some, refl, sym, ap, subst, ◌∙◌, arith}
-use Rattle.std.specs.Prelude.{IsSome, filter}
-use Rattle.std.specs.Option.{option_or}
+use Rattle.std.proofs.Common.{◌≡◌, ℕ, Bool, true, false, cond, not, ◌&&◌, ◌||◌, List, [], ◌∷◌, Option, Some, None, is_some, refl, sym, ap, subst, ◌∙◌}
+use Rattle.std.specs.Prelude.{IsSome}
+use Rattle.std.specs.Option.{is_none, option_or}
 use Rattle.std.specs.List.{list_any, AllByRecursion}
 use Rattle.std.specs.FinMap as fin
 use Rattle.eden_ids.specs.declared.id.Id.{Id}
@@ -11,10 +11,10 @@ use Rattle.eden_ids.specs.FileMaps.{FileMap, file_at, paths, has_file_below, sam
 use Rattle.eden_ids.specs.Texts.{AreTexts}
 use Rattle.std.specs.Ordering.{nat_cmp}
 use Rattle.std.specs.Cmp.Lexicographic.{slice_cmp}
-use Rattle.eden_ids.proofs.FileMapLemmas.{same_path-is}
+use Rattle.eden_ids.proofs.FileMapLemmas.{same_file_map, same_order, same_path-is}
 use Rattle.eden_ids.proofs.TreeMaps.{entries_found}
 use Rattle.eden_objects.specs.Objects.{Held}
-use Rattle.eden_objects.specs.Commits.{Row, commit_rows, commit_map, map_of_rows, rows_where}
+use Rattle.eden_objects.specs.Commits.{Row, commit_rows, commit_map, map_of_rows}
 use Rattle.eden_objects.specs.Closed.{IsClosed}
 use Rattle.eden_objects.specs.Small.{AreSmall}
 use Rattle.eden_objects.specs.Files.{files_of, commit_files}
@@ -24,46 +24,55 @@ use Rattle.eden_history.specs.declared.change.ChangeFault.{ChangeFault}
 use Rattle.eden_history.specs.declared.change.ChangeFault.TheVariants.{NotADirectory, IsADirectory}
 use Rattle.eden_history.specs.Renames.{moved, renamed}
 use Rattle.eden_ids.specs.Sameness.{same_bytes}
+use Rattle.eden_moves.specs.Moves.{Moves, at_paths, is_path, seen_through}
+use Rattle.eden_moves.proofs.Seen.{seen-unmoved}
 use Rattle.eden_workcopy.specs.declared.work.WorkCopy.{WorkCopy}
-use Rattle.eden_workcopy.specs.Meanings.{means, FitsIn}
+use Rattle.eden_workcopy.specs.Meanings.{base_of, means, FitsIn}
 use Rattle.eden_workcopy.specs.Layers.{Layer, Entry, or_below, over}
 use Rattle.eden_workcopy.proofs.Overs.{file_at-over, over-nothing, over-insert, over-remove, over-move, here_below, left_below}
 use Rattle.std.proofs.lemmas.Bool.{or_parts}
 
-pub some_rows : (held : List Held) (o : Option (List Row)) → is_some o ≡ true → map_of_rows held o ≡ Some (files_of (map_of_rows held o))
+some_rows : (held : List Held) (o : Option (List Row)) → is_some o ≡ true → map_of_rows held o ≡ Some (files_of (map_of_rows held o))
 some_rows held None e = absurd (cc)
 some_rows held (Some rows) e = refl
 
-pub new_files : (held : List Held) (root : Id) (layer : Layer) → is_some (commit_rows held root) ≡ true → layer ≡ fin.empty
-    → commit_map held root ≡ Some (over (commit_files held root) layer)
-new_files held root layer e is =
-    some_rows held (commit_rows held root) e ∙ ap Some (sym (ap (over (commit_files held root)) is ∙ over-nothing (commit_files held root)))
+-- files that keep the limits all stand at paths
+pub all_at_paths : (files : FileMap) → AreTexts files → at_paths files ≡ files
+all_at_paths files texts = same_file_map (at_paths files) files (λ p. fin.get-retain_keys files is_path p (λ q e. ap is_path (sym (same_order p q e))) ∙ by p (file_at files p) refl)
+  where
+    gone : (b : Bool) (o : Option Content) → o ≡ None → cond b o None ≡ o
+    gone true o e = refl
+    gone false o e = sym e
 
-pub new_fits : (held : List Held) (root : Id) (layer : Layer) → IsClosed held → AreSmall held → is_some (commit_rows held root) ≡ true → layer ≡ fin.empty
-    → FitsIn held (record { root = root; overlay = layer })
-new_fits held root layer closed small e is =
-    let files = over (commit_files held root) layer in
-    let map = new_files held root layer e is in
-    record { root = ap is_some map; files = file_maps held closed root files map; texts = commits_texts held closed small root files map }
+    by : (p : List ℕ) (found : Option Content) → file_at files p ≡ found → cond (is_path p) (file_at files p) None ≡ file_at files p
+    by p None e = gone (is_path p) (file_at files p) e
+    by p (Some file) e = ap (λ o. cond (is_none o) (file_at files p) None) (texts p file e).0.path
+
+-- where no directory was renamed and nothing was changed the files are the commit's
+plain : (files : FileMap) (moves : Moves) (layer : Layer) → moves ≡ fin.empty → layer ≡ fin.empty → over (seen_through files moves) layer ≡ files
+plain files moves layer unmoved is = ap (over (seen_through files moves)) is ∙ over-nothing (seen_through files moves) ∙ ap (seen_through files) unmoved ∙ seen-unmoved files
+
+pub new_files : (held : List Held) (root : Id) (moves : Moves) (layer : Layer) → is_some (commit_rows held root) ≡ true → moves ≡ fin.empty → layer ≡ fin.empty
+    → commit_map held root ≡ Some (over (seen_through (commit_files held root) moves) layer)
+new_files held root moves layer e unmoved is =
+    some_rows held (commit_rows held root) e ∙ ap Some (sym (plain (commit_files held root) moves layer unmoved is))
+
+pub new_fits : (held : List Held) (root : Id) (moves : Moves) (layer : Layer) → IsClosed held → AreSmall held → is_some (commit_rows held root) ≡ true → moves ≡ fin.empty → layer ≡ fin.empty
+    → FitsIn held (record { root = root; moves = moves; overlay = layer })
+new_fits held root moves layer closed small e unmoved is =
+    let base = seen_through (commit_files held root) moves in
+    let files = over base layer in
+    let map = new_files held root moves layer e unmoved is in
+    let texts = commits_texts held closed small root files map in record {
+      root = ap is_some map;
+      files = file_maps held closed root files map;
+      texts = texts;
+      below = subst AreTexts (ap (over base) is ∙ over-nothing base) texts;
+    }
 
 none_of : (held : List Held) (o : Option (List Row)) → is_some o ≡ false → map_of_rows held o ≡ None
 none_of held None e = refl
 none_of held (Some rows) e = absurd (cc)
-
--- a commit that is there has rows to list
-pub listed_there : (held : List Held) (root : Id) (test : List ℕ → Bool) → rows_where test (commit_rows held root) ≡ None → IsSome (commit_map held root) → ⊥
-listed_there held root test none there = by (commit_rows held root) none there
-  where
-    by : (o : Option (List Row)) → rows_where test o ≡ None → IsSome (map_of_rows held o) → ⊥
-    by None none there = cc
-    by (Some rows) none there = cc
-
-pub listed_below_there : (held : List Held) (root : Id) (wanted test : List ℕ → Bool) → rows_where wanted (rows_where test (commit_rows held root)) ≡ None → IsSome (commit_map held root) → ⊥
-listed_below_there held root wanted test none there = by (commit_rows held root) none there
-  where
-    by : (o : Option (List Row)) → rows_where wanted (rows_where test o) ≡ None → IsSome (map_of_rows held o) → ⊥
-    by None none there = cc
-    by (Some rows) none there = cc
 
 -- at a path of the overlay, and at another
 pub file_told : (base : FileMap) (layer : Layer) (p : List ℕ) (file : Option Content) → fin.get layer p ≡ Some file → file_at (over base layer) p ≡ file
@@ -102,22 +111,10 @@ no_entry q p f (x ∷ es) is none =
       | false ↦ λ s it. no_entry q p f es it (or_parts _ _ none).1
     ] refl is
 
-as_many : (test : List ℕ → Bool) (es : List Entry) → length (filter (λ e. test e.0) es) ≡ length (filter test (map (λ e. e.0) es))
-as_many test [] = refl
-as_many test (e ∷ es) =
-    let rest = as_many test es in
-    elim (test e.0) as (λ b. length (cond b (e ∷ filter (λ f. test f.0) es) (filter (λ f. test f.0) es)) ≡ length (cond b (e.0 ∷ filter test (map (λ f. f.0) es)) (filter test (map (λ f. f.0) es)))) [
-      | true ↦ omega (arith, rest)
-      | false ↦ rest
-    ]
-
-pub counted_below : (base : FileMap) (layer : Layer) (p : List ℕ) (hidden : ℕ) → list_any (λ e. is_some e.1 && lies_below e.0 p) (fin.entries layer) ≡ false
-    → hidden ≡ length (filter (λ e. lies_below e.0 p && is_some (file_at base e.0)) (fin.entries layer))
-    → nat_le (hidden + 1) (length (filter (λ q. lies_below q p) (paths base))) ≡ has_file_below (over base layer) p
-counted_below base layer p hidden none is =
-    sym (left_below base layer p hidden
-    (λ q f at. no_entry q p f (fin.entries layer) (sym (fin.get-entries layer q) ∙ at) none)
-    (is ∙ as_many (λ q. lies_below q p && is_some (file_at base q)) (fin.entries layer)))
+pub unspoken_below : (base : FileMap) (layer : Layer) (p : List ℕ) → list_any (λ e. is_some e.1 && lies_below e.0 p) (fin.entries layer) ≡ false
+    → list_any (λ q. lies_below q p && not (is_some (fin.get layer q))) (paths base) ≡ has_file_below (over base layer) p
+unspoken_below base layer p none =
+    sym (left_below base layer p (λ q f at. no_entry q p f (fin.entries layer) (sym (fin.get-entries layer q) ∙ at) none))
 
 -- ---- changes
 
@@ -146,11 +143,15 @@ place_free false false later e = (refl, refl)
 -- ---- another store
 
 pub means_elsewhere : (held other : List Held) (work : WorkCopy) → commit_map held work.root ≡ commit_map other work.root → means held work ≡ means other work
-means_elsewhere held other work is = ap (λ o. over (files_of o) work.overlay) is
+means_elsewhere held other work is = ap (λ o. over (seen_through (files_of o) work.moves) work.overlay) is
+
+base_elsewhere : (held other : List Held) (work : WorkCopy) → commit_map held work.root ≡ commit_map other work.root → base_of held work ≡ base_of other work
+base_elsewhere held other work is = ap (λ o. seen_through (files_of o) work.moves) is
 
 pub fits_elsewhere : (held other : List Held) (work : WorkCopy) → commit_map held work.root ≡ commit_map other work.root → FitsIn held work → FitsIn other work
 fits_elsewhere held other work is fits = record {
   root = subst (λ (o : Option FileMap). IsSome o) is fits.root;
   files = subst IsFileMap (means_elsewhere held other work is) fits.files;
   texts = subst AreTexts (means_elsewhere held other work is) fits.texts;
+  below = subst AreTexts (base_elsewhere held other work is) fits.below;
 }

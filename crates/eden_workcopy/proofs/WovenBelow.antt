@@ -1,23 +1,16 @@
 -- What is shown below a directory, where the rows and the marks below it alone are looked at.
-use Rattle.std.proofs.Common.{◌≡◌, ℕ, Bool, true, false, cond, ◌&&◌, ◌||◌, List, [], ◌∷◌, map, Option, Some, None, is_some, T, refl, sym, ap, subst, ◌∙◌}
+use Rattle.std.proofs.Common.{◌≡◌, ℕ, Bool, true, false, cond, ◌&&◌, ◌||◌, List, [], ◌∷◌, map, is_some, T, refl, sym, ap, subst, ◌∙◌}
 use Rattle.std.specs.Prelude.{filter}
 use Rattle.std.specs.FinMap.Entries.{is_sorted, is_sorted-where_key, where_key}
 use Rattle.std.proofs.Math.Bool.{and_comm}
 use Rattle.eden_globs.specs.Filters.{admits}
-use Rattle.eden_ids.specs.declared.id.Id.{Id}
-use Rattle.eden_ids.specs.FileMaps.{FileMap, file_at, has, listing, same_path}
+use Rattle.eden_ids.specs.FileMaps.{FileMap, file_at, listing, same_path}
 use Rattle.eden_ids.specs.Paths.{lies_below}
 use Rattle.eden_ids.proofs.FileMapLemmas.{same_path-is}
-use Rattle.eden_ids.proofs.Sifted.{has-sifted, keys-sifted, listing_of, sifted}
-use Rattle.eden_objects.specs.Objects.{Held}
-use Rattle.eden_objects.specs.Closed.{IsClosed}
-use Rattle.eden_objects.specs.Commits.{Row, commit_map, commit_rows, rows_where}
-use Rattle.eden_objects.specs.Files.{commit_files}
-use Rattle.eden_objects.proofs.CommitLaws.{rows_listed}
+use Rattle.eden_ids.proofs.Sifted.{has-sifted, listing_of, sifted}
 use Rattle.eden_workcopy.specs.Layers.{Entry, Mark, by_bytes, marks}
-use Rattle.eden_workcopy.specs.Listings.{admitted, shown_over}
-use Rattle.eden_workcopy.proofs.Works.{some_rows}
-use Rattle.eden_workcopy.proofs.WovenRows.{among, filtered, has-shown_over, is, is_there, said}
+use Rattle.eden_workcopy.specs.Listings.{shown_over}
+use Rattle.eden_workcopy.proofs.WovenRows.{among, has-shown_over, is, is_there, said}
 
 -- the files below a directory
 abbrev pub files_below : List ℕ → FileMap → FileMap
@@ -76,25 +69,6 @@ shown_below base ms top =
     ∙ (λ i. is_there (has-sifted base (λ path. lies_below path top) p i) (below_said top p false ms i) (below_said top p true ms i))
     ∙ parted (lies_below p top) (is_some (file_at base p)) (among p (said false ms)) (among p (said true ms))
     ∙ ap (λ b. lies_below p top && b) (sym (has-shown_over base ms p)))
-
--- the rows of a commit below a directory that a filter admits
-pub row_paths_below : (held : List Held) → IsClosed held → (commit : Id) (top : List ℕ) (wanted : List (List ℕ)) (rs : List Row)
-    → rows_where (admits wanted) (rows_where (λ p. lies_below p top) (commit_rows held commit)) ≡ Some rs
-    → map (λ r. r.0) rs ≡ admitted wanted (files_below top (commit_files held commit))
-row_paths_below held closed commit top wanted rs is = by (commit_rows held commit) refl is
-  where
-    by : (o : Option (List Row)) → commit_rows held commit ≡ o → rows_where (admits wanted) (rows_where (λ p. lies_below p top) o) ≡ Some rs
-        → map (λ r. r.0) rs ≡ admitted wanted (files_below top (commit_files held commit))
-    by None has h = absurd (cc)
-    by (Some all) has h =
-        let files : commit_map held commit ≡ Some (commit_files held commit) = some_rows held (commit_rows held commit) (ap is_some has) in
-        let rows : rs ≡ filter (λ r. admits wanted r.0) (filter (λ r. lies_below r.0 top) all) = cc in
-        ap (map (λ r. r.0)) rows
-        ∙ filtered (admits wanted) (filter (λ r. lies_below r.0 top) all)
-        ∙ ap (filter (admits wanted))
-        (filtered (λ p. lies_below p top) all
-        ∙ ap (filter (λ p. lies_below p top)) (sym (rows_listed held closed commit all (commit_files held commit) has files))
-        ∙ sym (keys-sifted (commit_files held commit) (λ p. lies_below p top)))
 
 -- the marks below it are in byte order too
 pub sorted_below : (top : List ℕ) (ms : List Mark) → T (is_sorted by_bytes ms) → T (is_sorted by_bytes (marks_below top ms))

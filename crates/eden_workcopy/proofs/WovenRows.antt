@@ -13,13 +13,7 @@ use Rattle.eden_ids.specs.Sameness.{same_bytes}
 use Rattle.eden_ids.proofs.FileMapLemmas.{has-listing, has-path_set, has-union, has-where, same_path-is, same_path-other, same_path-refl}
 use Rattle.eden_ids.proofs.ByteOrder.{both, first, less, second}
 use Rattle.eden_ids.proofs.TreeMaps.{listing-same}
-use Rattle.eden_ids.specs.declared.id.Id.{Id}
-use Rattle.eden_objects.specs.Objects.{Held}
-use Rattle.eden_objects.specs.Closed.{IsClosed}
-use Rattle.eden_objects.specs.Commits.{Row, commit_map, commit_rows, rows_where}
-use Rattle.eden_objects.specs.Files.{commit_files}
-use Rattle.eden_objects.proofs.CommitLaws.{rows_listed}
-use Rattle.eden_workcopy.proofs.Works.{some_rows}
+use Rattle.eden_objects.specs.Commits.{Row}
 use Rattle.eden_workcopy.specs.Layers.{Layer, Mark, by_bytes, marked, marks, over}
 use Rattle.eden_workcopy.specs.internal.Places.{place}
 use Rattle.eden_workcopy.specs.Listings.{admitted, shown_over}
@@ -621,25 +615,3 @@ layer_shown base layer = listing-same (shown_over base ms) (over base layer) mem
 
     member : (p : List ℕ) → has (shown_over base ms) p ≡ fin.contains_key (over base layer) p
     member p = has-shown_over base ms p ∙ by p (among p (said true ms)) (among p (said false ms)) refl refl
-
--- ---- the rows of a commit that a filter admits
-
-pub filtered : (t : List ℕ → Bool) (rs : List Row) → map (λ r. r.0) (filter (λ r. t r.0) rs) ≡ filter t (map (λ r. r.0) rs)
-filtered t [] = refl
-filtered t (r ∷ rs) =
-    let rest = filtered t rs in
-    elim (t r.0) as (λ b. map {A = Row} (λ r. r.0) (cond b (r ∷ filter (λ r. t r.0) rs) (filter (λ r. t r.0) rs)) ≡ cond b (r.0 ∷ filter t (map (λ r. r.0) rs)) (filter t (map (λ r. r.0) rs))) [
-      | true ↦ ap (λ ps. r.0 ∷ ps) rest
-      | false ↦ rest
-    ]
-
-pub row_paths : (held : List Held) → IsClosed held → (commit : Id) (wanted : List (List ℕ)) (rs : List Row) → rows_where (admits wanted) (commit_rows held commit) ≡ Some rs
-    → map (λ r. r.0) rs ≡ admitted wanted (commit_files held commit)
-row_paths held closed commit wanted rs is = by (commit_rows held commit) refl is
-  where
-    by : (o : Option (List Row)) → commit_rows held commit ≡ o → rows_where (admits wanted) o ≡ Some rs → map (λ r. r.0) rs ≡ admitted wanted (commit_files held commit)
-    by None has h = absurd (cc)
-    by (Some all) has h =
-        let files : commit_map held commit ≡ Some (commit_files held commit) = some_rows held (commit_rows held commit) (ap is_some has) in
-        let rows : rs ≡ filter (λ r. admits wanted r.0) all = cc in
-        ap (map (λ r. r.0)) rows ∙ filtered (admits wanted) all ∙ ap (filter (admits wanted)) (sym (rows_listed held closed commit all (commit_files held commit) has files))

@@ -1,4 +1,4 @@
--- What a working copy means over a store: the files of its root's commit, and over them its overlay.
+-- What a working copy means over a store: the files of its root's commit, seen where directories were renamed to, and over them its overlay.
 use Rattle.std.specs.Prelude.{ℕ, Bool, List, IsSome}
 use Rattle.std.specs.FinMap as fin
 use Rattle.eden_ids.specs.FileMaps.{FileMap, IsFileMap, PathSet, path_set}
@@ -6,18 +6,25 @@ use Rattle.eden_ids.specs.Texts.{AreTexts}
 use Rattle.eden_objects.specs.Objects.{Held}
 use Rattle.eden_objects.specs.Commits.{commit_map}
 use Rattle.eden_objects.specs.Files.{commit_files}
+use Rattle.eden_moves.specs.Moves.{seen_through}
 use Rattle.eden_workcopy.specs.Layers.{marks, over}
 use Rattle.eden_workcopy.specs.declared.work.WorkCopy.{WorkCopy}
 
+-- the files that the overlay lies over: those of the root's commit, where the renamed directories show them
+abbrev pub base_of : List Held → WorkCopy → FileMap
+base_of held work = seen_through (commit_files held work.root) work.moves
+
 -- the files that a working copy holds
 abbrev pub means : List Held → WorkCopy → FileMap
-means held work = over (commit_files held work.root) work.overlay
+means held work = over (base_of held work) work.overlay
 
--- the store has the root's commit, and root and overlay make a file map there, whose paths and files keep the limits
+-- the store has the root's commit, and root, renamed directories and overlay make a file map there, whose paths and files keep the limits, as
+-- those do that the overlay hides
 pub record FitsIn (held : List Held) (work : WorkCopy) : Type 0 where
   pub root : IsSome (commit_map held work.root)
   pub files : IsFileMap (means held work)
   pub texts : AreTexts (means held work)
+  pub below : AreTexts (base_of held work)
 
 -- the paths that a change touched, each once and ascending, with whether a file stands there now
 abbrev pub touched_of : WorkCopy → List (List ℕ × Bool)

@@ -1,18 +1,17 @@
 //! The files below a directory, each carried to the same place below another.
 
-ghost use Rattle.std.specs.Prelude.{◌≡◌, ◌≢◌, true, false, None, Some, if◌then◌else◌, IfOk, IfErr, OnOk, is_some, IsSome};
+ghost use Rattle.std.specs.Prelude.{◌≡◌, ◌≢◌, true, false, None, Some, if◌then◌else◌, IfOk, IfErr, OnOk, is_some};
 ghost use Rattle.std.specs.List.{list_any, AllByRecursion};
 ghost use Rattle.std.specs.FinMap as fin;
 ghost use Rattle.eden_ids.specs.FileMaps.{file_at, paths, put_option};
 ghost use Rattle.eden_ids.specs.Paths.{lies_below, path_fault};
-ghost use Rattle.eden_objects.specs.Commits.{commit_map};
 ghost use Rattle.eden_objects.specs.Files.{commit_files};
 ghost use Rattle.eden_history.specs.Carried.{carried};
 ghost use Rattle.eden_history.specs.Changes.{below};
 ghost use Rattle.eden_moves.specs.Moves.{breaks};
 ghost use Rattle.eden_workcopy.specs.internal.Carrying.{each_carried, way_fault};
 ghost use Rattle.eden_workcopy.specs.Layers.{over};
-ghost use Rattle.eden_workcopy.specs.Meanings.{means};
+ghost use Rattle.eden_workcopy.specs.Meanings.{means, FitsIn};
 
 use crate::overlay::Overlay;
 use crate::work::WorkCopy;
@@ -85,7 +84,8 @@ fn carry_each<B: FileTree>(
 }
 
 impl WorkCopy {
-    /// What is to be said of the paths where each file below the old path is carried to the same place below the new one.
+    /// What is to be said of the paths over the commit alone where each file below the old path is carried to the same place below the new
+    /// one.
     ///
     /// `PathTooLong` comes where one would come to stand at what is no path, and `NoMemory` where a growth was refused.
     pub(crate) fn carried<N: Naming + Drop>(
@@ -94,7 +94,7 @@ impl WorkCopy {
         old: &Path,
         new: &Path,
     ) -> Result<Overlay, ChangeFault>
-        requires { IsSome (commit_map store.now self.now.root) }
+        requires { FitsIn store.now self.now }
         ensures files { IfOk result (λ overlay. over (commit_files store.now self.now.root) overlay
             ≡ each_carried old.now new.now (means store.now self.now) (below old.now (paths (means store.now self.now)))) }
         ensures accepts { IfOk result (λ _. list_any (breaks old.now new.now) (below old.now (paths (means store.now self.now))) ≡ false) }
@@ -103,7 +103,7 @@ impl WorkCopy {
             → list_any (breaks old.now new.now) (below old.now (paths (means store.now self.now))) ≡ true) }
     {
         let moved = self.list_below(store, old)?;
-        let mut overlay = self.overlay.copy()?;
+        let mut overlay = self.flat_copy(store)?;
         let base = store.commit_files(self.root);
         carry_each(&base, &mut overlay, moved, old, new)?;
         Ok(overlay)

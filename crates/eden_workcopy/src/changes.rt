@@ -159,8 +159,10 @@ impl WorkCopy {
         ensures { IfOk result (λ work. work ≡ self.now) }
     {
         let overlay = self.overlay.copy()?;
+        let moves = self.moves.copy()?;
         Ok(WorkCopy {
             root: self.root,
+            moves,
             overlay,
         })
     }

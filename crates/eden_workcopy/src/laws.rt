@@ -8,9 +8,8 @@ ghost use Rattle.eden_ids.specs.declared.content.Content.{Content};
 ghost use Rattle.eden_ids.specs.FileMaps.{FileMap, file_at, has, listing, paths};
 ghost use Rattle.eden_objects.specs.Objects.{Held};
 ghost use Rattle.eden_objects.specs.Commits.{commit_map};
-ghost use Rattle.eden_objects.specs.Files.{commit_files};
 ghost use Rattle.eden_workcopy.specs.declared.work.WorkCopy.{WorkCopy};
-ghost use Rattle.eden_workcopy.specs.Meanings.{means, touched_of, touched_set, FitsIn};
+ghost use Rattle.eden_workcopy.specs.Meanings.{base_of, means, touched_of, touched_set, FitsIn};
 ghost use Rattle.eden_workcopy.specs.Layers.{Layer, by_bytes, marked, over, over_rule};
 ghost use Rattle.eden_workcopy.specs.Listings.{shown_over};
 
@@ -41,9 +40,9 @@ pub fn touched_law()
     ensures sorted { (work : WorkCopy) → T (is_sorted by_bytes (touched_of work)) }
     // With each of them stands whether a file is there.
     ensures present { (held : List Held) (work : WorkCopy) → AllByRecursion (λ e. is_some (file_at (means held work) e.0) ≡ e.1) (touched_of work) }
-    // At every other path the working copy holds what its root's commit holds.
+    // At every other path the working copy holds what its root's commit holds, where renamed directories show it.
     ensures elsewhere { (held : List Held) (work : WorkCopy) (p : List ℕ) → has (touched_set work) p ≡ false
-        → file_at (means held work) p ≡ file_at (commit_files held work.root) p }
-    // Laid over the commit they show the paths of the files that the working copy holds.
-    ensures shown { (held : List Held) (work : WorkCopy) → listing (shown_over (commit_files held work.root) (touched_of work)) ≡ paths (means held work) }
+        → file_at (means held work) p ≡ file_at (base_of held work) p }
+    // Laid over these files they show the paths of the files that the working copy holds.
+    ensures shown { (held : List Held) (work : WorkCopy) → listing (shown_over (base_of held work) (touched_of work)) ≡ paths (means held work) }
 {}

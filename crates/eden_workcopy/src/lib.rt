@@ -25,6 +25,7 @@ mod dirty;
 mod entries;
 mod entries_below;
 mod entries_walk;
+mod flat;
 mod laws;
 mod list;
 mod marks;

@@ -1,43 +1,136 @@
-//! The rename of a directory that nothing stands against. Where the commit has no file in it the overlay's entries are carried as a whole.
+//! The rename of a directory that nothing stands against: what the overlay says is carried as a whole, and the files below it are seen at
+//! the new place.
 
-ghost use Rattle.std.specs.Prelude.{◌≡◌, ◌≢◌, false, None, Some, IfErr, OnOk, OnErr};
-ghost use Rattle.eden_ids.specs.FileMaps.{has_file_below};
+ghost use Rattle.std.specs.Prelude.{◌≡◌, ◌≢◌, ◌&&◌, ◌++◌, false, None, Some, IfOk, IfErr, OnOk, OnErr, length, nat_le};
+ghost use Rattle.eden_ids.specs.Paths.{components};
 ghost use Rattle.eden_ids.specs.Sameness.{same_bytes};
+ghost use Rattle.eden_ids.specs.Texts.{AreTexts};
 ghost use Rattle.eden_history.specs.Carried.{carried_files};
 ghost use Rattle.eden_history.specs.DirRenames.{breaks_a_path, dir_renamed, rename_dir_fault, source_fault};
+ghost use Rattle.eden_moves.specs.Moves.{is_path, seen_through};
 ghost use Rattle.eden_objects.specs.Files.{commit_files};
 ghost use Rattle.eden_workcopy.specs.internal.Carrying.{way_fault};
-ghost use Rattle.eden_workcopy.specs.Meanings.{means, FitsIn};
+ghost use Rattle.eden_workcopy.specs.Meanings.{base_of, means, FitsIn};
 
 use crate::work::WorkCopy;
 use eden_history::ChangeFault;
-use eden_ids::{FileTree, Naming, Path};
-use eden_objects::Store;
+use eden_ids::{FileTree, Naming, Path, is_path, path_law};
+use eden_moves::{Moved, Moves, joined};
+use eden_objects::{Passes, Store};
+
+/// How many components a path has.
+fn depth(path: &Path) -> usize
+    ensures { result ≡ length (components path.now) }
+{
+    path.as_bytes().split(|byte| *byte == b'/').count()
+}
+
+/// Whether a path is no longer below the new one than it is at the same place below the old one, in bytes and in components.
+fn is_no_longer(old: &Path, new: &Path) -> bool
+    ensures { result ≡ (nat_le (length new.now) (length old.now) && nat_le (length (components new.now)) (length (components old.now))) }
+{
+    new.as_bytes().len() <= old.as_bytes().len() && depth(new) <= depth(old)
+}
+
+/// Whether the bytes of two parts, the one behind the other, are a path.
+fn is_path_of(front: &[u8], rest: &[u8]) -> bool
+    ensures { result ≡ is_path (front.now ++ rest.now) }
+{
+    match joined(front, rest) {
+        Some(path) => is_path(path.as_slice()),
+        None => false,
+    }
+}
+
+/// What has a place below the new path, of that which stands below the old one. A search for what has none passes it over.
+#[derive(Drop)]
+struct Placed<'a> {
+    old: &'a Path,
+    new: &'a Path,
+}
+
+impl Passes for Placed<'_> {
+    ghost use Rattle.eden_history.specs.Carried.{carried};
+    ghost use Rattle.eden_moves.specs.Moves.{is_path};
+
+    ghost passes = { λ placed path. is_path (carried placed.old.now placed.new.now path) };
+
+    fn passes_file(&self, path: &[u8]) -> bool {
+        let rest = path.get(self.old.as_bytes().len()..).unwrap_or(&[]);
+        is_path_of(self.new.as_bytes(), rest)
+    }
+
+    fn passes_below(&self, _directory: &[u8]) -> bool {
+        false
+    }
+}
+
+/// Whether what a file below the old path would stand at below the new one is no path. It takes no memory, and where the new path is no longer
+/// than the old one no file is looked at.
+fn breaks_a_path<N: Naming + Drop>(base: &Moved<'_, N>, old: &Path, new: &Path) -> bool
+    requires { AreTexts base.now }
+    ensures { result ≡ breaks_a_path base.now old.now new.now }
+{
+    path_law(new);
+    if is_no_longer(old, new) {
+        return false;
+    }
+    base.has_below_but(old, &Placed { old, new })
+}
 
 impl WorkCopy {
-    /// Moves each file below one path to the same place below another, where the commit has none below either. `PathTooLong` comes where
-    /// the path of something that the overlay tells would come to be none, and `NoMemory` where a growth was refused. Both change nothing.
+    /// The renamed directories after one more was renamed. They stay as they are where no file below the overlay stands in it, nor at the new
+    /// place.
+    fn moves_after<N: Naming + Drop>(
+        &self,
+        store: &Store<N>,
+        old: &Path,
+        new: &Path,
+    ) -> Result<Moves, ChangeFault>
+        ensures seen { IfOk result (λ moves. seen_through (commit_files store.now self.now.root) moves
+            ≡ carried_files (base_of store.now self.now) old.now new.now) }
+        ensures cause { IfErr result (λ fault. fault ≢ ChangeFault.NoMemory → fault ≡ ChangeFault.PathTooLong) }
+    {
+        store.commit_files(self.root).texts_law();
+        let base = self.base(store);
+        let mut moves = self.moves.copy()?;
+        if !base.has_file_below(old) && !base.has_file_below(new) {
+            return Ok(moves);
+        }
+        moves.rename(old, new)?;
+        Ok(moves)
+    }
+
+    /// Moves each file below one path to the same place below another, seen or not. `PathTooLong` comes where a path would come to be none,
+    /// and `NoMemory` where a growth was refused. Both change nothing.
     ///
-    /// The work is that of the paths which move, and no content is copied.
+    /// No file is looked at that stands below the overlay, but where the new path is longer than the old one.
     fn carry_whole<N: Naming + Drop>(
         &mut self,
         store: &Store<N>,
         old: &Path,
         new: &Path,
     ) -> Result<(), ChangeFault>
-        requires source { has_file_below (commit_files store.now self.old.root) old.now ≡ false }
-        requires target { has_file_below (commit_files store.now self.old.root) new.now ≡ false }
+        requires { FitsIn store.now self.old }
         ensures root { self.new.root ≡ self.old.root }
+        ensures below { OnOk result (AreTexts (base_of store.now self.new)) }
         ensures accepts { OnOk result (breaks_a_path (means store.now self.old) old.now new.now ≡ false) }
         ensures files { OnOk result (means store.now self.new ≡ carried_files (means store.now self.old) old.now new.now) }
+        ensures cause { IfErr result (λ fault. fault ≢ ChangeFault.NoMemory → fault ≡ ChangeFault.PathTooLong) }
         ensures same { OnErr result (self.new ≡ self.old) }
     {
+        path_law(new);
+        if breaks_a_path(&self.base(store), old, new) {
+            return Err(ChangeFault::PathTooLong);
+        }
+        let moves = self.moves_after(store, old, new)?;
         self.overlay.carry(old, new)?;
+        self.moves = moves;
         Ok(())
     }
 
-    /// Moves each file below one path to the same place below another, one after the other. `PathTooLong` comes where the path of one would
-    /// come to be none, and `NoMemory` where a growth was refused. Both change nothing.
+    /// Moves each file below one path that is seen there to the same place below another, and says all over the commit alone.
+    /// `PathTooLong` comes where a path would come to be none, and `NoMemory` where a growth was refused. Both change nothing.
     fn carry_files<N: Naming + Drop>(
         &mut self,
         store: &Store<N>,
@@ -49,18 +142,23 @@ impl WorkCopy {
         requires distinct { same_bytes old.now new.now ≡ false }
         requires way { way_fault (means store.now self.old) old.now new.now ≡ None }
         ensures root { self.new.root ≡ self.old.root }
+        ensures below { OnOk result (AreTexts (base_of store.now self.new)) }
         ensures accepts { OnOk result (rename_dir_fault (means store.now self.old) old.now new.now ≡ None) }
         ensures files { OnOk result (means store.now self.new ≡ dir_renamed (means store.now self.old) old.now new.now) }
         ensures refuses { IfErr result (λ fault. fault ≢ ChangeFault.NoMemory
             → rename_dir_fault (means store.now self.old) old.now new.now ≡ Some fault) }
         ensures same { OnErr result (self.new ≡ self.old) }
     {
+        store.closed_law();
         self.overlay = self.carried(store, old, new)?;
+        self.moves = Moves::new(self.overlay.allocator());
         Ok(())
     }
 
     /// Moves each file below one path to the same place below another, where nothing stands against that but that a path may come to be
     /// none: that is refused as `PathTooLong`. `NoMemory` comes where a growth was refused. Both change nothing.
+    ///
+    /// Where the path of a file that is not seen would come to be none, each file that is seen is carried by itself.
     pub(crate) fn carry_dir<N: Naming + Drop>(
         &mut self,
         store: &Store<N>,
@@ -72,20 +170,16 @@ impl WorkCopy {
         requires distinct { same_bytes old.now new.now ≡ false }
         requires way { way_fault (means store.now self.old) old.now new.now ≡ None }
         ensures root { self.new.root ≡ self.old.root }
+        ensures below { OnOk result (AreTexts (base_of store.now self.new)) }
         ensures accepts { OnOk result (rename_dir_fault (means store.now self.old) old.now new.now ≡ None) }
         ensures files { OnOk result (means store.now self.new ≡ dir_renamed (means store.now self.old) old.now new.now) }
         ensures refuses { IfErr result (λ fault. fault ≢ ChangeFault.NoMemory
             → rename_dir_fault (means store.now self.old) old.now new.now ≡ Some fault) }
         ensures same { OnErr result (self.new ≡ self.old) }
     {
-        let root = store.commit_files(self.root);
-        if root.has_file_below(old) || root.has_file_below(new) {
-            return self.carry_files(store, old, new);
-        }
         match self.carry_whole(store, old, new) {
             Ok(()) => Ok(()),
             Err(ChangeFault::NoMemory) => Err(ChangeFault::NoMemory),
-            // The path of something that no file stands at would come to be none.
             Err(_) => self.carry_files(store, old, new),
         }
     }

@@ -5,14 +5,16 @@ ghost use Rattle.std.specs.FinMap as fin;
 ghost use Rattle.eden_ids.specs.FileMaps.{FileMap, differ, file_at, has, listing, same_file};
 ghost use Rattle.eden_objects.specs.Commits.{commit_map};
 ghost use Rattle.eden_objects.specs.Files.{commit_files};
-ghost use Rattle.eden_workcopy.specs.internal.Agreements.{IsKept, IsLean, kept_below, kept_entry};
+ghost use Rattle.eden_workcopy.specs.internal.Agreements.{IsKept, IsLean, kept_below, kept_each, kept_entry};
 ghost use Rattle.eden_workcopy.specs.Layers.{over};
 ghost use Rattle.eden_workcopy.specs.Meanings.{means, touched_set, FitsIn};
 
+use crate::flat::flat_or;
 use crate::overlay::Overlay;
 use crate::work::WorkCopy;
 use crate::working::lent;
 use eden_ids::{Content, FileTree, Id, Naming, NoMemory, Path, is_same_file};
+use eden_moves::Moves;
 use eden_objects::{CommitFault, Store};
 use eden_treediff::diff;
 
@@ -74,13 +76,15 @@ impl Overlay {
         Ok(next)
     }
 
-    /// Says in another overlay what the old commit has at the untouched ones of the paths on which it differs from the new one.
-    fn keep_differing<R: FileTree>(
+    /// Says in another overlay what a tree has at the untouched ones of some paths: where they are those on which it differs from the tree
+    /// below the other overlay, the same is seen over that.
+    pub(crate) fn keep_listed<R: FileTree>(
         &self,
         root: &R,
         next: &mut Overlay,
         paths: &[Path],
     ) -> Result<(), NoMemory>
+        ensures each { OnOk result (next.new ≡ kept_each (R.files root.now) self.now next.old paths.now) }
         ensures files { OnOk result ((base : FileMap) → paths.now ≡ listing (differ (R.files root.now) base)
             → IsKept (over (R.files root.now) self.now) base next.old (fin.keys self.now) → over base next.new ≡ over (R.files root.now) self.now) }
         ensures lean { OnOk result ((base : FileMap) → paths.now ≡ listing (differ (R.files root.now) base)
@@ -99,7 +103,7 @@ impl WorkCopy {
     ///
     /// `NoCommit` comes where the id is no commit's, `NoMemory` where a growth was refused. Only the paths that a change touched and those
     /// on which the two commits differ are looked at, each in one of the commits, and bytes are copied only where the new commit has
-    /// another file.
+    /// another file. What stands in renamed directories, and stood there, counts as touched: no directory of the new working copy is renamed.
     pub fn reroot<N: Naming + Drop>(
         &self,
         store: &Store<N>,
@@ -113,13 +117,17 @@ impl WorkCopy {
             → has (differ (means store.now next) (commit_files store.now commit)) p ≡ true) }
         ensures refuses { IfErr result (λ fault. fault ≢ CommitFault.NoMemory → commit_map store.now commit ≡ None) }
     {
-        let paths = diff(self.overlay.allocator(), store, self.root, commit)?;
+        let alloc = self.overlay.allocator();
+        let paths = diff(alloc, store, self.root, commit)?;
+        store.closed_law();
+        let flat = self.flat(store)?;
+        let touched = flat_or(&flat, &self.overlay);
         let base = store.commit_files(commit);
-        let mut overlay = self.overlay.over_another(&base)?;
-        let root = store.commit_files(self.root);
-        self.overlay.keep_differing(&root, &mut overlay, &paths)?;
+        let mut overlay = touched.over_another(&base)?;
+        touched.keep_listed(&store.commit_files(self.root), &mut overlay, &paths)?;
         Ok(WorkCopy {
             root: commit,
+            moves: Moves::new(alloc),
             overlay,
         })
     }

@@ -1,15 +1,15 @@
 //! A path that goes back to what the root's commit has there.
 
-ghost use Rattle.std.specs.Prelude.{◌≡◌, None, Some, is_some, IfOk, IfErr, OnOk, OnErr};
+ghost use Rattle.std.specs.Prelude.{◌≡◌, ◌≢◌, false, None, Some, is_some, IfOk, IfErr, OnOk, OnErr};
 ghost use Rattle.eden_ids.specs.FileMaps.{file_at, put_option};
+ghost use Rattle.eden_moves.specs.Moves.{is_governed};
 ghost use Rattle.eden_objects.specs.Files.{commit_files};
 ghost use Rattle.eden_workcopy.specs.Meanings.{means, FitsIn};
 ghost use Rattle.eden_workcopy.specs.Reverts.{revert_fault};
 
 use crate::work::WorkCopy;
-use crate::working::Working;
-use eden_history::{ChangeFault, place_fault};
-use eden_ids::{Naming, Path, has_file};
+use eden_history::ChangeFault;
+use eden_ids::{Content, Naming, Path, has_file};
 use eden_objects::Store;
 
 impl WorkCopy {
@@ -19,16 +19,36 @@ impl WorkCopy {
     {
         let root = store.commit_files(self.root);
         if has_file(&root, path.as_bytes()) {
-            place_fault(&Working::of(root, &self.overlay), path)
+            self.place_fault(store, path)
         } else {
             None
         }
     }
 
+    /// Says of a path what the root's commit has there.
+    fn restore<N: Naming + Drop>(
+        &mut self,
+        store: &Store<N>,
+        path: &Path,
+    ) -> Result<(), ChangeFault>
+        ensures root { self.new.root ≡ self.old.root }
+        ensures moves { self.new.moves ≡ self.old.moves }
+        ensures files { OnOk result (means store.now self.new
+            ≡ put_option (means store.now self.old) path.now (file_at (commit_files store.now self.old.root) path.now)) }
+        ensures refuses { IfErr result (λ fault. fault ≡ ChangeFault.NoMemory) }
+        ensures same { OnErr result (self.new ≡ self.old) }
+    {
+        let root = store.commit_files(self.root);
+        let file = Content::of_lent(self.overlay.allocator(), root.file(path.as_bytes()))?;
+        self.put(path.copy()?, file)?;
+        Ok(())
+    }
+
     /// Takes every change at a path back: the file of the root's commit stands there again, or none where it has none.
     ///
     /// Where the root's commit has a file there, it is refused, in this order, as `NotADirectory` or `IsADirectory`. After a refusal
-    /// nothing has changed. It takes no memory.
+    /// nothing has changed. It takes no memory, but for a path below a directory that was renamed, or below the place that one was renamed to:
+    /// `NoMemory` may come there alone.
     pub fn revert<N: Naming + Drop>(
         &mut self,
         store: &Store<N>,
@@ -40,13 +60,19 @@ impl WorkCopy {
         ensures accepts { IfOk result (λ _. revert_fault (means store.now self.old) (commit_files store.now self.old.root) path.now ≡ None) }
         ensures files { OnOk result (means store.now self.new
             ≡ put_option (means store.now self.old) path.now (file_at (commit_files store.now self.old.root) path.now)) }
-        ensures refuses { IfErr result (λ fault. revert_fault (means store.now self.old) (commit_files store.now self.old.root) path.now ≡ Some fault) }
+        ensures refuses { IfErr result (λ fault. fault ≢ ChangeFault.NoMemory
+            → revert_fault (means store.now self.old) (commit_files store.now self.old.root) path.now ≡ Some fault) }
+        ensures memory { is_governed self.old.moves path.now ≡ false → IfErr result (λ fault. fault ≢ ChangeFault.NoMemory) }
         ensures same { OnErr result (self.new ≡ self.old) }
     {
         if let Some(fault) = self.revert_fault(store, path) {
             return Err(fault);
         }
         store.closed_law();
+        if self.moves.nearest(path.as_bytes()).is_some() {
+            self.restore(store, path)?;
+            return Ok(());
+        }
         self.overlay.forget(path.as_bytes());
         Ok(())
     }

@@ -19,8 +19,8 @@ fn add(touched: &mut Vec<(Path, bool)>, entry: &(Path, Option<Content>)) -> Resu
 }
 
 impl WorkCopy {
-    /// The paths that a change touched, in byte order, each with whether a file stands there now. Elsewhere the working copy holds what
-    /// its root's commit holds.
+    /// The paths that a change touched, in byte order, each with whether a file stands there now. Elsewhere the working copy holds what its
+    /// root's commit holds, where renamed directories show it.
     ///
     /// `NoMemory` comes where a growth was refused.
     #[tactic(auto, using(crate::proofs::Touched::seen_more))]
@@ -37,6 +37,7 @@ impl WorkCopy {
     /// The same as `set`, where the overlay is told too.
     pub(crate) fn put(&mut self, path: Path, file: Option<Content>) -> Result<(), NoMemory>
         ensures root { self.new.root ≡ self.old.root }
+        ensures moves { self.new.moves ≡ self.old.moves }
         ensures overlay { OnOk result (self.new.overlay ≡ fin.insert self.old.overlay path file) }
         ensures files { OnOk result ((held : List Held) → means held self.new ≡ put_option (means held self.old) path file) }
         ensures same { OnErr result (self.new ≡ self.old) }
@@ -51,6 +52,7 @@ impl WorkCopy {
     /// where a growth was refused, and changes nothing.
     pub fn set(&mut self, path: Path, file: Option<Content>) -> Result<(), NoMemory>
         ensures root { self.new.root ≡ self.old.root }
+        ensures moves { self.new.moves ≡ self.old.moves }
         ensures files { OnOk result ((held : List Held) → means held self.new ≡ put_option (means held self.old) path file) }
         ensures same { OnErr result (self.new ≡ self.old) }
     {

@@ -14,17 +14,20 @@ ghost use Rattle.eden_workcopy.specs.Meanings.{means, FitsIn};
 use crate::overlay::Overlay;
 use eden_history::{ChangeFault, absent_fault, place_fault, rename_fault, write_fault};
 use eden_ids::{Content, Id, Kind, Naming, NoMemory, Path, Sequence};
+use eden_moves::Moves;
 use eden_objects::{NoCommit, Store};
 use std::alloc::Global;
 
-/// The files of a commit, and over them those that were written, renamed or removed since.
+/// The files of a commit, directories of it that were renamed, and over them the files that were written, renamed or removed since.
 ///
-/// It keeps the commit's id, its root, and what became of each path that a change touched. What it holds is told over a store that has
-/// the root's commit. Condition of each call that takes a store: the store has it, and there root and changes make a file map, as they do
-/// in the store over which the working copy was made and changed, and in each that has all objects of that one.
+/// It keeps the commit's id, its root, which of the commit's directories are seen where, and what became of each path that a change touched.
+/// What it holds is told over a store that has the root's commit. Condition of each call that takes a store: the store has it, and there root
+/// and changes make a file map, as they do in the store over which the working copy was made and changed, and in each that has all objects of
+/// that one.
 #[derive(Drop)]
 pub struct WorkCopy {
     pub(crate) root: Id,
+    pub(crate) moves: Moves,
     pub(crate) overlay: Overlay,
 }
 
@@ -47,6 +50,7 @@ impl WorkCopy {
         if store.has_commit(root) {
             Ok(WorkCopy {
                 root,
+                moves: Moves::new(alloc),
                 overlay: Overlay::new(alloc),
             })
         } else {
@@ -59,6 +63,13 @@ impl WorkCopy {
         ensures { result ≡ self.now.root }
     {
         self.root
+    }
+
+    /// Which directories of the commit were renamed, and where they are seen. Where none was the commit's files are seen at their own paths.
+    pub fn moves(&self) -> &Moves
+        ensures { result.now ≡ self.now.moves }
+    {
+        &self.moves
     }
 
     /// The kind and the bytes of the file at a path, if one stands there.

@@ -1,28 +1,29 @@
 //! A working copy over its store: what is asked of its files, where the root's commit is found once for all questions.
 
-ghost use Rattle.std.specs.Prelude.{◌≡◌, ◌+◌, ◌^◌, ◌<◌, ◌∷◌, ◌++◌, [], Some, None, IfOk, IfErr, filter, length, is_some};
+ghost use Rattle.std.specs.Prelude.{◌≡◌, ◌∷◌, ◌++◌, [], Some, None, IfOk, IfErr, is_some};
 ghost use Rattle.std.specs.List.{list_any};
 ghost use Rattle.eden_ids.specs.FileMaps.{file_at, has_file_below, lent};
 ghost use Rattle.eden_history.specs.Renames.{absent_fault};
 ghost use Rattle.eden_workcopy.specs.Layers.{over};
 ghost use Rattle.eden_workcopy.specs.internal.Blocks.{before};
-ghost use Rattle.eden_workcopy.specs.Meanings.{means};
+ghost use Rattle.eden_workcopy.specs.Meanings.{base_of, means};
 
 use crate::entries_walk::Walk;
 use crate::overlay::Overlay;
 use crate::work::WorkCopy;
 use arrayvec::ArrayVec;
 use eden_history::{ChangeFault, place_fault};
-use eden_ids::{Content, FileTree, Kind, Naming, NoMemory, Path, has_file};
-use eden_objects::{Commit, Store};
+use eden_ids::{Content, FileTree, Kind, Naming, NoMemory, Path};
+use eden_moves::Moved;
+use eden_objects::{Passes, Store};
 use std::marker::Model;
 
-/// A working copy over its store: the root's commit, found once, and what was changed over it.
+/// A working copy over its store: the root's commit, found once, directories of it that were renamed, and what was changed over it.
 ///
 /// Its value is the file map that it holds there. It borrows both, and takes no memory.
 #[derive(Drop)]
 pub struct Working<'a, N: Naming + Drop> {
-    base: Commit<'a, N>,
+    base: Moved<'a, N>,
     overlay: &'a Overlay,
 }
 
@@ -75,23 +76,31 @@ fn has_present(mut entries: Walk<'_>, end: &[u8]) -> bool
     false
 }
 
-/// How many files of a tree the entries before a path hide.
-fn count_hidden<T: FileTree>(base: &T, mut entries: Walk<'_>, end: &[u8]) -> usize
-    requires { length entries + 1 < 2 ^ 64 }
-    ensures count { result ≡ length (filter (λ e. is_some (file_at (T.files base.now) e.0)) (before end.now entries.entry)) }
-    ensures within { result + 1 < 2 ^ 64 }
-{
-    let mut hidden = 0;
-    while let Some(entry) = entries.next_before(end) {
-        hidden += usize::from(has_file(base, entry.0.as_bytes()));
-    }
-    hidden
+/// What an overlay speaks of: what stands there below it is not seen.
+#[derive(Drop)]
+struct Spoken<'a> {
+    overlay: &'a Overlay,
 }
 
-/// The file that is seen at a path where an overlay lies over a commit.
+impl Passes for Spoken<'_> {
+    ghost use Rattle.std.specs.Prelude.{is_some};
+    ghost use Rattle.std.specs.FinMap as fin;
+
+    ghost passes = { λ spoken path. is_some (fin.get spoken.overlay.now path) };
+
+    fn passes_file(&self, path: &[u8]) -> bool {
+        self.overlay.get(path).is_some()
+    }
+
+    fn passes_below(&self, _top: &[u8]) -> bool {
+        false
+    }
+}
+
+/// The file that is seen at a path where an overlay lies over other files.
 #[tactic(auto, using(crate::proofs::Works::file_told, crate::proofs::Works::file_below))]
 fn file_over<'a, N: Naming + Drop>(
-    base: &Commit<'a, N>,
+    base: &Moved<'a, N>,
     overlay: &'a Overlay,
     path: &[u8],
 ) -> Option<(Kind, &'a [u8])>
@@ -103,25 +112,22 @@ fn file_over<'a, N: Naming + Drop>(
     }
 }
 
-/// Whether files are seen below a path where an overlay lies over a commit.
-///
-/// One of the overlay tells it. Else there is one where the commit has more files below the path than the overlay hides. Of the overlay
-/// only the entries below the path are looked at.
-fn has_below_over<N: Naming + Drop>(base: &Commit<'_, N>, overlay: &Overlay, path: &Path) -> bool
+/// Whether files are seen below a path where an overlay lies over other files: one of the overlay, or one of those of which it says nothing.
+/// Of the overlay only the entries below the path are looked at, and the search ends at the first file that is seen.
+fn has_below_over<N: Naming + Drop>(base: &Moved<'_, N>, overlay: &Overlay, path: &Path) -> bool
     ensures { result ≡ has_file_below (over base.now overlay.now) path.now }
 {
     let entries = overlay.entries_from(edge(path, b'/').as_slice());
     let end = edge(path, b'/' + 1);
-    if has_present(entries.copy(), end.as_slice()) {
+    if has_present(entries, end.as_slice()) {
         return true;
     }
-    let hidden = count_hidden(base, entries, end.as_slice());
-    base.has_below(path.as_bytes(), hidden + 1)
+    base.has_below_but(path, &Spoken { overlay })
 }
 
 impl<'a, N: Naming + Drop> Working<'a, N> {
-    /// What is seen where an overlay lies over a commit.
-    pub(crate) fn of(base: Commit<'a, N>, overlay: &'a Overlay) -> Working<'a, N>
+    /// What is seen where an overlay lies over other files.
+    pub(crate) fn of(base: Moved<'a, N>, overlay: &'a Overlay) -> Working<'a, N>
         ensures { result ≡ over base.entry overlay.now }
     {
         Working { base, overlay }
@@ -172,10 +178,17 @@ impl<'a, N: Naming + Drop> FileTree for Working<'a, N> {
 }
 
 impl WorkCopy {
+    /// The files over a store that the overlay lies over, as a tree. It takes no memory.
+    pub(crate) fn base<'a, N: Naming + Drop>(&'a self, store: &'a Store<N>) -> Moved<'a, N>
+        ensures { result ≡ base_of store.now self.now }
+    {
+        Moved::of(store.commit_files(self.root), &self.moves)
+    }
+
     /// The working copy over a store, as a tree of files. It takes no memory.
     pub fn over<'a, N: Naming + Drop>(&'a self, store: &'a Store<N>) -> Working<'a, N>
         ensures { result ≡ means store.now self.now }
     {
-        Working::of(store.commit_files(self.root), &self.overlay)
+        Working::of(self.base(store), &self.overlay)
     }
 }

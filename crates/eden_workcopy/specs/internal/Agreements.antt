@@ -1,5 +1,5 @@
 -- File maps that agree with another one at some paths.
-use Rattle.std.specs.Prelude.{◌≡◌, ℕ, false, List, Option, IsSome, is_some, if◌then◌else◌}
+use Rattle.std.specs.Prelude.{◌≡◌, ℕ, false, List, [], ◌∷◌, Option, None, Some, IsSome, is_some, if◌then◌else◌}
 use Rattle.std.specs.List.{AllByRecursion}
 use Rattle.std.specs.FinMap as fin
 use Rattle.eden_ids.specs.declared.content.Content.{Content}
@@ -34,3 +34,13 @@ kept_entry base next path file = if same_file file (file_at (over base next) pat
 -- the layer with the old commit's file at a path, unless it was touched
 abbrev pub kept_below : FileMap → Layer → Layer → List ℕ → Layer
 kept_below root touched next path = if is_some (fin.get touched path) then next else fin.insert next path (file_at root path)
+
+-- and at each of some paths
+abbrev pub kept_each : FileMap → Layer → Layer → List (List ℕ) → Layer
+kept_each root touched next [] = next
+kept_each root touched next (path ∷ paths) = kept_each root touched (kept_below root touched next path) paths
+
+-- the layer that is laid over a commit: another one, or the one that is there
+abbrev pub flat_or : Option Layer → Layer → Layer
+flat_or None layer = layer
+flat_or (Some flat) layer = flat

@@ -1,16 +1,15 @@
-use Rattle.std.proofs.Common.{◌≡◌, ◌&&◌, ◌+◌, nat_le, is_some, length, drop, ap, sym, ◌∙◌}
+use Rattle.std.proofs.Common.{◌≡◌, ◌&&◌, is_some, drop, ap, sym, ◌∙◌}
 use Rattle.std.specs.Prelude.{filter}
 use Rattle.std.specs.List.{list_any}
 use Rattle.std.specs.FinMap as fin
-use Rattle.eden_ids.specs.FileMaps.{file_at, paths}
 use Rattle.eden_ids.specs.Paths.{lies_below}
 use Rattle.eden_ids.proofs.ByteOrder.{upto}
 use Rattle.eden_workcopy.specs.Layers.{Entry}
 use Rattle.eden_workcopy.specs.internal.Places.{place}
 use Rattle.eden_workcopy.specs.internal.Blocks.{before}
 use Rattle.eden_workcopy.proofs.Walked.{below_from}
-use Rattle.eden_workcopy.proofs.Within.{any_below, each_below}
-use Rattle.eden_workcopy.proofs.Works.{present_below, counted_below}
+use Rattle.eden_workcopy.proofs.Within.{any_below}
+use Rattle.eden_workcopy.proofs.Works.{present_below, unspoken_below}
 use Rattle.eden_workcopy.proofs.working.has_below_over.Goals as goal
 
 pub returns-then-has_present : goal.returns-then-has_present
@@ -22,8 +21,7 @@ returns-then-has_present g c =
     ∙ below_from path all (fin.entries_sorted c.args.overlay.now) in
     let present : c.has_present.result ≡ list_any (λ e. is_some e.1 && lies_below e.0 path) all =
     c.has_present.ensures
-    ∙ ap (λ k. list_any {X = Entry} (λ e. is_some e.1) (before k c.copy.result)) (c.as_slice-2.ensures.value ∙ c.edge-end.ensures)
-    ∙ ap (λ es. list_any {X = Entry} (λ e. is_some e.1) (before (upto path) es)) c.copy.ensures
+    ∙ ap (λ k. list_any {X = Entry} (λ e. is_some e.1) (before k c.entries_from-entries.result)) (c.as_slice-2.ensures.value ∙ c.edge-end.ensures)
     ∙ ap (list_any {X = Entry} (λ e. is_some e.1)) inside
     ∙ any_below path all in
     sym (present_below c.args.base.now c.args.overlay.now path (sym present ∙ c.if-has_present.true))
@@ -37,15 +35,7 @@ returns g c =
     ∙ below_from path all (fin.entries_sorted c.args.overlay.now) in
     let present : c.has_present.result ≡ list_any (λ e. is_some e.1 && lies_below e.0 path) all =
     c.has_present.ensures
-    ∙ ap (λ k. list_any {X = Entry} (λ e. is_some e.1) (before k c.copy.result)) (c.as_slice-2.ensures.value ∙ c.edge-end.ensures)
-    ∙ ap (λ es. list_any {X = Entry} (λ e. is_some e.1) (before (upto path) es)) c.copy.ensures
+    ∙ ap (λ k. list_any {X = Entry} (λ e. is_some e.1) (before k c.entries_from-entries.result)) (c.as_slice-2.ensures.value ∙ c.edge-end.ensures)
     ∙ ap (list_any {X = Entry} (λ e. is_some e.1)) inside
     ∙ any_below path all in
-    let base = c.args.base.now in
-    c.has_below.ensures
-    ∙ ap (λ p. nat_le (c.count_hidden-hidden.result + 1) (length (filter (λ q. lies_below q p) (paths base)))) c.as_bytes.ensures.bytes
-    ∙ counted_below base c.args.overlay.now path c.count_hidden-hidden.result (sym present ∙ c.if-has_present.false)
-    (c.count_hidden-hidden.ensures.count
-    ∙ ap (λ k. length (filter {X = Entry} (λ e. is_some (file_at base e.0)) (before k c.entries_from-entries.result))) (c.as_slice-3.ensures.value ∙ c.edge-end.ensures)
-    ∙ ap (λ es. length (filter {X = Entry} (λ e. is_some (file_at base e.0)) es)) inside
-    ∙ ap length (each_below path (λ e. is_some (file_at base e.0)) all))
+    c.has_below_but.ensures ∙ unspoken_below c.args.base.now c.args.overlay.now path (sym present ∙ c.if-has_present.false)

@@ -1,16 +1,17 @@
 use Rattle.std.proofs.Common.{rules, T, ap, sym, subst, ◌∙◌}
 use Rattle.std.specs.Prelude.{filter}
 use Rattle.std.specs.FinMap.{is_sorted}
-use Rattle.std.proofs.lemmas.Result.{err_from_is_err_and}
 use Rattle.eden_globs.specs.Filters.{admits}
-use Rattle.eden_ids.specs.FileMaps.{listing}
+use Rattle.eden_ids.specs.FileMaps.{FileMap, listing, paths}
 use Rattle.eden_ids.specs.Paths.{lies_below}
 use Rattle.eden_ids.proofs.ByteOrder.{keys_rise}
+use Rattle.eden_ids.proofs.Sifted.{keys-sifted}
 use Rattle.eden_objects.specs.Files.{commit_files}
+use Rattle.eden_moves.specs.Moves.{at_paths, seen_through}
 use Rattle.eden_workcopy.specs.Layers.{by_bytes}
 use Rattle.eden_workcopy.specs.Listings.{shown_over}
-use Rattle.eden_workcopy.proofs.WovenBelow.{files_below, row_paths_below, shown_below, sorted_below}
-use Rattle.eden_accumulate.proofs.Seen.{below_there, filters_turned, unlisted_below}
+use Rattle.eden_workcopy.proofs.WovenBelow.{files_below, shown_below, sorted_below}
+use Rattle.eden_accumulate.proofs.Seen.{filters_turned, seen_there}
 use Rattle.eden_accumulate.proofs.snapshot.Snapshot.files_below.Goals as goal
 
 pub paths_below-touched-requires : goal.paths_below-touched-requires
@@ -27,20 +28,16 @@ pub returns-clause-files : goal.returns-clause-files
 returns-clause-files g c =
     let held = c.args.store.now in
     let root = c.args.self.now.position.root in
+    let moves = c.args.self.now.moves in
     let wanted = c.args.filter.now in
     let top = c.args.prefix.now in
-    c.in_ok-woven.ensures (files_below top (commit_files held root)) (row_paths_below held c.closed_law.ensures.closed root top wanted c.in_ok-rows.rows.items c.in_ok-rows.ensures)
-    ∙ ap (λ ts. filter (admits wanted) (listing (shown_over (files_below top (commit_files held root)) ts)))
+    let base = at_paths (seen_through (commit_files held root) moves) in
+    let seen = seen_there held root moves c.in-Some.commit c.of.result c.in-Some.ensures c.of.ensures in
+    c.in_ok-woven.ensures (files_below top base)
+    (c.in_ok-rows.ensures
+    ∙ ap (λ (m : FileMap). filter (admits wanted) (filter (λ path. lies_below path top) (paths (at_paths m)))) seen
+    ∙ ap (filter (admits wanted)) (sym (keys-sifted base (λ path. lies_below path top))))
+    ∙ ap (λ ts. filter (admits wanted) (listing (shown_over (files_below top base) ts)))
     (c.paths_below-touched.ensures ∙ (λ i. filter (λ mark. lies_below mark.0 (c.as_bytes.ensures.bytes i)) (c.as_slice.ensures i)))
-    ∙ ap (filter (admits wanted)) (shown_below (commit_files held root) c.args.self.now.touched top)
-    ∙ filters_turned (admits wanted) (λ path. lies_below path top) (listing (shown_over (commit_files held root) c.args.self.now.touched))
-
-pub returns-clause-accepts : goal.returns-clause-accepts
-returns-clause-accepts g c =
-    below_there c.args.store.now c.args.self.now.position.root (admits c.args.filter.now) (λ path. lies_below path c.args.prefix.now) c.in_ok-rows.rows.items c.in_ok-rows.ensures
-
-pub returns-in_err-rows-clause-refuses : goal.returns-in_err-rows-clause-refuses
-returns-in_err-rows-clause-refuses g c =
-    let p = err_from_is_err_and c.from_residual.result c.from_residual.ensures.1 in
-    rw (p.1, p.2)
-    (unlisted_below c.args.store.now c.args.self.now.position.root (admits c.args.filter.now) (λ path. lies_below path c.args.prefix.now) c.in_err-rows.field-0.0 c.in_err-rows.ensures)
+    ∙ ap (filter (admits wanted)) (shown_below base c.args.self.now.touched top)
+    ∙ filters_turned (admits wanted) (λ path. lies_below path top) (listing (shown_over base c.args.self.now.touched))

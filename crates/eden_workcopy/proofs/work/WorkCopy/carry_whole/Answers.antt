@@ -1,22 +1,37 @@
-use Rattle.std.proofs.Common.{ap, sym, ◌∙◌}
-use Rattle.eden_objects.specs.Files.{commit_files}
+use Rattle.std.proofs.Common.{◌≡◌, false, sym, ap, subst, ◌∙◌}
+use Rattle.eden_ids.specs.Texts.{AreTexts}
+use Rattle.eden_ids.specs.FileMaps.{paths}
+use Rattle.eden_ids.proofs.FileMapLemmas.{held, unlisted}
+use Rattle.eden_history.specs.DirRenames.{breaks_a_path}
+use Rattle.eden_history.proofs.DirRenameLaws.{carried_path}
+use Rattle.eden_moves.proofs.Settled.{carried_texts}
 use Rattle.eden_workcopy.specs.Layers.{over}
+use Rattle.eden_workcopy.specs.Meanings.{base_of}
 use Rattle.eden_workcopy.proofs.CarriedLayers.{over_carried}
-use Rattle.eden_workcopy.proofs.CarriedWhole.{nothing_carried, unbroken_nothing, unbroken_over}
+use Rattle.eden_workcopy.proofs.CarriedWhole.{unbroken_over}
 use Rattle.eden_workcopy.proofs.work.WorkCopy.carry_whole.Goals as goal
-
-pub returns-clause-accepts : goal.returns-clause-accepts
-returns-clause-accepts g c =
-    let base = commit_files c.args.store.now c.args.self.now.root in
-    let old = c.args.old.now in
-    let new = c.args.new.now in
-    unbroken_over base c.args.self.now.overlay old new (unbroken_nothing base old new c.requires.source) c.in_ok-carry.ensures.accepts
 
 pub returns-clause-files : goal.returns-clause-files
 returns-clause-files g c =
-    let base = commit_files c.args.store.now c.args.self.now.root in
-    let old = c.args.old.now in
-    let new = c.args.new.now in
-    let next = c.carry.new.self in
-    ap (λ files. over files next) (sym (nothing_carried base old new c.requires.source c.requires.target))
-    ∙ over_carried base c.args.self.now.overlay next old new c.in_ok-carry.ensures.carried
+    let work = c.args.self.now in
+    ap (λ m. over m c.carry.new.self) c.in_ok-moves.ensures.seen
+    ∙ over_carried (base_of c.args.store.now work) work.overlay c.carry.new.self c.args.old.now c.args.new.now c.in_ok-carry.ensures.carried
+
+pub returns-clause-below : goal.returns-clause-below
+returns-clause-below g c =
+    let base = base_of c.args.store.now c.args.self.now in
+    let whole : breaks_a_path base c.args.old.now c.args.new.now ≡ false =
+    ap (λ m. breaks_a_path m c.args.old.now c.args.new.now) (sym c.base.ensures) ∙ sym c.breaks_a_path.ensures ∙ c.if-breaks_a_path.false in
+    subst AreTexts (sym c.in_ok-moves.ensures.seen)
+    (carried_texts base c.args.old.now c.args.new.now c.requires.below c.path_law.ensures.bytes (λ p some low. carried_path base c.args.old.now c.args.new.now p whole some low))
+
+pub returns-clause-accepts : goal.returns-clause-accepts
+returns-clause-accepts g c =
+    let work = c.args.self.now in
+    let base = base_of c.args.store.now work in
+    unbroken_over base work.overlay c.args.old.now c.args.new.now
+    (ap (λ m. breaks_a_path m c.args.old.now c.args.new.now) (sym c.base.ensures) ∙ sym c.breaks_a_path.ensures ∙ c.if-breaks_a_path.false)
+    c.in_ok-carry.ensures.accepts
+
+pub breaks_a_path-requires : goal.breaks_a_path-requires
+breaks_a_path-requires g c = subst AreTexts (sym c.base.ensures) c.requires.below

@@ -1,13 +1,12 @@
-use Rattle.std.proofs.Common.{◌++◌, ap, sym, ◌∙◌}
-use Rattle.std.proofs.lemmas.List.{append-nil}
+use Rattle.std.proofs.Common.{◌≡◌, IfOk, ap, subst, ◌∙◌}
+use Rattle.eden_ids.specs.FileMaps.{FileMap, differ, listing}
 use Rattle.eden_objects.specs.Files.{commit_files}
-use Rattle.eden_workcopy.proofs.Touched.{kept, is_other, dirty_listed}
+use Rattle.eden_workcopy.specs.Layers.{over}
 use Rattle.eden_workcopy.proofs.work.WorkCopy.dirty.Goals as goal
 
 pub returns : goal.returns
 returns g c =
-    let base = commit_files c.args.store.now c.args.self.now.root in
-    sym (append-nil c.loop-entry.dirty.items)
-    ∙ ap (λ es. c.loop-entry.dirty.items ++ kept (is_other base) es) (sym c.in-None.ensures.steps.0)
-    ∙ c.loop-entry.invariant
-    ∙ dirty_listed base c.args.self.now.overlay
+    let root = commit_files c.args.store.now c.args.self.now.root in
+    let layer = c.flat_or.result.now in
+    subst (λ (m : FileMap). IfOk c.dirty.result (λ paths. paths.items ≡ listing (differ m root))) (ap (over root) c.flat_or.ensures ∙ c.in_ok-flat.ensures)
+    (subst (λ (m : FileMap). IfOk c.dirty.result (λ paths. paths.items ≡ listing (differ (over m layer) m))) c.commit_files.ensures c.dirty.ensures)

@@ -1,24 +1,24 @@
-use Rattle.std.proofs.Common.{◌≡◌, ℕ, T, List, Err, IfOk, filter, sym, ap, subst, ◌∙◌}
+use Rattle.std.proofs.Common.{◌≡◌, ℕ, T, List, IfOk, filter, sym, ap, subst, ◌∙◌}
 use Rattle.std.specs.FinMap as fin
 use Rattle.std.specs.FinMap.{is_sorted}
 use Rattle.eden_globs.specs.Filters.{admits}
-use Rattle.eden_ids.specs.FileMaps.{listing}
+use Rattle.eden_ids.specs.FileMaps.{FileMap, listing, paths}
 use Rattle.eden_ids.specs.Paths.{lies_below}
-use Rattle.eden_objects.specs.Commits.{commit_rows, rows_where}
-use Rattle.eden_objects.specs.Listings.{Lists}
-use Rattle.eden_objects.specs.Files.{commit_files}
+use Rattle.eden_ids.proofs.Sifted.{keys-sifted}
+use Rattle.eden_moves.specs.Moves.{at_paths}
 use Rattle.eden_workcopy.specs.Layers.{Mark, by_bytes, marks}
 use Rattle.eden_workcopy.specs.internal.Blocks.{before}
 use Rattle.eden_workcopy.specs.Listings.{shown_over}
-use Rattle.eden_workcopy.proofs.Works.{listed_below_there}
-use Rattle.eden_workcopy.proofs.WovenBelow.{files_below, row_paths_below, marks_beneath, shown_below, sorted_below, all_wanted}
+use Rattle.eden_workcopy.specs.Meanings.{base_of}
+use Rattle.eden_workcopy.proofs.Works.{all_at_paths}
+use Rattle.eden_workcopy.proofs.WovenBelow.{files_below, marks_beneath, shown_below, sorted_below, all_wanted}
 use Rattle.eden_workcopy.proofs.WovenRows.{layer_shown, marks_up}
 use Rattle.eden_workcopy.proofs.work.WorkCopy.list_below.Goals as goal
 
 pub returns : goal.returns
 returns g c =
     let top = c.args.top.now in
-    let base = commit_files c.args.store.now c.args.self.now.root in
+    let base = base_of c.args.store.now c.args.self.now in
     let layer = c.args.self.now.overlay in
     let wanted = c.all-wanted.result in
     let P : List (List ℕ) → Type 0 = λ ps. IfOk c.weave.result (λ paths. paths.items ≡ ps) in
@@ -28,16 +28,13 @@ returns g c =
     ∙ shown_below base (marks (fin.entries layer)) top
     ∙ ap (filter (λ p. lies_below p top)) (layer_shown base layer))
     (c.weave.ensures (files_below top base)
-    (row_paths_below c.args.store.now c.closed_law.ensures.closed c.args.self.now.root top wanted c.in-Ok.rows.items c.in-Ok.ensures))
+    (c.in_ok-rows.ensures
+    ∙ ap (λ (m : FileMap). filter (admits wanted) (filter (λ p. lies_below p top) (paths m)))
+    (ap at_paths c.base.ensures ∙ all_at_paths base c.requires.below)
+    ∙ ap (filter (admits wanted)) (sym (keys-sifted base (λ p. lies_below p top)))))
 
 pub weave-requires : goal.weave-requires
 weave-requires g c =
     let top = c.args.top.now in
     let layer = c.args.self.now.overlay in
     subst (λ (ms : List Mark). T (is_sorted by_bytes ms)) (sym (c.below.ensures ∙ marks_beneath top (fin.entries layer))) (sorted_below top (marks (fin.entries layer)) (marks_up layer))
-
-pub unreachable-requires : goal.unreachable-requires
-unreachable-requires g c =
-    let rows = rows_where (admits c.all-wanted.result) (rows_where (λ p. lies_below p c.args.top.now) (commit_rows c.args.store.now c.args.self.now.root)) in
-    listed_below_there c.args.store.now c.args.self.now.root (admits c.all-wanted.result) (λ p. lies_below p c.args.top.now)
-    (subst (λ fault. Lists (Err fault) rows) c.in-Err-NoCommit.field-0-is c.in-Err-NoCommit.ensures) c.requires

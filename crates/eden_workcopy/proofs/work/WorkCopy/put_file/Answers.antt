@@ -3,8 +3,7 @@ use Rattle.eden_ids.specs.FileMaps.{IsFileMap}
 use Rattle.eden_ids.specs.Texts.{AreTexts}
 use Rattle.eden_ids.proofs.TextLemmas.{texts_insert}
 use Rattle.eden_ids.proofs.Texts.{bytes_are}
-use Rattle.eden_objects.specs.Files.{commit_files}
-use Rattle.eden_workcopy.specs.Meanings.{means}
+use Rattle.eden_workcopy.specs.Meanings.{base_of, means}
 use Rattle.eden_history.proofs.RenameLaws.{write_fits}
 use Rattle.eden_history.proofs.Spelled.{written_text}
 use Rattle.eden_workcopy.proofs.Works.{written}
@@ -12,13 +11,14 @@ use Rattle.eden_workcopy.proofs.work.WorkCopy.put_file.Goals as goal
 
 pub returns-clause-files : goal.returns-clause-files
 returns-clause-files c =
-    λ held. written (commit_files held c.args.self.now.root) c.args.self.now.overlay c.set.new.self c.in_ok-key.key c.args.path.now c.in_ok-content.content
+    λ held. written (base_of held c.args.self.now) c.args.self.now.overlay c.set.new.self c.in_ok-key.key c.args.path.now c.in_ok-content.content
     (record { kind = c.args.kind; bytes = c.args.bytes.now }) c.in_ok-set.ensures.ok c.in_ok-key.ensures c.in_ok-content.ensures
 
 pub returns-clause-fits : goal.returns-clause-fits
 returns-clause-fits c =
     λ held fits free. record {
       root = fits.root;
+      below = fits.below;
       files = subst IsFileMap (sym (returns-clause-files c held))
           (write_fits (means held c.args.self.now) c.args.path.now c.args.bytes.now (record { kind = c.args.kind; bytes = c.args.bytes.now }) fits.files free);
       texts = subst AreTexts (sym (returns-clause-files c held))

@@ -1,0 +1,58 @@
+//! What renamed directories and an overlay say together, over the commit alone.
+
+ghost use Rattle.std.specs.Prelude.{◌≡◌, IfOk};
+ghost use Rattle.eden_objects.specs.Files.{commit_files};
+ghost use Rattle.eden_workcopy.specs.internal.Agreements.{flat_or};
+ghost use Rattle.eden_workcopy.specs.Layers.{over};
+ghost use Rattle.eden_workcopy.specs.Meanings.{means, FitsIn};
+
+use crate::overlay::Overlay;
+use crate::work::WorkCopy;
+use eden_ids::{Naming, NoMemory};
+use eden_objects::Store;
+
+/// The overlay that was made, or else the one that is there.
+pub(crate) fn flat_or<'a>(flat: &'a Option<Overlay>, overlay: &'a Overlay) -> &'a Overlay
+    ensures { result.now ≡ flat_or flat.now overlay.now }
+{
+    match flat {
+        Some(flat) => flat,
+        None => overlay,
+    }
+}
+
+impl WorkCopy {
+    /// What is to be said over the commit alone, so that the same files are seen; none where no directory was renamed, since the overlay says
+    /// just that then.
+    ///
+    /// It grows with the files that stand in renamed directories or stood there: the contents of those that are seen are copied.
+    pub(crate) fn flat<N: Naming + Drop>(
+        &self,
+        store: &Store<N>,
+    ) -> Result<Option<Overlay>, NoMemory>
+        requires { FitsIn store.now self.now }
+        ensures { IfOk result (λ flat. over (commit_files store.now self.now.root) (flat_or flat self.now.overlay) ≡ means store.now self.now) }
+    {
+        if self.moves.is_empty() {
+            return Ok(None);
+        }
+        let commit = store.commit_files(self.root);
+        commit.texts_law();
+        let paths = self.moves.unsettled(&commit)?;
+        let mut flat = self.overlay.copy()?;
+        self.overlay
+            .keep_listed(&self.base(store), &mut flat, &paths)?;
+        Ok(Some(flat))
+    }
+
+    /// The same as an overlay of its own.
+    pub(crate) fn flat_copy<N: Naming + Drop>(&self, store: &Store<N>) -> Result<Overlay, NoMemory>
+        requires { FitsIn store.now self.now }
+        ensures { IfOk result (λ overlay. over (commit_files store.now self.now.root) overlay ≡ means store.now self.now) }
+    {
+        match self.flat(store)? {
+            Some(flat) => Ok(flat),
+            None => Ok(self.overlay.copy()?),
+        }
+    }
+}
