@@ -366,6 +366,7 @@ fn eden_follow_example(rt: &impl Abort, alloc: Global) -> Result<(), Fail> {
 }
 
 fn eden_moves_example(rt: &impl Abort, alloc: Global) -> Result<(), Fail> {
+    use eden_globs::Filter;
     use eden_ids::{GitNaming, Id, Path};
     use eden_moves::{Moved, Moves};
     use eden_objects::Store;
@@ -378,6 +379,7 @@ fn eden_moves_example(rt: &impl Abort, alloc: Global) -> Result<(), Fail> {
     assert_eq!(rt; moves.entries().len(), 2);
     let moved = Moved::of(store.commit_files(Id::ZERO), &moves);
     assert!(rt; moved.file(b"lib/main".as_slice()).is_none());
+    assert!(rt; moved.list(alloc, &Filter::all(alloc))?.is_empty());
     Ok(())
 }
 

@@ -14,6 +14,8 @@ mod generated_tests;
 #[cfg(test)]
 mod held_tests;
 #[cfg(test)]
+mod listed_tests;
+#[cfg(test)]
 mod message_tests;
 #[cfg(test)]
 mod reading_tests;

@@ -14,6 +14,8 @@ mod import_tests;
 #[cfg(test)]
 mod lookup_tests;
 #[cfg(test)]
+mod passing_tests;
+#[cfg(test)]
 mod put_tests;
 #[cfg(test)]
 mod segment_tests;

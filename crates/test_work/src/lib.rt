@@ -14,4 +14,6 @@ mod overlay_tests;
 #[cfg(test)]
 mod range_tests;
 #[cfg(test)]
+mod renamed_tests;
+#[cfg(test)]
 mod workcopy_tests;

@@ -107,16 +107,31 @@ impl Mounted {
         Ok(text)
     }
 
-    /// Those of some paths at which a file stands, each with `=`, what it holds and a space.
+    /// Tells of a path, where a file stands there: the path, `=`, what it holds and a space.
+    fn tell_file(&self, path: &[u8], text: &mut Vec<u8>) -> Result<(), Fail> {
+        if let Some((_, bytes)) = self.work.file(&self.store, path) {
+            text.extend_from_slice(path)?;
+            text.push(b'=')?;
+            text.extend_from_slice(bytes)?;
+            text.push(b' ')?;
+        }
+        Ok(())
+    }
+
+    /// Those of some paths at which a file stands, each with what it holds.
     pub(crate) fn shown(&self, alloc: Global, paths: &[&str]) -> Result<Vec<u8>, Fail> {
         let mut text = Vec::new(alloc);
         for path in paths {
-            if let Some((_, bytes)) = self.work.file(&self.store, path.as_bytes()) {
-                text.extend_from_slice(path.as_bytes())?;
-                text.push(b'=')?;
-                text.extend_from_slice(bytes)?;
-                text.push(b' ')?;
-            }
+            self.tell_file(path.as_bytes(), &mut text)?;
+        }
+        Ok(text)
+    }
+
+    /// The paths of all files, each with what it holds.
+    pub(crate) fn held(&self, alloc: Global) -> Result<Vec<u8>, Fail> {
+        let mut text = Vec::new(alloc);
+        for path in &self.work.list(&self.store, &Filter::all(alloc))? {
+            self.tell_file(path.as_bytes(), &mut text)?;
         }
         Ok(text)
     }

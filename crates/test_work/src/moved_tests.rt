@@ -1,6 +1,8 @@
 //! Renames of directories over a commit, and where its files are seen then.
 
+use eden_globs::Filter;
 use eden_history::ChangeFault;
+use eden_ids::{Id, Kind, Path};
 use eden_moves::{Moved, Moves};
 use std::alloc::Global;
 use std::test::Fail;
@@ -114,6 +116,55 @@ fn seen(alloc: Global, objects: &Objects, moves: &Moves) -> Result<Vec<u8>, Fail
     Ok(text)
 }
 
+/// Rows as text: each path with what its blob holds.
+fn told(alloc: Global, objects: &Objects, rows: &[(Path, Kind, Id)]) -> Result<Vec<u8>, Fail> {
+    let mut text = Vec::new(alloc);
+    for (place, _, blob) in rows {
+        text.extend_from_slice(place.as_bytes())?;
+        text.push(b'=')?;
+        for number in ["1", "2", "3", "4"] {
+            if objects.id(number) == *blob {
+                text.extend_from_slice(number.as_bytes())?;
+            }
+        }
+        text.push(b' ')?;
+    }
+    Ok(text)
+}
+
+/// The files that are listed.
+fn listed(alloc: Global, objects: &Objects, moves: &Moves) -> Result<Vec<u8>, Fail> {
+    let moved = Moved::of(objects.store.commit_files(objects.id("c")), moves);
+    told(
+        alloc,
+        objects,
+        moved.list(alloc, &Filter::all(alloc))?.as_slice(),
+    )
+}
+
+/// The files that are listed below directories, one after the other.
+fn listed_below(alloc: Global, objects: &Objects, moves: &Moves) -> Result<Vec<u8>, Fail> {
+    let moved = Moved::of(objects.store.commit_files(objects.id("c")), moves);
+    let mut text = Vec::new(alloc);
+    for top in ["b", "c", "d", "f", "g"] {
+        let rows = moved.list_below(alloc, &path(alloc, top)?, &Filter::all(alloc))?;
+        text.extend_from_slice(told(alloc, objects, rows.as_slice())?.as_slice())?;
+    }
+    Ok(text)
+}
+
+/// Of a text the words with a slash.
+fn deep(alloc: Global, text: &[u8]) -> Result<Vec<u8>, Fail> {
+    let mut kept = Vec::new(alloc);
+    for word in text.split(|byte| *byte == b' ') {
+        if word.contains(&b'/') {
+            kept.extend_from_slice(word)?;
+            kept.push(b' ')?;
+        }
+    }
+    Ok(kept)
+}
+
 /// The first rename that is not answered, or does not leave the files, as its step says.
 fn first_wrong(
     alloc: Global,
@@ -123,10 +174,14 @@ fn first_wrong(
     let mut moves = Moves::new(alloc);
     let commit = objects.store.commit_files(objects.id("c"));
     for (old, new, answer, files, unsettled) in steps {
-        let told = moves.rename(&path(alloc, old)?, &path(alloc, new)?).err();
+        let answered = moves.rename(&path(alloc, old)?, &path(alloc, new)?).err();
         let text = seen(alloc, objects, &moves)?;
         let paths = spaced(alloc, moves.unsettled(&commit)?.as_slice())?;
-        let alike = told == *answer
+        let all = listed(alloc, objects, &moves)?;
+        let below = listed_below(alloc, objects, &moves)?;
+        let alike = answered == *answer
+            && all.as_slice() == files.as_bytes()
+            && below.as_slice() == deep(alloc, files.as_bytes())?.as_slice()
             && text.as_slice() == files.as_bytes()
             && paths.as_slice() == unsettled.as_bytes();
         if !alike {
@@ -136,15 +191,106 @@ fn first_wrong(
     Ok(None)
 }
 
+/// A commit `c` with the files `a`, `d.x`, `d/e/y` and `d/x`.
+const COMMIT: &str =
+    "blob 1 1;blob 2 2;blob 3 3;blob 4 4;tree e 100644 y 3;tree d 40000 e e 100644 x 2;\
+    tree t 100644 a 1 100644 d.x 4 40000 d d;commit c t";
+
 #[test]
 fn a_commit_is_seen_through_renamed_directories(rt: HostRuntime) -> Result<(), Fail> {
     let alloc = rt.alloc();
-    let script =
-        "blob 1 1;blob 2 2;blob 3 3;blob 4 4;tree e 100644 y 3;tree d 40000 e e 100644 x 2;\
-        tree t 100644 a 1 100644 d.x 4 40000 d d;commit c t";
-    let objects = Objects::of(alloc, script)?;
+    let objects = Objects::of(alloc, COMMIT)?;
     let unmoved = seen(alloc, &objects, &Moves::new(alloc))?;
     assert!(rt; unmoved.as_slice() == b"a=1 d.x=4 d/e/y=3 d/x=2 ".as_slice());
+    let all = listed(alloc, &objects, &Moves::new(alloc))?;
+    assert!(rt; all.as_slice() == b"a=1 d.x=4 d/e/y=3 d/x=2 ".as_slice());
     assert_eq!(rt; first_wrong(alloc, &objects, &RENAMES)?, None);
+    Ok(())
+}
+
+/// A directory, a pattern, and the files below it that the pattern admits.
+type Below = (&'static str, &'static str, &'static str);
+
+/// A directory that is renamed, to which path, and what is seen below directories then.
+const BELOW: [(&str, &str, &[Below]); 3] = [
+    (
+        "d",
+        "b",
+        &[
+            ("b", "**", "b/e/y=3 b/x=2 "),
+            ("b", "b/*", "b/x=2 "),
+            ("b/e", "**", "b/e/y=3 "),
+            ("b/x", "**", ""),
+            ("d", "**", ""),
+        ],
+    ),
+    (
+        "b/e",
+        "f",
+        &[
+            ("b", "**", "b/x=2 "),
+            ("b/e", "**", ""),
+            ("d/e", "**", ""),
+            ("f", "**", "f/y=3 "),
+            ("f", "*/x", ""),
+            ("none", "**", ""),
+        ],
+    ),
+    (
+        "f",
+        "b/e/g",
+        &[
+            ("b", "**", "b/e/g/y=3 b/x=2 "),
+            ("b", "**/y", "b/e/g/y=3 "),
+            ("b/e", "**", "b/e/g/y=3 "),
+            ("f", "**", ""),
+        ],
+    ),
+];
+
+/// The first directory below which other files are listed.
+fn first_other(
+    alloc: Global,
+    objects: &Objects,
+    moves: &Moves,
+    cases: &[Below],
+) -> Result<Option<&'static str>, Fail> {
+    let moved = Moved::of(objects.store.commit_files(objects.id("c")), moves);
+    for (top, pattern, wanted) in cases {
+        let filter = Filter::parse(alloc, &[pattern.as_bytes()])?;
+        let rows = moved.list_below(alloc, &path(alloc, top)?, &filter)?;
+        if told(alloc, objects, &rows)?.as_slice() != wanted.as_bytes() {
+            return Ok(Some(*top));
+        }
+    }
+    Ok(None)
+}
+
+#[test]
+fn files_below_a_renamed_directory(rt: HostRuntime) -> Result<(), Fail> {
+    let alloc = rt.alloc();
+    let objects = Objects::of(alloc, COMMIT)?;
+    let mut moves = Moves::new(alloc);
+    for (old, new, cases) in &BELOW {
+        moves.rename(&path(alloc, old)?, &path(alloc, new)?)?;
+        assert_eq!(rt; first_other(alloc, &objects, &moves, cases)?, None);
+    }
+    Ok(())
+}
+
+// Below a path of 63 names `x` stands at a path, and `e/y` at none: it is not listed.
+#[test]
+fn what_is_no_path_is_not_listed(rt: HostRuntime) -> Result<(), Fail> {
+    let alloc = rt.alloc();
+    let objects = Objects::of(alloc, COMMIT)?;
+    let above = DEEP.strip_suffix("/4").unwrap_or("");
+    let mut moves = Moves::new(alloc);
+    moves.rename(&path(alloc, "d")?, &path(alloc, above)?)?;
+    let wanted = format!(in alloc; "{above}/x=2 a=1 d.x=4 ")?;
+    assert!(rt; listed(alloc, &objects, &moves)?.as_slice() == wanted.as_bytes());
+    let moved = Moved::of(objects.store.commit_files(objects.id("c")), &moves);
+    let rows = moved.list_below(alloc, &path(alloc, above)?, &Filter::all(alloc))?;
+    let wanted = format!(in alloc; "{above}/x=2 ")?;
+    assert!(rt; told(alloc, &objects, &rows)?.as_slice() == wanted.as_bytes());
     Ok(())
 }

@@ -1,0 +1,219 @@
+//! Files of a commit of which some are passed over, and that are told as though their directory stood at another place: whether there is
+//! one, and lists.
+
+ghost use Rattle.std.specs.Prelude.{◌≡◌};
+ghost use Rattle.eden_ids.specs.Paths.{lies_below};
+
+use crate::lookup_tests::{A_B, A_X, A0, F, FILES, Row, has_rows, levels};
+use eden_globs::Filter;
+use eden_ids::{GitNaming, Id, Kind, NoMemory, Path};
+use eden_objects::{Commit, Nothing, Passes, Store};
+use std::alloc::Global;
+use std::test::Fail;
+use test_kit::{Objects, path};
+
+/// Whether a path stands below a directory.
+#[tactic(auto, using(std::proofs::lemmas::List::take_rest, eden_ids::proofs::BelowLemmas::below_in_steps))]
+fn is_below(path: &[u8], top: &[u8]) -> bool
+    ensures { result ≡ lies_below path.now top.now }
+{
+    path.starts_with(top) && path[top.len()..].starts_with(b"/".as_slice())
+}
+
+/// What is passed over: the file at a path, or all below it.
+#[derive(Clone, Copy)]
+struct At {
+    path: &'static [u8],
+}
+
+impl Passes for At {
+    ghost use Rattle.std.specs.Prelude.{◌||◌};
+    ghost use Rattle.eden_ids.specs.Paths.{lies_below};
+    ghost use Rattle.eden_ids.specs.Sameness.{same_bytes};
+
+    ghost passes = { λ at path. same_bytes path at.path.now || lies_below path at.path.now };
+
+    fn passes_file(&self, path: &[u8]) -> bool {
+        path == self.path || is_below(path, self.path)
+    }
+
+    fn passes_below(&self, directory: &[u8]) -> bool {
+        directory == self.path
+    }
+}
+
+/// Whether a commit has a file below a path, told below another, that isn't at or below a third.
+fn has_but(
+    alloc: Global,
+    store: &Store<GitNaming>,
+    commit: Id,
+    [top, seen, passed]: [&'static str; 3],
+) -> Result<bool, Fail> {
+    let seen = path(alloc, seen)?;
+    let passed = At {
+        path: passed.as_bytes(),
+    };
+    Ok(
+        store
+            .commit_files(commit)
+            .has_below_but(top.as_bytes(), &seen, &passed),
+    )
+}
+
+/// A directory, where it is told, what is passed over, and whether there is a file below it that isn't.
+const SEARCHED: [([&str; 3], bool); 14] = [
+    (["a", "a", "z"], true),
+    (["a", "a", "a"], false),
+    (["a", "a", "a/x"], false),
+    (["a", "z", "a"], true),
+    (["a", "z", "z"], false),
+    (["a", "z", "z/x"], false),
+    (["d", "z/y", "z/y/e"], false),
+    (["d", "z/y", "z/y/e/f"], false),
+    (["d", "z/y", "z/y/e/g"], true),
+    (["d", "z/y", "z"], false),
+    (["d/e", "d", "d/e"], true),
+    (["d/e", "d", "d/f"], false),
+    (["a-b", "a-b", "z"], false),
+    (["x", "x", "z"], false),
+];
+
+// Of 2 to the 40 files none is looked at where all are passed over, and few where most are not; nor are as many directories without a file.
+#[test]
+fn a_file_that_is_not_passed_over(rt: HostRuntime) -> Result<(), Fail> {
+    let alloc = rt.alloc();
+    let objects = Objects::of(alloc, FILES)?;
+    for (places, is_there) in &SEARCHED {
+        let has = has_but(alloc, &objects.store, objects.id("c"), *places)?;
+        assert!(rt;
+            has == *is_there,
+            "{}, {}, {}",
+            places[0],
+            places[1],
+            places[2]
+        );
+    }
+    let many = levels(alloc, "tree t 100644 a x")?;
+    for (passed, is_there) in [("z", false), ("z/a", true)] {
+        let has = has_but(alloc, &many.store, many.id("c"), ["b", "z", passed])?;
+        assert!(rt; has == is_there, "{passed}");
+    }
+    let none = levels(alloc, "tree t")?;
+    assert!(rt; !has_but(alloc, &none.store, none.id("c"), ["b", "z", "y"])?);
+    Ok(())
+}
+
+/// A directory, where it is told, a pattern, and the file that it admits, with the path at which it is told.
+const LISTED: [([&str; 3], Option<(&str, Row)>); 9] = [
+    (["a", "a", "**"], Some(("a/x", A_X))),
+    (["a", "z", "**"], Some(("z/x", A_X))),
+    (["a", "z", "z/*"], Some(("z/x", A_X))),
+    (["a", "z", "a/*"], None),
+    (["d", "z/y", "**"], Some(("z/y/e/f", F))),
+    (["d", "z/y", "z/*/e/?"], Some(("z/y/e/f", F))),
+    (["d/e", "d", "**"], Some(("d/f", F))),
+    (["d/e", "d", "d/e/*"], None),
+    (["a-b", "z", "**"], None),
+];
+
+/// What a pattern admits of a commit and isn't passed over.
+const SHOWN: [(&str, &str, &[Row]); 4] = [
+    ("**", "z", &[A_B, A_X, A0, F]),
+    ("**", "a", &[A_B, A0, F]),
+    ("**", "d/e/f", &[A_B, A_X, A0]),
+    ("a*", "a0", &[A_B]),
+];
+
+/// All is passed over but the file at one path.
+#[derive(Drop)]
+struct Only {
+    path: Path,
+}
+
+impl Passes for Only {
+    ghost use Rattle.std.specs.Prelude.{not};
+    ghost use Rattle.eden_ids.specs.Sameness.{same_bytes};
+
+    ghost passes = { λ only path. not (same_bytes path only.path) };
+
+    fn passes_file(&self, path: &[u8]) -> bool {
+        path != self.path.as_bytes()
+    }
+
+    fn passes_below(&self, _directory: &[u8]) -> bool {
+        false
+    }
+}
+
+/// The file at one path, if a filter admits it and it is one of those of a commit below a directory, told below another.
+fn listed_only(
+    commit: &Commit<'_, GitNaming>,
+    top: &str,
+    seen: &Path,
+    filter: &Filter,
+    path: Path,
+) -> Result<Vec<(Path, Kind, Id)>, NoMemory> {
+    let _legal = path.as_bytes();
+    commit.list_seen(top.as_bytes(), seen, filter, &Only { path })
+}
+
+/// Whether a listing has the file alone, if it is told at a path, and nothing else.
+fn is_listed(listed: &[(Path, Kind, Id)], file: &Option<(&'static str, Row)>, only: &str) -> bool {
+    match file {
+        Some((path, row)) if *path == only => has_rows(listed, &[(*path, row.1, row.2)]),
+        _ => listed.is_empty(),
+    }
+}
+
+/// Whether each of some files, where all others are passed over, is listed where a row says so, and nowhere else.
+fn lists_alone(
+    alloc: Global,
+    commit: &Commit<'_, GitNaming>,
+    [top, seen, pattern]: [&'static str; 3],
+    file: &Option<(&'static str, Row)>,
+) -> Result<bool, Fail> {
+    let filter = Filter::parse(alloc, &[pattern.as_bytes()])?;
+    let seen = path(alloc, seen)?;
+    for only in ["z/x", "a/x", "d/f", "z/y/e/f"] {
+        let listed = listed_only(commit, top, &seen, &filter, path(alloc, only)?)?;
+        if !is_listed(listed.as_slice(), file, only) {
+            return Ok(false);
+        }
+    }
+    Ok(true)
+}
+
+/// What a pattern admits of a commit and is neither a file nor below it.
+fn listed_but(
+    alloc: Global,
+    commit: &Commit<'_, GitNaming>,
+    pattern: &str,
+    passed: &'static str,
+) -> Result<Vec<(Path, Kind, Id)>, Fail> {
+    let filter = Filter::parse(alloc, &[pattern.as_bytes()])?;
+    let passed = At {
+        path: passed.as_bytes(),
+    };
+    Ok(commit.list(&filter, &passed)?)
+}
+
+#[test]
+fn a_list_that_passes_over_some(rt: HostRuntime) -> Result<(), Fail> {
+    let alloc = rt.alloc();
+    let objects = Objects::of(alloc, FILES)?;
+    let commit = objects.store.commit_files(objects.id("c"));
+    for (places, file) in &LISTED {
+        assert!(rt;
+            lists_alone(alloc, &commit, *places, file)?,
+            "{} below {}",
+            places[0],
+            places[1]
+        );
+    }
+    for (pattern, passed, rows) in &SHOWN {
+        let listed = listed_but(alloc, &commit, pattern, passed)?;
+        assert!(rt; has_rows(listed.as_slice(), rows), "{pattern} but {passed}");
+    }
+    assert!(rt; commit.list(&Filter::all(alloc), &Nothing)?.len() == 4);
+    Ok(())
+}
