@@ -11,7 +11,8 @@ use std::test::Fail;
 use test_kit::{Objects, path, spaced};
 
 /// A commit with the files `a`, `d/e/y` and `d/x`.
-const COMMIT: &str = "blob x x;tree e 100644 y x;tree d 40000 e e 100644 x x;tree t 100644 a x 40000 d d;commit c t";
+const COMMIT: &str =
+    "blob x x;tree e 100644 y x;tree d 40000 e e 100644 x x;tree t 100644 a x 40000 d d;commit c t";
 
 /// A directory that is renamed, to which path, and then a directory and the paths below it.
 const RENAMES: [(&str, &str, &str, &str); 5] = [
@@ -55,7 +56,10 @@ fn lists_below_renamed_directories(rt: HostRuntime) -> Result<(), Fail> {
         held.push(mount.hold(1, &list)?)?;
     }
     for ((raw, store), (_, _, _, wanted)) in held.iter().zip(&RENAMES) {
-        assert!(rt; listed(alloc, raw, store)?.as_slice() == wanted.as_bytes(), "{wanted}");
+        assert!(rt;
+            listed(alloc, raw, store)?.as_slice() == wanted.as_bytes(),
+            "{wanted}"
+        );
     }
     Ok(())
 }
