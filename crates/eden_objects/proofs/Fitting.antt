@@ -102,7 +102,7 @@ limits held closed id has =
     let is : IsTree held (entries_of has.0.payload) = tree_in held closed id has.0 has.1 has.2 in
     (subst (λ n. n ≤ 64) (sym (depth_of_tree held closed id has.0 has.1 has.2)) is.3, subst (λ n. n ≤ 1024) (sym (reach_of_tree held closed id has.0 has.1 has.2)) is.4)
 
-no_fault : (p : List ℕ) → 0 < length p → length p ≤ 1024 → list_all is_component (components p) ≡ true → length (components p) ≤ 64 → path_fault p ≡ None
+pub no_fault : (p : List ℕ) → 0 < length p → length p ≤ 1024 → list_all is_component (components p) ≡ true → length (components p) ≤ 64 → path_fault p ≡ None
 no_fault p some short names shallow =
     let a : (length p == 0) ≡ false = ne_eqb (length p) 0 (λ e. absurd (omega (arith, e, some))) in
     let b : ltb 1024 (length p) ≡ false = le-ltb 1024 (length p) short in

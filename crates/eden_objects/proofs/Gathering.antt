@@ -1,8 +1,10 @@
 -- A listing that is gathered entry by entry.
-use Rattle.std.proofs.Common.{◌≡◌, ℕ, ◌<◌, ◌≤◌, ◌++◌, ◌&&◌, Bool, true, false, not, cond, List, [], ◌∷◌, map, take, length, Option, Some, None, refl, sym, ap, subst, ◌∙◌, arith, append_assoc}
-use Rattle.std.proofs.lemmas.Bool.{eq-eqb}
+use Rattle.std.proofs.Common.{◌≡◌, ℕ, ◌<◌, ◌≤◌, ◌++◌, ◌&&◌, Bool, true, false, not, cond, List, [], ◌∷◌, drop, map, take, length, Some, None, refl, sym, ap, subst, ◌∙◌, arith, append_assoc}
+use Rattle.std.proofs.lemmas.Bool.{eq-eqb, or_parts}
+use Rattle.std.proofs.lemmas.Bool.Decides.{Decides-eqb}
 use Rattle.std.proofs.lemmas.List.{append-nil, map-append}
 use Rattle.std.proofs.lemmas.List.Elements.{filter-append}
+use Rattle.std.proofs.lemmas.Slice.Eq.{starts_is}
 use Rattle.std.proofs.Math.Bool.{and_comm}
 use Rattle.std.proofs.Math.Seq.{take-append_seam}
 use Rattle.std.specs.Prelude.{filter}
@@ -20,7 +22,7 @@ use Rattle.eden_objects.specs.Puts.{word_wanted}
 use Rattle.eden_objects.specs.Closed.{IsHeld, HasTree, IsClosed}
 use Rattle.eden_objects.specs.Passing.{is_shown}
 use Rattle.eden_objects.specs.internal.Below.{behind, rows_behind}
-use Rattle.eden_objects.specs.internal.Passed.{EntersBut}
+use Rattle.eden_objects.specs.internal.Passed.{any_but}
 use Rattle.eden_objects.proofs.Closed.{depth_of_tree, child_below, later_below}
 use Rattle.eden_objects.proofs.WalkSteps.{entries_in, tree_here, rows_here}
 
@@ -69,6 +71,13 @@ pub inside : (top rest : List ℕ) → lies_below (top ++ 47 ∷ rest) top ≡ t
 inside [] [] = refl
 inside [] (r ∷ rest) = refl
 inside (t ∷ top) rest = ap (λ b. b && lies_below (top ++ 47 ∷ rest) top) (eq-eqb t t refl) ∙ inside top rest
+
+-- what lies above a path lies above all that begins with it
+pub above_more : (path rest top : List ℕ) → lies_below path top ≡ true → lies_below (path ++ rest) top ≡ true
+above_more path rest top above =
+    let more : List ℕ = drop (length (top ++ 47 ∷ [])) path in
+    let is : path ≡ (top ++ 47 ∷ []) ++ more = (starts_is Decides-eqb path (top ++ 47 ∷ []) (lies_below path top) refl).0 above in
+    ap (λ p. lies_below p top) (ap (λ p. p ++ rest) is ∙ append_assoc (top ++ 47 ∷ []) more rest ∙ append_assoc top (47 ∷ []) (more ++ rest)) ∙ inside top (more ++ rest)
 
 none_wanted : (test : List ℕ → Bool) (dir : List ℕ) (rows : List Row) → ((path : List ℕ) → lies_below path dir ≡ true → test path ≡ false)
     → rows_behind test (dir ++ 47 ∷ []) rows ≡ []
@@ -131,20 +140,29 @@ behind_nothing (row ∷ rows) = ap (λ (more : List Row). row ∷ more) (behind_
 pub nothing_before : (test : List ℕ → Bool) (rows found : List Row) → found ≡ rows_behind test [] rows → filter (λ row. test row.0) rows ≡ found
 nothing_before test rows found is = sym (is ∙ ap (filter (λ row. test row.0)) (behind_nothing rows))
 
+-- what a filter does not admit is not shown
+pub unwanted : (passes : List ℕ → Bool) (patterns : List (List ℕ)) (dir : List ℕ) → ((path : List ℕ) → lies_below path dir ≡ true → admits patterns path ≡ false)
+    → (path : List ℕ) → lies_below path dir ≡ true → is_shown passes patterns path ≡ false
+unwanted passes patterns dir outside path below = ap (λ b. not (passes path) && b) (outside path below) ∙ and_comm (not (passes path)) false
+
 -- a directory that is not entered has nothing that is shown
-pub none_entered : (shows : List ℕ → Bool) (top old new : List ℕ) (rows : List Row) → old ≡ [] → EntersBut shows top old new None
-    → rows_behind shows (top ++ 47 ∷ []) rows ≡ []
-none_entered shows top old new rows nothing is =
-    none_wanted shows top rows
-    (λ path below. is.1 path (ap (λ front. lies_below path (front ++ top)) nothing ∙ below))
+pub none_entered : (passes : List ℕ → Bool) (patterns : List (List ℕ)) (top old new : List ℕ) (rows : List Row) → old ≡ [] → Enters patterns top old new None
+    → rows_behind (is_shown passes patterns) (top ++ 47 ∷ []) rows ≡ []
+none_entered passes patterns top old new rows nothing is =
+    none_wanted (is_shown passes patterns) top rows
+    (unwanted passes patterns top (λ path below. is.1 path (ap (λ front. lies_below path (front ++ top)) nothing ∙ below)))
 
--- a list enters a directory where its filter does and not all of it is passed over
+-- nothing is shown where all is passed over
+none_shown : (passes : List ℕ → Bool) (patterns : List (List ℕ)) (front : List ℕ) (rows : List Row) → any_but passes front rows ≡ false
+    → rows_behind (is_shown passes patterns) front rows ≡ []
+none_shown passes patterns front [] all = refl
+none_shown passes patterns front (row ∷ rows) all =
+    let both = or_parts _ _ all in
+    let passed : is_shown passes patterns (front ++ row.0) ≡ false = ap (λ b. b && admits patterns (front ++ row.0)) both.0 in
+    ap (λ b. cond b (behind front row ∷ rows_behind (is_shown passes patterns) front rows) (rows_behind (is_shown passes patterns) front rows)) passed
+    ∙ none_shown passes patterns front rows both.1
 
-pub enters_both : (passes : List ℕ → Bool) (patterns : List (List ℕ)) (name old new : List ℕ) (entered : Option ℕ) → Enters patterns name old new entered
-    → EntersBut (is_shown passes patterns) name old new entered
-enters_both passes patterns name old new None is = (is.0, λ path below. ap (λ b. not (passes path) && b) (is.1 path below) ∙ and_comm (not (passes path)) false)
-enters_both passes patterns name old new (Some long) is = is
-
-pub passes_all : (passes : List ℕ → Bool) (patterns : List (List ℕ)) (name old new : List ℕ) → new ≡ old
-    → ((path : List ℕ) → lies_below path (old ++ name) ≡ true → passes path ≡ true) → EntersBut (is_shown passes patterns) name old new None
-passes_all passes patterns name old new same all = (same, λ path below. ap (λ b. not b && admits patterns path) (all path below))
+pub nothing_more : (passes : List ℕ → Bool) (patterns : List (List ℕ)) (front bytes : List ℕ) (rows done : List Row) → bytes ≡ front → any_but passes bytes rows ≡ false
+    → done ≡ done ++ rows_behind (is_shown passes patterns) front rows
+nothing_more passes patterns front bytes rows done is all =
+    sym (ap (λ more. done ++ more) (none_shown passes patterns front rows (ap (λ b. any_but passes b rows) (sym is) ∙ all)) ∙ append-nil done)

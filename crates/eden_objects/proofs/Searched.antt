@@ -12,18 +12,38 @@ use Rattle.eden_ids.specs.Paths.{lies_below}
 use Rattle.eden_ids.specs.Sameness.{same_bytes}
 use Rattle.eden_git.specs.Trees.{Entry, entries_of}
 use Rattle.eden_objects.specs.Objects.{Held, payload_of}
-use Rattle.eden_objects.specs.Trees.{entries_reach, reach_of, tree_reach}
+use Rattle.eden_objects.specs.declared.outline.Outline.{Outline}
+use Rattle.eden_objects.specs.declared.size.Size.{Size}
+use Rattle.eden_objects.specs.Trees.{entries_reach, reach_of, tree_depth, tree_reach}
 use Rattle.eden_objects.specs.Commits.{Row, entries_rows, entry_rows, find_row, rows_of_kind, tree_rows, under}
 use Rattle.eden_objects.specs.Closed.{HasTree, IsClosed}
 use Rattle.eden_objects.specs.Files.{IsTreeIn, files_at, rows_at}
-use Rattle.eden_objects.specs.Passing.{TellsPaths, told}
+use Rattle.eden_objects.specs.Passing.{IsWithin, TellsPaths, told}
 use Rattle.eden_objects.specs.internal.Below.{IsBelow, behind, rows_behind, rows_below}
+use Rattle.eden_objects.specs.internal.Kept.{TellsTree}
 use Rattle.eden_objects.specs.internal.Passed.{AreToldPaths, ArePathsBut, IsPathBut, any_but, retold, rows_shown}
 use Rattle.eden_objects.proofs.Closed.{greater_first, greater_second, reach_of_tree}
 use Rattle.eden_objects.proofs.FilesOf.{rises}
-use Rattle.eden_objects.proofs.Gathering.{inside}
+use Rattle.eden_objects.proofs.Fitting.{AllFit, fitting}
 use Rattle.eden_objects.proofs.Maps.{file_at-map_of, is_found, paths-map_of}
 use Rattle.eden_objects.proofs.WalkSteps.{entries_in, rows_here}
+
+-- A directory of which all is passed over.
+
+all_within : (passes : List ℕ → Bool) (front : List ℕ) (size : Size) (rows : List Row) → AllFit rows size.depth size.reach
+    → ((rest : List ℕ) → IsWithin size rest → passes (front ++ rest) ≡ true) → any_but passes front rows ≡ false
+all_within passes front size [] fit all = refl
+all_within passes front size (row ∷ rows) fit all =
+    let passed : not (passes (front ++ row.0)) ≡ false = ap not (all row.0 (fit.0.1, fit.0.2, fit.0.3)) in
+    ap (λ b. b || any_but passes front rows) passed ∙ all_within passes front size rows fit.1 all
+
+pub all_passed : (passes : List ℕ → Bool) (front : List ℕ) (held : List Held) (id : Id) (outline : Outline) → IsClosed held → HasTree held id → TellsTree held id outline
+    → ((rest : List ℕ) → IsWithin outline.size rest → passes (front ++ rest) ≡ true) → any_but passes front (tree_rows held id) ≡ false
+all_passed passes front held id outline closed has tells all =
+    all_within passes front outline.size (tree_rows held id)
+    (subst (λ depth. AllFit (tree_rows held id) depth outline.size.reach) (sym tells.0)
+    (subst (AllFit (tree_rows held id) (tree_depth held id)) (sym tells.1) (fitting held closed id has)))
+    all
 
 -- One entry of a directory.
 
@@ -34,14 +54,6 @@ under_any passes front name (row ∷ rows) =
     sym (append_assoc front name (47 ∷ row.0)) ∙ sym (append_assoc (front ++ name) (47 ∷ []) row.0) in
     let rest = under_any passes front name rows in
     λ i. not (passes (path i)) || rest i
-
-none_below : (passes : List ℕ → Bool) (dir : List ℕ) (rows : List Row) → ((path : List ℕ) → lies_below path dir ≡ true → not (passes path) ≡ false)
-    → any_but passes (dir ++ 47 ∷ []) rows ≡ false
-none_below passes dir [] all = refl
-none_below passes dir (row ∷ rows) all =
-    let path : (dir ++ 47 ∷ []) ++ row.0 ≡ dir ++ 47 ∷ row.0 = append_assoc dir (47 ∷ []) row.0 in
-    let passed : not (passes ((dir ++ 47 ∷ []) ++ row.0)) ≡ false = ap (λ p. not (passes p)) path ∙ all (dir ++ 47 ∷ row.0) (inside dir row.0) in
-    ap (λ b. b || any_but passes (dir ++ 47 ∷ []) rows) passed ∙ none_below passes dir rows all
 
 module _ (passes : List ℕ → Bool) (front : List ℕ) (rows : Id → List Row) (target : Bool) (e : Entry) (es all : List Entry) (is : all ≡ e ∷ es)
     (so_far : target ≡ any_but passes front (entries_rows rows all)) where
@@ -68,11 +80,6 @@ pub dir_any : (passes : List ℕ → Bool) (front inner : List ℕ) (rows : Id �
 dir_any passes front inner rows e b dir entered is =
     ap (λ k. any_but passes front (rows_of_kind e.name k e.id (rows e.id))) dir ∙ under_any passes front e.name (rows e.id)
     ∙ ap (λ p. any_but passes p (rows e.id)) (sym entered) ∙ sym is
-
-pub dir_left : (passes : List ℕ → Bool) (front : List ℕ) (rows : Id → List Row) (e : Entry) → e.kind ≡ None
-    → ((path : List ℕ) → lies_below path (front ++ e.name) ≡ true → not (passes path) ≡ false) → any_but passes front (entry_rows rows e) ≡ false
-dir_left passes front rows e dir all =
-    ap (λ k. any_but passes front (rows_of_kind e.name k e.id (rows e.id))) dir ∙ under_any passes front e.name (rows e.id) ∙ none_below passes (front ++ e.name) (rows e.id) all
 
 pub all_searched : (passes : List ℕ → Bool) (front : List ℕ) (held : List Held) (id : Id) → IsClosed held → HasTree held id
     → any_but passes front (tree_rows held id) ≡ any_but passes front (entries_rows (tree_rows held) (entries_in held id))
@@ -148,11 +155,6 @@ found_below passes held tree top seen dir below =
     (any_below (λ p. not (passes (told top seen p))) top (tree_rows held tree)
     ∙ ap (list_any (λ row. not (passes (told top seen row.0)))) below.1
     ∙ any_told passes top seen (tree_rows held dir))
-
-pub all_passed : (passes : List ℕ → Bool) (held : List Held) (tree : Id) (top seen : List ℕ) (dir : Id) → IsBelow held tree top (Some dir)
-    → ((path : List ℕ) → lies_below path seen ≡ true → not (passes path) ≡ false)
-    → false ≡ list_any (λ row. lies_below row.0 top && not (passes (told top seen row.0))) (tree_rows held tree)
-all_passed passes held tree top seen dir below all = sym (none_below passes seen (tree_rows held dir) all) ∙ found_below passes held tree top seen dir below
 
 retold_behind : (top seen : List ℕ) (rows : List Row) → map (retold top seen) (map (behind (top ++ 47 ∷ [])) rows) ≡ map (behind (seen ++ 47 ∷ [])) rows
 retold_behind top seen [] = refl

@@ -1,8 +1,14 @@
--- What is passed over, of files that are told as though their directory stood at another place.
-use Rattle.std.specs.Prelude.{◌≡◌, ℕ, Bool, true, false, not, ◌&&◌, IsSome, List, ◌++◌, drop, length}
+-- What is passed over: of a directory of some size, and of files that are told as though their directory stood at another place.
+use Rattle.std.specs.Prelude.{◌≡◌, ℕ, ◌≤◌, Bool, true, false, not, ◌&&◌, IsSome, List, ◌++◌, drop, length}
+use Rattle.std.specs.List.{list_all}
 use Rattle.eden_globs.specs.Filters.{admits}
 use Rattle.eden_ids.specs.FileMaps.{FileMap, file_at}
-use Rattle.eden_ids.specs.Paths.{IsPath, lies_below}
+use Rattle.eden_ids.specs.Paths.{IsPath, components, is_component, lies_below}
+use Rattle.eden_objects.specs.declared.size.Size.{Size}
+
+-- what a directory of a size may have a file at, told from the directory on
+abbrev pub IsWithin : Size → List ℕ → Type 0
+IsWithin size rest = (length rest ≤ size.reach) × (list_all is_component (components rest) ≡ true) × (length (components rest) ≤ size.depth)
 
 -- a path below one directory, told as though that stood at another place
 abbrev pub told : List ℕ → List ℕ → List ℕ → List ℕ

@@ -41,6 +41,7 @@ pub use crate::import::{ImportFault, Object};
 pub use crate::importer::Importer;
 pub use crate::laws::{commit_map_law, grown_law, same_object_law, tree_law};
 pub use crate::passing::{Nothing, Passes};
+pub use crate::size::Size;
 pub use crate::store::Store;
 pub use eden_git::{RawEntry, Rows, Word, key_order, next_entry};
 

@@ -8,7 +8,7 @@ ghost use Rattle.eden_objects.specs.Closed.{HasTree};
 ghost use Rattle.eden_objects.specs.Listings.{Lists};
 ghost use Rattle.eden_objects.specs.Passing.{is_shown};
 ghost use Rattle.eden_objects.specs.internal.Below.{IsBelow, rows_behind, rows_below};
-ghost use Rattle.eden_objects.specs.internal.Passed.{ArePathsBut, AreToldPaths, EntersBut, rows_shown};
+ghost use Rattle.eden_objects.specs.internal.Passed.{ArePathsBut, AreToldPaths, rows_shown};
 
 use crate::fault::{CommitFault, NoCommit};
 use crate::passing::{Nothing, Passes};
@@ -69,25 +69,6 @@ impl Listing {
             self.rows.push((path, kind, id))?;
         }
         Ok(())
-    }
-
-    /// Goes on to a directory of the one that is read, unless nothing below it is wanted, or all is passed over.
-    fn enter<S: Passes>(
-        &mut self,
-        filter: &Filter,
-        passed: &S,
-        name: &[u8],
-    ) -> Result<Option<usize>, NoMemory>
-        ensures entered { IfOk result (λ entered. EntersBut (is_shown (S.passes passed.now) filter.now) name.now self.old.front self.new.front entered) }
-        ensures rows { OnOk result (self.new.rows ≡ self.old.rows) }
-    {
-        let length = self.front.add(name)?;
-        let passes = passed.passes_below(self.front.as_bytes());
-        self.front.leave(length);
-        if passes {
-            return Ok(None);
-        }
-        self.front.enter(filter, name)
     }
 }
 
@@ -213,7 +194,7 @@ impl<N: Naming + Drop> Store<N> {
             ≡ rows_behind (is_shown (S.passes passed.now) filter.now) (path.now ++ 47 ∷ []) (tree_rows self.now dir)) }
     {
         let mut listing = Listing::new(self.allocator());
-        let Some(_) = listing.enter(filter, passed, path)? else {
+        let Some(_) = listing.front.enter(filter, path)? else {
             return Ok(listing.rows);
         };
         self.gather(dir, filter, passed, &mut listing)?;
@@ -237,7 +218,7 @@ impl<N: Naming + Drop> Store<N> {
     }
 
     /// Adds the files of a tree to a listing, directory by directory. A directory without files is not read, nor is one below which
-    /// nothing is wanted, or all is passed over.
+    /// nothing is wanted, or of which all is passed over.
     fn gather<S: Passes>(
         &self,
         tree: Id,
@@ -252,7 +233,7 @@ impl<N: Naming + Drop> Store<N> {
         ensures front { OnOk result (listing.new.front ≡ listing.old.front) }
     {
         self.closed_law();
-        if self.count_of_tree(tree) == 0 {
+        if self.passes_tree(tree, listing.front.as_bytes(), passed) {
             return Ok(());
         }
         let Some(rows) = self.rows(tree) else {
@@ -265,7 +246,7 @@ impl<N: Naming + Drop> Store<N> {
                 unreachable!()
             };
             let Some(kind) = entry.kind else {
-                let Some(length) = listing.enter(filter, passed, entry.name)? else {
+                let Some(length) = listing.front.enter(filter, entry.name)? else {
                     continue;
                 };
                 self.gather(entry.id, filter, passed, listing)?;

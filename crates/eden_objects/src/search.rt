@@ -1,6 +1,6 @@
 //! A search for a file that is not passed over.
 
-ghost use Rattle.std.specs.Prelude.{◌≡◌, ◌+◌, ◌≤◌, ◌&&◌, false, length, not};
+ghost use Rattle.std.specs.Prelude.{◌≡◌, ◌+◌, ◌≤◌, ◌&&◌, false, true, length, not};
 ghost use Rattle.std.specs.List.{list_any};
 ghost use Rattle.eden_ids.specs.Paths.{lies_below};
 ghost use Rattle.eden_objects.specs.Closed.{HasTree};
@@ -31,14 +31,22 @@ impl<N: Naming + Drop> Store<N> {
             return false;
         };
         let mut trail = Trail::new();
-        match trail.enter(passed, seen.as_bytes()) {
-            Some(_) => self.has_but(directory, passed, &mut trail),
-            None => false,
-        }
+        trail.enter(seen.as_bytes());
+        self.has_but(directory, passed, &mut trail)
     }
 
-    /// Whether a tree has a file that is not passed over, directory by directory. A directory without files is not read, nor is one below
-    /// which all is passed over.
+    /// Whether a tree need not be read, since it has no files behind the bytes that its paths begin with, or all are passed over.
+    pub(crate) fn passes_tree<S: Passes>(&self, tree: Id, front: &[u8], passed: &S) -> bool
+        requires { HasTree self.now tree }
+        ensures { result ≡ true → any_but (S.passes passed.now) front.now (tree_rows self.now tree) ≡ false }
+    {
+        self.closed_law();
+        let outline = self.outline(tree);
+        outline.files == 0 || passed.passes_below(front, outline.size)
+    }
+
+    /// Whether a tree has a file that is not passed over, directory by directory. A directory without files is not read, nor is one of which
+    /// all is passed over.
     fn has_but<S: Passes>(&self, tree: Id, passed: &S, trail: &mut Trail) -> bool
         requires tree { HasTree self.now tree }
         requires room { length trail.old + tree_reach self.now tree ≤ 2049 }
@@ -46,7 +54,7 @@ impl<N: Naming + Drop> Store<N> {
         ensures trail { result ≡ false → trail.new ≡ trail.old }
     {
         self.closed_law();
-        if self.count_of_tree(tree) == 0 {
+        if self.passes_tree(tree, trail.as_bytes(), passed) {
             return false;
         }
         let Some(rows) = self.rows(tree) else {
@@ -59,9 +67,7 @@ impl<N: Naming + Drop> Store<N> {
                 unreachable!()
             };
             let Some(_) = entry.kind else {
-                let Some(length) = trail.enter(passed, entry.name) else {
-                    continue;
-                };
+                let length = trail.enter(entry.name);
                 if self.has_but(entry.id, passed, trail) {
                     return true;
                 }

@@ -1,21 +1,21 @@
-//! How deep a tree is, and how long its paths are.
+//! How deep a directory is, and how long its paths are.
 ghost use Rattle.std.specs.Prelude.{◌≡◌};
 ghost use Rattle.eden_objects.specs.Trees.{greater};
 
-/// What a tree comes to.
+/// How far the paths below a directory go at the most, each told from the directory on. A store keeps it of each tree.
 #[derive(Clone, Copy)]
-pub(crate) struct Size {
-    /// The components of its longest path, an empty directory counted too.
-    pub(crate) depth: usize,
-    /// The bytes of its longest path.
-    pub(crate) reach: usize,
+pub struct Size {
+    /// The most components that a path has. A directory without entries counts as well.
+    pub depth: usize,
+    /// The most bytes that a path has. A directory without entries counts as well, with the slash behind its name.
+    pub reach: usize,
 }
 
 impl Size {
-    /// That of a tree without entries.
+    /// That of a directory without entries.
     pub(crate) const NONE: Size = Size { depth: 0, reach: 0 };
 
-    /// What two parts of a tree come to together.
+    /// What two parts of a directory come to together.
     pub(crate) fn or_greater(self, other: Size) -> Size
         ensures depth { result.depth ≡ greater self.depth other.depth }
         ensures reach { result.reach ≡ greater self.reach other.reach }

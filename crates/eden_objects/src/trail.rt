@@ -1,7 +1,6 @@
 //! The way of a search, in memory of a fixed size.
 
-ghost use Rattle.std.specs.Prelude.{◌≡◌, ◌+◌, ◌≤◌, ◌++◌, [], length, not, take};
-ghost use Rattle.eden_objects.specs.internal.Passed.{EntersBut};
+ghost use Rattle.std.specs.Prelude.{◌≡◌, ◌+◌, ◌≤◌, ◌++◌, ◌∷◌, [], length, take};
 
 use crate::passing::Passes;
 use arrayvec::ArrayVec;
@@ -60,18 +59,22 @@ impl Trail {
         passes
     }
 
-    /// Goes on to a directory of the one that is searched, unless all below it is passed over, and tells what `leave` goes back to.
-    pub(crate) fn enter<S: Passes>(&mut self, passed: &S, name: &[u8]) -> Option<usize>
+    /// Goes on to a directory of the one that is searched, and tells what `leave` goes back to.
+    pub(crate) fn enter(&mut self, name: &[u8]) -> usize
         requires { length self.old + length name.now + 1 ≤ 2049 }
-        ensures { EntersBut (λ path. not (S.passes passed.now path)) name.now self.old self.new result }
+        ensures entered { self.new ≡ self.old ++ name.now ++ 47 ∷ [] }
+        ensures length { result ≡ length self.old }
     {
         let length = self.add(name);
-        if passed.passes_below(self.bytes.as_slice()) {
-            self.leave(length);
-            return None;
-        }
         self.bytes.push(b'/');
-        Some(length)
+        length
+    }
+
+    /// The bytes.
+    pub(crate) fn as_bytes(&self) -> &[u8]
+        ensures { result.now ≡ self.now }
+    {
+        self.bytes.as_slice()
     }
 
     /// Goes back to the directory of which a length was told.

@@ -1,5 +1,5 @@
 -- The rows of a directory of which some are passed over, behind the bytes that its paths begin with.
-use Rattle.std.specs.Prelude.{◌≡◌, ℕ, Bool, true, false, not, List, [], ◌∷◌, ◌++◌, filter, length, map, Option, Some, None}
+use Rattle.std.specs.Prelude.{◌≡◌, ℕ, Bool, true, false, not, List, ◌++◌, filter, map}
 use Rattle.std.specs.List.{AllByRecursion, list_any}
 use Rattle.eden_ids.specs.Paths.{IsPath, lies_below}
 use Rattle.eden_objects.specs.Commits.{Row}
@@ -27,8 +27,3 @@ retold top seen row = (told top seen row.0, row.1, row.2)
 
 abbrev pub rows_shown : (List ℕ → Bool) → List ℕ → List ℕ → List Row → List Row
 rows_shown shows top seen rows = filter (λ row. shows row.0) (map (retold top seen) rows)
-
--- the directory of this name is entered, with the length that leads back; or nothing that is shown lies below it, and all is as it was
-abbrev pub EntersBut : (List ℕ → Bool) → List ℕ → List ℕ → List ℕ → Option ℕ → Type 0
-EntersBut shows name old new None = (new ≡ old) × ((path : List ℕ) → lies_below path (old ++ name) ≡ true → shows path ≡ false)
-EntersBut shows name old new (Some long) = (new ≡ old ++ name ++ 47 ∷ []) × (long ≡ length old)

@@ -1,14 +1,13 @@
-use Rattle.std.proofs.Common.{rules, ◌≡◌, ◌+◌, ◌≤◌, ◌<◌, ◌++◌, ◌∷◌, [], ℕ, true, false, not, List, length, take, drop, Some, None, refl, ap, sym, subst, ◌∙◌, arith}
+use Rattle.std.proofs.Common.{rules, ◌≡◌, ◌+◌, ◌≤◌, ◌<◌, ◌++◌, ◌∷◌, [], ℕ, true, false, List, length, take, drop, None, refl, ap, sym, ◌∙◌, arith}
 use Rattle.std.specs.List.{slice_get}
-use Rattle.eden_ids.specs.Paths.{lies_below}
 use Rattle.eden_objects.specs.Objects.{Held}
 use Rattle.eden_git.specs.Entries.{plain}
 use Rattle.eden_git.specs.Trees.{Entry}
 use Rattle.eden_objects.specs.Trees.{tree_depth, tree_reach}
 use Rattle.eden_objects.specs.Commits.{tree_rows}
-use Rattle.eden_objects.specs.internal.Passed.{EntersBut, any_but}
+use Rattle.eden_objects.specs.internal.Passed.{any_but}
 use Rattle.eden_objects.proofs.Gathering.{all_held, depth_here, dir_is_below, dir_is_held, left as left_again, later_held, later_is_below}
-use Rattle.eden_objects.proofs.Searched.{all_searched, dir_any, dir_fits, dir_left, entered_fits, file_any, file_fits, later_fits, none_here, one_here, reach_here}
+use Rattle.eden_objects.proofs.Searched.{all_searched, dir_any, dir_fits, entered_fits, file_any, file_fits, later_fits, none_here, one_here, reach_here}
 use Rattle.eden_objects.proofs.WalkSteps.{entries_in, next_row, rows_lent, some_row}
 use Rattle.eden_objects.proofs.store.Store.+has_but.Goals as goal
 
@@ -31,8 +30,8 @@ unreachable-requires-in_default-entry g t c =
     let none : slice_get c.in-Some.rows c.entries.row ≡ None = search rules in
     some_row c.in-Some.rows c.entries.row within none
 
-pub enter-requires : goal.enter-requires
-enter-requires g t c =
+pub enter-length-requires : goal.enter-length-requires
+enter-length-requires g t c =
     let held : List Held = c.args.self.now in
     let front : List ℕ = c.args.trail.now in
     let e : Entry = plain c.in-Some-entry.entry in
@@ -46,29 +45,6 @@ enter-requires g t c =
     let same : length c.entries.trail ≡ length front = ap length c.entries.invariant.trail in
     omega (arith, fits, same)
 
-pub entries-preserved-in_default-enter : goal.entries-preserved-in_default-enter
-entries-preserved-in_default-enter g t c =
-    let held : List Held = c.args.self.now in
-    let front : List ℕ = c.args.trail.now in
-    let e : Entry = plain c.in-Some-entry.entry in
-    let es : List Entry = entries_in held c.args.tree in
-    let later : List Entry = drop (c.entries.row + 1) es in
-    let left : List Entry = drop c.entries.row es in
-    let lent : c.in-Some.rows ≡ es = rows_lent held c.args.tree c.in-Some.rows c.requires.tree (sym c.in-Some.is ∙ c.rows.ensures) in
-    let next : left ≡ e ∷ later = next_row es c.entries.row e (c.in-Some-entry.ensures ∙ ap (λ rows. slice_get rows c.entries.row) lent) in
-    let kept : EntersBut (λ path. not (g.S.Passes.passes c.args.passed.now path)) c.in-Some-entry.entry.name.now c.entries.trail c.enter.new.self None =
-    subst (EntersBut (λ path. not (g.S.Passes.passes c.args.passed.now path)) c.in-Some-entry.entry.name.now c.entries.trail c.enter.new.self) c.in_default-enter.is c.enter.ensures in
-    let passed : (path : List ℕ) → lies_below path (front ++ e.name) ≡ true → not (g.S.Passes.passes c.args.passed.now path) ≡ false =
-    subst (λ bytes. (path : List ℕ) → lies_below path (bytes ++ e.name) ≡ true → not (g.S.Passes.passes c.args.passed.now path) ≡ false) c.entries.invariant.trail kept.1 in
-    record {
-      found = none_here (g.S.Passes.passes c.args.passed.now) front (tree_rows held) (any_but (g.S.Passes.passes c.args.passed.now) front (tree_rows held c.args.tree)) e later left next c.entries.invariant.found
-          (dir_left (g.S.Passes.passes c.args.passed.now) front (tree_rows held) e c.in_default-kind.is passed);
-      trail = kept.0 ∙ c.entries.invariant.trail;
-      held = later_held held e later left next c.entries.invariant.held;
-      below = later_is_below (tree_depth held) e later left (tree_depth held c.args.tree) next c.entries.invariant.below;
-      room = later_fits (tree_reach held) 2049 (length front) e later left next c.entries.invariant.room;
-    }
-
 pub has_but-requires : goal.has_but-requires
 has_but-requires g t c κs within =
     let held : List Held = c.args.self.now in
@@ -79,14 +55,12 @@ has_but-requires g t c κs within =
     let left : List Entry = drop c.entries.row es in
     let lent : c.in-Some.rows ≡ es = rows_lent held c.args.tree c.in-Some.rows c.requires.tree (sym c.in-Some.is ∙ c.rows.ensures) in
     let next : left ≡ e ∷ later = next_row es c.entries.row e (c.in-Some-entry.ensures ∙ ap (λ rows. slice_get rows c.entries.row) lent) in
-    let there : EntersBut (λ path. not (g.S.Passes.passes c.args.passed.now path)) c.in-Some-entry.entry.name.now c.entries.trail c.enter.new.self (Some c.in-Some-enter.length) =
-    subst (EntersBut (λ path. not (g.S.Passes.passes c.args.passed.now path)) c.in-Some-entry.entry.name.now c.entries.trail c.enter.new.self) c.in-Some-enter.is c.enter.ensures in
-    let entered : c.enter.new.self ≡ front ++ e.name ++ 47 ∷ [] = there.0 ∙ ap (λ bytes. bytes ++ e.name ++ 47 ∷ []) c.entries.invariant.trail in
+    let entered : c.enter-length.new.self ≡ front ++ e.name ++ 47 ∷ [] = c.enter-length.ensures.entered ∙ ap (λ bytes. bytes ++ e.name ++ 47 ∷ []) c.entries.invariant.trail in
     let tree = dir_is_held held e later left next c.in_default-kind.is c.entries.invariant.held in
     let less : tree_depth held c.in-Some-entry.entry.id < tree_depth held c.args.tree =
     dir_is_below (tree_depth held) e later left (tree_depth held c.args.tree) next c.in_default-kind.is c.entries.invariant.below in
-    let room : length c.enter.new.self + tree_reach held c.in-Some-entry.entry.id ≤ 2049 =
-    entered_fits front e.name c.enter.new.self (tree_reach held e.id) 2049 entered
+    let room : length c.enter-length.new.self + tree_reach held c.in-Some-entry.entry.id ≤ 2049 =
+    entered_fits front e.name c.enter-length.new.self (tree_reach held e.id) 2049 entered
     (dir_fits (tree_reach held) 2049 (length front) e later left next c.entries.invariant.room c.in_default-kind.is) in
     (search rules, (search rules, (search rules, (tree, room))))
 
@@ -100,12 +74,10 @@ returns-then-has_but-clause-found g t c =
     let left : List Entry = drop c.entries.row es in
     let lent : c.in-Some.rows ≡ es = rows_lent held c.args.tree c.in-Some.rows c.requires.tree (sym c.in-Some.is ∙ c.rows.ensures) in
     let next : left ≡ e ∷ later = next_row es c.entries.row e (c.in-Some-entry.ensures ∙ ap (λ rows. slice_get rows c.entries.row) lent) in
-    let there : EntersBut (λ path. not (g.S.Passes.passes c.args.passed.now path)) c.in-Some-entry.entry.name.now c.entries.trail c.enter.new.self (Some c.in-Some-enter.length) =
-    subst (EntersBut (λ path. not (g.S.Passes.passes c.args.passed.now path)) c.in-Some-entry.entry.name.now c.entries.trail c.enter.new.self) c.in-Some-enter.is c.enter.ensures in
-    let entered : c.enter.new.self ≡ front ++ e.name ++ 47 ∷ [] = there.0 ∙ ap (λ bytes. bytes ++ e.name ++ 47 ∷ []) c.entries.invariant.trail in
-    let found : true ≡ any_but (g.S.Passes.passes c.args.passed.now) c.enter.new.self (tree_rows held e.id) = sym c.if-has_but.true ∙ c.has_but.ensures.found in
+    let entered : c.enter-length.new.self ≡ front ++ e.name ++ 47 ∷ [] = c.enter-length.ensures.entered ∙ ap (λ bytes. bytes ++ e.name ++ 47 ∷ []) c.entries.invariant.trail in
+    let found : true ≡ any_but (g.S.Passes.passes c.args.passed.now) c.enter-length.new.self (tree_rows held e.id) = sym c.if-has_but.true ∙ c.has_but.ensures.found in
     sym (one_here (g.S.Passes.passes c.args.passed.now) front (tree_rows held) (any_but (g.S.Passes.passes c.args.passed.now) front (tree_rows held c.args.tree)) e later left next c.entries.invariant.found
-    (dir_any (g.S.Passes.passes c.args.passed.now) front c.enter.new.self (tree_rows held) e true c.in_default-kind.is entered found))
+    (dir_any (g.S.Passes.passes c.args.passed.now) front c.enter-length.new.self (tree_rows held) e true c.in_default-kind.is entered found))
 
 pub entries-preserved-in_default-kind : goal.entries-preserved-in_default-kind
 entries-preserved-in_default-kind g t c =
@@ -117,15 +89,13 @@ entries-preserved-in_default-kind g t c =
     let left : List Entry = drop c.entries.row es in
     let lent : c.in-Some.rows ≡ es = rows_lent held c.args.tree c.in-Some.rows c.requires.tree (sym c.in-Some.is ∙ c.rows.ensures) in
     let next : left ≡ e ∷ later = next_row es c.entries.row e (c.in-Some-entry.ensures ∙ ap (λ rows. slice_get rows c.entries.row) lent) in
-    let there : EntersBut (λ path. not (g.S.Passes.passes c.args.passed.now path)) c.in-Some-entry.entry.name.now c.entries.trail c.enter.new.self (Some c.in-Some-enter.length) =
-    subst (EntersBut (λ path. not (g.S.Passes.passes c.args.passed.now path)) c.in-Some-entry.entry.name.now c.entries.trail c.enter.new.self) c.in-Some-enter.is c.enter.ensures in
-    let entered : c.enter.new.self ≡ front ++ e.name ++ 47 ∷ [] = there.0 ∙ ap (λ bytes. bytes ++ e.name ++ 47 ∷ []) c.entries.invariant.trail in
-    let none : false ≡ any_but (g.S.Passes.passes c.args.passed.now) c.enter.new.self (tree_rows held e.id) = sym c.if-has_but.false ∙ c.has_but.ensures.found in
-    let length_is : c.in-Some-enter.length ≡ length front = there.1 ∙ ap length c.entries.invariant.trail in
-    let inside : c.has_but.new.trail ≡ c.enter.new.self = c.has_but.ensures.trail c.if-has_but.false in
+    let entered : c.enter-length.new.self ≡ front ++ e.name ++ 47 ∷ [] = c.enter-length.ensures.entered ∙ ap (λ bytes. bytes ++ e.name ++ 47 ∷ []) c.entries.invariant.trail in
+    let none : false ≡ any_but (g.S.Passes.passes c.args.passed.now) c.enter-length.new.self (tree_rows held e.id) = sym c.if-has_but.false ∙ c.has_but.ensures.found in
+    let length_is : c.enter-length.result ≡ length front = c.enter-length.ensures.length ∙ ap length c.entries.invariant.trail in
+    let inside : c.has_but.new.trail ≡ c.enter-length.new.self = c.has_but.ensures.trail c.if-has_but.false in
     record {
       found = none_here (g.S.Passes.passes c.args.passed.now) front (tree_rows held) (any_but (g.S.Passes.passes c.args.passed.now) front (tree_rows held c.args.tree)) e later left next c.entries.invariant.found
-          (dir_any (g.S.Passes.passes c.args.passed.now) front c.enter.new.self (tree_rows held) e false c.in_default-kind.is entered none);
+          (dir_any (g.S.Passes.passes c.args.passed.now) front c.enter-length.new.self (tree_rows held) e false c.in_default-kind.is entered none);
       trail = c.leave.ensures ∙ ap (λ n. take n c.has_but.new.trail) length_is ∙ left_again front c.has_but.new.trail e.name (inside ∙ entered);
       held = later_held held e later left next c.entries.invariant.held;
       below = later_is_below (tree_depth held) e later left (tree_depth held c.args.tree) next c.entries.invariant.below;
