@@ -85,7 +85,7 @@ unless true e = refl
 unless false e = let bad : true ≡ false = e in cc
 
 -- a path has a byte at least, and names alone
-names_alone : (p : List ℕ) → IsPath p → list_all is_component (components p) ≡ true
+pub names_alone : (p : List ℕ) → IsPath p → list_all is_component (components p) ≡ true
 names_alone p is =
     let filled = no_fault (nat_eq (length p) 0) Empty _ is in
     let short = no_fault (nat_lt 1024 (length p)) TooLong _ filled.1 in

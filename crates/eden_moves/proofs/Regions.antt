@@ -1,7 +1,6 @@
 -- What is seen below a directory: by the directory itself, and by each further one below it of which something is said.
 use Rattle.std.proofs.Common.{◌≡◌, ℕ, ◌+◌, ◌<◌, ◌⊎◌, inl, inr, Bool, true, false, not, cond, nat_lt, ◌&&◌, ◌||◌, List, [], ◌∷◌, ◌++◌, length, Option, Some, None, is_some, refl, sym, ap, subst, ◌∙◌, arith, append_assoc, length-append}
-use Rattle.std.specs.Prelude.{IsSome, filter, if◌then◌else◌, option_copied}
-use Rattle.std.specs.Borrow.{Bor}
+use Rattle.std.specs.Prelude.{IsSome, filter, if◌then◌else◌}
 use Rattle.std.specs.Option.{option_or}
 use Rattle.std.specs.List.{AllByRecursion, list_any}
 use Rattle.std.specs.FinMap as fin
@@ -14,6 +13,7 @@ use Rattle.eden_ids.proofs.TreeMaps.{entries_found}
 use Rattle.eden_ids.proofs.TreeQuestions.{any_witness}
 use Rattle.eden_history.specs.Carried.{carried}
 use Rattle.eden_history.proofs.CarriedLemmas.{below-trans, carried-back, carried-below, carried_there, nested, rest_below}
+use Rattle.eden_objects.proofs.Gathering.{above_more}
 use Rattle.eden_objects.specs.Passing.{told}
 use Rattle.eden_moves.specs.Moves.{Entry, Moves, file_from, is_governed, nearest, own_or, seen_through, source_by, source_of}
 use Rattle.eden_moves.specs.internal.Regions.{is_apart, is_past, region_has, seen_dir}
@@ -89,23 +89,13 @@ past_if moves path d long x said above more = by (nearest (fin.entries moves) pa
         at (inr (inl below)) = let n = longer e.0 d below in is_less long (length e.0) (omega (arith, n, more))
         at (inr (inr below)) = is_none x (sym said ∙ near.2 d above below)
 
-pub past_some : (moves : Moves) (d : List ℕ) (long : ℕ) (o : Option (Bor (Option (List ℕ)))) → option_copied o ≡ fin.get moves d → is_some o ≡ true → long < length d
-    → (path : List ℕ) → lies_below path d ≡ true → is_past long (nearest (fin.entries moves) path) ≡ true
-past_some moves d long None said some more path below = no (sym some)
-past_some moves d long (Some x) said some more path below = past_if moves path d long x.now (sym said) below more
-
 pub governed_if : (moves : Moves) (path d : List ℕ) (x : Option (List ℕ)) → fin.get moves d ≡ Some x → lies_below path d ≡ true → is_governed moves path ≡ true
 governed_if moves path d x said above = passing (λ top. lies_below path top) (fin.keys moves) d (sym (fin.contains_key-keys moves d) ∙ ap is_some said) above
 
-pub governed_some : (moves : Moves) (d : List ℕ) (o : Option (Bor (Option (List ℕ)))) → option_copied o ≡ fin.get moves d → is_some o ≡ true
-    → (path : List ℕ) → lies_below path d ≡ true → is_governed moves path ≡ true
-governed_some moves d None said some path below = no (sym some)
-governed_some moves d (Some x) said some path below = governed_if moves path d x.now (sym said) below
-
-pub governed_told : (moves : Moves) (directory path : List ℕ) → lies_below path directory ≡ true → is_governed moves directory ≡ true → is_governed moves path ≡ true
-governed_told moves directory path below governed =
-    let found = any_witness (λ top. lies_below directory top) (fin.keys moves) governed in
-    passing (λ top. lies_below path top) (fin.keys moves) found.0 found.1 (below-trans path directory found.0 below found.2)
+pub governed_more : (moves : Moves) (path : List ℕ) → is_governed moves path ≡ true → (rest : List ℕ) → is_governed moves (path ++ rest) ≡ true
+governed_more moves path governed rest =
+    let found = any_witness (λ top. lies_below path top) (fin.keys moves) governed in
+    passing (λ top. lies_below (path ++ rest) top) (fin.keys moves) found.0 found.1 (above_more path rest found.0 found.2)
 
 -- an entry governs a path where one is the nearest above it
 pub governed_near : (moves : Moves) (path : List ℕ) → is_governed moves path ≡ is_some (nearest (fin.entries moves) path)
@@ -121,13 +111,13 @@ governed_near moves path = by (nearest (fin.entries moves) path) (nearest-is mov
             let found = any_witness (λ top. lies_below path top) (fin.keys moves) is in
             no (sym (fin.contains_key-keys moves found.0 ∙ found.1) ∙ ap is_some (none found.0 found.2))
 
-pub past_told : (moves : Moves) (directory path : List ℕ) (long : ℕ) → lies_below path directory ≡ true → is_past long (nearest (fin.entries moves) directory) ≡ true
-    → is_past long (nearest (fin.entries moves) path) ≡ true
-past_told moves directory path long below past = by (nearest (fin.entries moves) directory) (nearest-is moves directory) past
+pub past_more : (moves : Moves) (path : List ℕ) (long : ℕ) → is_past long (nearest (fin.entries moves) path) ≡ true
+    → (rest : List ℕ) → is_past long (nearest (fin.entries moves) (path ++ rest)) ≡ true
+past_more moves path long past rest = by (nearest (fin.entries moves) path) (nearest-is moves path) past
   where
-    by : (o : Option Entry) → IsNearest moves directory o → is_past long o ≡ true → is_past long (nearest (fin.entries moves) path) ≡ true
+    by : (o : Option Entry) → IsNearest moves path o → is_past long o ≡ true → is_past long (nearest (fin.entries moves) (path ++ rest)) ≡ true
     by None none h = no (sym h)
-    by (Some e) near h = past_if moves path e.0 long e.1 near.0 (below-trans path directory e.0 below near.1) (grind (arith, h))
+    by (Some e) near h = past_if moves (path ++ rest) e.0 long e.1 near.0 (above_more path rest e.0 near.1) (grind (arith, h))
 
 -- of what is not past a directory nothing is said further down
 pub none_nearer : (moves : Moves) (p top : List ℕ) → is_past (length top) (nearest (fin.entries moves) p) ≡ false

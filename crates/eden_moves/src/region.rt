@@ -1,16 +1,16 @@
 //! What a search or a list of one directory's files passes over.
 
-ghost use Rattle.std.specs.Prelude.{◌≡◌, ℕ, List, true};
+ghost use Rattle.std.specs.Prelude.{◌≡◌};
 ghost use Rattle.std.specs.FinMap as fin;
-ghost use Rattle.eden_ids.specs.Paths.{lies_below};
 ghost use Rattle.eden_moves.specs.Moves.{is_governed, nearest};
 ghost use Rattle.eden_moves.specs.internal.Regions.{is_past};
 
 use crate::moves::Moves;
 use eden_ids::is_path;
-use eden_objects::Passes;
+use eden_objects::{Passes, Size};
 
-/// Whether the nearest directory above a path of which something is said is a longer path than so many bytes.
+/// Whether the nearest directory above a path of which something is said is a longer path than so many bytes. Where that is so of a
+/// directory's front, it is of all paths below the directory.
 fn is_past(moves: &Moves, path: &[u8], long: usize) -> bool
     ensures { result ≡ is_past long (nearest (fin.entries moves.now) path.now) }
 {
@@ -18,16 +18,6 @@ fn is_past(moves: &Moves, path: &[u8], long: usize) -> bool
         Some((at, _)) => at > long,
         None => false,
     }
-}
-
-/// Whether that is so of all paths below a directory, since something is said of it, or of a directory above it.
-fn is_past_below(moves: &Moves, directory: &[u8], long: usize) -> bool
-    ensures { result ≡ true → (path : List ℕ) → lies_below path directory.now ≡ true → is_past long (nearest (fin.entries moves.now) path) ≡ true }
-{
-    if directory.len() > long && moves.get(directory).is_some() {
-        return true;
-    }
-    is_past(moves, directory, long)
 }
 
 /// What is not seen by one directory itself: what its caller passes over, and what is seen by a further directory.
@@ -48,23 +38,16 @@ impl<'r, S: Passes> Passes for Region<'r, S> {
         self.passed.passes_file(path) || is_past(self.moves, path, self.long)
     }
 
-    fn passes_below(&self, directory: &[u8]) -> bool {
-        self.passed.passes_below(directory) || is_past_below(self.moves, directory, self.long)
+    fn passes_below(&self, front: &[u8], size: Size) -> bool {
+        self.passed.passes_below(front, size) || is_past(self.moves, front, self.long)
     }
 }
 
-/// Whether something is said of a directory above a path.
+/// Whether something is said of a directory above a path. Where that is so of a directory's front, it is of all paths below the directory.
 fn is_governed(moves: &Moves, path: &[u8]) -> bool
     ensures { result ≡ is_governed moves.now path.now }
 {
     moves.nearest(path).is_some()
-}
-
-/// Whether that is so of all paths below a directory, since something is said of it, or of a directory above it.
-fn is_governed_below(moves: &Moves, directory: &[u8]) -> bool
-    ensures { result ≡ true → (path : List ℕ) → lies_below path directory.now ≡ true → is_governed moves.now path ≡ true }
-{
-    moves.get(directory).is_some() || is_governed(moves, directory)
 }
 
 /// What is not seen at its own place: all that stands below a directory of which something is said.
@@ -82,8 +65,8 @@ impl<'r> Passes for Governed<'r> {
         is_governed(self.moves, path)
     }
 
-    fn passes_below(&self, directory: &[u8]) -> bool {
-        is_governed_below(self.moves, directory)
+    fn passes_below(&self, front: &[u8], _size: Size) -> bool {
+        is_governed(self.moves, front)
     }
 }
 
@@ -100,7 +83,7 @@ impl Passes for Pathless {
         !is_path(path)
     }
 
-    fn passes_below(&self, _directory: &[u8]) -> bool {
+    fn passes_below(&self, _front: &[u8], _size: Size) -> bool {
         false
     }
 }
