@@ -16,25 +16,15 @@ use Rattle.eden_ids.specs.FileMaps.{FileMap, PathSet, paths}
 use Rattle.eden_ids.proofs.ByteOrder.{both, fin_keys_rise, order}
 use Rattle.eden_ids.proofs.Sifted.{keys-sifted, listing_of, sifted}
 use Rattle.eden_history.specs.Carried.{carried}
-use Rattle.eden_history.proofs.CarriedLemmas.{carried_there, rest_below}
 use Rattle.eden_objects.specs.Passing.{is_shown, told}
-use Rattle.eden_objects.proofs.Rising.{prefix}
 use Rattle.eden_moves.specs.Moves.{Entry, Moves, at_paths, seen_through}
 use Rattle.eden_moves.specs.internal.Listed.{is_listed, is_pathless, shown_by}
 use Rattle.eden_moves.specs.internal.Regions.{is_apart, seen_dir}
 use Rattle.eden_moves.proofs.Listed.{below_known}
+use Rattle.eden_moves.proofs.Shifting.{same_order_there}
 use Rattle.eden_moves.proofs.Unsettling.{or-none}
 
 -- ---- told below another directory, paths keep their order
-
-same_order_there : (source top p q : List ℕ) → lies_below p source ≡ true → lies_below q source ≡ true → order (told source top p) (told source top q) ≡ order p q
-same_order_there source top p q below other =
-    let here = rest_below p source below in
-    let there = rest_below q source other in
-    (λ i. order ((ap (carried source top) here.1 ∙ carried_there source top (47 ∷ here.0)) i) ((ap (carried source top) there.1 ∙ carried_there source top (47 ∷ there.0)) i))
-    ∙ prefix top (47 ∷ here.0) (47 ∷ there.0)
-    ∙ sym (prefix source (47 ∷ here.0) (47 ∷ there.0))
-    ∙ (λ i. order (sym here.1 i) (sym there.1 i))
 
 abbrev told_below : List ℕ → List ℕ → List (List ℕ) → List (List ℕ)
 told_below source top ps = map (told source top) (filter (λ p. lies_below p source) ps)

@@ -8,4 +8,5 @@ pub mod Regions
 pub mod Unsettling
 pub mod Listed
 pub mod InOrder
+pub mod PutIn
 pub mod Apart

@@ -1,53 +1,27 @@
--- The entries after a rename, put together one after the other.
-use Rattle.std.proofs.Common.{◌≡◌, ℕ, suc, zero, ◌<◌, Bool, true, false, cond, T, ◌&&◌, ◌||◌, List, [], ◌∷◌, map, take, length, Option, Some, None, refl, sym, ap, ◌∙◌, arith}
-use Rattle.std.specs.Prelude.{if◌then◌else◌}
+-- The entries after a rename: those below the old path stand below the new one.
+use Rattle.std.proofs.Common.{◌≡◌, ℕ, suc, zero, ◌+◌, ◌<◌, Bool, true, false, cond, not, T, ◌&&◌, ◌||◌, List, [], ◌∷◌, map, take, length, Option, Some, None, refl, sym, ap, subst, ◌∙◌, arith}
+use Rattle.std.specs.Prelude.{filter, if◌then◌else◌}
 use Rattle.std.proofs.lemmas.Bool.{or_parts, or_right}
-use Rattle.std.specs.declared.cmp.Ordering.TheVariants.{Less}
-use Rattle.std.specs.Ordering.{nat_cmp}
-use Rattle.std.specs.Cmp.Lexicographic.{slice_cmp, nat_list_cmp_total}
-use Rattle.std.specs.List.{list_any, slice_index_or}
+use Rattle.std.specs.declared.cmp.Ordering.TheVariants.{Less, Equal}
+use Rattle.std.specs.Ordering.{is_lt}
+use Rattle.std.specs.Cmp.Lexicographic.{nat_list_cmp_total}
+use Rattle.std.specs.List.{AllByRecursion, list_any, slice_index_or}
 use Rattle.std.specs.FinMap as fin
-use Rattle.std.specs.FinMap.{find, is_sorted}
-use Rattle.std.specs.FinMap.Entries.{below_all}
+use Rattle.std.specs.FinMap.{find, is_sorted, put}
+use Rattle.std.specs.FinMap.Entries.{below_all, find-where_key, is_sorted-put}
 use Rattle.eden_ids.specs.Paths.{lies_below}
 use Rattle.eden_ids.specs.FileMaps.{same_path}
-use Rattle.eden_ids.proofs.ByteOrder.{first, less, order, second}
+use Rattle.eden_ids.proofs.ByteOrder.{both, first, less, order, second}
 use Rattle.eden_ids.proofs.FileMapLemmas.{same_order, same_path-is, same_path-other, same_path-refl}
 use Rattle.eden_history.specs.Carried.{carried}
-use Rattle.eden_history.proofs.CarriedLemmas.{carried-back, carried-below}
+use Rattle.eden_history.proofs.CarriedLemmas.{carried-back, carried-below, carried_there, rest_below}
+use Rattle.eden_objects.proofs.Rising.{prefix}
 use Rattle.eden_moves.specs.Moves.{Entry, Moves, breaks, breaks_an_entry, dir_moved, source_dir}
-use Rattle.eden_moves.specs.internal.Shifted.{IsShifted, breaks_at, one_shifted, shifted}
-use Rattle.eden_moves.proofs.Nearest.{no, not_itself}
+use Rattle.eden_moves.specs.internal.Shifted.{IsShifted, arriving, shifted}
+use Rattle.eden_moves.proofs.Nearest.{no}
 use Rattle.eden_moves.proofs.Renames.{get-dir_moved}
 
--- ---- one entry more of those in byte order
-
-after_at : (k : List ℕ) (es : List Entry) (i : ℕ) (d : Entry) → T (below_all order k es) → i < length es → order k (slice_index_or es i d).0 ≡ Less
-after_at k [] i d above within = absurd (omega arith)
-after_at k (e ∷ es) zero d above within = less _ (first _ _ above)
-after_at k (e ∷ es) (suc i) d above within = after_at k es i d (second _ _ above) (omega arith)
-
-pub find-taken : (es : List Entry) (i : ℕ) (e : Entry) → T (is_sorted order es) → i < length es → e ≡ slice_index_or es i e → (dir : List ℕ)
-    → find order dir (take (suc i) es) ≡ cond (same_path dir e.0) (Some e.1) (find order dir (take i es))
-find-taken [] i e sorted within is dir = absurd (omega arith)
-find-taken (x ∷ xs) zero e sorted within is dir = ap (λ (y : Entry). cond (same_path dir y.0) (Some y.1) None) (sym is)
-find-taken (x ∷ xs) (suc i) e sorted within is dir =
-    ap (cond (same_path dir x.0) (Some x.1)) (find-taken xs i e (second _ _ sorted) (omega arith) is dir)
-    ∙ by (same_path dir x.0) (same_path dir e.0) refl refl
-  where
-    apart : same_path dir x.0 ≡ true → same_path dir e.0 ≡ true → ⊥
-    apart one two =
-        not_itself x.0
-        (ap (order x.0) (sym (same_path-is dir x.0 one) ∙ same_path-is dir e.0 two ∙ ap (λ (y : Entry). y.0) is)
-        ∙ after_at x.0 xs i e (first _ _ sorted) (omega arith))
-
-    by : (a b : Bool) → same_path dir x.0 ≡ a → same_path dir e.0 ≡ b
-        → cond a (Some x.1) (cond b (Some e.1) (find order dir (take i xs))) ≡ cond b (Some e.1) (cond a (Some x.1) (find order dir (take i xs)))
-    by true true one two = absurd (apart one two)
-    by true false one two = refl
-    by false b one two = refl
-
--- ---- one entry more after the rename
+-- ---- a directory and one that is below another
 
 pub both_ways : (a b : Bool) → (a ≡ true → b ≡ true) → (b ≡ true → a ≡ true) → a ≡ b
 both_ways true true there back = refl
@@ -62,51 +36,90 @@ alike old new k dir from into = both_ways (same_path dir (carried old new k)) (s
     ap (λ d. same_path d (carried old new k)) (sym (carried-back new old dir into)) ∙ ap (λ d. same_path (carried old new d) (carried old new k)) (same_path-is (carried new old dir) k one)
     ∙ same_path-refl (carried old new k))
 
-apart : (top p q : List ℕ) → lies_below p top ≡ true → lies_below q top ≡ false → same_path p q ≡ false
+pub apart : (top p q : List ℕ) → lies_below p top ≡ true → lies_below q top ≡ false → same_path p q ≡ false
 apart top p q inside out = same_path-other p q (λ same. no (sym inside ∙ ap (λ d. lies_below d top) same ∙ out))
 
-turned : (top p q : List ℕ) → lies_below p top ≡ false → lies_below q top ≡ true → same_path p q ≡ false
+pub turned : (top p q : List ℕ) → lies_below p top ≡ false → lies_below q top ≡ true → same_path p q ≡ false
 turned top p q out inside = same_path-other p q (λ same. no (sym inside ∙ ap (λ d. lies_below d top) (sym same) ∙ out))
 
-module _ (old new : List ℕ) (said next : List ℕ → Option (Option (List ℕ))) (m : Moves) (e : Entry) where
-  pub shifted-more : ((dir : List ℕ) → next dir ≡ cond (same_path dir e.0) (Some e.1) (said dir)) → IsShifted said old new m → IsShifted next old new (one_shifted m old new e)
-  shifted-more more is dir = by (lies_below e.0 old) (lies_below e.0 new) (lies_below dir new) (lies_below dir old) refl refl refl refl
+-- ---- the entries that come to stand below the new path
+
+-- below another directory, paths keep their order
+pub same_order_there : (old new p q : List ℕ) → lies_below p old ≡ true → lies_below q old ≡ true → order (carried old new p) (carried old new q) ≡ order p q
+same_order_there old new p q below other =
+    let here = rest_below p old below in
+    let there = rest_below q old other in
+    (λ i. order ((ap (carried old new) here.1 ∙ carried_there old new (47 ∷ here.0)) i) ((ap (carried old new) there.1 ∙ carried_there old new (47 ∷ there.0)) i))
+    ∙ prefix new (47 ∷ here.0) (47 ∷ there.0)
+    ∙ sym (prefix old (47 ∷ here.0) (47 ∷ there.0))
+    ∙ (λ i. order (sym here.1 i) (sym there.1 i))
+
+module _ (old new : List ℕ) where
+  arriving_after : (k : List ℕ) (es : List Entry) → lies_below k old ≡ true → T (below_all order k es) → T (below_all order (carried old new k) (arriving es old new))
+  arriving_after k [] below after = tt
+  arriving_after k (e ∷ es) below after = by (lies_below e.0 old) refl (arriving_after k es below (second _ _ after))
     where
-      -- what was said at the place before
-      before : {a b : Bool} → lies_below dir new ≡ a → lies_below dir old ≡ b
-          → fin.get m dir ≡ (if a then said (carried new old dir) else if b then None else said dir)
-      before into outof = is dir ∙ (λ i. if into i then said (carried new old dir) else if outof i then None else said dir)
+      by : (b : Bool) → lies_below e.0 old ≡ b → T (below_all order (carried old new k) (arriving es old new))
+          → T (below_all order (carried old new k) (map (λ (x : Entry). (carried old new x.0, x.1)) (cond b (e ∷ filter (λ x. lies_below x.0 old) es) (filter (λ x. lies_below x.0 old) es))))
+      by true other rest =
+          both _ _ (subst (λ r. T (is_lt r)) (sym (same_order_there old new k e.0 below other ∙ less _ (first _ _ after))) tt) rest
+      by false other rest = rest
 
-      kept : (d : List ℕ) → same_path d e.0 ≡ false → said d ≡ next d
-      kept d other = sym (more d ∙ ap (λ b. cond b (Some e.1) (said d)) other)
+  -- they stand in byte order, since those below the old path do
+  pub arriving_sorted : (es : List Entry) → T (is_sorted order es) → T (is_sorted order (arriving es old new))
+  arriving_sorted [] sorted = tt
+  arriving_sorted (e ∷ es) sorted = by (lies_below e.0 old) refl (arriving_sorted es (second _ _ sorted))
+    where
+      by : (b : Bool) → lies_below e.0 old ≡ b → T (is_sorted order (arriving es old new))
+          → T (is_sorted order (map (λ (x : Entry). (carried old new x.0, x.1)) (cond b (e ∷ filter (λ x. lies_below x.0 old) es) (filter (λ x. lies_below x.0 old) es))))
+      by true below rest = both _ _ (arriving_after e.0 es below (first _ _ sorted)) rest
+      by false below rest = rest
 
-      put : (k : List ℕ) {a : Bool} → same_path dir k ≡ a → fin.get (fin.insert m k e.1) dir ≡ cond a (Some e.1) (fin.get m dir)
-      put k same = fin.get-insert nat_list_cmp_total m k e.1 dir ∙ ap (λ b. cond b (Some e.1) (fin.get m dir)) same
+  pub arriving_below : (es : List Entry) → AllByRecursion (λ (e : Entry). lies_below e.0 new ≡ true) (arriving es old new)
+  arriving_below [] = tt
+  arriving_below (e ∷ es) = by (lies_below e.0 old) refl (arriving_below es)
+    where
+      by : (b : Bool) → lies_below e.0 old ≡ b → AllByRecursion (λ (x : Entry). lies_below x.0 new ≡ true) (arriving es old new)
+          → AllByRecursion (λ (x : Entry). lies_below x.0 new ≡ true)
+          (map (λ (x : Entry). (carried old new x.0, x.1)) (cond b (e ∷ filter (λ x. lies_below x.0 old) es) (filter (λ x. lies_below x.0 old) es)))
+      by true below rest = (carried-below old new e.0 below, rest)
+      by false below rest = rest
 
-      by : (from there into outof : Bool) → lies_below e.0 old ≡ from → lies_below e.0 new ≡ there → lies_below dir new ≡ into → lies_below dir old ≡ outof
-          → fin.get (if from then fin.insert m (carried old new e.0) e.1 else if there then m else fin.insert m e.0 e.1) dir
-          ≡ (if into then next (carried new old dir) else if outof then None else next dir)
-      by true there true outof f t i o =
-          put (carried old new e.0) (alike old new e.0 dir f i) ∙ ap (cond (same_path (carried new old dir) e.0) (Some e.1)) (before i o) ∙ sym (more (carried new old dir))
-      by true there false true f t i o = put (carried old new e.0) (turned new dir (carried old new e.0) i (carried-below old new e.0 f)) ∙ before i o
-      by true there false false f t i o =
-          put (carried old new e.0) (turned new dir (carried old new e.0) i (carried-below old new e.0 f)) ∙ before i o ∙ kept dir (turned old dir e.0 o f)
-      by false true true outof f t i o = before i o ∙ kept (carried new old dir) (apart old (carried new old dir) e.0 (carried-below new old dir i) f)
-      by false true false true f t i o = before i o
-      by false true false false f t i o = before i o ∙ kept dir (turned new dir e.0 i t)
-      by false false true outof f t i o =
-          put e.0 (apart new dir e.0 i t) ∙ before i o ∙ kept (carried new old dir) (apart old (carried new old dir) e.0 (carried-below new old dir i) f)
-      by false false false true f t i o = put e.0 (apart old dir e.0 o f) ∙ before i o
-      by false false false false f t i o = put e.0 refl ∙ ap (cond (same_path dir e.0) (Some e.1)) (before i o) ∙ sym (more dir)
+  -- what is said of a directory there was said at its old place
+  arriving_found : (es : List Entry) (dir : List ℕ) → lies_below dir new ≡ true → find order dir (arriving es old new) ≡ find order (carried new old dir) es
+  arriving_found [] dir into = refl
+  arriving_found (e ∷ es) dir into = by (lies_below e.0 old) refl (arriving_found es dir into)
+    where
+      by : (b : Bool) → lies_below e.0 old ≡ b → find order dir (arriving es old new) ≡ find order (carried new old dir) es
+          → find order dir (map (λ (x : Entry). (carried old new x.0, x.1)) (cond b (e ∷ filter (λ x. lies_below x.0 old) es) (filter (λ x. lies_below x.0 old) es)))
+          ≡ cond (same_path (carried new old dir) e.0) (Some e.1) (find order (carried new old dir) es)
+      by true from rest = (λ i. cond (alike old new e.0 dir from into i) (Some e.1) (rest i))
+      by false from rest = rest ∙ sym (ap (λ b. cond b (Some e.1) (find order (carried new old dir) es)) (apart old (carried new old dir) e.0 (carried-below new old dir into) from))
 
--- nothing is said yet
-pub shifted-none : (old new : List ℕ) → IsShifted (λ dir. find order dir []) old new fin.empty
-shifted-none old new dir = fin.get-empty (slice_cmp nat_cmp) dir ∙ by (lies_below dir new) (lies_below dir old)
+-- ---- the entries that stay where they are
+
+abbrev pub left_out : List ℕ → List Entry → List Entry
+left_out top es = filter (λ e. not (lies_below e.0 top)) es
+
+pub left_found : (top dir : List ℕ) (es : List Entry) → find order dir (left_out top es) ≡ (if lies_below dir top then None else find order dir es)
+left_found top dir es =
+    find-where_key order (λ q. not (lies_below q top)) dir (λ q same. ap (λ d. not (lies_below d top)) (sym (same_order dir q same))) es ∙ swapped (lies_below dir top)
   where
-    by : (into outof : Bool) → ◌≡◌ {A = Option (Option (List ℕ))} None (if into then None else if outof then None else None)
-    by true outof = refl
-    by false true = refl
-    by false false = refl
+    swapped : (b : Bool) → cond (not b) (find order dir es) None ≡ cond b None (find order dir es)
+    swapped true = refl
+    swapped false = refl
+
+-- after the entries below the old path were dropped and those below the new one replaced
+pub shifted_found : (es rs : List Entry) (old new : List ℕ)
+    → ((dir : List ℕ) → find order dir rs ≡ (if lies_below dir new then find order dir (arriving es old new) else find order dir (left_out old es)))
+    → (dir : List ℕ) → find order dir rs ≡ shifted (λ d. find order d es) old new dir
+shifted_found es rs old new finds dir = finds dir ∙ by (lies_below dir new) refl
+  where
+    by : (b : Bool) → lies_below dir new ≡ b
+        → (if b then find order dir (arriving es old new) else find order dir (left_out old es))
+        ≡ (if b then find order (carried new old dir) es else if lies_below dir old then None else find order dir es)
+    by true into = arriving_found old new es dir into
+    by false into = left_found old dir es
 
 -- ---- the old path and the new one
 
@@ -150,14 +163,55 @@ shifted-whole moves m next old new source is seen there =
         ∙ ap (λ b. cond b (Some None) (shifted (fin.get moves) old new dir)) s
         ∙ ap (λ b. if lies_below dir new then fin.get moves (carried new old dir) else if b then Some None else if lies_below dir old then None else fin.get moves dir) (sym s)
 
+-- the map of entries after one was put in
+from_sorted-put : (k : List ℕ) (v : Option (List ℕ)) (es fs : List Entry) → T (is_sorted order es) → fs ≡ put order k v es
+    → fin.from_sorted {R = order} fs ≡ fin.insert (fin.from_sorted {R = order} es) k v
+from_sorted-put k v es fs sorted is =
+    ap (λ gs. fin.from_sorted {R = order} gs) is
+    ∙ fin.same_entries_map _ _
+    (fin.entries-from_sorted order (put order k v es) (is_sorted-put order nat_list_cmp_total k v es sorted)
+    ∙ sym (fin.entries-insert nat_list_cmp_total (fin.from_sorted es) k v ∙ ap (put order k v) (fin.entries-from_sorted order es sorted)))
+
+pub put_sorted : (k : List ℕ) (v : Option (List ℕ)) (es fs : List Entry) → T (is_sorted order es) → fs ≡ put order k v es → T (is_sorted order fs)
+put_sorted k v es fs sorted is = subst (λ gs. T (is_sorted order gs)) (sym is) (is_sorted-put order nat_list_cmp_total k v es sorted)
+
+-- what is said of the old path and of the new one makes the rename whole
+pub whole_rename : (es shifted_to emptied done : List Entry) (old new : List ℕ) (source : Option (List ℕ)) → T (is_sorted order es) → T (is_sorted order shifted_to)
+    → ((dir : List ℕ) → find order dir shifted_to ≡ shifted (λ d. find order d es) old new dir) → source ≡ source_dir (fin.from_sorted {R = order} es) old
+    → emptied ≡ (if lies_below old new then shifted_to else put order old None shifted_to) → done ≡ put order new source emptied
+    → fin.from_sorted {R = order} done ≡ dir_moved (fin.from_sorted es) old new
+whole_rename es shifted_to emptied done old new source sorted shifted_sorted finds seen there put_is =
+    from_sorted-put new source emptied done (still_sorted (lies_below old new) there) put_is
+    ∙ shifted-whole (fin.from_sorted es) (fin.from_sorted shifted_to) (fin.from_sorted emptied) old new source is seen (by (lies_below old new) there)
+  where
+    is : IsShifted (fin.get (fin.from_sorted {R = order} es)) old new (fin.from_sorted {R = order} shifted_to)
+    is dir =
+        fin.get-from_sorted order shifted_to dir shifted_sorted
+        ∙ finds dir
+        ∙ (λ i. if lies_below dir new then sym (fin.get-from_sorted order es (carried new old dir) sorted) i else if lies_below dir old then None else sym (fin.get-from_sorted order es dir sorted) i)
+
+    still_sorted : (b : Bool) → emptied ≡ (if b then shifted_to else put order old None shifted_to) → T (is_sorted order emptied)
+    still_sorted true e = subst (λ gs. T (is_sorted order gs)) (sym e) shifted_sorted
+    still_sorted false e = put_sorted old None shifted_to emptied shifted_sorted e
+
+    by : (b : Bool) → emptied ≡ (if b then shifted_to else put order old None shifted_to)
+        → fin.from_sorted {R = order} emptied ≡ (if b then fin.from_sorted shifted_to else fin.insert (fin.from_sorted shifted_to) old None)
+    by true e = ap (λ gs. fin.from_sorted {R = order} gs) e
+    by false e = from_sorted-put old None shifted_to emptied shifted_sorted e
+
 -- ---- an entry that would break
 
-any_mapped : (test : List ℕ → Bool) (es : List Entry) → list_any test (map (λ e. e.0) es) ≡ list_any (λ e. test e.0) es
-any_mapped test [] = refl
-any_mapped test (e ∷ es) = ap (λ b. test e.0 || b) (any_mapped test es)
-
-pub breaks_alike : (moves : Moves) (old new : List ℕ) → breaks_an_entry moves old new ≡ list_any (breaks_at old new) (fin.entries moves)
-breaks_alike moves old new = any_mapped (λ dir. lies_below dir old && breaks old new dir) (fin.entries moves)
+pub breaks_alike : (moves : Moves) (old new : List ℕ) → breaks_an_entry moves old new ≡ list_any (λ e. breaks old new e.0) (filter (λ e. lies_below e.0 old) (fin.entries moves))
+breaks_alike moves old new = by (fin.entries moves)
+  where
+    by : (es : List Entry) → list_any (λ dir. lies_below dir old && breaks old new dir) (map (λ e. e.0) es) ≡ list_any (λ e. breaks old new e.0) (filter (λ e. lies_below e.0 old) es)
+    by [] = refl
+    by (e ∷ es) =
+        elim (lies_below e.0 old) as (λ b. ((b && breaks old new e.0) || list_any (λ dir. lies_below dir old && breaks old new dir) (map (λ e. e.0) es))
+        ≡ list_any (λ e. breaks old new e.0) (cond b (e ∷ filter (λ e. lies_below e.0 old) es) (filter (λ e. lies_below e.0 old) es))) [
+          | true ↦ ap (λ b. breaks old new e.0 || b) (by es)
+          | false ↦ by es
+        ]
 
 pub any-taken : (test : Entry → Bool) (es : List Entry) (i : ℕ) (e : Entry) → i < length es → e ≡ slice_index_or es i e → test e ≡ false → list_any test (take i es) ≡ false
     → list_any test (take (suc i) es) ≡ false
@@ -171,9 +225,3 @@ pub any-there : (test : Entry → Bool) (es : List Entry) (i : ℕ) (e : Entry) 
 any-there test [] i e within is broken = absurd (omega arith)
 any-there test (x ∷ xs) zero e within is broken = ap (λ b. b || list_any test xs) (ap test (sym is) ∙ broken)
 any-there test (x ∷ xs) (suc i) e within is broken = or_right (test x) _ (any-there test xs i e (omega arith) is broken)
-
--- ---- as the map says it
-
-pub listed_shifted : (moves : Moves) (old new : List ℕ) (m : Moves) → IsShifted (λ dir. find order dir (fin.entries moves)) old new m → IsShifted (fin.get moves) old new m
-listed_shifted moves old new m is dir =
-    is dir ∙ (λ i. if lies_below dir new then sym (fin.get-entries moves (carried new old dir)) i else if lies_below dir old then None else sym (fin.get-entries moves dir) i)

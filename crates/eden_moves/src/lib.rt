@@ -26,8 +26,10 @@ pub use crate::moved::Moved;
 pub use crate::moves::Moves;
 pub use crate::parts::joined;
 pub use crate::places::carried_path;
+pub use crate::renaming::Renaming;
 pub use crate::source::Source;
 
+mod below;
 mod entries;
 mod laws;
 mod listing;
@@ -40,5 +42,4 @@ mod renaming;
 mod rows;
 mod searching;
 mod source;
-mod table;
 mod unsettled;

@@ -1,14 +1,15 @@
 //! Renamed directories: which directory of the commit is seen at each.
 
-ghost use Rattle.std.specs.Prelude.{◌≡◌, ◌<◌, ◌↔◌, IsTrue, IfOk, MatchOption, length, option_copied};
+ghost use Rattle.std.specs.Prelude.{◌≡◌, ◌<◌, ◌≤◌, ◌+◌, ◌↔◌, T, IsTrue, IfOk, OnOk, OnErr, MatchOption, length, option_copied};
+ghost use Rattle.std.specs.Vec.{vec_len, vec_capacity};
 ghost use Rattle.std.specs.FinMap as fin;
-ghost use Rattle.eden_moves.specs.Moves.{nearest, source_of};
+ghost use Rattle.std.specs.FinMap.{is_sorted};
+ghost use Rattle.eden_moves.specs.Moves.{by_bytes, nearest, source_of};
 ghost use Rattle.eden_moves.specs.Sources.{path_meant};
 ghost use Rattle.eden_moves.specs.internal.Told.{entry_told, said_before};
 
 use crate::entries::find;
 use crate::source::Source;
-use crate::table::Table;
 use eden_ids::{NoMemory, Path};
 use std::alloc::Global;
 use std::marker::Model;
@@ -115,13 +116,27 @@ impl Moves {
         *self.entries.allocator()
     }
 
-    /// The renamed directories of a table.
-    pub(crate) fn of(table: Table, alloc: Global) -> Result<Moves, NoMemory>
-        ensures { IfOk result (λ moves. moves ≡ table) }
+    /// The renamed directories of entries in byte order.
+    pub(crate) fn of(entries: Vec<(Path, Option<Path>)>) -> Moves
+        requires { T (is_sorted by_bytes entries.items) }
+        ensures { result ≡ fin.from_sorted entries.items }
     {
-        Ok(Moves {
-            entries: table.list(alloc)?,
-        })
+        Moves { entries }
+    }
+
+    /// Takes the entries out, with room for some more. `NoMemory` changes nothing.
+    pub(crate) fn take_with_room(
+        &mut self,
+        more: usize,
+    ) -> Result<Vec<(Path, Option<Path>)>, NoMemory>
+        ensures taken { OnOk result (self.new ≡ fin.empty) }
+        ensures entries { IfOk result (λ entries. entries.items ≡ fin.entries self.old) }
+        ensures room { IfOk result (λ entries. vec_len entries + more ≤ vec_capacity entries) }
+        ensures same { OnErr result (self.new ≡ self.old) }
+    {
+        self.entries.reserve(more)?;
+        let none = Vec::new(self.allocator());
+        Ok(std::mem::replace(&mut self.entries, none))
     }
 
     /// Renamed directories that are equal to these. `NoMemory` comes where a growth was refused.

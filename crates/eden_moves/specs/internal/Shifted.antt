@@ -1,9 +1,11 @@
 -- Renamed directories while one more is renamed, and before anything is said of the old path and the new one.
-use Rattle.std.specs.Prelude.{◌≡◌, ℕ, Bool, ◌&&◌, if◌then◌else◌, List, Option, None}
+use Rattle.std.specs.Prelude.{◌≡◌, ℕ, T, if◌then◌else◌, List, [], ◌∷◌, ◌++◌, filter, map, take, drop, Option, None}
 use Rattle.std.specs.FinMap as fin
+use Rattle.std.specs.FinMap.{is_sorted}
 use Rattle.eden_ids.specs.Paths.{lies_below}
 use Rattle.eden_history.specs.Carried.{carried}
-use Rattle.eden_moves.specs.Moves.{Entry, Moves, breaks}
+use Rattle.eden_moves.specs.Moves.{Entry, Moves, by_bytes, source_dir}
+use Rattle.eden_moves.specs.internal.Told.{IsPlace}
 
 -- what was said below the old path is said below the new one, and what was said there before is forgotten
 abbrev pub shifted : (List ℕ → Option (Option (List ℕ))) → List ℕ → List ℕ → List ℕ → Option (Option (List ℕ))
@@ -12,10 +14,21 @@ shifted said old new dir = if lies_below dir new then said (carried new old dir)
 abbrev pub IsShifted : (List ℕ → Option (Option (List ℕ))) → List ℕ → List ℕ → Moves → Type 0
 IsShifted said old new moves = (dir : List ℕ) → fin.get moves dir ≡ shifted said old new dir
 
--- with one entry more
-abbrev pub one_shifted : Moves → List ℕ → List ℕ → Entry → Moves
-one_shifted moves old new e =
-    if lies_below e.0 old then fin.insert moves (carried old new e.0) e.1 else if lies_below e.0 new then moves else fin.insert moves e.0 e.1
+-- an entry below the old path, as it is below the new one
+abbrev pub shifted_entry : List ℕ → List ℕ → Entry → Entry
+shifted_entry old new e = (carried old new e.0, e.1)
 
-abbrev pub breaks_at : List ℕ → List ℕ → Entry → Bool
-breaks_at old new e = lies_below e.0 old && breaks old new e.0
+-- those that come to stand below the new path
+abbrev pub arriving : List Entry → List ℕ → List ℕ → List Entry
+arriving es old new = map (shifted_entry old new) (filter (λ e. lies_below e.0 old) es)
+
+-- entries put in, one behind the other, where the first of them stands
+abbrev pub IsPutIn : List Entry → List Entry → List Entry → Type 0
+IsPutIn [] es rs = rs ≡ es
+IsPutIn (m ∷ ms) es rs = (at : ℕ) × IsPlace m.0 es at × (rs ≡ take at es ++ ((m ∷ ms) ++ drop at es))
+
+-- what a rename that is ready has
+pub record IsReady (es more : List Entry) (source : Option (List ℕ)) (old new : List ℕ) : Type 0 where
+  pub sorted : T (is_sorted by_bytes es)
+  pub arriving_is : more ≡ arriving es old new
+  pub source_is : source ≡ source_dir (fin.from_sorted es) old
