@@ -13,7 +13,7 @@ use Rattle.std.specs.FinMap.Entries.{below_all, by_order}
 use Rattle.eden_ids.specs.Paths.{lies_below}
 use Rattle.eden_ids.specs.FileMaps.{same_path}
 use Rattle.eden_ids.proofs.ByteOrder.{first, is_less, keys_rise, less, order, parted, second}
-use Rattle.eden_ids.proofs.FileMapLemmas.{same_order, same_path-other}
+use Rattle.eden_ids.proofs.FileMapLemmas.{same_order}
 use Rattle.eden_objects.proofs.Gathering.{inside}
 use Rattle.eden_history.proofs.CarriedLemmas.{rest_below}
 use Rattle.eden_moves.specs.Moves.{Entry, Moves, nearest}

@@ -15,7 +15,6 @@ use Rattle.eden_ids.specs.Paths.{lies_below}
 use Rattle.eden_ids.specs.FileMaps.{FileMap, PathSet, paths}
 use Rattle.eden_ids.proofs.ByteOrder.{both, fin_keys_rise, order}
 use Rattle.eden_ids.proofs.Sifted.{keys-sifted, listing_of, sifted}
-use Rattle.eden_history.specs.Carried.{carried}
 use Rattle.eden_objects.specs.Passing.{is_shown, told}
 use Rattle.eden_moves.specs.Moves.{Entry, Moves, at_paths, seen_through}
 use Rattle.eden_moves.specs.internal.Listed.{is_listed, is_pathless, shown_by}

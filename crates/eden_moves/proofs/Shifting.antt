@@ -1,11 +1,9 @@
 -- The entries after a rename: those below the old path stand below the new one.
-use Rattle.std.proofs.Common.{◌≡◌, ℕ, suc, zero, ◌+◌, ◌<◌, Bool, true, false, cond, not, T, ◌&&◌, ◌||◌, List, [], ◌∷◌, map, take, length, Option, Some, None, refl, sym, ap, subst, ◌∙◌, arith}
+use Rattle.std.proofs.Common.{◌≡◌, ℕ, Bool, true, false, cond, not, T, ◌&&◌, ◌||◌, List, [], ◌∷◌, map, Option, Some, None, refl, sym, ap, subst, ◌∙◌}
 use Rattle.std.specs.Prelude.{filter, if◌then◌else◌}
-use Rattle.std.proofs.lemmas.Bool.{or_parts, or_right}
-use Rattle.std.specs.declared.cmp.Ordering.TheVariants.{Less, Equal}
 use Rattle.std.specs.Ordering.{is_lt}
 use Rattle.std.specs.Cmp.Lexicographic.{nat_list_cmp_total}
-use Rattle.std.specs.List.{AllByRecursion, list_any, slice_index_or}
+use Rattle.std.specs.List.{AllByRecursion, list_any}
 use Rattle.std.specs.FinMap as fin
 use Rattle.std.specs.FinMap.{find, is_sorted, put}
 use Rattle.std.specs.FinMap.Entries.{below_all, find-where_key, is_sorted-put}
@@ -212,16 +210,3 @@ breaks_alike moves old new = by (fin.entries moves)
           | true ↦ ap (λ b. breaks old new e.0 || b) (by es)
           | false ↦ by es
         ]
-
-pub any-taken : (test : Entry → Bool) (es : List Entry) (i : ℕ) (e : Entry) → i < length es → e ≡ slice_index_or es i e → test e ≡ false → list_any test (take i es) ≡ false
-    → list_any test (take (suc i) es) ≡ false
-any-taken test [] i e within is sound none = absurd (omega arith)
-any-taken test (x ∷ xs) zero e within is sound none = ap (λ b. b || false) (ap test (sym is) ∙ sound)
-any-taken test (x ∷ xs) (suc i) e within is sound none =
-    let parts = or_parts (test x) (list_any test (take i xs)) none in
-    ap (λ b. b || list_any test (take (suc i) xs)) parts.0 ∙ any-taken test xs i e (omega arith) is sound parts.1
-
-pub any-there : (test : Entry → Bool) (es : List Entry) (i : ℕ) (e : Entry) → i < length es → e ≡ slice_index_or es i e → test e ≡ true → list_any test es ≡ true
-any-there test [] i e within is broken = absurd (omega arith)
-any-there test (x ∷ xs) zero e within is broken = ap (λ b. b || list_any test xs) (ap test (sym is) ∙ broken)
-any-there test (x ∷ xs) (suc i) e within is broken = or_right (test x) _ (any-there test xs i e (omega arith) is broken)

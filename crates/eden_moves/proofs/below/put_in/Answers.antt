@@ -1,4 +1,4 @@
-use Rattle.std.proofs.Common.{◌≡◌, ℕ, List, [], ◌∷◌, ◌++◌, take, drop, Option, Some, None, sym, ap, subst, ◌∙◌}
+use Rattle.std.proofs.Common.{◌≡◌, ℕ, List, [], ◌∷◌, ◌++◌, take, drop, Some, ap, subst, ◌∙◌}
 use Rattle.std.specs.List.{slice_get}
 use Rattle.eden_moves.specs.Moves.{Entry}
 use Rattle.eden_moves.specs.internal.Shifted.{IsPutIn}
