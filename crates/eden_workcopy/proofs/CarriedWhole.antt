@@ -128,10 +128,10 @@ unbroken_shorter files old new texts there short flat = any_none test (paths fil
         ap (λ b. b && breaks old new p) e ∙ ap is_some (still_path old new p there (texts_path p (file_at files p) refl there-is) e short flat)
 
 -- what is seen beneath after one more directory was renamed
-pub moved_beneath : (held : List Held) (root : Id) (moves copy after : Moves) (old new : List ℕ) → AreTexts (commit_files held root) → copy ≡ moves → after ≡ dir_moved copy old new
+pub moved_beneath : (held : List Held) (root : Id) (moves after : Moves) (old new : List ℕ) → AreTexts (commit_files held root) → after ≡ dir_moved moves old new
     → seen_through (commit_files held root) after ≡ carried_files (seen_through (commit_files held root) moves) old new
-moved_beneath held root moves copy after old new texts same is =
-    ap (seen_through (commit_files held root)) (is ∙ ap (λ m. dir_moved m old new) same)
+moved_beneath held root moves after old new texts is =
+    ap (seen_through (commit_files held root)) is
     ∙ seen-dir_moved (commit_files held root) moves old new (λ p file at. (texts p file at).0.path)
 
 -- and so a search for what has no place tells it

@@ -1,15 +1,15 @@
 //! The rename of a directory that nothing stands against: what the overlay says is carried as a whole, and the files below it are seen at
 //! the new place.
 
-ghost use Rattle.std.specs.Prelude.{◌≡◌, ◌≢◌, ◌&&◌, ◌++◌, false, None, Some, IfOk, IfErr, OnOk, OnErr, length, nat_le};
-ghost use Rattle.eden_ids.specs.Paths.{components};
+ghost use Rattle.std.specs.Prelude.{◌≡◌, ◌≢◌, ◌&&◌, ◌++◌, ℕ, List, true, false, None, Some, IsSome, IfOk, IfErr, OnOk, OnErr, length, nat_le};
+ghost use Rattle.std.specs.FinMap as fin;
+ghost use Rattle.eden_ids.specs.Paths.{components, lies_below};
 ghost use Rattle.eden_ids.specs.Sameness.{same_bytes};
 ghost use Rattle.eden_ids.specs.Texts.{AreTexts};
 ghost use Rattle.eden_history.specs.Carried.{carried_files};
 ghost use Rattle.eden_history.specs.DirRenames.{breaks_a_path, dir_renamed, rename_dir_fault, source_fault};
-ghost use Rattle.eden_moves.specs.Moves.{is_path, seen_through};
-ghost use Rattle.eden_objects.specs.Files.{commit_files};
-ghost use Rattle.eden_workcopy.specs.internal.Carrying.{way_fault};
+ghost use Rattle.eden_moves.specs.Moves.{breaks, is_path};
+ghost use Rattle.eden_workcopy.specs.internal.Carrying.{way_fault, IsCarried};
 ghost use Rattle.eden_workcopy.specs.Meanings.{base_of, means, FitsIn};
 
 use crate::work::WorkCopy;
@@ -79,26 +79,34 @@ fn breaks_a_path<N: Naming + Drop>(base: &Moved<'_, N>, old: &Path, new: &Path) 
 }
 
 impl WorkCopy {
-    /// The renamed directories after one more was renamed. They stay as they are where no file below the overlay stands in it, nor at the new
-    /// place.
-    fn moves_after<N: Naming + Drop>(
-        &self,
+    /// Moves what the overlay says below one path to the same place below another, and what is seen below the overlay with it. The renamed
+    /// directories stay as they are where no file below the overlay stands in this one, nor at the new place.
+    fn carry_layers<N: Naming + Drop>(
+        &mut self,
         store: &Store<N>,
         old: &Path,
         new: &Path,
-    ) -> Result<Moves, ChangeFault>
-        ensures seen { IfOk result (λ moves. seen_through (commit_files store.now self.now.root) moves
-            ≡ carried_files (base_of store.now self.now) old.now new.now) }
+    ) -> Result<(), ChangeFault>
+        ensures root { self.new.root ≡ self.old.root }
+        ensures beneath { OnOk result (base_of store.now self.new ≡ carried_files (base_of store.now self.old) old.now new.now) }
+        ensures over { OnOk result (IsCarried self.old.overlay old.now new.now self.new.overlay) }
+        ensures accepts { OnOk result ((p : List ℕ) → IsSome (fin.get self.old.overlay p) → lies_below p old.now ≡ true → breaks old.now new.now p ≡ false) }
         ensures cause { IfErr result (λ fault. fault ≢ ChangeFault.NoMemory → fault ≡ ChangeFault.PathTooLong) }
+        ensures same { OnErr result (self.new ≡ self.old) }
     {
         store.commit_files(self.root).texts_law();
         let base = self.base(store);
-        let mut moves = self.moves.copy()?;
         if !base.has_file_below(old) && !base.has_file_below(new) {
-            return Ok(moves);
+            self.overlay.carry(old, new)?;
+            return Ok(());
         }
-        moves.rename(old, new)?;
-        Ok(moves)
+        let renaming = self.moves.begin_rename(old, new)?;
+        if let Err(fault) = self.overlay.carry(old, new) {
+            self.moves = renaming.undone();
+            return Err(fault);
+        }
+        self.moves = renaming.done();
+        Ok(())
     }
 
     /// Moves each file below one path to the same place below another, seen or not. `PathTooLong` comes where a path would come to be none,
@@ -123,9 +131,7 @@ impl WorkCopy {
         if breaks_a_path(&self.base(store), old, new) {
             return Err(ChangeFault::PathTooLong);
         }
-        let moves = self.moves_after(store, old, new)?;
-        self.overlay.carry(old, new)?;
-        self.moves = moves;
+        self.carry_layers(store, old, new)?;
         Ok(())
     }
 

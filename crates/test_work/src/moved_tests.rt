@@ -3,7 +3,7 @@
 use eden_globs::Filter;
 use eden_history::ChangeFault;
 use eden_ids::{Id, Kind, Path};
-use eden_moves::{Moved, Moves};
+use eden_moves::{Moved, Moves, carried_path};
 use std::alloc::Global;
 use std::test::Fail;
 use test_kit::{Objects, path, spaced};
@@ -292,5 +292,93 @@ fn what_is_no_path_is_not_listed(rt: HostRuntime) -> Result<(), Fail> {
     let rows = moved.list_below(alloc, &path(alloc, above)?, &Filter::all(alloc))?;
     let wanted = format!(in alloc; "{above}/x=2 ")?;
     assert!(rt; told(alloc, &objects, &rows)?.as_slice() == wanted.as_bytes());
+    Ok(())
+}
+
+/// The directories of which something is said, each with the commit's directory that is seen there, if one is.
+fn said(alloc: Global, moves: &Moves) -> Result<Vec<u8>, Fail> {
+    let mut text = Vec::new(alloc);
+    for (dir, source) in moves.entries() {
+        text.extend_from_slice(dir.as_bytes())?;
+        text.push(b'=')?;
+        if let Some(source) = source {
+            text.extend_from_slice(source.as_bytes())?;
+        }
+        text.push(b' ')?;
+    }
+    Ok(text)
+}
+
+/// Directories, each with the commit's directory that is seen there, after `d` was renamed to `b`, and then `b/e` to `f`.
+const SOURCES: [(&str, Option<&str>); 9] = [
+    ("a", Some("a")),
+    ("b", Some("d")),
+    ("b/e", None),
+    ("b/e/q", None),
+    ("b/q", Some("d/q")),
+    ("d", None),
+    ("d/x", None),
+    ("f", Some("d/e")),
+    ("f/q", Some("d/e/q")),
+];
+
+/// The first directory at which another one is seen.
+fn first_other_source(alloc: Global, moves: &Moves) -> Result<Option<&'static str>, Fail> {
+    for (dir, wanted) in &SOURCES {
+        let source = moves.source_dir(&path(alloc, dir)?)?;
+        let alike = match (&source, wanted) {
+            (Some(source), Some(wanted)) => source.as_bytes() == wanted.as_bytes(),
+            (None, None) => true,
+            _ => false,
+        };
+        if !alike {
+            return Ok(Some(*dir));
+        }
+    }
+    Ok(None)
+}
+
+#[test]
+fn a_begun_rename_is_done_or_undone(rt: HostRuntime) -> Result<(), Fail> {
+    let alloc = rt.alloc();
+    let mut moves = Moves::new(alloc);
+    moves.rename(&path(alloc, "d")?, &path(alloc, "b")?)?;
+    let (old, new) = (path(alloc, "b/e")?, path(alloc, "f")?);
+    let begun = moves.begin_rename(&old, &new)?;
+    assert!(rt; moves.is_empty());
+    moves = begun.undone();
+    assert!(rt; said(alloc, &moves)?.as_slice() == b"b=d d= ".as_slice());
+    moves = moves.begin_rename(&old, &new)?.done();
+    assert!(rt; said(alloc, &moves)?.as_slice() == b"b=d b/e= d= f=d/e ".as_slice());
+    assert_eq!(rt; first_other_source(alloc, &moves)?, None);
+    let refused = moves.begin_rename(&path(alloc, "b")?, &path(alloc, DEEP)?);
+    assert_eq!(rt; refused.err(), Some(ChangeFault::PathTooLong));
+    let copy = moves.copy()?;
+    assert!(rt; said(alloc, &copy)?.as_slice() == b"b=d b/e= d= f=d/e ".as_slice());
+    Ok(())
+}
+
+/// A path, a directory above it, what that is renamed to, and the path's new place, if that is a path.
+const CARRIED: [(&str, &str, &str, Option<&str>); 4] = [
+    ("d/x", "d", "b", Some("b/x")),
+    ("d/e/y", "d/e", "f", Some("f/y")),
+    ("a/b/c", "a/b", "a/b/d", Some("a/b/d/c")),
+    ("d/x", "d", DEEP, None),
+];
+
+#[test]
+fn a_path_is_carried_with_its_directory(rt: HostRuntime) -> Result<(), Fail> {
+    let alloc = rt.alloc();
+    for (from, old, new, wanted) in &CARRIED {
+        let (from, old, new) = (path(alloc, from)?, path(alloc, old)?, path(alloc, new)?);
+        assert!(rt; from.is_below(&old));
+        match (carried_path(alloc, &from, &old, &new), wanted) {
+            (Ok(place), Some(wanted)) => assert!(rt; place.as_bytes() == wanted.as_bytes()),
+            (answer, wanted) => {
+                assert!(rt; wanted.is_none());
+                assert_eq!(rt; answer.err(), Some(ChangeFault::PathTooLong));
+            }
+        }
+    }
     Ok(())
 }

@@ -14,15 +14,16 @@ use Rattle.eden_workcopy.proofs.work.WorkCopy.carry_whole.Goals as goal
 pub returns-clause-files : goal.returns-clause-files
 returns-clause-files g c =
     let work = c.args.self.now in
-    ap (λ m. over m c.carry.new.self) c.in_ok-moves.ensures.seen
-    ∙ over_carried (base_of c.args.store.now work) work.overlay c.carry.new.self c.args.old.now c.args.new.now c.in_ok-carry.ensures.carried
+    let after = c.carry_layers.new.self.overlay in
+    ap (λ m. over m after) c.in_ok-carry_layers.ensures.beneath
+    ∙ over_carried (base_of c.args.store.now work) work.overlay after c.args.old.now c.args.new.now c.in_ok-carry_layers.ensures.over
 
 pub returns-clause-below : goal.returns-clause-below
 returns-clause-below g c =
     let base = base_of c.args.store.now c.args.self.now in
     let whole : breaks_a_path base c.args.old.now c.args.new.now ≡ false =
     ap (λ m. breaks_a_path m c.args.old.now c.args.new.now) (sym c.base.ensures) ∙ sym c.breaks_a_path.ensures ∙ c.if-breaks_a_path.false in
-    subst AreTexts (sym c.in_ok-moves.ensures.seen)
+    subst AreTexts (sym c.in_ok-carry_layers.ensures.beneath)
     (carried_texts base c.args.old.now c.args.new.now c.requires.below c.path_law.ensures.bytes (λ p some low. carried_path base c.args.old.now c.args.new.now p whole some low))
 
 pub returns-clause-accepts : goal.returns-clause-accepts
@@ -31,7 +32,7 @@ returns-clause-accepts g c =
     let base = base_of c.args.store.now work in
     unbroken_over base work.overlay c.args.old.now c.args.new.now
     (ap (λ m. breaks_a_path m c.args.old.now c.args.new.now) (sym c.base.ensures) ∙ sym c.breaks_a_path.ensures ∙ c.if-breaks_a_path.false)
-    c.in_ok-carry.ensures.accepts
+    c.in_ok-carry_layers.ensures.accepts
 
 pub breaks_a_path-requires : goal.breaks_a_path-requires
 breaks_a_path-requires g c = subst AreTexts (sym c.base.ensures) c.requires.below
