@@ -1,30 +1,31 @@
 -- A directory that is carried as a whole: what no file below it loses, and that nothing is carried where it has none.
-use Rattle.std.proofs.Common.{◌≡◌, ℕ, ◌+◌, ◌≤◌, ◌<◌, Bool, true, false, not, ◌&&◌, nat_eq, suc, List, ◌∷◌, ◌++◌, length, Option, Some, None, is_some, refl, sym, ap, ◌∙◌, arith}
-use Rattle.std.specs.Prelude.{IsSome, if◌then◌else◌, nat_lt}
+use Rattle.std.proofs.Common.{◌≡◌, ℕ, ◌+◌, ◌≤◌, ◌<◌, Bool, true, false, not, ◌&&◌, suc, List, ◌∷◌, ◌++◌, length, Option, Some, None, is_some, refl, sym, ap, ◌∙◌, arith}
+use Rattle.std.specs.Prelude.{IsSome, if◌then◌else◌}
 use Rattle.std.specs.List.{list_all, list_any}
 use Rattle.std.specs.Option.{is_none}
 use Rattle.std.specs.FinMap as fin
 use Rattle.eden_ids.specs.declared.content.Content.{Content}
 use Rattle.eden_ids.specs.declared.path.PathFault.{PathFault}
-use Rattle.eden_ids.specs.declared.path.PathFault.TheVariants.{BadComponent, Empty, TooDeep, TooLong}
-use Rattle.eden_ids.specs.Paths.{IsPath, components, is_component, lies_below, path_fault}
+use Rattle.eden_ids.specs.Paths.{components, is_component, lies_below, path_fault}
 use Rattle.eden_ids.specs.FileMaps.{FileMap, file_at, has_file_below, paths, same_path}
 use Rattle.eden_ids.specs.Texts.{AreTexts}
 use Rattle.eden_ids.proofs.FileMapLemmas.{held, same_file_map, unlisted}
 use Rattle.eden_ids.proofs.TreeQuestions.{any_none, any_some}
 use Rattle.eden_history.specs.Carried.{carried, carried_files}
 use Rattle.eden_history.specs.DirRenames.{breaks_a_path}
-use Rattle.eden_history.proofs.CarriedLemmas.{carried-below, carried_there, file_at-carried, rest_below}
-use Rattle.eden_history.proofs.DirRenameLaws.{carried-fault, no_fault, parts_joined}
+use Rattle.eden_history.proofs.CarriedLemmas.{carried-below, file_at-carried}
+use Rattle.eden_history.proofs.DirRenameLaws.{names_alone, names_joined, parts_joined}
 use Rattle.eden_ids.specs.declared.id.Id.{Id}
 use Rattle.eden_moves.specs.Moves.{Moves, breaks, dir_moved, is_path, seen_through}
 use Rattle.eden_moves.proofs.Renames.{seen-dir_moved}
 use Rattle.eden_moves.proofs.Settled.{no_long}
 use Rattle.eden_objects.specs.Objects.{Held}
 use Rattle.eden_objects.specs.Files.{commit_files}
+use Rattle.eden_objects.specs.Passing.{IsWithin}
+use Rattle.eden_objects.specs.declared.size.Size.{Size}
+use Rattle.eden_objects.proofs.Fitting.{no_fault as legal}
 use Rattle.eden_workcopy.specs.Layers.{Layer, or_below, over}
 use Rattle.eden_workcopy.proofs.Overs.{file_at-over}
-use Rattle.std.proofs.lemmas.Bool.{le-ltb, ltb-false}
 use Rattle.std.proofs.lemmas.List.{length-append}
 
 stands : (files : FileMap) (p : List ℕ) → list_any (λ q. same_path p q) (paths files) ≡ true → IsSome (file_at files p)
@@ -66,66 +67,23 @@ nothing_carried files old new source target =
     by p false true into outof = sym (none_at files old p source outof)
     by p false false into outof = refl
 
--- ---- a new path that is no longer than the old one
+-- ---- a directory with room for its files
 
-short_path : (p : List ℕ) → IsPath p → (length p ≤ 1024) × (length (components p) ≤ 64)
-short_path p is =
-    let filled = no_fault (nat_eq (length p) 0) Empty _ is in
-    let short = no_fault (nat_lt 1024 (length p)) TooLong _ filled.1 in
-    let names = no_fault (not (list_all is_component (components p))) BadComponent _ short.1 in
-    let flat = no_fault (nat_lt 64 (length (components p))) TooDeep _ names.1 in
-    (ltb-false 1024 (length p) short.0, ltb-false 64 (length (components p)) flat.0)
+is_unfaulted : (o : Option PathFault) → is_none o ≡ true → o ≡ None
+is_unfaulted None is = refl
+is_unfaulted (Some fault) is = let bad : false ≡ true = is in absurd (cc)
 
--- a path below the old one stays a path
-still_path : (old new p : List ℕ) → IsPath new → IsPath p → lies_below p old ≡ true → length new ≤ length old → length (components new) ≤ length (components old)
-    → path_fault (carried old new p) ≡ None
-still_path old new p there here below short flat =
-    carried-fault old new p there here below
-    ∙ (λ i. if is_short i then Some TooLong else if is_flat i then Some TooDeep else None)
-  where
-    at : (rest : List ℕ) × (p ≡ old ++ 47 ∷ rest)
-    at = rest_below p old below
-
-    place : carried old new p ≡ new ++ 47 ∷ at.0
-    place = ap (carried old new) at.1 ∙ carried_there old new (47 ∷ at.0)
-
-    limits : (length p ≤ 1024) × (length (components p) ≤ 64)
-    limits = short_path p here
-
-    long : length p ≡ length old + suc (length at.0)
-    long = ap length at.1 ∙ length-append old (47 ∷ at.0)
-
-    new_long : length (carried old new p) ≡ length new + suc (length at.0)
-    new_long = ap length place ∙ length-append new (47 ∷ at.0)
-
-    deep : length (components p) ≡ length (components old) + length (components at.0)
-    deep = ap (λ q. length (components q)) at.1 ∙ ap length (parts_joined old at.0) ∙ length-append (components old) (components at.0)
-
-    new_deep : length (components (carried old new p)) ≡ length (components new) + length (components at.0)
-    new_deep = ap (λ q. length (components q)) place ∙ ap length (parts_joined new at.0) ∙ length-append (components new) (components at.0)
-
-    is_short : nat_lt 1024 (length (carried old new p)) ≡ false
-    is_short = le-ltb 1024 (length (carried old new p)) (omega (arith, limits.0, long, new_long, short))
-
-    is_flat : nat_lt 64 (length (components (carried old new p))) ≡ false
-    is_flat = le-ltb 64 (length (components (carried old new p))) (omega (arith, limits.1, deep, new_deep, flat))
-
--- so no path of files that keep the limits breaks
-pub unbroken_shorter : (files : FileMap) (old new : List ℕ) → AreTexts files → IsPath new → length new ≤ length old → length (components new) ≤ length (components old)
-    → breaks_a_path files old new ≡ false
-unbroken_shorter files old new texts there short flat = any_none test (paths files) (λ p at. by p (lies_below p old) refl (stands files p at))
-  where
-    test : List ℕ → Bool
-    test p = lies_below p old && breaks old new p
-
-    texts_path : (p : List ℕ) (o : Option Content) → file_at files p ≡ o → IsSome (file_at files p) → IsPath p
-    texts_path p (Some file) is there-is = ((texts p file is).0).path
-    texts_path p None is there-is = let bad : false ≡ true = sym (ap is_some is) ∙ there-is in absurd (cc)
-
-    by : (p : List ℕ) (b : Bool) → lies_below p old ≡ b → IsSome (file_at files p) → test p ≡ false
-    by p false e there-is = ap (λ b. b && breaks old new p) e
-    by p true e there-is =
-        ap (λ b. b && breaks old new p) e ∙ ap is_some (still_path old new p there (texts_path p (file_at files p) refl there-is) e short flat)
+-- a file below a directory has a path where length and depth leave room for it
+pub roomy : (dir rest : List ℕ) (size : Size) → is_path dir ≡ true → length dir + size.reach < 1024 → length (components dir) + size.depth ≤ 64 → IsWithin size rest
+    → is_path (dir ++ 47 ∷ rest) ≡ true
+roomy dir rest size path short flat within =
+    let long : length (dir ++ 47 ∷ rest) ≡ length dir + suc (length rest) = length-append dir (47 ∷ rest) in
+    let deep : length (components (dir ++ 47 ∷ rest)) ≡ length (components dir) + length (components rest) =
+    ap length (parts_joined dir rest) ∙ length-append (components dir) (components rest) in
+    let names : list_all is_component (components (dir ++ 47 ∷ rest)) ≡ true =
+    names_joined dir rest ∙ (λ i. names_alone dir (is_unfaulted (path_fault dir) path) i && within.1 i) in
+    ap is_none
+    (legal (dir ++ 47 ∷ rest) (omega (arith, long)) (omega (arith, long, short, within.0)) names (omega (arith, deep, flat, within.2)))
 
 -- what is seen beneath after one more directory was renamed
 pub moved_beneath : (held : List Held) (root : Id) (moves after : Moves) (old new : List ℕ) → AreTexts (commit_files held root) → after ≡ dir_moved moves old new
@@ -146,10 +104,6 @@ unplaced files old new = λ i. list_any (λ p. lies_below p old && twice (path_f
 pub no_path_so_long : (bytes : List ℕ) → 1024 < length bytes → false ≡ is_path bytes
 no_path_so_long bytes long = by (is_none (path_fault bytes)) refl
   where
-    unfaulted : (o : Option PathFault) → is_none o ≡ true → o ≡ None
-    unfaulted None is = refl
-    unfaulted (Some fault) is = let bad : false ≡ true = is in absurd (cc)
-
     by : (b : Bool) → is_none (path_fault bytes) ≡ b → false ≡ b
     by false is = refl
-    by true is = absurd (no_long bytes (unfaulted (path_fault bytes) is) long)
+    by true is = absurd (no_long bytes (is_unfaulted (path_fault bytes) is) long)

@@ -1,7 +1,7 @@
 //! The rename of a directory that nothing stands against: what the overlay says is carried as a whole, and the files below it are seen at
 //! the new place.
 
-ghost use Rattle.std.specs.Prelude.{◌≡◌, ◌≢◌, ◌&&◌, ◌++◌, ℕ, List, true, false, None, Some, IsSome, IfOk, IfErr, OnOk, OnErr, length, nat_le};
+ghost use Rattle.std.specs.Prelude.{◌≡◌, ◌≢◌, ◌++◌, ◌∷◌, ℕ, List, false, true, None, Some, IsSome, IfOk, IfErr, OnOk, OnErr, length};
 ghost use Rattle.std.specs.FinMap as fin;
 ghost use Rattle.eden_ids.specs.Paths.{components, lies_below};
 ghost use Rattle.eden_ids.specs.Sameness.{same_bytes};
@@ -9,6 +9,7 @@ ghost use Rattle.eden_ids.specs.Texts.{AreTexts};
 ghost use Rattle.eden_history.specs.Carried.{carried_files};
 ghost use Rattle.eden_history.specs.DirRenames.{breaks_a_path, dir_renamed, rename_dir_fault, source_fault};
 ghost use Rattle.eden_moves.specs.Moves.{breaks, is_path};
+ghost use Rattle.eden_objects.specs.Passing.{IsWithin};
 ghost use Rattle.eden_workcopy.specs.internal.Carrying.{way_fault, IsCarried};
 ghost use Rattle.eden_workcopy.specs.Meanings.{base_of, means, FitsIn};
 
@@ -16,20 +17,32 @@ use crate::work::WorkCopy;
 use eden_history::ChangeFault;
 use eden_ids::{FileTree, Naming, Path, is_path, path_law};
 use eden_moves::{Moved, Moves, joined};
-use eden_objects::{Passes, Store};
+use eden_objects::{Passes, Size, Store};
 
 /// How many components a path has.
-fn depth(path: &Path) -> usize
+fn depth(path: &[u8]) -> usize
     ensures { result ≡ length (components path.now) }
 {
-    path.as_bytes().split(|byte| *byte == b'/').count()
+    path.split(|byte| *byte == b'/').count()
 }
 
-/// Whether a path is no longer below the new one than it is at the same place below the old one, in bytes and in components.
-fn is_no_longer(old: &Path, new: &Path) -> bool
-    ensures { result ≡ (nat_le (length new.now) (length old.now) && nat_le (length (components new.now)) (length (components old.now))) }
+/// Whether a directory's path is one, and so is that of each file below it, where these go no further than a size tells.
+fn has_room(directory: &[u8], size: Size) -> bool
+    ensures { result ≡ true → (rest : List ℕ) → IsWithin size rest → is_path (directory.now ++ 47 ∷ rest) ≡ true }
 {
-    new.as_bytes().len() <= old.as_bytes().len() && depth(new) <= depth(old)
+    is_path(directory)
+        && directory.len().saturating_add(size.reach) < 1_024
+        && depth(directory).saturating_add(size.depth) <= 64
+}
+
+/// The same of a directory whose path is told in two parts, one behind the other.
+fn has_room_behind(front: &[u8], rest: &[u8], size: Size) -> bool
+    ensures { result ≡ true → (file : List ℕ) → IsWithin size file → is_path ((front.now ++ rest.now) ++ 47 ∷ file) ≡ true }
+{
+    match joined(front, rest) {
+        Some(directory) => has_room(directory.as_slice(), size),
+        None => false,
+    }
 }
 
 /// Whether the bytes of two parts, the one behind the other, are a path.
@@ -60,21 +73,22 @@ impl Passes for Placed<'_> {
         is_path_of(self.new.as_bytes(), rest)
     }
 
-    fn passes_below(&self, _directory: &[u8]) -> bool {
-        false
+    fn passes_below(&self, front: &[u8], size: Size) -> bool {
+        let [directory @ .., b'/'] = front else {
+            return false;
+        };
+        match directory.get(self.old.as_bytes().len()..) {
+            Some(rest) => has_room_behind(self.new.as_bytes(), rest, size),
+            None => false,
+        }
     }
 }
 
-/// Whether what a file below the old path would stand at below the new one is no path. It takes no memory, and where the new path is no longer
-/// than the old one no file is looked at.
+/// Whether what a file below the old path would stand at below the new one is no path. It takes no memory, and reads no directory whose size
+/// tells that there is room for its files.
 fn breaks_a_path<N: Naming + Drop>(base: &Moved<'_, N>, old: &Path, new: &Path) -> bool
-    requires { AreTexts base.now }
     ensures { result ≡ breaks_a_path base.now old.now new.now }
 {
-    path_law(new);
-    if is_no_longer(old, new) {
-        return false;
-    }
     base.has_below_but(old, &Placed { old, new })
 }
 
@@ -112,7 +126,7 @@ impl WorkCopy {
     /// Moves each file below one path to the same place below another, seen or not. `PathTooLong` comes where a path would come to be none,
     /// and `NoMemory` where a growth was refused. Both change nothing.
     ///
-    /// No file is looked at that stands below the overlay, but where the new path is longer than the old one.
+    /// Of what stands below the overlay no directory is read whose size tells that there is room for its files at the new path.
     fn carry_whole<N: Naming + Drop>(
         &mut self,
         store: &Store<N>,

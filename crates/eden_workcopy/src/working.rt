@@ -15,7 +15,7 @@ use arrayvec::ArrayVec;
 use eden_history::{ChangeFault, place_fault};
 use eden_ids::{Content, FileTree, Kind, Naming, NoMemory, Path};
 use eden_moves::Moved;
-use eden_objects::{Passes, Store};
+use eden_objects::{Passes, Size, Store};
 use std::marker::Model;
 
 /// A working copy over its store: the root's commit, found once, directories of it that were renamed, and what was changed over it.
@@ -92,7 +92,7 @@ impl Passes for Spoken<'_> {
         self.overlay.get(path).is_some()
     }
 
-    fn passes_below(&self, _top: &[u8]) -> bool {
+    fn passes_below(&self, _front: &[u8], _size: Size) -> bool {
         false
     }
 }

@@ -1,7 +1,5 @@
 use Rattle.std.proofs.Common.{◌≡◌, false, sym, ap, subst, ◌∙◌}
 use Rattle.eden_ids.specs.Texts.{AreTexts}
-use Rattle.eden_ids.specs.FileMaps.{paths}
-use Rattle.eden_ids.proofs.FileMapLemmas.{held, unlisted}
 use Rattle.eden_history.specs.DirRenames.{breaks_a_path}
 use Rattle.eden_history.proofs.DirRenameLaws.{carried_path}
 use Rattle.eden_moves.proofs.Settled.{carried_texts}
@@ -33,6 +31,3 @@ returns-clause-accepts g c =
     unbroken_over base work.overlay c.args.old.now c.args.new.now
     (ap (λ m. breaks_a_path m c.args.old.now c.args.new.now) (sym c.base.ensures) ∙ sym c.breaks_a_path.ensures ∙ c.if-breaks_a_path.false)
     c.in_ok-carry_layers.ensures.accepts
-
-pub breaks_a_path-requires : goal.breaks_a_path-requires
-breaks_a_path-requires g c = subst AreTexts (sym c.base.ensures) c.requires.below
