@@ -288,6 +288,25 @@ const DEEP: [Step<'static>; 6] = [
     ("revert d/*p", None, "d/*p=1 d/x=1 ", ""),
 ];
 
+/// Renames over a commit with `d/x` and one more file below `d`, whose path has 1,023 bytes of 1,024 at the most: the star stands for 4 directories.
+const LONG: [Step<'static>; 5] = [
+    (
+        "renamedir d bc",
+        None,
+        "bc/*p=1 bc/x=1 ",
+        "bc/*p bc/x d/*p d/x ",
+    ),
+    (
+        "renamedir bc efg",
+        Some(ChangeFault::PathTooLong),
+        "bc/*p=1 bc/x=1 ",
+        "bc/*p bc/x d/*p d/x ",
+    ),
+    ("remove bc/*p", None, "bc/x=1 ", "bc/x d/*p d/x "),
+    ("renamedir bc efg", None, "efg/x=1 ", "d/*p d/x efg/x "),
+    ("renamedir efg d", None, "d/x=1 ", "d/*p "),
+];
+
 /// A text with these names in place of each star.
 fn spelled(alloc: Global, text: &str, names: &str) -> Result<String, Fail> {
     let mut spelled = String::new(alloc);
@@ -330,6 +349,24 @@ fn renamed_directories_with_deep_paths(rt: HostRuntime) -> Result<(), Fail> {
     let mut mounted = over_first(alloc, objects)?;
     let names = "n/".repeat(alloc, 60)?;
     let wrong = first_wrong_below(alloc, &mut mounted, names.as_str(), &DEEP)?;
+    assert_eq!(rt; wrong, None);
+    Ok(())
+}
+
+#[test]
+fn renamed_directories_with_long_paths(rt: HostRuntime) -> Result<(), Fail> {
+    let alloc = rt.alloc();
+    let name = "n".repeat(alloc, 254)?;
+    let mut objects = Objects::of(alloc, "blob 1 1;tree r 100644 p 1")?;
+    let inner = spelled(alloc, "tree r 40000 * r", name.as_str())?;
+    objects.repeat(alloc, inner.as_str(), 3)?;
+    let outer = spelled(alloc, "tree d 40000 * r 100644 x 1", name.as_str())?;
+    objects.put(alloc, outer.as_str())?;
+    objects.put(alloc, "tree t 40000 d d")?;
+    objects.put(alloc, "commit c t")?;
+    let mut mounted = over_first(alloc, objects)?;
+    let names = spelled(alloc, "*/*/*/*/", name.as_str())?;
+    let wrong = first_wrong_below(alloc, &mut mounted, names.as_str(), &LONG)?;
     assert_eq!(rt; wrong, None);
     Ok(())
 }
