@@ -64,20 +64,30 @@ fn entry(ticket: u64, request: Request, answer: Answer) -> LogEntry {
     }
 }
 
-/// The log of a service that the follower asked under tickets 1 and 5.
-fn asked_log(alloc: Global) -> Result<CallLog, Fail> {
+/// The question for the first files, under ticket 1, and the reply.
+fn basis_entry(alloc: Global) -> LogEntry {
     let basis = Request::Basis {
         query: query(1, 1),
         filter: Filter::all(alloc),
     };
+    entry(1, basis, Answer::Replied(listed(alloc)))
+}
+
+/// The question for what changed, under ticket 5, and the reply.
+fn poll_entry(alloc: Global) -> Result<LogEntry, Fail> {
     let poll = Request::Poll {
         query: query(1, 2),
         since: position(1),
         filter: Filter::all(alloc),
     };
+    Ok(entry(5, poll, Answer::Replied(changed(alloc)?)))
+}
+
+/// The log of a service that the follower asked under tickets 1 and 5.
+fn asked_log(alloc: Global) -> Result<CallLog, Fail> {
     let mut entries = Vec::new(alloc);
-    entries.push(entry(1, basis, Answer::Replied(listed(alloc))))?;
-    entries.push(entry(5, poll, Answer::Replied(changed(alloc)?)))?;
+    entries.push(basis_entry(alloc))?;
+    entries.push(poll_entry(alloc)?)?;
     let entries = Sequence::from_vec(entries);
     Ok(CallLog { caller: 1, entries })
 }
@@ -90,16 +100,47 @@ fn other_log(alloc: Global, ticket: u64, request: Request) -> Result<CallLog, Fa
     Ok(CallLog { caller: 2, entries })
 }
 
+/// The logs of both services, of which the other one was asked for the content of `p` under a ticket, in a query of this life and number.
+fn both_logs(alloc: Global, ticket: u64, life: u64, number: u64) -> Result<Vec<CallLog>, Fail> {
+    let request = fetch(alloc, query(life, number))?;
+    let mut logs = Vec::new(alloc);
+    logs.push(other_log(alloc, ticket, request)?)?;
+    logs.push(asked_log(alloc)?)?;
+    Ok(logs)
+}
+
+fn step(follower: &mut Follower) -> Result<Vec<Request>, Fail> {
+    Ok(follower.step()?)
+}
+
+fn deliver(follower: &mut Follower, ticket: u64, reply: &Reply) -> Result<Outcome, Fail> {
+    Ok(follower.deliver(ticket, reply)?)
+}
+
+fn vouched(alloc: Global, logs: &[CallLog], follower: &Follower) -> Result<(), VouchFault> {
+    vouch(alloc, logs, follower)
+}
+
+/// A follower that was told of no path, and asked what changed since.
+fn first_round(rt: &impl Abort, alloc: Global) -> Result<Follower, Fail> {
+    let mut follower = Follower::new(alloc, 3, 1, Filter::all(alloc));
+    assert!(rt; matches!(step(&mut follower)?.as_slice(), [Request::Basis { .. }]));
+    assert_eq!(rt; deliver(&mut follower, 1, &listed(alloc))?, Outcome::Placed);
+    assert_eq!(rt;
+        vouched(alloc, &[], &follower),
+        Err(VouchFault::StrangeReply)
+    );
+    assert!(rt; matches!(step(&mut follower)?.as_slice(), [Request::Poll { .. }]));
+    Ok(follower)
+}
+
 /// A follower that was told of `p`, and asks for it.
 fn second_round(rt: &impl Abort, alloc: Global) -> Result<Follower, Fail> {
-    let mut follower = Follower::new(alloc, 3, 1, Filter::all(alloc));
-    assert!(rt; matches!(follower.step()?.as_slice(), [Request::Basis { .. }]));
-    assert_eq!(rt; follower.deliver(1, &listed(alloc))?, Outcome::Placed);
-    assert_eq!(rt; vouch(alloc, &[], &follower), Err(VouchFault::StrangeReply));
-    assert!(rt; matches!(follower.step()?.as_slice(), [Request::Poll { .. }]));
-    assert_eq!(rt; follower.deliver(5, &changed(alloc)?)?, Outcome::Taken);
+    let mut follower = first_round(rt, alloc)?;
+    let told = changed(alloc)?;
+    assert_eq!(rt; deliver(&mut follower, 5, &told)?, Outcome::Taken);
     let wanted = fetch(alloc, query(1, 2))?;
-    assert!(rt; follower.step()?.as_slice() == [wanted].as_slice());
+    assert!(rt; step(&mut follower)?.as_slice() == [wanted].as_slice());
     Ok(follower)
 }
 
@@ -119,11 +160,8 @@ fn vouch_faults(rt: HostRuntime) -> Result<(), Fail> {
     let follower = second_round(&rt, alloc)?;
     assert_eq!(rt; follower.mirror().position(), Some(position(1)));
     for (ticket, life, number, said) in TAKEN {
-        let request = fetch(alloc, query(life, number))?;
-        let mut logs = Vec::new(alloc);
-        logs.push(other_log(alloc, ticket, request)?)?;
-        logs.push(asked_log(alloc)?)?;
-        assert_eq!(rt; vouch(alloc, logs.as_slice(), &follower), said);
+        let logs = both_logs(alloc, ticket, life, number)?;
+        assert_eq!(rt; vouched(alloc, logs.as_slice(), &follower), said);
     }
     Ok(())
 }
