@@ -78,6 +78,20 @@ fn add<V: Drop>(table: &mut Table<V>, number: u64, value: V) -> Result<()> {
     }
 }
 
+/// Adds so many rows from a number on.
+fn add_rows(table: &mut Table<Row>, first: u64, size: u64) -> Result<()> {
+    let alloc = table.allocator();
+    for place in 0..size {
+        let number = first.saturating_add(place);
+        add(table, number, new_row(alloc, number)?)?;
+    }
+    Ok(())
+}
+
+fn now(rt: &HostRuntime) -> Result<Duration> {
+    Ok(rt.thread_cpu_time()?)
+}
+
 /// What times some calls took: all together, and the longest.
 #[derive(Clone, Copy)]
 struct Times {
@@ -100,32 +114,63 @@ impl Times {
     }
 }
 
-/// Adds so many rows in batches, freezes them after each batch and takes a copy, which is kept until the next is taken.
-fn grow(rt: &HostRuntime, count: u64, batches: u64) -> Result<()> {
-    let alloc = rt.alloc();
-    let mut table = Table::new(alloc);
-    let mut kept = Table::new(alloc);
-    let mut adding = Times::new();
-    let mut copying = Times::new();
+/// What times the batches of a growing table took, and the copies behind them.
+#[derive(Clone, Copy)]
+struct Growth {
+    adding: Times,
+    copying: Times,
+}
+
+/// Adds so many rows from a number on, and freezes them.
+fn add_batch(table: &mut Table<Row>, first: u64, size: u64) -> Result<()> {
+    add_rows(table, first, size)?;
+    table.freeze();
+    Ok(())
+}
+
+fn copied(table: &mut Table<Row>) -> Result<Table<Row>> {
+    Ok(table.share()?)
+}
+
+/// Adds a batch, takes a copy behind it, and notes what time each took.
+fn grow_once(
+    rt: &HostRuntime,
+    table: &mut Table<Row>,
+    first: u64,
+    size: u64,
+    growth: &mut Growth,
+) -> Result<Table<Row>> {
+    let start = now(rt)?;
+    add_batch(table, first, size)?;
+    let added = now(rt)?;
+    let copy = copied(table)?;
+    growth.copying.note(added, now(rt)?);
+    growth.adding.note(start, added);
+    Ok(copy)
+}
+
+/// Adds so many rows in batches. Gives the copy that was taken last: each is kept until the next is taken.
+fn grown(rt: &HostRuntime, count: u64, batches: u64, growth: &mut Growth) -> Result<Table<Row>> {
+    let mut table = Table::new(rt.alloc());
+    let mut kept = Table::new(rt.alloc());
     let size = count.checked_div(batches).unwrap_or(0);
     for batch in 0..batches {
-        let start = rt.thread_cpu_time()?;
-        for place in 0..size {
-            let number = batch.saturating_mul(size).saturating_add(place);
-            add(&mut table, number, new_row(alloc, number)?)?;
-        }
-        table.freeze();
-        let added = rt.thread_cpu_time()?;
-        let copy = table.share()?;
-        copying.note(added, rt.thread_cpu_time()?);
-        adding.note(start, added);
+        let first = batch.saturating_mul(size);
         // What the copy before held alone is let go here, in nobody's time.
-        kept = copy;
+        kept = grow_once(rt, &mut table, first, size, growth)?;
     }
-    println!(rt;
-        "{count} rows in {batches} batches: {} found",
-        found_all(&kept, count)
-    )?;
+    Ok(kept)
+}
+
+/// Adds so many rows in batches, freezes them after each batch and takes a copy, and tells what that took.
+fn grow(rt: &HostRuntime, count: u64, batches: u64) -> Result<()> {
+    let mut growth = Growth {
+        adding: Times::new(),
+        copying: Times::new(),
+    };
+    let found = found_all(&grown(rt, count, batches, &mut growth)?, count);
+    println!(rt; "{count} rows in {batches} batches: {found} found")?;
+    let Growth { adding, copying } = growth;
     eprintln!(rt;
         "{count} rows in {batches} batches: {} ns a row, {} ns the longest batch, {} ns a copy, {} ns the longest",
         each(adding.all, count),
@@ -147,11 +192,11 @@ fn found_all(table: &Table<Row>, count: u64) -> usize {
 
 /// The time of a clock's call, which is in each time of a copy.
 fn clock(rt: &HostRuntime) -> Result<()> {
-    let start = rt.thread_cpu_time()?;
+    let start = now(rt)?;
     for _ in 0..10_000 {
-        black_box(rt.thread_cpu_time()?);
+        black_box(now(rt)?);
     }
-    let time = rt.thread_cpu_time()?.saturating_sub(start);
+    let time = now(rt)?.saturating_sub(start);
     eprintln!(rt;
         "a call of the clock, which is in each time of one copy: {} ns",
         each(time, 10_000)
@@ -162,11 +207,10 @@ fn clock(rt: &HostRuntime) -> Result<()> {
 /// A table of so many rows, added one by one with a copy after each of the last thousand, so that it has many segments.
 fn filled(alloc: Global, count: u64) -> Result<Table<Row>> {
     let mut table = Table::new(alloc);
-    for number in 0..count {
-        add(&mut table, number, new_row(alloc, number)?)?;
-        if count.saturating_sub(number) < 1_000 {
-            table.freeze();
-        }
+    let behind = count.saturating_sub(999);
+    add_rows(&mut table, 0, behind)?;
+    for number in behind..count {
+        add_batch(&mut table, number, 1)?;
     }
     Ok(table)
 }
@@ -174,32 +218,68 @@ fn filled(alloc: Global, count: u64) -> Result<Table<Row>> {
 /// Copies of a table of so many rows, to which nothing was added since.
 fn copies(rt: &HostRuntime, count: u64) -> Result<()> {
     let mut table = filled(rt.alloc(), count)?;
-    let start = rt.thread_cpu_time()?;
+    let start = now(rt)?;
     for _ in 0..TURNS {
         black_box(table.share()?);
     }
-    let time = rt.thread_cpu_time()?.saturating_sub(start);
+    let time = now(rt)?.saturating_sub(start);
     eprintln!(rt; "a copy of {count} rows: {} ns", each(time, TURNS))?;
     Ok(())
+}
+
+/// A table of so many rows, all in one segment.
+fn one_segment(alloc: Global, count: u64) -> Result<Table<Row>> {
+    let mut table = Table::new(alloc);
+    add_rows(&mut table, 0, count)?;
+    Ok(table)
+}
+
+/// A table of pointers to so many rows.
+fn behind_pointers(alloc: Global, count: u64) -> Result<Table<Shared<Row>>> {
+    let mut table = Table::new(alloc);
+    for number in 0..count {
+        let row = Shared::new(alloc, new_row(alloc, number)?)?;
+        add(&mut table, number, row)?;
+    }
+    Ok(table)
+}
+
+fn insert(map: &mut IndexMap<Id, Row>, number: u64, row: Row) -> Result<()> {
+    map.insert(id(number), row)?;
+    Ok(())
+}
+
+/// A plain map of so many rows.
+fn plain_map(alloc: Global, count: u64) -> Result<IndexMap<Id, Row>> {
+    let mut map = IndexMap::new(alloc);
+    for number in 0..count {
+        insert(&mut map, number, new_row(alloc, number)?)?;
+    }
+    Ok(map)
 }
 
 /// Looks up scattered ids of so many rows, and reads of each the number that stands in the row, and a byte of the payload.
 fn look_ups(rt: &HostRuntime, count: u64) -> Result<()> {
     let alloc = rt.alloc();
-    let mut one = Table::new(alloc);
-    let mut behind = Table::new(alloc);
-    let mut plain = IndexMap::new(alloc);
-    for number in 0..count {
-        add(&mut one, number, new_row(alloc, number)?)?;
-        let row = Shared::new(alloc, new_row(alloc, number)?)?;
-        add(&mut behind, number, row)?;
-        plain.insert(id(number), new_row(alloc, number)?)?;
-    }
-    let several = filled(alloc, count)?;
-    look_up(rt, "a plain map", count, &plain)?;
-    look_up(rt, "a table of one segment", count, &one)?;
-    look_up(rt, "a table of several segments", count, &several)?;
-    look_up(rt, "a table of rows behind pointers", count, &behind)
+    look_up(rt, "a plain map", count, &plain_map(alloc, count)?)?;
+    look_up(
+        rt,
+        "a table of one segment",
+        count,
+        &one_segment(alloc, count)?,
+    )?;
+    look_up(
+        rt,
+        "a table of several segments",
+        count,
+        &filled(alloc, count)?,
+    )?;
+    look_up(
+        rt,
+        "a table of rows behind pointers",
+        count,
+        &behind_pointers(alloc, count)?,
+    )
 }
 
 /// Where rows are looked up.
@@ -230,20 +310,20 @@ impl Rows for Table<Shared<Row>> {
 
 /// Times one kind of look-up.
 fn look_up<R: Rows>(rt: &HostRuntime, name: &str, count: u64, rows: &R) -> Result<()> {
-    let start = rt.thread_cpu_time()?;
+    let start = now(rt)?;
     let mut sum = 0u64;
     for turn in 0..TURNS {
         if let Some(row) = rows.row(id(scattered(turn, count))) {
             sum = sum.wrapping_add(row.number);
         }
     }
-    let numbers = rt.thread_cpu_time()?;
+    let numbers = now(rt)?;
     for turn in 0..TURNS {
         if let Some(row) = rows.row(id(scattered(turn, count))) {
             sum = sum.wrapping_add(u64::from(row.payload.first().copied().unwrap_or(1)));
         }
     }
-    let bytes = rt.thread_cpu_time()?;
+    let bytes = now(rt)?;
     println!(rt; "{name}, {count} rows: sum {sum}")?;
     eprintln!(rt;
         "{name}, {count} rows: {} ns for a number of the row, {} ns for a byte behind it",
