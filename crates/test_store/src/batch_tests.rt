@@ -34,15 +34,20 @@ fn file<'a>(store: &'a Store<GitNaming>, commit: Id, path: &[u8]) -> Option<(Kin
     store.file(commit, path)
 }
 
+/// The batch, so many bytes a read.
+fn printed(most: usize) -> Source<'static> {
+    let mut source = Source::new(GIT_PRINTED);
+    source.most = most;
+    source
+}
+
 #[test]
 fn what_git_printed(rt: HostRuntime) -> Result<(), Fail> {
     let alloc = rt.alloc();
     let wanted = ids_of(alloc, GIT_PRINTED_IDS)?;
     for most in [usize::MAX, 100, 1] {
         let mut store = Store::new(alloc, GitNaming);
-        let mut source = Source::new(GIT_PRINTED);
-        source.most = most;
-        let ids = read(alloc, source, &mut store).0?;
+        let ids = read(alloc, printed(most), &mut store).0?;
         assert!(rt; ids.as_slice() == wanted.as_slice(), "{most} bytes a read");
         let commit = ids.as_slice().last().copied().unwrap_or(Id::ZERO);
         let readme = file(&store, commit, b"README".as_slice());
@@ -269,37 +274,57 @@ fn batches_end_as_told(rt: HostRuntime) -> Result<(), Fail> {
     Ok(())
 }
 
-#[test]
-fn readers_that_fail(rt: HostRuntime) -> Result<(), Fail> {
-    let alloc = rt.alloc();
-    let mut store = Store::new(alloc, GitNaming);
+/// Reads the batch, thirty bytes at a time, from a source that is interrupted and fails within the second object: each of the first two
+/// has 55 bytes.
+fn read_failing(
+    alloc: Global,
+    store: &mut Store<GitNaming>,
+) -> (Result<Sequence<Id>, ObjectsFault>, u64) {
     let mut source = Source::new(GIT_PRINTED);
     source.most = 30;
     source.fails_at = 90;
     source.interrupts = true;
-    // The first object has 55 bytes, and so has the second.
-    let (ids, _) = read(alloc, source, &mut store);
+    read(alloc, source, store)
+}
+
+/// Reads from a source that never ends and gives one byte a read, of objects of 49 bytes.
+fn read_endless(
+    alloc: Global,
+    store: &mut Store<GitNaming>,
+) -> (Result<Sequence<Id>, ObjectsFault>, u64) {
+    let endless = Endless::new(b"e69de29bb2d1d6434b8b29ae775ad8c2e48c5391 blob 0\n\n");
+    read(alloc, endless, store)
+}
+
+#[test]
+fn readers_that_fail(rt: HostRuntime) -> Result<(), Fail> {
+    let alloc = rt.alloc();
+    let mut store = Store::new(alloc, GitNaming);
+    let (ids, _) = read_failing(alloc, &mut store);
     assert!(rt; ids.err() == Some(ObjectsFault::Read { number: 2 }));
     assert!(rt; holds(&store, HELLO)?);
-    // A source that never ends and gives one byte a read, of objects of 49 bytes.
-    let endless = Endless::new(b"e69de29bb2d1d6434b8b29ae775ad8c2e48c5391 blob 0\n\n");
-    let (ids, calls) = read(alloc, endless, &mut store);
+    let (ids, calls) = read_endless(alloc, &mut store);
     assert!(rt; ids.err() == Some(ObjectsFault::TurnsSpent { number: 20_409 }));
     assert!(rt; calls == 1_000_000);
     Ok(())
 }
 
+/// The object of 8,388,608 times the letter `a`, as Git prints it, with an id.
+fn printed_letters(alloc: Global, id: &[u8]) -> Result<Vec<u8>, Fail> {
+    let letters = vec![in alloc; b'a'; 8_388_608]?;
+    let mut stream = Vec::new(alloc);
+    for part in [id, b" blob 8388608\n", letters.as_slice(), b"\n"] {
+        stream.extend_from_slice(part)?;
+    }
+    Ok(stream)
+}
+
 #[test]
 fn an_object_of_8_mib(rt: HostRuntime) -> Result<(), Fail> {
     let alloc = rt.alloc();
-    // The id that `git hash-object` gives 8,388,608 times the letter `a`.
+    // The id that `git hash-object` gives its bytes.
     let id = b"c662dc3a5837a85f38529750ef0125b9b5c28ddf".as_slice();
-    let letters = vec![in alloc; b'a'; 8_388_608]?;
-    let mut stream = Vec::new(alloc);
-    stream.extend_from_slice(id)?;
-    stream.extend_from_slice(b" blob 8388608\n".as_slice())?;
-    stream.extend_from_slice(letters.as_slice())?;
-    stream.push(b'\n')?;
+    let stream = printed_letters(alloc, id)?;
     let mut store = Store::new(alloc, GitNaming);
     let ids = read(alloc, stream.as_slice(), &mut store).0?;
     assert!(rt; ids.as_slice() == [Id::from_hex(id)?].as_slice());

@@ -26,9 +26,13 @@ fn objects_of(alloc: Global, parts: &[Part]) -> Result<Vec<Object>, Fail> {
 /// The place of an object that is refused, and why.
 type Bad = (u64, PutFault);
 
+fn imported<N: Naming + Drop>(store: &mut Store<N>, objects: &[Object]) -> Result<(), ImportFault> {
+    store.import(objects)
+}
+
 /// Imports these objects. Tells which is refused, if one is.
 fn import<N: Naming + Drop>(store: &mut Store<N>, objects: &[Object]) -> Result<Option<Bad>, Fail> {
-    match store.import(objects) {
+    match imported(store, objects) {
         Ok(()) => Ok(None),
         Err(ImportFault::BadObject { place, fault }) => Ok(Some((place, fault))),
         Err(fault) => Err(Fail::from(fault)),
@@ -46,11 +50,15 @@ fn import_parts<N: Naming + Drop>(
 /// The blobs of a store in which an id has twenty copies of one letter: the payloads of `a`, `b` and `c`.
 type Blobs<'a> = [Option<&'a [u8]>; 3];
 
+fn blob<N: Naming + Drop>(store: &Store<N>, id: Id) -> Option<&[u8]> {
+    store.blob(id)
+}
+
 fn blobs(store: &Store<FirstByte>) -> Blobs<'_> {
     [
-        store.blob(Id([b'a'; 20])),
-        store.blob(Id([b'b'; 20])),
-        store.blob(Id([b'c'; 20])),
+        blob(store, Id([b'a'; 20])),
+        blob(store, Id([b'b'; 20])),
+        blob(store, Id([b'c'; 20])),
     ]
 }
 
@@ -157,6 +165,11 @@ fn has_object(store: &Store<GitNaming>, id: Id) -> bool {
     store.blob(id).is_some() || store.tree(id).is_some() || store.has_commit(id)
 }
 
+/// The file at `d/a` of the commit of both trees.
+fn file(store: &Store<GitNaming>) -> Result<Option<(Kind, &[u8])>, Fail> {
+    Ok(store.file(id_of(IDS[5].1)?, b"d/a".as_slice()))
+}
+
 /// The letters of those that a store has.
 fn letters(alloc: Global, store: &Store<GitNaming>) -> Result<Vec<u8>, Fail> {
     let mut letters = Vec::new(alloc);
@@ -200,9 +213,7 @@ fn imports_of_each_kind(rt: HostRuntime) -> Result<(), Fail> {
         let letters = letters(alloc, &store)?;
         assert!(rt; letters.as_slice() == held.as_bytes(), "{parts:?}");
     }
-    let commit = id_of(IDS[5].1)?;
-    let file = store.file(commit, b"d/a".as_slice());
-    assert!(rt; file == Some((Kind::Plain, b"x".as_slice())));
+    assert!(rt; file(&store)? == Some((Kind::Plain, b"x".as_slice())));
     Ok(())
 }
 
@@ -264,29 +275,37 @@ const BAD_PAYLOADS: [(Word, &[u8], PutFault); 4] = [
     (Word::Commit, TREE_X, PutFault::WrongChildKind),
 ];
 
+/// The row of the first tree that is not refused as it says.
+fn first_wrong_tree(alloc: Global) -> Result<Option<usize>, Fail> {
+    for (row, (entries, fault)) in BAD_TREES.iter().enumerate() {
+        let payload = entries_of(alloc, entries)?;
+        if fault_of_third(alloc, Word::Tree, payload)? != Some(*fault) {
+            return Ok(Some(row));
+        }
+    }
+    Ok(None)
+}
+
+/// The row of the first payload that is not.
+fn first_wrong_payload(alloc: Global) -> Result<Option<usize>, Fail> {
+    for (row, (word, payload, fault)) in BAD_PAYLOADS.iter().enumerate() {
+        let payload = payload.to_vec(alloc)?;
+        if fault_of_third(alloc, *word, payload)? != Some(*fault) {
+            return Ok(Some(row));
+        }
+    }
+    Ok(None)
+}
+
 #[test]
 fn imports_are_refused_for_each_fault(rt: HostRuntime) -> Result<(), Fail> {
     let alloc = rt.alloc();
-    for (entries, fault) in &BAD_TREES {
-        let payload = entries_of(alloc, entries)?;
-        assert!(rt;
-            fault_of_third(alloc, Word::Tree, payload)? == Some(*fault),
-            "{entries:?}"
-        );
-    }
-    for (word, payload, fault) in &BAD_PAYLOADS {
-        let payload = payload.to_vec(alloc)?;
-        assert!(rt;
-            fault_of_third(alloc, *word, payload)? == Some(*fault),
-            "{word:?}"
-        );
-    }
+    assert_eq!(rt; first_wrong_tree(alloc)?, None);
+    assert_eq!(rt; first_wrong_payload(alloc)?, None);
     for word in &[Word::Blob, Word::Tree, Word::Commit] {
         let large = vec![in alloc; b'a'; 8_388_609]?;
-        assert!(rt;
-            fault_of_third(alloc, *word, large)? == Some(PutFault::TooLarge),
-            "{word:?}"
-        );
+        let fault = fault_of_third(alloc, *word, large)?;
+        assert!(rt; fault == Some(PutFault::TooLarge), "{word:?}");
     }
     Ok(())
 }
@@ -360,22 +379,40 @@ fn keeps_first(store: &mut Store<FirstByte>, count: u8) -> bool {
     (1..=count).all(|first| keeps(store, first))
 }
 
+fn shared(store: &mut Store<FirstByte>) -> Result<Store<FirstByte>, Fail> {
+    Ok(store.share()?)
+}
+
+/// Puts the object of a first byte. Gives a copy of the store, if that has just the objects up to this one.
+fn put_next(store: &mut Store<FirstByte>, first: u8) -> Result<Option<Store<FirstByte>>, Fail> {
+    if put(store, first, b'b') != Ok(Id([first; 20])) {
+        return Ok(None);
+    }
+    let copy = shared(store)?;
+    Ok(if keeps_first(store, first) {
+        Some(copy)
+    } else {
+        None
+    })
+}
+
+/// Whether a copy has just so many objects, also behind another one: there the id of a later object is still to be had.
+fn keeps_apart(copy: &mut Store<FirstByte>, count: u8) -> bool {
+    let next = count.wrapping_add(1);
+    keeps_first(copy, count)
+        && put(copy, next, b'c') == Ok(Id([next; 20]))
+        && keeps_first(copy, count)
+}
+
 #[test]
 fn object_replaced(rt: HostRuntime) -> Result<(), Fail> {
     let mut store = Store::new(rt.alloc(), FirstByte);
     let mut copies = Vec::new(rt.alloc());
     for first in 1..=BLOBS {
-        assert!(rt; put(&mut store, first, b'b') == Ok(Id([first; 20])));
-        copies.push(store.share()?)?;
-        assert!(rt; keeps_first(&mut store, first), "{first} objects");
+        copies.push(put_next(&mut store, first)?.ok_or("an object is replaced")?)?;
     }
-    let mut count = 0;
-    for copy in &mut copies {
-        count = BLOBS.min(count) + 1;
-        assert!(rt; keeps_first(copy, count), "{count} objects");
-        // In a copy the id of a later object is still to be had.
-        assert!(rt; put(copy, count + 1, b'c') == Ok(Id([count + 1; 20])));
-        assert!(rt; keeps_first(copy, count), "{count} objects and another one");
+    for (copy, count) in copies.iter_mut().zip(1..=BLOBS) {
+        assert!(rt; keeps_apart(copy, count), "{count} objects");
     }
     assert!(rt; keeps_first(&mut store, BLOBS));
     Ok(())
@@ -402,7 +439,7 @@ fn numbered(alloc: Global) -> Result<(Vec<Object>, Vec<Id>), Fail> {
 
 /// Whether a store has just the first ones of these objects.
 fn has_just(store: &Store<GitNaming>, ids: &[Id], count: usize) -> bool {
-    ids.iter().enumerate().all(|(number, id)| store.blob(*id).is_some() == (number < count))
+    ids.iter().enumerate().all(|(number, id)| blob(store, *id).is_some() == (number < count))
 }
 
 /// Imports these objects into a store that has so many. Where a growth is refused nothing is changed, and they are imported once more.
@@ -413,16 +450,20 @@ fn import_some(
     ids: &[Id],
     count: usize,
 ) -> Result<(), Fail> {
-    match store.import(objects) {
+    match imported(store, objects) {
         Err(ImportFault::NoMemory) => {
             assert!(rt;
                 has_just(store, ids, count),
                 "half an import behind {count} objects"
             );
-            Ok(store.import(objects)?)
+            Ok(imported(store, objects)?)
         }
         told => Ok(told?),
     }
+}
+
+fn copy_of(store: &mut Store<GitNaming>) -> Result<Store<GitNaming>, NoMemory> {
+    store.share()
 }
 
 /// A copy of a store that has so many objects. Where a growth is refused nothing is changed, and it is taken once more.
@@ -432,16 +473,47 @@ fn copied(
     ids: &[Id],
     count: usize,
 ) -> Result<Store<GitNaming>, Fail> {
-    match store.share() {
+    match copy_of(store) {
         Err(NoMemory) => {
             assert!(rt;
                 has_just(store, ids, count),
                 "another store of {count} objects"
             );
-            Ok(store.share()?)
+            Ok(copy_of(store)?)
         }
         Ok(copy) => Ok(copy),
     }
+}
+
+/// Imports these objects into an empty store, three at a time. Gives the copies behind each import, and how many objects each has.
+fn imported_by_threes(
+    rt: &impl Abort,
+    store: &mut Store<GitNaming>,
+    objects: &[Object],
+    ids: &[Id],
+) -> Result<Vec<(Store<GitNaming>, usize)>, Fail> {
+    let mut copies = Vec::new(store.allocator());
+    let mut count = 0usize;
+    for some in objects.chunks(3) {
+        import_some(rt, store, some, ids, count)?;
+        count = count.saturating_add(some.len());
+        copies.push((copied(rt, store, ids, count)?, count))?;
+    }
+    assert_eq!(rt; count, IMPORTED);
+    Ok(copies)
+}
+
+/// What is imported into a copy is there behind all others.
+fn grow_apart(
+    rt: &impl Abort,
+    copies: &mut [(Store<GitNaming>, usize)],
+    last: &[Object],
+    ids: &[Id],
+) -> Result<(), Fail> {
+    let (copy, _) = copies.last_mut().ok_or("no copy was taken")?;
+    imported(copy, last)?;
+    assert!(rt; has_just(copy, ids, IMPORTED + 1));
+    Ok(())
 }
 
 // With `rt try --fail-alloc` each growth is refused in turn.
@@ -454,22 +526,12 @@ fn copies_keep_their_objects(rt: HostRuntime) -> Result<(), Fail> {
         return Err(Fail::new("an object is missing"));
     };
     let mut store = Store::new(alloc, GitNaming);
-    let mut copies = Vec::new(alloc);
-    let mut count = 0usize;
-    for some in first.chunks(3) {
-        import_some(&rt, &mut store, some, ids, count)?;
-        count = count.saturating_add(some.len());
-        copies.push((copied(&rt, &mut store, ids, count)?, count))?;
-    }
-    assert_eq!(rt; count, IMPORTED);
+    let mut copies = imported_by_threes(&rt, &mut store, first, ids)?;
     for (copy, count) in &copies {
         assert!(rt; has_just(copy, ids, *count), "a copy of {count} objects");
     }
-    // What is imported into a copy is not in the store, nor in another copy.
-    if let Some((copy, _)) = copies.last_mut() {
-        copy.import(last)?;
-        assert!(rt; has_just(copy, ids, IMPORTED + 1));
-    }
+    // It is not in the store, nor in another copy.
+    grow_apart(&rt, copies.as_mut_slice(), last, ids)?;
     assert!(rt; has_just(&store, ids, IMPORTED));
     Ok(())
 }

@@ -48,14 +48,26 @@ pub(crate) fn has_rows(listed: &[(Path, Kind, Id)], rows: &[Row]) -> bool {
     listed.len() == rows.len() && listed.iter().zip(rows).all(|(one, row)| is_row(one, row))
 }
 
-/// The files of a commit that a pattern admits.
+/// Files of a listing.
+pub(crate) type Listed = Vec<(Path, Kind, Id)>;
+
+/// The files of a commit that patterns admit.
 fn listed(
     alloc: Global,
     store: &Store<GitNaming>,
     commit: Id,
-    pattern: &[u8],
-) -> Result<Vec<(Path, Kind, Id)>, Fail> {
-    Ok(store.list(commit, &Filter::parse(alloc, &[pattern])?)?)
+    patterns: &[&[u8]],
+) -> Result<Listed, Fail> {
+    Ok(store.list(commit, &Filter::parse(alloc, patterns)?)?)
+}
+
+/// All files of a commit.
+fn all_listed(alloc: Global, store: &Store<GitNaming>, commit: Id) -> Result<Listed, Fail> {
+    Ok(store.list(commit, &Filter::all(alloc))?)
+}
+
+fn has_commit(store: &Store<GitNaming>, id: Id) -> bool {
+    store.has_commit(id)
 }
 
 /// The files of a commit below a path that patterns admit.
@@ -65,7 +77,7 @@ fn listed_below(
     commit: Id,
     top: &str,
     patterns: &[&[u8]],
-) -> Result<Vec<(Path, Kind, Id)>, Fail> {
+) -> Result<Listed, Fail> {
     let filter = Filter::parse(alloc, patterns)?;
     Ok(store.list_below(commit, &path(alloc, top)?, &filter)?)
 }
@@ -94,7 +106,7 @@ fn a_commit_lists_its_files(rt: HostRuntime) -> Result<(), Fail> {
     assert!(rt;
         commit.to_hex().as_slice() == b"121c0404102d0c4f3969bca6aa8e28f3be526767".as_slice()
     );
-    let all = store.list(commit, &Filter::all(alloc))?;
+    let all = all_listed(alloc, store, commit)?;
     assert!(rt; has_rows(all.as_slice(), &[A_B, A_X, A0, F]));
     for (top, patterns, rows) in &BELOW {
         let below = listed_below(alloc, store, commit, top, patterns)?;
@@ -158,6 +170,11 @@ fn file_of<'a>(
     None
 }
 
+/// What is told of the file at a path of what is no commit.
+fn file_without_commit(store: &Store<GitNaming>) -> Option<(Kind, &[u8])> {
+    store.commit_files(Id([7; 20])).file(b"a-b".as_slice())
+}
+
 /// How many files a commit has below a path, and whether that is one at least.
 fn below(store: &Store<GitNaming>, id: Id, top: &str) -> Option<(usize, bool)> {
     let commit = store.commit(id)?;
@@ -204,8 +221,7 @@ fn a_commit_that_is_held_tells_its_files(rt: HostRuntime) -> Result<(), Fail> {
     }
     assert!(rt; file_of(store, Id::ZERO, "a-b") == Some(None));
     assert!(rt; file_of(store, Id([7; 20]), "a-b").is_none());
-    let files = store.commit_files(Id([7; 20]));
-    assert!(rt; files.file(b"a-b".as_slice()).is_none());
+    assert!(rt; file_without_commit(store).is_none());
     Ok(())
 }
 
@@ -226,14 +242,14 @@ fn commits_are_told_from_other_objects(rt: HostRuntime) -> Result<(), Fail> {
     let alloc = rt.alloc();
     let objects = Objects::of(alloc, FILES)?;
     let store = &objects.store;
-    assert!(rt; store.has_commit(objects.id("c")));
-    assert!(rt; store.has_commit(Id::ZERO));
-    assert!(rt; store.list(Id::ZERO, &Filter::all(alloc))?.is_empty());
+    assert!(rt; has_commit(store, objects.id("c")));
+    assert!(rt; has_commit(store, Id::ZERO));
+    assert!(rt; all_listed(alloc, store, Id::ZERO)?.is_empty());
     assert!(rt; listed_below(alloc, store, Id::ZERO, "a", &[])?.is_empty());
     assert!(rt; found(alloc, store, Id::ZERO, "a")? == Ok(None));
     let none = Some(CommitFault::NoCommit);
     for id in [id_of(A_B.2)?, Id([7; 20])] {
-        assert!(rt; !store.has_commit(id));
+        assert!(rt; !has_commit(store, id));
         assert!(rt; found(alloc, store, id, "a")? == Err(NoCommit));
         assert!(rt; faults(alloc, store, id)? == (none, none));
     }
@@ -280,6 +296,16 @@ fn has_below(store: &Store<GitNaming>, commit: Id, top: &str, files: usize) -> b
     store.has_below(commit, top.as_bytes(), files)
 }
 
+/// Whether there are so many files below a path, and no more.
+fn has_just_below(store: &Store<GitNaming>, commit: Id, top: &str, files: usize) -> bool {
+    has_below(store, commit, top, files) && !has_below(store, commit, top, files.saturating_add(1))
+}
+
+/// Whether a listing has so many files, each with this id.
+fn is_repeated(listed: &[(Path, Kind, Id)], id: Id, count: usize) -> bool {
+    listed.len() == count && listed.iter().all(|row| row.2 == id)
+}
+
 /// A pattern, and how many files it admits of the commit of many levels and of `x`.
 const ADMITTED: [(&str, usize); 4] = [("x", 1), ("?", 1), ("d/x", 0), ("*/*/b/f", 0)];
 
@@ -292,17 +318,12 @@ fn shared_subtrees(rt: HostRuntime) -> Result<(), Fail> {
     let (store, commit, x) = (&objects.store, objects.id("c"), objects.id("x"));
     assert!(rt; found(alloc, store, commit, DOWN)? == Ok(None));
     assert!(rt; found(alloc, store, commit, UP)? == Ok(Some((Kind::Plain, x))));
-    for (top, files) in [("a", 549_755_813_888_usize), ("b/a", 274_877_906_944)] {
-        assert!(rt; has_below(store, commit, top, files), "{top}");
-        assert!(rt;
-            !has_below(store, commit, top, files.saturating_add(1)),
-            "{top}"
-        );
+    for (top, files) in &[("a", 549_755_813_888), ("b/a", 274_877_906_944)] {
+        assert!(rt; has_just_below(store, commit, top, *files), "{top}");
     }
     for (pattern, wanted) in &ADMITTED {
-        let listed = listed(alloc, store, objects.id("d"), pattern.as_bytes())?;
-        assert!(rt; listed.len() == *wanted, "{pattern}");
-        assert!(rt; listed.iter().all(|row| row.2 == x), "{pattern}");
+        let listed = listed(alloc, store, objects.id("d"), &[pattern.as_bytes()])?;
+        assert!(rt; is_repeated(listed.as_slice(), x, *wanted), "{pattern}");
     }
     Ok(())
 }
@@ -314,6 +335,6 @@ fn empty_directories_hold_nothing(rt: HostRuntime) -> Result<(), Fail> {
     let objects = levels(alloc, "tree t")?;
     let (store, commit) = (&objects.store, objects.id("c"));
     assert!(rt; !has_below(store, commit, "a", 1));
-    assert!(rt; store.list(commit, &Filter::all(alloc))?.is_empty());
+    assert!(rt; all_listed(alloc, store, commit)?.is_empty());
     Ok(())
 }

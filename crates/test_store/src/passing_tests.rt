@@ -4,10 +4,10 @@
 ghost use Rattle.std.specs.Prelude.{◌≡◌};
 ghost use Rattle.eden_ids.specs.Paths.{lies_below};
 
-use crate::lookup_tests::{A_B, A_X, A0, F, FILES, Row, has_rows, levels};
+use crate::lookup_tests::{A_B, A_X, A0, F, FILES, Listed, Row, has_rows, levels};
 use eden_globs::Filter;
 use eden_ids::{GitNaming, Id, Kind, NoMemory, Path};
-use eden_objects::{Commit, Nothing, Passes, Store};
+use eden_objects::{Commit, Nothing, Passes, Size, Store};
 use std::alloc::Global;
 use std::test::Fail;
 use test_kit::{Objects, path};
@@ -37,8 +37,8 @@ impl Passes for At {
         path == self.path || is_below(path, self.path)
     }
 
-    fn passes_below(&self, directory: &[u8]) -> bool {
-        directory == self.path
+    fn passes_below(&self, front: &[u8], _size: Size) -> bool {
+        is_below(front, self.path)
     }
 }
 
@@ -61,7 +61,9 @@ fn has_but(
 }
 
 /// A directory, where it is told, what is passed over, and whether there is a file below it that isn't.
-const SEARCHED: [([&str; 3], bool); 14] = [
+type Searched = ([&'static str; 3], bool);
+
+const SEARCHED: [Searched; 14] = [
     (["a", "a", "z"], true),
     (["a", "a", "a"], false),
     (["a", "a", "a/x"], false),
@@ -78,28 +80,37 @@ const SEARCHED: [([&str; 3], bool); 14] = [
     (["x", "x", "z"], false),
 ];
 
+/// The same of many directories with a file each, and of as many without one.
+const OF_MANY: [Searched; 2] = [(["b", "z", "z"], false), (["b", "z", "z/a"], true)];
+
+const OF_NONE: [Searched; 1] = [(["b", "z", "y"], false)];
+
+/// The row of the first search of the commit `c` that is told otherwise.
+fn first_wrong(alloc: Global, objects: &Objects, rows: &[Searched]) -> Result<Option<usize>, Fail> {
+    let commit = objects.id("c");
+    for (row, (places, is_there)) in rows.iter().enumerate() {
+        if has_but(alloc, &objects.store, commit, *places)? != *is_there {
+            return Ok(Some(row));
+        }
+    }
+    Ok(None)
+}
+
 // Of 2 to the 40 files none is looked at where all are passed over, and few where most are not; nor are as many directories without a file.
 #[test]
 fn a_file_that_is_not_passed_over(rt: HostRuntime) -> Result<(), Fail> {
     let alloc = rt.alloc();
-    let objects = Objects::of(alloc, FILES)?;
-    for (places, is_there) in &SEARCHED {
-        let has = has_but(alloc, &objects.store, objects.id("c"), *places)?;
-        assert!(rt;
-            has == *is_there,
-            "{}, {}, {}",
-            places[0],
-            places[1],
-            places[2]
-        );
+    assert_eq!(rt;
+        first_wrong(alloc, &Objects::of(alloc, FILES)?, &SEARCHED)?,
+        None
+    );
+    for (lowest, rows) in [
+        ("tree t 100644 a x", OF_MANY.as_slice()),
+        ("tree t", OF_NONE.as_slice()),
+    ] {
+        let objects = levels(alloc, lowest)?;
+        assert_eq!(rt; first_wrong(alloc, &objects, rows)?, None, "{lowest}");
     }
-    let many = levels(alloc, "tree t 100644 a x")?;
-    for (passed, is_there) in [("z", false), ("z/a", true)] {
-        let has = has_but(alloc, &many.store, many.id("c"), ["b", "z", passed])?;
-        assert!(rt; has == is_there, "{passed}");
-    }
-    let none = levels(alloc, "tree t")?;
-    assert!(rt; !has_but(alloc, &none.store, none.id("c"), ["b", "z", "y"])?);
     Ok(())
 }
 
@@ -140,7 +151,7 @@ impl Passes for Only {
         path != self.path.as_bytes()
     }
 
-    fn passes_below(&self, _directory: &[u8]) -> bool {
+    fn passes_below(&self, _front: &[u8], _size: Size) -> bool {
         false
     }
 }
@@ -152,7 +163,7 @@ fn listed_only(
     seen: &Path,
     filter: &Filter,
     path: Path,
-) -> Result<Vec<(Path, Kind, Id)>, NoMemory> {
+) -> Result<Listed, NoMemory> {
     let _legal = path.as_bytes();
     commit.list_seen(top.as_bytes(), seen, filter, &Only { path })
 }
@@ -189,12 +200,17 @@ fn listed_but(
     commit: &Commit<'_, GitNaming>,
     pattern: &str,
     passed: &'static str,
-) -> Result<Vec<(Path, Kind, Id)>, Fail> {
+) -> Result<Listed, Fail> {
     let filter = Filter::parse(alloc, &[pattern.as_bytes()])?;
     let passed = At {
         path: passed.as_bytes(),
     };
     Ok(commit.list(&filter, &passed)?)
+}
+
+/// All files of a commit: nothing is passed over.
+fn listed_whole(alloc: Global, commit: &Commit<'_, GitNaming>) -> Result<Listed, Fail> {
+    Ok(commit.list(&Filter::all(alloc), &Nothing)?)
 }
 
 #[test]
@@ -214,6 +230,6 @@ fn a_list_that_passes_over_some(rt: HostRuntime) -> Result<(), Fail> {
         let listed = listed_but(alloc, &commit, pattern, passed)?;
         assert!(rt; has_rows(listed.as_slice(), rows), "{pattern} but {passed}");
     }
-    assert!(rt; commit.list(&Filter::all(alloc), &Nothing)?.len() == 4);
+    assert!(rt; listed_whole(alloc, &commit)?.len() == 4);
     Ok(())
 }

@@ -89,6 +89,34 @@ const CUT: [(&[Entry], PutFault); 5] = [
     (&[("100644", "a", "missing")], PutFault::CutShort),
 ];
 
+/// The first length of a front of a payload that is not refused as it is cut short, of those that are no end of an entry.
+fn first_whole(
+    store: &mut Store<GitNaming>,
+    word: Word,
+    payload: &[u8],
+    ends: &[usize],
+) -> Option<usize> {
+    for length in 1..payload.len() {
+        if !ends.contains(&length)
+            && put(store, word, &payload[..length]) != Err(PutFault::CutShort)
+        {
+            return Some(length);
+        }
+    }
+    None
+}
+
+/// What is answered to a tree of these entries that lacks its last byte.
+fn put_cut(
+    alloc: Global,
+    objects: &mut Objects,
+    entries: &[Entry],
+) -> Result<Result<Id, PutFault>, Fail> {
+    let payload = entries_of(alloc, objects, entries)?;
+    let cut = &payload[..payload.len().saturating_sub(1)];
+    Ok(put(&mut objects.store, Word::Tree, cut))
+}
+
 #[test]
 fn trees_cut_short(rt: HostRuntime) -> Result<(), Fail> {
     let alloc = rt.alloc();
@@ -96,16 +124,10 @@ fn trees_cut_short(rt: HostRuntime) -> Result<(), Fail> {
     let whole = entries_of(alloc, &objects, &WHOLE)?;
     assert!(rt; whole.len() == 92);
     assert!(rt; put(&mut objects.store, Word::Tree, whole.as_slice()).is_ok());
-    for length in 1..whole.len() {
-        if length != 31 && length != 64 {
-            let answer = put(&mut objects.store, Word::Tree, &whole[..length]);
-            assert!(rt; answer == Err(PutFault::CutShort), "at {length}");
-        }
-    }
+    let wrong = first_whole(&mut objects.store, Word::Tree, whole.as_slice(), &[31, 64]);
+    assert!(rt; wrong.is_none(), "at {wrong:?}");
     for (entries, fault) in &CUT {
-        let payload = entries_of(alloc, &objects, entries)?;
-        let cut = &payload[..payload.len().saturating_sub(1)];
-        let answer = put(&mut objects.store, Word::Tree, cut);
+        let answer = put_cut(alloc, &mut objects, entries)?;
         assert!(rt; answer == Err(*fault), "{entries:?}");
     }
     let mode = put(&mut objects.store, Word::Tree, b"160000 a".as_slice());
@@ -133,30 +155,60 @@ const NAMED: [(&str, PutFault); 4] = [
     ("c", PutFault::WrongChildKind),
 ];
 
+/// What is answered to a commit with another byte at a place.
+fn put_with_byte(
+    alloc: Global,
+    store: &mut Store<GitNaming>,
+    commit: &[u8],
+    place: usize,
+    byte: u8,
+) -> Result<Result<Id, PutFault>, Fail> {
+    let payload = with_byte(commit, alloc, place, byte)?;
+    Ok(put(store, Word::Commit, payload.as_slice()))
+}
+
+/// What is answered to a commit of what a label names.
+fn put_commit(
+    alloc: Global,
+    objects: &mut Objects,
+    label: &str,
+) -> Result<Result<Id, PutFault>, Fail> {
+    let payload = commit_of(alloc, objects.id(label), "")?;
+    Ok(put(&mut objects.store, Word::Commit, payload.as_slice()))
+}
+
+/// The commit of the tree of that script, with text behind its first line, which has 46 bytes.
+fn whole_commit(alloc: Global, objects: &Objects) -> Result<Vec<u8>, Fail> {
+    Ok(commit_of(alloc, objects.id("t"), "author a\n")?)
+}
+
+#[test]
+fn commits_cut_short(rt: HostRuntime) -> Result<(), Fail> {
+    let mut objects = Objects::of(rt.alloc(), SMALL)?;
+    let whole = whole_commit(rt.alloc(), &objects)?;
+    let store = &mut objects.store;
+    let (line, whole) = (&whole[..46.min(whole.len())], whole.as_slice());
+    assert!(rt; put(store, Word::Commit, b"".as_slice()) == Err(PutFault::CutShort));
+    let wrong = first_whole(store, Word::Commit, line, &[]);
+    assert!(rt; wrong.is_none(), "at {wrong:?}");
+    for payload in [line, whole] {
+        assert!(rt; put(store, Word::Commit, payload).is_ok());
+    }
+    Ok(())
+}
+
 #[test]
 fn commit_refusals(rt: HostRuntime) -> Result<(), Fail> {
     let alloc = rt.alloc();
     let mut objects = Objects::of(alloc, SMALL)?;
-    let whole = commit_of(alloc, objects.id("t"), "author a\n")?;
-    let store = &mut objects.store;
-    for length in 0..46usize.min(whole.len()) {
-        let answer = put(store, Word::Commit, &whole[..length]);
-        assert!(rt; answer == Err(PutFault::CutShort), "at {length}");
-    }
-    for length in [46.min(whole.len()), whole.len()] {
-        assert!(rt;
-            put(store, Word::Commit, &whole[..length]).is_ok(),
-            "at {length}"
-        );
-    }
+    let whole = whole_commit(alloc, &objects)?;
     for (place, byte) in &BYTES {
-        let payload = with_byte(whole.as_slice(), alloc, *place, *byte)?;
-        let answer = put(store, Word::Commit, payload.as_slice());
+        let store = &mut objects.store;
+        let answer = put_with_byte(alloc, store, whole.as_slice(), *place, *byte)?;
         assert!(rt; answer == Err(PutFault::BadCommit), "at {place}");
     }
     for (name, fault) in &NAMED {
-        let payload = commit_of(alloc, objects.id(name), "")?;
-        let answer = put(&mut objects.store, Word::Commit, payload.as_slice());
+        let answer = put_commit(alloc, &mut objects, name)?;
         assert!(rt; answer == Err(*fault), "{name}");
     }
     Ok(())
@@ -259,24 +311,35 @@ fn fault_of_commit(
     Ok(put(store, Word::Commit, payload.as_slice()).err())
 }
 
+/// Sixty-four levels of directories, each with this name.
+fn deepest(alloc: Global, name: &[u8]) -> Result<(Store<Marked>, Id), Fail> {
+    let (mut store, _, tree) = marked_store(alloc)?;
+    let deepest = nested(alloc, &mut store, tree, 63, name)?;
+    Ok((store, deepest))
+}
+
+/// The name of each level, and the names of one more above them. One is too long too: sixty-four levels reach 15 bytes for each component
+/// but the last.
+const DEEP: [(&[u8], &[&[u8]]); 2] = [
+    (b"d", &[b"d", b"Z", b"Y"]),
+    (b"ddddddddddddddd", &[&[b'd'; 255]]),
+];
+
 #[test]
 fn deep_trees(rt: HostRuntime) -> Result<(), Fail> {
     let alloc = rt.alloc();
-    let (mut store, _, tree) = marked_store(alloc)?;
-    let too_deep = Some(PutFault::TooDeep);
-    let deepest = nested(alloc, &mut store, tree, 63, b"d".as_slice())?;
-    for name in &["d", "Z", "Y"] {
-        let fault = fault_of(alloc, &mut store, name.as_bytes(), deepest)?;
-        assert!(rt; fault == too_deep, "{name}");
+    for (level, names) in &DEEP {
+        let (mut store, deepest) = deepest(alloc, level)?;
+        for name in *names {
+            let fault = fault_of(alloc, &mut store, name, deepest)?;
+            assert!(rt; fault == Some(PutFault::TooDeep), "{name:?}");
+        }
+        // A fault of an entry comes before the depth.
+        let entries = [("40000", "d", deepest), ("100644", "e", Id([1; 20]))];
+        let payload = tree_of(alloc, &entries)?;
+        let answer = put(&mut store, Word::Tree, payload.as_slice());
+        assert!(rt; answer == Err(PutFault::MissingChild));
     }
-    // Sixty-four levels that reach 15 bytes for each component but the last, and one more that is too long too.
-    let wide = nested(alloc, &mut store, tree, 63, b"ddddddddddddddd".as_slice())?;
-    assert!(rt; fault_of(alloc, &mut store, &[b'd'; 255], wide)? == too_deep);
-    // A fault of an entry comes before the depth.
-    let entries = [("40000", "d", deepest), ("100644", "e", Id([1; 20]))];
-    let payload = tree_of(alloc, &entries)?;
-    let answer = put(&mut store, Word::Tree, payload.as_slice());
-    assert!(rt; answer == Err(PutFault::MissingChild));
     Ok(())
 }
 
@@ -309,6 +372,18 @@ fn long_paths(rt: HostRuntime) -> Result<(), Fail> {
     Ok(())
 }
 
+/// Why no tree and no commit of an object is put, with a mark, if both are refused alike.
+fn fault_above(
+    alloc: Global,
+    store: &mut Store<Marked>,
+    mark: &str,
+    child: Id,
+) -> Result<Option<PutFault>, Fail> {
+    let commit = fault_of_commit(alloc, store, child, mark)?;
+    let tree = fault_of(alloc, store, mark.as_bytes(), child)?;
+    Ok(if commit == tree { tree } else { None })
+}
+
 #[test]
 fn what_is_named_comes_before_the_id(rt: HostRuntime) -> Result<(), Fail> {
     let alloc = rt.alloc();
@@ -319,14 +394,14 @@ fn what_is_named_comes_before_the_id(rt: HostRuntime) -> Result<(), Fail> {
             (blob, PutFault::WrongChildKind),
             (tree, *answer),
         ] {
-            assert!(rt; fault_of_commit(alloc, &mut store, child, mark)? == Some(fault));
-            assert!(rt; fault_of(alloc, &mut store, mark.as_bytes(), child)? == Some(fault));
+            let told = fault_above(alloc, &mut store, mark, child)?;
+            assert!(rt; told == Some(fault), "{mark}");
         }
-        let short = put(&mut store, Word::Commit, mark.as_bytes());
-        assert!(rt; short == Err(PutFault::CutShort), "{mark}");
-        let bad = mark.repeat(alloc, 46)?;
-        let bad = put(&mut store, Word::Commit, bad.as_bytes());
-        assert!(rt; bad == Err(PutFault::BadCommit), "{mark}");
+        for (times, fault) in [(1, PutFault::CutShort), (46, PutFault::BadCommit)] {
+            let payload = mark.repeat(alloc, times)?;
+            let answer = put(&mut store, Word::Commit, payload.as_bytes());
+            assert!(rt; answer == Err(fault), "{mark}");
+        }
     }
     Ok(())
 }

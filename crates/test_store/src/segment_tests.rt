@@ -92,6 +92,37 @@ fn copies_of(
     Ok(copies)
 }
 
+/// The first copy that has other rows than those up to its own.
+fn first_wrong(copies: &[Table<Shared<u16>>], ids: &[Id]) -> Option<usize> {
+    for (place, copy) in copies.iter().enumerate() {
+        if !has_just(copy, ids, place + 1) {
+            return Some(place);
+        }
+    }
+    None
+}
+
+/// Whether the value of an id is this number.
+fn holds(table: &Table<Shared<u16>>, id: Id, number: u16) -> bool {
+    match value_of(table, id) {
+        Some(value) => **value == number,
+        None => false,
+    }
+}
+
+/// A copy and what it was taken from grow apart: the id of one row more has a value of its own in each.
+fn grow_apart(
+    table: &mut Table<Shared<u16>>,
+    copy: &mut Table<Shared<u16>>,
+    last: Id,
+) -> Result<bool, Fail> {
+    let alloc = table.allocator();
+    let added = add_row(copy, last, Shared::new(alloc, 7)?)?
+        && value_of(table, last).is_none()
+        && add_row(table, last, Shared::new(alloc, 8)?)?;
+    Ok(added && holds(copy, last, 7) && holds(table, last, 8))
+}
+
 #[test]
 fn copies_keep_what_they_had(rt: HostRuntime) -> Result<(), Fail> {
     let alloc = rt.alloc();
@@ -99,21 +130,10 @@ fn copies_keep_what_they_had(rt: HostRuntime) -> Result<(), Fail> {
         let all = ids.all(alloc)?;
         let mut table = Table::new(alloc);
         let mut copies = copies_of(&rt, &mut table, ids)?;
-        for (place, copy) in copies.iter().enumerate() {
-            assert!(rt;
-                has_just(copy, all.as_slice(), place + 1),
-                "{ids:?}, copy {place}"
-            );
-        }
-        // A copy and what it was taken from grow apart: the id of one row more has a value of its own in each.
-        let last = ids.id(ROWS);
-        let mut copy = copies.pop().unwrap_or(Table::new(alloc));
-        assert!(rt; add_row(&mut copy, last, Shared::new(alloc, 7)?)?);
-        assert!(rt; value_of(&table, last).is_none());
-        assert!(rt; add_row(&mut table, last, Shared::new(alloc, 8)?)?);
-        for (grown, value) in [(&copy, 7), (&table, 8)] {
-            assert!(rt; value_of(grown, last).is_some_and(|held| **held == value));
-        }
+        let wrong = first_wrong(copies.as_slice(), all.as_slice());
+        assert!(rt; wrong.is_none(), "{ids:?}, copy {wrong:?}");
+        let mut copy = copies.pop().ok_or("no copy was taken")?;
+        assert!(rt; grow_apart(&mut table, &mut copy, ids.id(ROWS))?, "{ids:?}");
     }
     Ok(())
 }
@@ -145,23 +165,44 @@ fn is_whole(table: &Table<Stubborn>, limit: u16) -> bool {
     })
 }
 
+/// Adds a row, and again where memory was refused: the table is as before then.
+fn add_again(
+    rt: &impl Abort,
+    table: &mut Table<Stubborn>,
+    number: u16,
+    shares: bool,
+) -> Result<(), Fail> {
+    let id = Ids::SameFront.id(number);
+    if add_row(table, id, Stubborn { number, shares }).is_err() {
+        assert!(rt; is_whole(table, number));
+        assert!(rt; add_row(table, id, Stubborn { number, shares })?);
+    }
+    Ok(())
+}
+
+/// Takes a copy, if that is not refused, and freezes the table. Tells whether it was refused.
+fn is_refused(rt: &impl Abort, table: &mut Table<Stubborn>, limit: u16) -> bool {
+    let refused = match table.share() {
+        Ok(copy) => {
+            assert!(rt; is_whole(&copy, limit));
+            false
+        }
+        Err(NoMemory) => true,
+    };
+    table.freeze();
+    refused
+}
+
 /// Adds rows one by one, of which one can't be shared, and takes a copy after each. Tells how many copies were refused. No refusal, of a
 /// row or of memory, changes what the table has.
 fn refusals(rt: &impl Abort, alloc: Global, stubborn: u16) -> Result<u16, Fail> {
     let mut table = Table::new(alloc);
     let mut refused = 0u16;
     for number in 0..40 {
-        let id = Ids::SameFront.id(number);
-        let shares = number != stubborn;
-        if add_row(&mut table, id, Stubborn { number, shares }).is_err() {
-            assert!(rt; is_whole(&table, number));
-            assert!(rt; add_row(&mut table, id, Stubborn { number, shares })?);
+        add_again(rt, &mut table, number, number != stubborn)?;
+        if is_refused(rt, &mut table, number + 1) {
+            refused = refused.saturating_add(1);
         }
-        match table.share() {
-            Ok(copy) => assert!(rt; is_whole(&copy, number + 1)),
-            Err(NoMemory) => refused = refused.saturating_add(1),
-        }
-        table.freeze();
         assert!(rt; is_whole(&table, number + 1), "{stubborn}: {number}");
     }
     Ok(refused)
