@@ -70,6 +70,9 @@ of_lines() {
 renaming() {
     repeat 10 'renamedir all moved\nrenamedir moved all\n' | of_lines "$1" "$2" 20
 }
+renaming_each() {
+    of_lines parts "$work/none" "$1" < "$2"
+}
 reading() {
     reads "$1" | of_lines parts "$2" 10000
 }
@@ -107,6 +110,7 @@ objects_file=/dev/null row "rename of a directory of 100,000 files that are writ
 for count in 0 1 100 10000; do
     [ "$count" -le "${MOST:-10000}" ] || continue
     renames "$count" > "$work/renamed"
+    [ "$count" = 0 ] || row "a rename, of $count one after the other" renaming_each "$count" "$work/renamed"
     row "a write behind $count renamed directories" writing "$work/renamed"
     row "a read behind $count renamed directories" reading "$count" "$work/renamed"
     row "a poll since the last of $count renamed directories" polling "$work/renamed"
