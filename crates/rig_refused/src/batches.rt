@@ -1,5 +1,6 @@
 //! Objects as Git prints them, read into a store and into a mount.
 
+use crate::mounted::empty_mount;
 use crate::objects::tell_id;
 use crate::refusals::{Refusals, again};
 use anyhow::{Result, bail};
@@ -75,8 +76,7 @@ fn read_store(alloc: Global, refusals: &mut Refusals, ids: &[Id]) -> Result<Stor
 
 /// A mount into which the batch was read, anew where memory was refused.
 fn read_mount(alloc: Global, refusals: &mut Refusals, ids: &[Id]) -> Result<Mount<GitNaming>> {
-    let store = Store::new(alloc, GitNaming);
-    let mut mount = Mount::mount(alloc, store, Id::ZERO, 7, 1_000)?;
+    let mut mount = empty_mount(alloc)?;
     let first = read(alloc, &mut mount);
     if !is_read(first, mount.store(), ids)? {
         refusals.add();

@@ -1,21 +1,20 @@
 //! Bodies that are drawn by lot, most of which are no message.
 
+use crate::decoding::{reply_frame, reply_of, request_frame, request_of};
+use crate::mounted::empty_mount;
 use anyhow::{Result, bail};
 use eden_accumulate::Mount;
-use eden_ids::{GitNaming, Id};
-use eden_objects::Store;
-use eden_query::{
-    DecodeFault, ServeFault, decode_reply, decode_request, encode_reply, encode_request, serve,
-};
+use eden_ids::GitNaming;
+use eden_query::{DecodeFault, ServeFault, serve};
 use eden_stream::Counted;
 use std::alloc::Global;
 use test_kit::{Bodies, framed};
 
 /// Whether bytes are read as a request, which is spelled again by them.
 fn is_request(alloc: Global, body: &[u8]) -> Result<bool> {
-    match decode_request(alloc, body) {
+    match request_of(alloc, body) {
         Ok(request) => {
-            if encode_request(alloc, &request)?.get(4..) != Some(body) {
+            if request_frame(alloc, &request)?.get(4..) != Some(body) {
                 bail!("a request is spelled otherwise");
             }
             Ok(true)
@@ -27,9 +26,9 @@ fn is_request(alloc: Global, body: &[u8]) -> Result<bool> {
 
 /// Bytes are no reply, or one that is spelled again by them.
 fn read_reply(alloc: Global, body: &[u8]) -> Result<()> {
-    match decode_reply(alloc, body) {
+    match reply_of(alloc, body) {
         Ok(reply) => {
-            if encode_reply(alloc, &reply)?.get(4..) != Some(body) {
+            if reply_frame(alloc, &reply)?.get(4..) != Some(body) {
                 bail!("a reply is spelled otherwise");
             }
             Ok(())
@@ -63,8 +62,7 @@ fn read(alloc: Global, mount: &mut Mount<GitNaming>, body: Vec<u8>) -> Result<()
 /// Draws so many bodies of at most this length, and reads each of them.
 pub(crate) fn read_bodies(rt: &HostRuntime, count: u64, length: usize) -> Result<()> {
     let alloc = rt.alloc();
-    let store = Store::new(alloc, GitNaming);
-    let mut mount = Mount::mount(alloc, store, Id::ZERO, 7, 1_000)?;
+    let mut mount = empty_mount(alloc)?;
     let mut bodies = Bodies::new(7);
     for _ in 0..count {
         let body = bodies.body(alloc, length)?;

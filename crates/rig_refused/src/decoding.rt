@@ -2,19 +2,36 @@
 
 use crate::refusals::{Refusals, again};
 use anyhow::{Context, Result, bail};
+use eden_messages::{Reply, Request};
 use eden_query::{
     DecodeFault, EncodeFault, decode_reply, decode_request, encode_reply, encode_request,
 };
 use std::alloc::Global;
 use test_kit::{REPLY_BODIES, REQUEST_BODIES, joined};
 
+pub(crate) fn request_of(alloc: Global, body: &[u8]) -> Result<Request, DecodeFault> {
+    decode_request(alloc, body)
+}
+
+pub(crate) fn reply_of(alloc: Global, body: &[u8]) -> Result<Reply, DecodeFault> {
+    decode_reply(alloc, body)
+}
+
+pub(crate) fn request_frame(alloc: Global, request: &Request) -> Result<Vec<u8>, EncodeFault> {
+    encode_request(alloc, request)
+}
+
+pub(crate) fn reply_frame(alloc: Global, reply: &Reply) -> Result<Vec<u8>, EncodeFault> {
+    encode_reply(alloc, reply)
+}
+
 /// The request that a body spells, which is spelled again as it was.
 fn read_request(alloc: Global, refusals: &mut Refusals, body: &[u8]) -> Result<()> {
-    let request = again!(refusals, DecodeFault::NoMemory, decode_request(alloc, body));
+    let request = again!(refusals, DecodeFault::NoMemory, request_of(alloc, body));
     let frame = again!(
         refusals,
         EncodeFault::NoMemory,
-        encode_request(alloc, &request)
+        request_frame(alloc, &request)
     );
     if frame.get(4..) != Some(body) {
         bail!("a request is spelled otherwise");
@@ -24,8 +41,8 @@ fn read_request(alloc: Global, refusals: &mut Refusals, body: &[u8]) -> Result<(
 
 /// The reply that a body spells, which is spelled again as it was.
 fn read_reply(alloc: Global, refusals: &mut Refusals, body: &[u8]) -> Result<()> {
-    let reply = again!(refusals, DecodeFault::NoMemory, decode_reply(alloc, body));
-    let frame = again!(refusals, EncodeFault::NoMemory, encode_reply(alloc, &reply));
+    let reply = again!(refusals, DecodeFault::NoMemory, reply_of(alloc, body));
+    let frame = again!(refusals, EncodeFault::NoMemory, reply_frame(alloc, &reply));
     if frame.get(4..) != Some(body) {
         bail!("a reply is spelled otherwise");
     }
@@ -34,10 +51,10 @@ fn read_reply(alloc: Global, refusals: &mut Refusals, body: &[u8]) -> Result<()>
 
 /// Why a body is no request.
 fn request_fault(alloc: Global, refusals: &mut Refusals, body: &[u8]) -> Result<DecodeFault> {
-    let fault = match decode_request(alloc, body).err() {
+    let fault = match request_of(alloc, body).err() {
         Some(DecodeFault::NoMemory) => {
             refusals.add();
-            decode_request(alloc, body).err()
+            request_of(alloc, body).err()
         }
         fault => fault,
     };
@@ -46,10 +63,10 @@ fn request_fault(alloc: Global, refusals: &mut Refusals, body: &[u8]) -> Result<
 
 /// Why a body is no reply.
 fn reply_fault(alloc: Global, refusals: &mut Refusals, body: &[u8]) -> Result<DecodeFault> {
-    let fault = match decode_reply(alloc, body).err() {
+    let fault = match reply_of(alloc, body).err() {
         Some(DecodeFault::NoMemory) => {
             refusals.add();
-            decode_reply(alloc, body).err()
+            reply_of(alloc, body).err()
         }
         fault => fault,
     };

@@ -1,20 +1,30 @@
 //! A mount whose calls may be refused memory.
 
-use crate::objects::{Made, objects_of};
-use crate::refusals::{Refusals, again};
+use crate::objects::{Made, objects_of, put};
+use crate::refusals::{Refusals, again, keep};
 use crate::steps::{OneFile, Opening, Step};
 use crate::told::{tell_answer, tell_marked, tell_paths, tell_position, text_of};
 use anyhow::{Context, Result, anyhow, bail};
 use eden_accumulate::Mount;
 use eden_globs::Filter;
-use eden_history::{Answer, Change, Marked, Position, SinceFault};
+use eden_history::{Answer, Change, ChangeFault, Marked, Position, SinceFault};
 use eden_ids::{Content, GitNaming, Id, Kind, NoMemory, Path, PathFault, Sequence};
-use eden_objects::{CommitFault, Importer, Object, PutFault, Store};
+use eden_objects::{CommitFault, Object, PutFault, Store};
 use eden_ranges::{Range, accumulate, expand};
 use std::alloc::{AllocError, Global};
 
 /// The limit of a mount's journal.
 const LIMIT: u64 = 1_000;
+
+/// A mount of a commit in generation 7.
+fn mount_of(alloc: Global, store: Store<GitNaming>, root: Id) -> Result<Mount<GitNaming>> {
+    Ok(Mount::mount(alloc, store, root, 7, LIMIT)?)
+}
+
+/// A mount of the empty commit, over a store with no object.
+pub(crate) fn empty_mount(alloc: Global) -> Result<Mount<GitNaming>> {
+    mount_of(alloc, Store::new(alloc, GitNaming), Id::ZERO)
+}
 
 /// A mount, and the commits that were put or imported, by name.
 #[derive(Drop)]
@@ -46,10 +56,15 @@ fn paths_of(mount: &Mount<GitNaming>, range: &Range) -> Result<Vec<Marked>, Comm
     expand(mount.store().allocator(), mount.store(), range)
 }
 
+/// The file at a path.
+fn read<'a>(mount: &'a Mount<GitNaming>, path: &Path) -> Result<(Kind, &'a [u8]), ChangeFault> {
+    mount.read(path)
+}
+
 /// The file at a path, in memory of its own.
 fn content(mount: &Mount<GitNaming>, path: &Path) -> Result<Option<Content>, NoMemory> {
     let alloc = mount.store().allocator();
-    match mount.read(path) {
+    match read(mount, path) {
         Ok((kind, bytes)) => Ok(Some(Content::from_bytes(alloc, kind, bytes)?)),
         Err(_) => Ok(None),
     }
@@ -84,7 +99,7 @@ fn shown(mount: &Mount<GitNaming>) -> Result<String> {
 }
 
 /// Makes a change.
-fn apply(mount: &mut Mount<GitNaming>, change: &Change) -> Result<Answer, NoMemory> {
+pub(crate) fn apply(mount: &mut Mount<GitNaming>, change: &Change) -> Result<Answer, NoMemory> {
     mount.apply(change)
 }
 
@@ -162,12 +177,10 @@ fn put_commit(
         last = again!(
             refusals,
             PutFault::NoMemory,
-            store.put_object(object.word, object.payload.as_slice())
+            put(store, object.word, object.payload.as_slice())
         );
     }
-    again!(refusals, _, commits.try_reserve(1));
-    commits.push((file.0, last))?;
-    Ok(())
+    keep(refusals, commits, (file.0, last))
 }
 
 /// The commit of a name.
@@ -189,11 +202,10 @@ impl Mounted {
             put_commit(alloc, &mut refusals, &mut store, &mut commits, *file)?;
         }
         let root = commit_named(commits.as_slice(), opening.root)?;
-        let mount = Mount::mount(alloc, store, root, 7, LIMIT)?;
         Ok(Mounted {
             alloc,
             refusals,
-            mount,
+            mount: mount_of(alloc, store, root)?,
             commits,
         })
     }
@@ -211,9 +223,7 @@ impl Mounted {
         let change = again!(self.refusals, _, import(alloc, made.as_slice()));
         self.change(rt, &change, made.as_slice())?;
         let last = made.last().context("no objects")?.id;
-        again!(self.refusals, _, self.commits.try_reserve(1));
-        self.commits.push((file.0, last))?;
-        Ok(())
+        keep(&mut self.refusals, &mut self.commits, (file.0, last))
     }
 
     /// Tells what changed since a number.
@@ -247,7 +257,7 @@ impl Mounted {
     fn read(&mut self, rt: &HostRuntime, at: &str) -> Result<()> {
         let alloc = self.alloc;
         let path = again!(self.refusals, PathFault::NoMemory, path(alloc, at));
-        let (_, bytes) = self.mount.read(&path)?;
+        let (_, bytes) = read(&self.mount, &path)?;
         println!(rt; "plain {}", text_of(bytes)?)?;
         Ok(())
     }

@@ -1,6 +1,6 @@
 //! Objects that are put, and the paths on which two commits differ.
 
-use crate::refusals::{Refusals, again};
+use crate::refusals::{Refusals, again, keep};
 use crate::steps::OneFile;
 use crate::told::text_of;
 use anyhow::{Result, bail};
@@ -40,6 +40,15 @@ pub(crate) fn objects_of(alloc: Global, file: OneFile) -> Result<Vec<Made>, Allo
     Ok(vec![in alloc; blob, tree, commit]?)
 }
 
+/// Puts an object.
+pub(crate) fn put(
+    store: &mut Store<GitNaming>,
+    word: Word,
+    payload: &[u8],
+) -> Result<Id, PutFault> {
+    store.put_object(word, payload)
+}
+
 /// A store, and what was put into it so far.
 #[derive(Drop)]
 struct Putting {
@@ -77,20 +86,23 @@ impl Putting {
 
     /// Puts an object, and again where memory was refused.
     fn put(&mut self, word: Word, payload: &[u8]) -> Result<Id> {
-        let id = match self.store.put_object(word, payload) {
+        let id = match put(&mut self.store, word, payload) {
             Err(PutFault::NoMemory) => {
                 self.refusals.add();
                 if !self.is_as_before(word, payload) {
                     bail!("a put that was refused memory changed the store");
                 }
-                self.store.put_object(word, payload)?
+                put(&mut self.store, word, payload)?
             }
             answered => answered?,
         };
         let alloc = self.alloc;
         let payload = again!(self.refusals, _, payload.to_vec(alloc));
-        again!(self.refusals, _, self.known.try_reserve(1));
-        self.known.push(Made { word, payload, id })?;
+        keep(
+            &mut self.refusals,
+            &mut self.known,
+            Made { word, payload, id },
+        )?;
         Ok(id)
     }
 }
@@ -116,13 +128,22 @@ fn put_commit(putting: &mut Putting, tree: Id) -> Result<Id> {
     putting.put(Word::Commit, payload.as_slice())
 }
 
+fn paths_between(
+    alloc: Global,
+    store: &Store<GitNaming>,
+    first: Id,
+    second: Id,
+) -> Result<Vec<Path>, CommitFault> {
+    diff(alloc, store, first, second)
+}
+
 /// The paths on which two commits differ.
 fn differing(putting: &mut Putting, first: Id, second: Id) -> Result<Vec<Path>> {
     let alloc = putting.alloc;
     Ok(again!(
         putting.refusals,
         CommitFault::NoMemory,
-        diff(alloc, &putting.store, first, second)
+        paths_between(alloc, &putting.store, first, second)
     ))
 }
 

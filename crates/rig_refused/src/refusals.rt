@@ -1,5 +1,7 @@
 //! How often a call answered that memory was refused, and calls that are made again then.
 
+use anyhow::Result;
+
 /// How often a call answered so.
 #[derive(Drop)]
 pub(crate) struct Refusals {
@@ -19,6 +21,19 @@ impl Refusals {
     pub(crate) fn count(&self) -> u64 {
         self.count
     }
+}
+
+fn reserve<T>(items: &mut Vec<T>) -> Result<()> {
+    Ok(items.try_reserve(1)?)
+}
+
+/// Puts an item behind the others, and again where memory was refused.
+pub(crate) fn keep<T: Drop>(refusals: &mut Refusals, items: &mut Vec<T>, item: T) -> Result<()> {
+    if reserve(items).is_err() {
+        refusals.add();
+        reserve(items)?;
+    }
+    Ok(items.push(item)?)
 }
 
 /// What a call answers, which changes nothing. It is made again where memory was refused: where its error is of this pattern.

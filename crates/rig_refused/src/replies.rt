@@ -1,5 +1,7 @@
 //! Two polls, a basis and a fetch as frames, and the replies to them.
 
+use crate::decoding::{reply_of, request_frame};
+use crate::mounted::{apply, empty_mount};
 use crate::refusals::{Refusals, again};
 use crate::told::{tell_marked, tell_paths, tell_position, text_of};
 use anyhow::{Result, bail};
@@ -8,8 +10,7 @@ use eden_globs::Filter;
 use eden_history::{Change, Position};
 use eden_ids::{GitNaming, Id, Kind, Path, Sequence};
 use eden_messages::{Query, Reply, Request};
-use eden_objects::Store;
-use eden_query::{ServeFault, decode_reply, encode_request};
+use eden_query::ServeFault;
 use std::alloc::Global;
 
 /// Whose questions they are.
@@ -39,10 +40,9 @@ pub(crate) fn write(alloc: Global, at: &[u8], text: &[u8]) -> Result<Change> {
 
 /// A mount in generation 7 of two files.
 fn two_files(alloc: Global) -> Result<Mount<GitNaming>> {
-    let store = Store::new(alloc, GitNaming);
-    let mut mount = Mount::mount(alloc, store, Id::ZERO, 7, 1_000)?;
+    let mut mount = empty_mount(alloc)?;
     for at in [b"d/a".as_slice(), b"e".as_slice()] {
-        let _ = mount.apply(&write(alloc, at, b"hi".as_slice())?)?;
+        let _ = apply(&mut mount, &write(alloc, at, b"hi".as_slice())?)?;
     }
     Ok(mount)
 }
@@ -64,7 +64,7 @@ fn poll(alloc: Global, patterns: &[&[u8]]) -> Result<Vec<u8>> {
         since,
         filter: Filter::parse(alloc, patterns)?,
     };
-    Ok(encode_request(alloc, &request)?)
+    Ok(request_frame(alloc, &request)?)
 }
 
 /// What asks for all files.
@@ -85,9 +85,9 @@ pub(crate) fn fetch(alloc: Global, at: &[u8]) -> Result<Request> {
 fn asked(alloc: Global) -> Result<Vec<u8>> {
     let mut frames = poll(alloc, &[])?;
     frames.extend_from_slice(poll(alloc, &[b"d/**".as_slice()])?.as_slice())?;
-    frames.extend_from_slice(encode_request(alloc, &basis(alloc))?.as_slice())?;
+    frames.extend_from_slice(request_frame(alloc, &basis(alloc))?.as_slice())?;
     let fetch = fetch(alloc, b"d/a".as_slice())?;
-    frames.extend_from_slice(encode_request(alloc, &fetch)?.as_slice())?;
+    frames.extend_from_slice(request_frame(alloc, &fetch)?.as_slice())?;
     Ok(frames)
 }
 
@@ -110,7 +110,7 @@ fn first_reply(alloc: Global, text: &[u8]) -> Result<(Reply, usize)> {
     let Some(body) = rest.get(..length) else {
         bail!("a reply is cut short");
     };
-    Ok((decode_reply(alloc, body)?, length.saturating_add(4)))
+    Ok((reply_of(alloc, body)?, length.saturating_add(4)))
 }
 
 /// The file of a reply.

@@ -1,15 +1,15 @@
 //! Rounds of a mirror that overlap, lose replies and meet a remount.
 
-use crate::refusals::{Refusals, again};
+use crate::mounted::{apply, empty_mount};
+use crate::refusals::{Refusals, again, keep};
 use crate::told::text_of;
 use anyhow::{Context, Result, bail};
 use eden_accumulate::Mount;
 use eden_globs::Filter;
 use eden_history::Change;
-use eden_ids::{GitNaming, Id, Kind, NoMemory, Path, Sequence};
+use eden_ids::{GitNaming, Kind, NoMemory, Path, Sequence};
 use eden_messages::{Outcome, Reply, Request};
 use eden_mirror::Mirror;
-use eden_objects::Store;
 use eden_query::reply_to;
 use std::alloc::Global;
 
@@ -116,12 +116,22 @@ fn change_of(alloc: Global, step: Step) -> Result<Option<Change>> {
     })
 }
 
+/// What a mirror has still to be told.
+fn outstanding(mirror: &Mirror) -> Result<Vec<Request>, NoMemory> {
+    mirror.outstanding()
+}
+
+/// The paths of a mirror's files.
+fn files(mirror: &Mirror) -> Result<Vec<Path>, NoMemory> {
+    mirror.files()
+}
+
 /// All that a mirror tells of itself.
 pub(crate) fn shown(alloc: Global, mirror: &Mirror) -> Result<String> {
     let position = mirror.position();
-    let requests = mirror.outstanding()?;
+    let requests = outstanding(mirror)?;
     let mut text = format!(in alloc; "{position:?} {requests:?}")?;
-    for path in &mirror.files()? {
+    for path in &files(mirror)? {
         let content = mirror.get(path);
         text.push_str(format!(in alloc; " {path:?} {content:?}")?.as_str())?;
     }
@@ -160,7 +170,7 @@ fn delivered(
 
 /// What a mirror holds.
 pub(crate) fn tell_held(rt: &HostRuntime, refusals: &mut Refusals, mirror: &Mirror) -> Result<()> {
-    for path in &again!(refusals, _, mirror.files()) {
+    for path in &again!(refusals, _, files(mirror)) {
         let content = mirror.get(path).context("a file is gone")?;
         let text = text_of(content.bytes.as_slice())?;
         println!(rt; "{} holds {text}", text_of(path.as_bytes())?)?;
@@ -171,11 +181,10 @@ pub(crate) fn tell_held(rt: &HostRuntime, refusals: &mut Refusals, mirror: &Mirr
 impl Pair {
     /// A mount of the empty commit, and a mirror that wants every path.
     fn open(alloc: Global) -> Result<Pair> {
-        let store = Store::new(alloc, GitNaming);
         Ok(Pair {
             alloc,
             refusals: Refusals::new(),
-            mount: Mount::mount(alloc, store, Id::ZERO, 7, 1_000)?,
+            mount: empty_mount(alloc)?,
             mirror: Mirror::new(alloc, 1, 1, Filter::all(alloc)),
             replies: Vec::new(alloc),
         })
@@ -183,11 +192,10 @@ impl Pair {
 
     /// Asks all that is outstanding.
     fn ask(&mut self) -> Result<()> {
-        let requests = again!(self.refusals, _, self.mirror.outstanding());
+        let requests = again!(self.refusals, _, outstanding(&self.mirror));
         for request in &requests {
             let reply = again!(self.refusals, _, reply(&mut self.mount, request));
-            again!(self.refusals, _, self.replies.try_reserve(1));
-            self.replies.push(reply)?;
+            keep(&mut self.refusals, &mut self.replies, reply)?;
         }
         Ok(())
     }
@@ -210,12 +218,17 @@ impl Pair {
         tell_held(rt, &mut self.refusals, &self.mirror)
     }
 
+    /// The mount is changed.
+    fn change(&mut self, change: &Change) -> Result<()> {
+        let _ = again!(self.refusals, _, apply(&mut self.mount, change));
+        Ok(())
+    }
+
     /// What a step says happens.
     fn go(&mut self, rt: &HostRuntime, step: Step) -> Result<()> {
         let alloc = self.alloc;
         if let Some(change) = again!(self.refusals, _, change_of(alloc, step)) {
-            let _ = again!(self.refusals, _, self.mount.apply(&change));
-            return Ok(());
+            return self.change(&change);
         }
         match step {
             Step::Begin => Ok(self.mirror.begin()?),

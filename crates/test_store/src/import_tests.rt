@@ -379,8 +379,8 @@ fn keeps_first(store: &mut Store<FirstByte>, count: u8) -> bool {
     (1..=count).all(|first| keeps(store, first))
 }
 
-fn shared(store: &mut Store<FirstByte>) -> Result<Store<FirstByte>, Fail> {
-    Ok(store.share()?)
+fn copy_of<N: Naming + Drop>(store: &mut Store<N>) -> Result<Store<N>, NoMemory> {
+    store.share()
 }
 
 /// Puts the object of a first byte. Gives a copy of the store, if that has just the objects up to this one.
@@ -388,7 +388,7 @@ fn put_next(store: &mut Store<FirstByte>, first: u8) -> Result<Option<Store<Firs
     if put(store, first, b'b') != Ok(Id([first; 20])) {
         return Ok(None);
     }
-    let copy = shared(store)?;
+    let copy = copy_of(store)?;
     Ok(if keeps_first(store, first) {
         Some(copy)
     } else {
@@ -460,10 +460,6 @@ fn import_some(
         }
         told => Ok(told?),
     }
-}
-
-fn copy_of(store: &mut Store<GitNaming>) -> Result<Store<GitNaming>, NoMemory> {
-    store.share()
 }
 
 /// A copy of a store that has so many objects. Where a growth is refused nothing is changed, and it is taken once more.
