@@ -125,10 +125,17 @@ done
 # content at each path. Requests and replies are counted with the four bytes of their lengths.
 follow() {
     PYTHONPATH="$root/clients/python" python3 - "$edend" "$work/written" << 'END'
-import collections, socket, subprocess, sys
+import collections, socket, subprocess, sys, threading
 from railburnet import Client, Connection, Mirror, Outcome, encode_request
 
 counts, sizes = collections.Counter(), collections.Counter()
+
+
+def read_all(lines, listening):
+    """Reads what edend prints, so that it never waits for a reader, and tells when it listens."""
+    for line in lines:
+        if line.startswith(b"listening"):
+            listening.set()
 
 
 class Counted(Connection):
@@ -153,9 +160,11 @@ with socket.socket() as it:
     it.bind(("127.0.0.1", 0))
     port = it.getsockname()[1]
 with subprocess.Popen([sys.argv[1], "serve", "--port", str(port), "--connections", "4", "--stay"], stdin=subprocess.PIPE, stdout=subprocess.PIPE) as edend:
+    listening = threading.Event()
+    threading.Thread(target=read_all, args=(edend.stdout, listening), daemon=True).start()
     edend.stdin.write(b"mount empty 1 1000000000\n" + open(sys.argv[2], "rb").read() + b"listen\n")
     edend.stdin.flush()
-    if not any(line.startswith(b"listening") for line in edend.stdout):
+    if not listening.wait(60):
         sys.exit("edend does not listen")
     client = Client(port)
     client._connect = lambda: Counted(port)
