@@ -105,8 +105,8 @@ echo "| work, in us | before | edend | as fast as before, times |"
 echo "|---|---|---|---|"
 : > "$work/none"
 written > "$work/written"
-# A program that looked at each file would take minutes for a thousand of the first.
-rounds=1000
+# A program that looks at each file would take hours for ten thousand of the first.
+rounds=10000
 [ -z "${BEFORE:-}" ] || rounds=10
 row "rename of a directory of 100,000 files that are committed" renaming whole "$work/none" "$rounds"
 objects_file=/dev/null row "rename of a directory of 100,000 files that are written" renaming empty "$work/written" 10
