@@ -2,8 +2,9 @@
 
 use crate::comparing::Pair;
 use crate::imports::Roots;
-use crate::scene::{Scene, Step, Tally};
+use crate::scene::Scene;
 use crate::schedule_lot::ScheduleLot;
+use crate::sights::{OF_CHANGES, OF_LISTS, OF_MIRRORS, Seen};
 use crate::stores::{Commits, family};
 use std::alloc::Global;
 use std::test::Fail;
@@ -23,18 +24,17 @@ fn opened(
     Scene::fresh(alloc, mount, world, filters)
 }
 
-/// One step of a schedule. Gives the step, and what is broken after it, if anything is.
+/// One step of a schedule. Gives what is broken after it, if anything is.
 fn take_step(
     alloc: Global,
     scene: &mut Scene,
     lot: &mut ScheduleLot,
     roots: &mut Roots,
-    tally: &mut Tally,
-) -> Result<(Step, Option<&'static str>), Fail> {
+    seen: &mut Seen,
+) -> Result<Option<&'static str>, Fail> {
     let step = lot.step(alloc, roots, scene)?;
-    scene.happen(alloc, &step, roots, tally)?;
-    let broken = scene.broken(alloc, tally)?;
-    Ok((step, broken))
+    scene.happen(alloc, &step, roots, seen)?;
+    scene.broken(alloc, seen)
 }
 
 /// Three mirrors follow a mount with this limit through sixty steps, and after each of them hold what is promised.
@@ -43,16 +43,15 @@ fn follow(
     commits: &mut Commits<4>,
     seed: u64,
     limit: u64,
-    tally: &mut Tally,
+    seen: &mut Seen,
 ) -> Result<(), Fail> {
     let mut lot = ScheduleLot::new(seed);
     let mut roots = Roots::new(&commits.ids);
     let mut scene = opened(alloc, commits, limit, &mut lot)?;
     for number in 0..60_u64 {
-        let (step, broken) = take_step(alloc, &mut scene, &mut lot, &mut roots, tally)?;
-        if let Some(broken) = broken {
+        if let Some(broken) = take_step(alloc, &mut scene, &mut lot, &mut roots, seen)? {
             return Err(Fail::new(format_args!(
-                "limit {limit}, seed {seed}, step {number}, {step:?}: {broken}"
+                "limit {limit}, seed {seed}, step {number}: {broken}"
             )));
         }
     }
@@ -60,46 +59,32 @@ fn follow(
 }
 
 /// What is seen in forty schedules with this limit.
-fn follow_forty(alloc: Global, limit: u64) -> Result<Tally, Fail> {
+fn follow_forty(alloc: Global, limit: u64) -> Result<Seen, Fail> {
     let mut commits = family(alloc)?;
-    let mut tally = Tally::new();
+    let mut seen = Seen::new();
     for seed in 0..40_u64 {
-        follow(alloc, &mut commits, seed, limit, &mut tally)?;
+        follow(alloc, &mut commits, seed, limit, &mut seen)?;
     }
-    Ok(tally)
+    Ok(seen)
 }
 
-#[test]
-fn generated_schedules_without_a_journal(rt: HostRuntime) -> Result<(), Fail> {
-    let tally = follow_forty(rt.alloc(), 0)?;
-    assert!(rt; tally.has_all(), "{tally:?}");
-    Ok(())
-}
+/// What forty schedules are called, the limit of their journals, and whether those hold enough to tell a mirror what it lacks.
+const SCHEDULES: [(&str, u64, bool); 5] = [
+    ("generated_schedules_without_a_journal", 0, false),
+    ("generated_schedules_with_two_deltas", 150, false),
+    ("generated_schedules_with_few_deltas", 400, true),
+    ("generated_schedules_with_many_deltas", 2000, true),
+    ("generated_schedules_with_all_deltas", 1_000_000, true),
+];
 
 #[test]
-fn generated_schedules_with_two_deltas(rt: HostRuntime) -> Result<(), Fail> {
-    let tally = follow_forty(rt.alloc(), 150)?;
-    assert!(rt; tally.has_all(), "{tally:?}");
-    Ok(())
-}
-
-#[test]
-fn generated_schedules_with_few_deltas(rt: HostRuntime) -> Result<(), Fail> {
-    let tally = follow_forty(rt.alloc(), 400)?;
-    assert!(rt; tally.has_all() && tally.has_told(), "{tally:?}");
-    Ok(())
-}
-
-#[test]
-fn generated_schedules_with_many_deltas(rt: HostRuntime) -> Result<(), Fail> {
-    let tally = follow_forty(rt.alloc(), 2000)?;
-    assert!(rt; tally.has_all() && tally.has_told(), "{tally:?}");
-    Ok(())
-}
-
-#[test]
-fn generated_schedules_with_all_deltas(rt: HostRuntime) -> Result<(), Fail> {
-    let tally = follow_forty(rt.alloc(), 1_000_000)?;
-    assert!(rt; tally.has_all() && tally.has_told(), "{tally:?}");
+fn generated_schedules(rt: HostRuntime) -> Result<(), Fail> {
+    for (name, limit, is_told) in &SCHEDULES {
+        let seen = follow_forty(rt.alloc(), *limit)?;
+        assert_eq!(rt; seen.missing(&OF_CHANGES), None, "{name}");
+        assert_eq!(rt; seen.missing(&OF_MIRRORS), None, "{name}");
+        let untold = seen.missing(&OF_LISTS);
+        assert!(rt; !*is_told || untold.is_none(), "{name}: {untold:?}");
+    }
     Ok(())
 }

@@ -1,107 +1,93 @@
 //! What a stored history keeps of a stream of frames that was served.
 
-use crate::audit_tests::{change, changes, created, opened, poll, position, query, verdict};
-use eden_audit::{Answer, AuditFault, Audited, Call, CallLog, LogEntry, Settled};
-use eden_globs::Filter;
-use eden_ids::{GitNaming, Sequence};
-use eden_messages::{Reply, Request};
-use eden_query::{ServeFault, Served, answer, append_reply, encode_reply, encode_request, serve};
-use eden_stream::Counted;
+use crate::audit_tests::{Asks, Entry, Log, Notes, audited, verdict};
+use crate::calls::{answered, hold, served};
+use crate::messages::{
+    Asked, EMPTY, Told, frame_of_reply, frame_of_request, position, reply_of, request_of,
+};
+use eden_audit::{AuditFault, Audited, Settled};
+use eden_history::Mark;
+use eden_ids::{GitNaming, Kind};
+use eden_query::append_reply;
 use std::alloc::Global;
 use std::test::Fail;
-use test_kit::{path, plain, write};
 
-/// A mount of the empty commit on which caller 2 has written `a`.
-fn written(alloc: Global) -> Result<Audited<GitNaming>, Fail> {
-    let mut audited = opened(alloc)?;
-    change(&mut audited, 2, &write(alloc, "a", "")?)?;
-    Ok(audited)
+/// What changed since the mount and since the write, and the file: the number of a question, what it asks, and what is right.
+const QUESTIONS: [(u64, Asked, Told); 3] = [
+    (1, SINCE_MOUNT, CREATED),
+    (2, SINCE_WRITE, UNCHANGED),
+    (3, FETCH, FILE),
+];
+
+const SINCE_MOUNT: Asked = Asked::Poll(1, EMPTY);
+
+const SINCE_WRITE: Asked = Asked::Poll(2, EMPTY);
+
+const FETCH: Asked = Asked::Fetch("a");
+
+const CREATED: Told = Told::Changes(&[(Mark::Created, "a")]);
+
+const UNCHANGED: Told = Told::Changes(&[]);
+
+const FILE: Told = Told::File("a", Kind::Plain, "");
+
+/// What caller 2 has written before, and notes of that.
+const WRITTEN: &[(u64, Asks)] = &[(2, Asks::Write("a"))];
+
+const WRITER: Log<'static> = (2, &[(1, Asks::Write("a"), Notes::At(2))]);
+
+/// What a caller notes of the stream.
+const STREAM: &[Entry] = &[
+    (
+        2,
+        Asks::Question(1, SINCE_MOUNT),
+        Notes::Replied(1, 2, CREATED),
+    ),
+    (
+        3,
+        Asks::Question(2, SINCE_WRITE),
+        Notes::Replied(2, 2, UNCHANGED),
+    ),
+    (4, Asks::Question(3, FETCH), Notes::Replied(3, 2, FILE)),
+];
+
+/// Adds the frame of a question to these.
+fn add_request(alloc: Global, number: u64, asked: Asked, frames: &mut Vec<u8>) -> Result<(), Fail> {
+    let request = request_of(alloc, number, asked)?;
+    frames.extend_from_slice(frame_of_request(alloc, &request)?.as_slice())?;
+    Ok(())
 }
 
-/// A fetch of `a`, and its reply.
-fn fetched(alloc: Global) -> Result<(Request, Reply), Fail> {
-    let fetch = Request::Fetch {
-        query: query(3),
-        path: path(alloc, "a")?,
-    };
-    let file = Reply::ContentIs {
-        query: query(3),
-        position: position(2),
-        path: path(alloc, "a")?,
-        content: Some(plain(alloc, "")?),
-    };
-    Ok((fetch, file))
+/// Adds the frame of the right reply to a question to these.
+fn add_reply(alloc: Global, number: u64, told: Told, frames: &mut Vec<u8>) -> Result<(), Fail> {
+    let reply = reply_of(alloc, number, position(2, EMPTY), told)?;
+    frames.extend_from_slice(frame_of_reply(alloc, &reply)?.as_slice())?;
+    Ok(())
 }
 
-/// What is asked then, and what is right: what changed since the mount and since the write, and the file.
-fn asked(alloc: Global) -> Result<Vec<(Request, Reply)>, Fail> {
-    let mut asked = Vec::new(alloc);
-    let marked = created(alloc, &["a"])?;
-    asked.push((poll(alloc, 1, 1), changes(alloc, 1, 2, marked)))?;
-    asked.push((poll(alloc, 2, 2), changes(alloc, 2, 2, Vec::new(alloc))))?;
-    asked.push(fetched(alloc)?)?;
-    Ok(asked)
-}
-
-/// The frames of what is asked, and those of the replies.
-fn frames(alloc: Global) -> Result<(Vec<u8>, Vec<u8>), Fail> {
-    let mut requests = Vec::new(alloc);
-    let mut replies = Vec::new(alloc);
-    for (request, reply) in &asked(alloc)? {
-        requests.extend_from_slice(encode_request(alloc, request)?.as_slice())?;
-        replies.extend_from_slice(encode_reply(alloc, reply)?.as_slice())?;
+/// The frames of the questions.
+fn requests(alloc: Global) -> Result<Vec<u8>, Fail> {
+    let mut frames = Vec::new(alloc);
+    for (number, asked, _) in &QUESTIONS {
+        add_request(alloc, *number, *asked, &mut frames)?;
     }
-    Ok((requests, replies))
+    Ok(frames)
 }
 
-/// What a caller notes of the stream, where it stands behind the write.
-fn stream_log(alloc: Global, caller: u64) -> Result<CallLog, Fail> {
-    let mut entries = Vec::new(alloc);
-    let mut ticket = 2;
-    for (request, reply) in asked(alloc)? {
-        entries.push(LogEntry {
-            ticket,
-            call: Call::Ask(request),
-            answer: Answer::Replied(reply),
-        })?;
-        ticket = ticket.wrapping_add(1);
+/// The frames of the right replies.
+fn replies(alloc: Global) -> Result<Vec<u8>, Fail> {
+    let mut frames = Vec::new(alloc);
+    for (number, _, told) in &QUESTIONS {
+        add_reply(alloc, *number, *told, &mut frames)?;
     }
-    let entries = Sequence::from_vec(entries);
-    Ok(CallLog { caller, entries })
+    Ok(frames)
 }
 
-/// What caller 2 notes of the write.
-fn writer_log(alloc: Global) -> Result<CallLog, Fail> {
-    let wrote = LogEntry {
-        ticket: 1,
-        call: Call::Change(write(alloc, "a", "")?),
-        answer: Answer::At(position(2)),
-    };
-    let mut entries = Vec::new(alloc);
-    entries.push(wrote)?;
-    let entries = Sequence::from_vec(entries);
-    Ok(CallLog { caller: 2, entries })
-}
-
-/// Both logs.
-fn logs(alloc: Global, caller: u64) -> Result<Vec<CallLog>, Fail> {
-    let mut logs = Vec::new(alloc);
-    logs.push(writer_log(alloc)?)?;
-    logs.push(stream_log(alloc, caller)?)?;
-    Ok(logs)
-}
-
-/// Serves these frames. Gives the text, and how that ends.
-fn served(
-    alloc: Global,
-    audited: &mut Audited<GitNaming>,
-    requests: &[u8],
-) -> (Vec<u8>, Result<u64, ServeFault>) {
-    let mut text = Vec::new(alloc);
-    let mut reader = Counted::new(requests);
-    let mut writer = Counted::new(&mut text);
-    let ended = serve(alloc, &mut reader, &mut writer, audited);
-    (text, ended)
+/// Whether a mount serves the questions by the right replies.
+fn is_served(alloc: Global, audited: &mut Audited<GitNaming>) -> Result<bool, Fail> {
+    let (requests, replies) = (requests(alloc)?, replies(alloc)?);
+    let (text, ended) = served(alloc, requests.as_slice(), audited);
+    Ok(ended == Ok(3) && text == replies)
 }
 
 /// The caller, the ticket and the outcome of each entry of the stored history.
@@ -116,32 +102,28 @@ fn kept(alloc: Global, audited: &Audited<GitNaming>) -> Result<Vec<(u64, u64, Se
 #[test]
 fn frames_are_asked_as_caller_0(rt: HostRuntime) -> Result<(), Fail> {
     let alloc = rt.alloc();
-    let (requests, replies) = frames(alloc)?;
-    let mut audited = written(alloc)?;
-    let (text, ended) = served(alloc, &mut audited, requests.as_slice());
-    assert!(rt; ended == Ok(3) && text == replies);
-    let at = Settled::At(position(2));
+    let mut audited = audited(alloc, WRITTEN)?;
+    assert!(rt; is_served(alloc, &mut audited)?);
+    let at = Settled::At(position(2, EMPTY));
     let wanted = [(2, 1, at), (0, 2, at), (0, 3, at), (0, 4, at)];
     assert!(rt; kept(alloc, &audited)?.as_slice() == wanted.as_slice());
     for (caller, said) in [(0, Ok(())), (1, Err(AuditFault::UnknownCall))] {
-        let noted = logs(alloc, caller)?;
-        assert!(rt;
-            verdict(alloc, &mut audited, noted.as_slice()) == said,
-            "caller {caller}"
-        );
+        let told = verdict(alloc, &mut audited, &[WRITER, (caller, STREAM)])?;
+        assert!(rt; told == said, "caller {caller}");
     }
     Ok(())
 }
 
-/// Asks a request, and adds the reply's frame to a text.
+/// Asks a question, and adds the reply's frame to a text.
 fn append(
     alloc: Global,
     audited: &mut Audited<GitNaming>,
-    request: &Request,
+    number: u64,
+    asked: Asked,
     text: &mut Vec<u8>,
 ) -> Result<(), Fail> {
-    let (raw, store) = audited.hold(0, request)?;
-    let reply = answer(alloc, &raw, &store, &Filter::all(alloc))?;
+    let (raw, store) = hold(alloc, audited, number, asked)?;
+    let reply = answered(alloc, &raw, &store)?;
     append_reply(text, &reply)?;
     Ok(())
 }
@@ -149,12 +131,11 @@ fn append(
 #[test]
 fn replies_are_appended_to_a_text(rt: HostRuntime) -> Result<(), Fail> {
     let alloc = rt.alloc();
-    let (_, replies) = frames(alloc)?;
-    let mut audited = written(alloc)?;
+    let mut audited = audited(alloc, WRITTEN)?;
     let mut text = Vec::new(alloc);
-    for (request, _) in &asked(alloc)? {
-        append(alloc, &mut audited, request, &mut text)?;
+    for (number, asked, _) in &QUESTIONS {
+        append(alloc, &mut audited, *number, *asked, &mut text)?;
     }
-    assert!(rt; text == replies);
+    assert!(rt; text == replies(alloc)?);
     Ok(())
 }

@@ -1,340 +1,299 @@
 //! Logs that a test writes, beside a mount that was asked for two files.
 
-use eden_accumulate::Mount;
+use crate::calls::opened;
+use crate::messages::{Asked, EMPTY, Told, position, reply_of, request_of};
 use eden_audit::{AuditFault, Audited, CallLog, LogEntry, audit};
-use eden_globs::Filter;
-use eden_history::{Change, ChangeFault, Mark, Marked, Position};
-use eden_ids::{GitNaming, Id, Sequence};
-use eden_messages::{Answer, Call, Query, Reply, Request};
-use eden_objects::{Object, PutFault, Store, Word};
+use eden_history::{Change, ChangeFault, Mark};
+use eden_ids::{GitNaming, Sequence};
+use eden_messages::{Answer, Call};
+use eden_objects::{Object, PutFault, Word};
 use eden_query::Served;
 use std::alloc::Global;
 use std::test::Fail;
-use test_kit::{path, write};
+use test_kit::write;
 
-/// A mount of the empty commit, as generation 7.
-pub(crate) fn opened(alloc: Global) -> Result<Audited<GitNaming>, Fail> {
-    let store = Store::new(alloc, GitNaming);
-    let mount = Mount::mount(alloc, store, Id::ZERO, 7, 1000)?;
-    Ok(Audited::new(alloc, mount)?)
+/// What a caller asks of the mount.
+#[derive(Clone, Copy)]
+pub(crate) enum Asks {
+    /// That an empty file is written there.
+    Write(&'static str),
+    /// That objects of these payloads are imported.
+    Import(Word, &'static [&'static str]),
+    /// A question by its number.
+    Question(u64, Asked),
 }
 
-pub(crate) fn position(sequence: u64) -> Position {
-    Position {
-        generation: 7,
-        sequence,
-        root: Id::ZERO,
+/// What a caller notes as the answer.
+#[derive(Clone, Copy)]
+pub(crate) enum Notes {
+    /// The change led to this number.
+    At(u64),
+    /// The object at this place of an import was refused.
+    Bad(u64, PutFault),
+    /// The reply to a question, by its number, at a number of the mount.
+    Replied(u64, u64, Told),
+    Unanswered,
+}
+
+/// What was asked under a ticket, and what is noted of it.
+pub(crate) type Entry = (u64, Asks, Notes);
+
+/// A caller, and what it has noted.
+pub(crate) type Log<'a> = (u64, &'a [Entry]);
+
+fn objects(alloc: Global, word: Word, payloads: &[&str]) -> Result<Sequence<Object>, Fail> {
+    let mut objects = Vec::new(alloc);
+    for payload in payloads {
+        let payload = Sequence::from_vec(payload.as_bytes().to_vec(alloc)?);
+        objects.push(Object { word, payload })?;
     }
+    Ok(Sequence::from_vec(objects))
 }
 
-/// Makes a change for a caller.
-pub(crate) fn change(
-    audited: &mut Audited<GitNaming>,
-    caller: u64,
-    change: &Change,
-) -> Result<(), Fail> {
-    audited.apply(caller, change)?;
+fn call_of(alloc: Global, asks: Asks) -> Result<Call, Fail> {
+    Ok(match asks {
+        Asks::Write(at) => Call::Change(write(alloc, at, "")?),
+        Asks::Import(word, payloads) => Call::Change(Change::Import {
+            objects: objects(alloc, word, payloads)?,
+        }),
+        Asks::Question(number, asked) => Call::Ask(request_of(alloc, number, asked)?),
+    })
+}
+
+fn answer_of(alloc: Global, notes: Notes) -> Result<Answer, Fail> {
+    Ok(match notes {
+        Notes::At(number) => Answer::At(position(number, EMPTY)),
+        Notes::Bad(place, fault) => Answer::Refused(ChangeFault::BadObject { place, fault }),
+        Notes::Replied(number, sequence, told) => {
+            Answer::Replied(reply_of(alloc, number, position(sequence, EMPTY), told)?)
+        }
+        Notes::Unanswered => Answer::Unanswered,
+    })
+}
+
+fn entry(alloc: Global, (ticket, asks, notes): Entry) -> Result<LogEntry, Fail> {
+    let call = call_of(alloc, asks)?;
+    let answer = answer_of(alloc, notes)?;
+    Ok(LogEntry {
+        ticket,
+        call,
+        answer,
+    })
+}
+
+fn log_of(alloc: Global, caller: u64, noted: &[Entry]) -> Result<CallLog, Fail> {
+    let mut entries = Vec::new(alloc);
+    for noted in noted {
+        entries.push(entry(alloc, *noted)?)?;
+    }
+    let entries = Sequence::from_vec(entries);
+    Ok(CallLog { caller, entries })
+}
+
+/// The logs of these callers.
+fn logs_of(alloc: Global, noted: &[Log<'_>]) -> Result<Vec<CallLog>, Fail> {
+    let mut logs = Vec::new(alloc);
+    for (caller, noted) in noted {
+        logs.push(log_of(alloc, *caller, noted)?)?;
+    }
+    Ok(logs)
+}
+
+/// Makes a call.
+fn take(audited: &mut Audited<GitNaming>, caller: u64, call: &Call) -> Result<(), Fail> {
+    match call {
+        Call::Change(change) => {
+            let _ = audited.apply(caller, change)?;
+        }
+        Call::Ask(request) => {
+            let _ = audited.hold(caller, request)?;
+        }
+    }
     Ok(())
+}
+
+/// A mount of the empty commit of which these callers have asked this.
+pub(crate) fn audited(alloc: Global, calls: &[(u64, Asks)]) -> Result<Audited<GitNaming>, Fail> {
+    let mut audited = Audited::new(alloc, opened(alloc)?)?;
+    for (caller, asks) in calls {
+        take(&mut audited, *caller, &call_of(alloc, *asks)?)?;
+    }
+    Ok(audited)
 }
 
 /// What an audit of these logs says.
 pub(crate) fn verdict(
     alloc: Global,
     audited: &mut Audited<GitNaming>,
-    logs: &[CallLog],
-) -> Result<(), AuditFault> {
-    audit(alloc, audited, logs)
+    noted: &[Log<'_>],
+) -> Result<Result<(), AuditFault>, Fail> {
+    let logs = logs_of(alloc, noted)?;
+    Ok(audit(alloc, audited, logs.as_slice()))
 }
+
+/// What an audit says where these callers have asked this, and that was noted.
+fn said(
+    alloc: Global,
+    calls: &[(u64, Asks)],
+    noted: &[Log<'_>],
+) -> Result<Result<(), AuditFault>, Fail> {
+    let mut audited = audited(alloc, calls)?;
+    verdict(alloc, &mut audited, noted)
+}
+
+/// What was asked by whom, what was noted, and what the audit says.
+type Audit = (
+    &'static [(u64, Asks)],
+    &'static [Log<'static>],
+    Result<(), AuditFault>,
+);
 
 /// Caller 1 has written `a`, and caller 2 `b`.
-fn written(alloc: Global) -> Result<Audited<GitNaming>, Fail> {
-    let mut audited = opened(alloc)?;
-    change(&mut audited, 1, &write(alloc, "a", "")?)?;
-    change(&mut audited, 2, &write(alloc, "b", "")?)?;
-    Ok(audited)
-}
+const WRITTEN: &[(u64, Asks)] = &[(1, Asks::Write("a")), (2, Asks::Write("b"))];
 
-/// That an empty file was written under a ticket, where, and the number that it led to.
-type Wrote = (u64, &'static str, u64);
+/// What caller 1 notes of that, and what caller 2 does.
+const FIRST: Entry = (1, Asks::Write("a"), Notes::At(2));
 
-/// The log of a caller who noted these writes.
-fn log(alloc: Global, caller: u64, writes: &[Wrote]) -> Result<CallLog, Fail> {
-    let mut entries = Vec::new(alloc);
-    for (ticket, path, sequence) in writes {
-        entries.push(LogEntry {
-            ticket: *ticket,
-            call: Call::Change(write(alloc, path, "")?),
-            answer: Answer::At(position(*sequence)),
-        })?;
-    }
-    let entries = Sequence::from_vec(entries);
-    Ok(CallLog { caller, entries })
-}
+const SECOND: Log<'static> = (2, &[(2, Asks::Write("b"), Notes::At(3))]);
 
-/// What caller 2 has noted.
-const SECOND: Noted = (2, &[(2, "b", 3)]);
+const WRONG: Result<(), AuditFault> = Err(AuditFault::WrongReply);
 
-/// A caller, and what it has noted.
-type Noted = (u64, &'static [Wrote]);
+const UNKNOWN: Result<(), AuditFault> = Err(AuditFault::UnknownCall);
 
-/// What was noted, and what the audit says. The last three: an entry twice in a log, a log that is handed in twice, and one that is left
-/// out.
-const NOTED: [(&[Noted], Result<(), AuditFault>); 6] = [
-    (&[(1, &[(1, "a", 2)]), SECOND], Ok(())),
-    (&[(1, &[(3, "a", 2)]), SECOND], Err(AuditFault::UnknownCall)),
-    (&[(1, &[(1, "a", 4)]), SECOND], Err(AuditFault::WrongReply)),
+/// The last four: an entry twice in a log, a log that is handed in twice, one that is left out, and nothing at all.
+const AUDITS: [Audit; 7] = [
+    (WRITTEN, &[(1, &[FIRST]), SECOND], Ok(())),
     (
-        &[(1, &[(1, "a", 2), (1, "a", 2)])],
+        WRITTEN,
+        &[(1, &[(3, Asks::Write("a"), Notes::At(2))]), SECOND],
+        UNKNOWN,
+    ),
+    (
+        WRITTEN,
+        &[(1, &[(1, Asks::Write("a"), Notes::At(4))]), SECOND],
+        WRONG,
+    ),
+    (
+        WRITTEN,
+        &[(1, &[FIRST, FIRST])],
         Err(AuditFault::OutOfOrder),
     ),
     (
-        &[(1, &[(1, "a", 2)]), (1, &[(1, "a", 2)])],
+        WRITTEN,
+        &[(1, &[FIRST]), (1, &[FIRST])],
         Err(AuditFault::Twice),
     ),
-    (&[SECOND], Err(AuditFault::CountsDiffer)),
+    (WRITTEN, &[SECOND], Err(AuditFault::CountsDiffer)),
+    (&[], &[], Ok(())),
 ];
-
-/// The logs of these callers.
-fn logs(alloc: Global, noted: &[Noted]) -> Result<Vec<CallLog>, Fail> {
-    let mut logs = Vec::new(alloc);
-    for (caller, writes) in noted {
-        logs.push(log(alloc, *caller, writes)?)?;
-    }
-    Ok(logs)
-}
 
 #[test]
 fn audit_faults(rt: HostRuntime) -> Result<(), Fail> {
-    let alloc = rt.alloc();
-    for (noted, said) in &NOTED {
-        let (mut audited, logs) = (written(alloc)?, logs(alloc, noted)?);
-        assert!(rt;
-            verdict(alloc, &mut audited, logs.as_slice()) == *said,
-            "{noted:?}"
-        );
+    for (number, (calls, noted, wanted)) in AUDITS.iter().enumerate() {
+        assert!(rt; said(rt.alloc(), calls, noted)? == *wanted, "row {number}");
     }
-    let none: Vec<CallLog> = Vec::new(alloc);
-    assert!(rt; verdict(alloc, &mut opened(alloc)?, none.as_slice()) == Ok(()));
     Ok(())
 }
 
-/// A question by its number.
-pub(crate) fn query(number: u64) -> Query {
-    Query {
-        mirror: 1,
-        life: 1,
-        number,
-    }
-}
+/// What changed since the mount, as the first question.
+const CHANGED: Asks = Asks::Question(1, Asked::Poll(1, EMPTY));
 
-/// The question of this number: what changed since a number.
-pub(crate) fn poll(alloc: Global, number: u64, sequence: u64) -> Request {
-    Request::Poll {
-        query: query(number),
-        since: position(sequence),
-        filter: Filter::all(alloc),
-    }
-}
+/// Both have written, and then caller 1 has asked that.
+const ASKED: &[(u64, Asks)] = &[(1, Asks::Write("a")), (2, Asks::Write("b")), (1, CHANGED)];
 
-/// The reply to the question of this number: that these changed, up to a number.
-pub(crate) fn changes(alloc: Global, number: u64, sequence: u64, marked: Vec<Marked>) -> Reply {
-    Reply::ChangesAre {
-        query: query(number),
-        target: position(sequence),
-        marked: Sequence::from_vec(marked),
-        prefixes: Sequence::new(alloc),
-    }
-}
+const BOTH: Told = Told::Changes(&[(Mark::Created, "a"), (Mark::Created, "b")]);
 
-/// The log of caller 1, who has written `a`, has asked under ticket 3 what changed since the mount, and notes this answer.
-fn first_log(alloc: Global, answer: Answer) -> Result<CallLog, Fail> {
-    let asked = LogEntry {
-        ticket: 3,
-        call: Call::Ask(poll(alloc, 1, 1)),
-        answer,
-    };
-    let mut entries = log(alloc, 1, &[(1, "a", 2)])?.entries.into_vec();
-    entries.push(asked)?;
-    let entries = Sequence::from_vec(entries);
-    Ok(CallLog { caller: 1, entries })
-}
+const NONE: Told = Told::Changes(&[]);
 
-/// What is said where caller 1, after both writes, has asked what changed since the mount, and has noted this answer.
-fn told(alloc: Global, answer: Answer) -> Result<Result<(), AuditFault>, Fail> {
-    let mut audited = written(alloc)?;
-    let _held = audited.hold(1, &poll(alloc, 1, 1))?;
-    let mut logs = logs(alloc, &[SECOND])?;
-    logs.insert(0, first_log(alloc, answer)?)?;
-    Ok(verdict(alloc, &mut audited, logs.as_slice()))
-}
-
-/// That files were created at these paths.
-pub(crate) fn created(alloc: Global, paths: &[&str]) -> Result<Vec<Marked>, Fail> {
-    let mut all = Vec::new(alloc);
-    for at in paths {
-        let (mark, path) = (Mark::Created, path(alloc, at)?);
-        all.push(Marked { mark, path })?;
-    }
-    Ok(all)
-}
+/// The reply of then, that of the opening, and none.
+const REPLIES: [Audit; 3] = [
+    (
+        ASKED,
+        &[
+            (1, &[FIRST, (3, CHANGED, Notes::Replied(1, 3, BOTH))]),
+            SECOND,
+        ],
+        Ok(()),
+    ),
+    (
+        ASKED,
+        &[
+            (1, &[FIRST, (3, CHANGED, Notes::Replied(1, 1, NONE))]),
+            SECOND,
+        ],
+        WRONG,
+    ),
+    (
+        ASKED,
+        &[(1, &[FIRST, (3, CHANGED, Notes::Unanswered)]), SECOND],
+        Ok(()),
+    ),
+];
 
 #[test]
 fn reply_of_another_state(rt: HostRuntime) -> Result<(), Fail> {
-    let alloc = rt.alloc();
-    let both = created(alloc, &["a", "b"])?;
-    assert_eq!(rt;
-        told(alloc, Answer::Replied(changes(alloc, 1, 3, both)))?,
-        Ok(())
-    );
-    let opening = told(
-        alloc,
-        Answer::Replied(changes(alloc, 1, 1, Vec::new(alloc))),
-    )?;
-    assert_eq!(rt; opening, Err(AuditFault::WrongReply));
-    assert_eq!(rt; told(alloc, Answer::Unanswered)?, Ok(()));
+    for (number, (calls, noted, wanted)) in REPLIES.iter().enumerate() {
+        assert!(rt; said(rt.alloc(), calls, noted)? == *wanted, "row {number}");
+    }
     Ok(())
 }
 
 #[test]
 fn copies_say_the_same(rt: HostRuntime) -> Result<(), Fail> {
-    let call = Call::Change(write(rt.alloc(), "a", "")?);
+    let call = call_of(rt.alloc(), Asks::Write("a"))?;
     let copy = call.copy()?;
     if let Call::Change(Change::Write { path, .. }) = &copy {
         assert_eq!(rt; path.as_bytes(), b"a".as_slice());
     } else {
         assert!(rt; false, "another call");
     }
-    let answer = Answer::At(position(2));
+    let answer = Answer::At(position(2, EMPTY));
     assert!(rt; answer.copy()? == answer);
     Ok(())
 }
 
-/// An import of files of these texts.
-fn import(alloc: Global, texts: &[&str]) -> Result<Change, Fail> {
-    let mut objects = Vec::new(alloc);
-    for text in texts {
-        let payload = Sequence::from_vec(text.as_bytes().to_vec(alloc)?);
-        objects.push(Object {
-            word: Word::Blob,
-            payload,
-        })?;
-    }
-    let objects = Sequence::from_vec(objects);
-    Ok(Change::Import { objects })
-}
-
 /// An import of an empty tree and of a text that is none, which is refused.
-fn refused(alloc: Global) -> Result<Change, Fail> {
-    let word = Word::Tree;
-    let mut objects = Vec::new(alloc);
-    for payload in [b"".as_slice(), b"x".as_slice()] {
-        let payload = Sequence::from_vec(payload.to_vec(alloc)?);
-        objects.push(Object { word, payload })?;
-    }
-    let objects = Sequence::from_vec(objects);
-    Ok(Change::Import { objects })
-}
+const BAD: Asks = Asks::Import(Word::Tree, &["", "x"]);
 
-/// The answer that the object at a place is refused.
-fn bad(place: u64, fault: PutFault) -> Answer {
-    Answer::Refused(ChangeFault::BadObject { place, fault })
-}
+const RIGHT: Notes = Notes::Bad(1, PutFault::CutShort);
 
-/// The log of caller 1 who notes an import of files of these texts and one that is refused, and both answers.
-fn imports(
-    alloc: Global,
-    texts: &[&str],
-    first: Answer,
-    second: Answer,
-) -> Result<Vec<CallLog>, Fail> {
-    let mut entries = Vec::new(alloc);
-    entries.push(LogEntry {
-        ticket: 1,
-        call: Call::Change(import(alloc, texts)?),
-        answer: first,
-    })?;
-    entries.push(LogEntry {
-        ticket: 2,
-        call: Call::Change(refused(alloc)?),
-        answer: second,
-    })?;
-    let entries = Sequence::from_vec(entries);
-    let mut logs = Vec::new(alloc);
-    logs.push(CallLog { caller: 1, entries })?;
-    Ok(logs)
-}
+const X_Y: Asks = Asks::Import(Word::Blob, &["x", "y"]);
 
-/// What is said where caller 1 has imported the files `x` and `y` and then a tree that is none, and notes for the first an import of files of
-/// these texts, and both answers.
-fn said(
-    alloc: Global,
-    texts: &[&str],
-    first: Answer,
-    second: Answer,
-) -> Result<Result<(), AuditFault>, Fail> {
-    let mut audited = opened(alloc)?;
-    change(&mut audited, 1, &import(alloc, &["x", "y"])?)?;
-    change(&mut audited, 1, &refused(alloc)?)?;
-    let logs = imports(alloc, texts, first, second)?;
-    Ok(verdict(alloc, &mut audited, logs.as_slice()))
-}
+/// Caller 1 has imported the files `x` and `y`, and then a tree that is none.
+const IMPORTED: &[(u64, Asks)] = &[(1, X_Y), (1, BAD)];
 
-/// What is noted as the second answer.
-#[derive(Clone, Copy, Debug)]
-enum Later {
-    Bad(u64, PutFault),
-    At(u64),
-    Unanswered,
-}
+/// Imports of other files: another one, the two in another order, one less, and one more.
+const X_Z: Asks = Asks::Import(Word::Blob, &["x", "z"]);
 
-/// The texts of the files of the first import as it is noted, the number to which its answer leads, the second answer, and what is said of both.
-type TwoCalls = (&'static [&'static str], u64, Later, Result<(), AuditFault>);
+const Y_X: Asks = Asks::Import(Word::Blob, &["y", "x"]);
 
-const BOTH: &[&str] = &["x", "y"];
+const X: Asks = Asks::Import(Word::Blob, &["x"]);
 
-const RIGHT: Later = Later::Bad(1, PutFault::CutShort);
+const X_Y_Y: Asks = Asks::Import(Word::Blob, &["x", "y", "y"]);
 
-const WRONG: Result<(), AuditFault> = Err(AuditFault::WrongReply);
-
-const UNKNOWN: Result<(), AuditFault> = Err(AuditFault::UnknownCall);
+/// The first import as it is noted, the number to which its answer leads, the second answer, and what is said of both.
+type TwoCalls = (Asks, u64, Notes, Result<(), AuditFault>);
 
 // An import takes no number.
 const OF_TWO_CALLS: [TwoCalls; 10] = [
-    (BOTH, 1, RIGHT, Ok(())),
-    (BOTH, 2, RIGHT, WRONG),
-    (BOTH, 1, Later::Bad(0, PutFault::CutShort), WRONG),
-    (BOTH, 1, Later::Bad(1, PutFault::BadMode), WRONG),
-    (BOTH, 1, Later::Unanswered, Ok(())),
-    (BOTH, 1, Later::At(1), WRONG),
-    // Another object, the two in another order, one less, and one more.
-    (&["x", "z"], 1, RIGHT, UNKNOWN),
-    (&["y", "x"], 1, RIGHT, UNKNOWN),
-    (&["x"], 1, RIGHT, UNKNOWN),
-    (&["x", "y", "y"], 1, RIGHT, UNKNOWN),
+    (X_Y, 1, RIGHT, Ok(())),
+    (X_Y, 2, RIGHT, WRONG),
+    (X_Y, 1, Notes::Bad(0, PutFault::CutShort), WRONG),
+    (X_Y, 1, Notes::Bad(1, PutFault::BadMode), WRONG),
+    (X_Y, 1, Notes::Unanswered, Ok(())),
+    (X_Y, 1, Notes::At(1), WRONG),
+    (X_Z, 1, RIGHT, UNKNOWN),
+    (Y_X, 1, RIGHT, UNKNOWN),
+    (X, 1, RIGHT, UNKNOWN),
+    (X_Y_Y, 1, RIGHT, UNKNOWN),
 ];
-
-fn at(number: u64) -> Answer {
-    Answer::At(position(number))
-}
-
-fn answer(second: Later) -> Answer {
-    match second {
-        Later::Bad(place, fault) => bad(place, fault),
-        Later::At(number) => at(number),
-        Later::Unanswered => Answer::Unanswered,
-    }
-}
-
-/// Whether that is said of what a row notes.
-fn is_said(alloc: Global, row: &TwoCalls) -> Result<bool, Fail> {
-    let (texts, number, second, wanted) = row;
-    Ok(said(alloc, texts, at(*number), answer(*second))? == *wanted)
-}
 
 #[test]
 fn imports_are_audited(rt: HostRuntime) -> Result<(), Fail> {
-    for (number, row) in OF_TWO_CALLS.iter().enumerate() {
-        assert!(rt; is_said(rt.alloc(), row)?, "row {number}");
+    for (number, (first, led_to, second, wanted)) in OF_TWO_CALLS.iter().enumerate() {
+        let noted = [(1, *first, Notes::At(*led_to)), (2, BAD, *second)];
+        let said = said(rt.alloc(), IMPORTED, &[(1, &noted)])?;
+        assert!(rt; said == *wanted, "row {number}");
     }
     Ok(())
 }

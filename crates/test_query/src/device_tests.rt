@@ -1,6 +1,7 @@
 //! Frames that are served over devices that fail.
 
-use crate::serving_tests::{KNOWN, opened, poll, refusal};
+use crate::calls::opened;
+use crate::serving_tests::{KNOWN, poll, refusal};
 use eden_query::{ServeFault, serve};
 use eden_stream::Counted;
 use std::alloc::Global;
@@ -8,7 +9,7 @@ use std::test::Fail;
 use test_devices::{Sink, Source};
 use test_kit::joined;
 
-/// Five frames, one of each kind and a poll that is refused, the replies to them, and where each frame and its reply end.
+/// Frames, the replies to them, and where each frame and its reply end.
 #[derive(Drop)]
 struct Frames {
     stream: Vec<u8>,
@@ -17,6 +18,14 @@ struct Frames {
 }
 
 impl Frames {
+    fn none(alloc: Global) -> Frames {
+        Frames {
+            stream: Vec::new(alloc),
+            text: Vec::new(alloc),
+            ends: Vec::new(alloc),
+        }
+    }
+
     fn add(&mut self, frame: &[u8], reply: &[u8]) -> Result<(), Fail> {
         self.stream.extend_from_slice(frame)?;
         self.text.extend_from_slice(reply)?;
@@ -56,20 +65,31 @@ impl Frames {
     }
 }
 
-/// A poll since the second number, which is ahead of the first one, and those of each kind.
-fn five_frames(alloc: Global) -> Result<Frames, Fail> {
-    let mut frames = Frames {
-        stream: Vec::new(alloc),
-        text: Vec::new(alloc),
-        ends: Vec::new(alloc),
-    };
+/// Adds so many polls since the second number, which is ahead of the first one.
+fn add_ahead(alloc: Global, frames: &mut Frames, polls: usize) -> Result<(), Fail> {
     let (ahead, refused) = (poll(alloc, 7, 2)?, refusal(alloc, 2, 1)?);
-    frames.add(ahead.as_slice(), refused.as_slice())?;
+    for _ in 0..polls {
+        frames.add(ahead.as_slice(), refused.as_slice())?;
+    }
+    Ok(())
+}
+
+/// A poll that is refused, and a frame of each kind.
+fn five_frames(alloc: Global) -> Result<Frames, Fail> {
+    let mut frames = Frames::none(alloc);
+    add_ahead(alloc, &mut frames, 1)?;
     for (frame, reply) in &KNOWN {
         let (frame, reply) = (joined(alloc, frame)?, joined(alloc, reply)?);
         frames.add(frame.as_slice(), reply.as_slice())?;
     }
     Ok(frames)
+}
+
+/// Whether all of these frames are served.
+fn are_served(alloc: Global, frames: &Frames) -> Result<bool, Fail> {
+    let mut sink = Sink::new(alloc);
+    let ended = served(alloc, Source::new(frames.stream.as_slice()), &mut sink)?;
+    Ok(ended == Ok(frames.ends.len() as u64) && sink.bytes == frames.text)
 }
 
 /// How a mount of the empty commit serves what a source gives.
@@ -78,7 +98,7 @@ fn served(
     source: Source<'_>,
     sink: &mut Sink,
 ) -> Result<Result<u64, ServeFault>, Fail> {
-    let mut mount = opened(alloc, 1000)?;
+    let mut mount = opened(alloc)?;
     let mut source = source;
     let mut reader = Counted::new(&mut source);
     let mut writer = Counted::new(sink);
@@ -90,10 +110,7 @@ fn devices_that_fail_at_each_byte(rt: HostRuntime) -> Result<(), Fail> {
     let alloc = rt.alloc();
     let frames = five_frames(alloc)?;
     let (stream, text) = (frames.stream.len(), frames.text.len());
-    let mut sink = Sink::new(alloc);
-    let ended = served(alloc, Source::new(frames.stream.as_slice()), &mut sink)?;
-    assert_eq!(rt; ended, Ok(5));
-    assert!(rt; sink.bytes == frames.text);
+    assert!(rt; frames.ends.len() == 5 && are_served(alloc, &frames)?);
     for most in [usize::MAX, 1, 3] {
         for place in 0..=stream {
             let right = frames.is_served_before(alloc, place, most)?;
@@ -114,24 +131,13 @@ const BROKEN: [(usize, usize); 4] = [(20, 0), (67, 39), (87, 39), (134, 78)];
 #[test]
 fn polls_that_break_off(rt: HostRuntime) -> Result<(), Fail> {
     let alloc = rt.alloc();
-    let (frame, reply) = (poll(alloc, 7, 2)?, refusal(alloc, 2, 1)?);
-    let stream = joined(alloc, &[frame.as_slice(), frame.as_slice()])?;
-    let text = joined(alloc, &[reply.as_slice(), reply.as_slice()])?;
+    let mut frames = Frames::none(alloc);
+    add_ahead(alloc, &mut frames, 2)?;
     for (fails_at, written) in &BROKEN {
-        let mut source = Source::new(stream.as_slice());
-        source.cut = *fails_at;
-        source.fails_at = *fails_at;
-        let mut sink = Sink::new(alloc);
-        assert_eq!(rt; served(alloc, source, &mut sink)?, Err(ServeFault::Read));
-        assert!(rt;
-            Some(sink.bytes.as_slice()) == text.get(..*written),
-            "{fails_at} bytes"
-        );
+        assert_eq!(rt; frames.text_before(*fails_at).len(), *written);
+        let right = frames.is_served_before(alloc, *fails_at, usize::MAX)?;
+        assert!(rt; right, "{fails_at} bytes");
     }
-    let mut sink = Sink::new(alloc);
-    sink.full_at = 10;
-    let ended = served(alloc, Source::new(stream.as_slice()), &mut sink)?;
-    assert_eq!(rt; ended, Err(ServeFault::Write));
-    assert!(rt; Some(sink.bytes.as_slice()) == reply.get(..10));
+    assert!(rt; frames.is_written_to(alloc, 10, usize::MAX)?);
     Ok(())
 }

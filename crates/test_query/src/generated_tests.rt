@@ -1,11 +1,10 @@
 //! Ten thousand bodies that are drawn by lot, judged by a plain reader.
 
+use crate::calls::{opened, served};
 use crate::reading_tests::{REQUEST_TAGS, is_read_plainly, plain_fault};
-use crate::serving_tests::opened;
 use eden_accumulate::Mount;
 use eden_ids::GitNaming;
-use eden_query::{ServeFault, fault_of_frame, serve};
-use eden_stream::Counted;
+use eden_query::{ServeFault, fault_of_frame};
 use std::alloc::Global;
 use std::test::Fail;
 use test_kit::{Bodies, framed};
@@ -17,10 +16,8 @@ fn end_of(
     body: &[u8],
 ) -> Result<Result<u64, ServeFault>, Fail> {
     let frame = framed(alloc, body)?;
-    let mut text = Vec::new(alloc);
-    let mut reader = Counted::new(frame.as_slice());
-    let mut writer = Counted::new(&mut text);
-    Ok(serve(alloc, &mut reader, &mut writer, mount))
+    let (_, ended) = served(alloc, frame.as_slice(), mount);
+    Ok(ended)
 }
 
 /// Whether a body's frame is served where the plain reader reads a request, and else ends the serving by the plain reader's fault.
@@ -42,7 +39,7 @@ fn is_served_plainly(
 #[test]
 fn ten_thousand_bodies(rt: HostRuntime) -> Result<(), Fail> {
     let alloc = rt.alloc();
-    let mut mount = opened(alloc, 1000)?;
+    let mut mount = opened(alloc)?;
     let mut bodies = Bodies::new(1);
     for number in 0..10_000 {
         let body = bodies.body(alloc, 600)?;

@@ -8,6 +8,8 @@ mod asked_tests;
 #[cfg(test)]
 mod audit_tests;
 #[cfg(test)]
+mod calls;
+#[cfg(test)]
 mod device_tests;
 #[cfg(test)]
 mod generated_tests;
@@ -17,6 +19,8 @@ mod held_tests;
 mod listed_tests;
 #[cfg(test)]
 mod message_tests;
+#[cfg(test)]
+mod messages;
 #[cfg(test)]
 mod reading_tests;
 #[cfg(test)]

@@ -1,14 +1,10 @@
 //! Each change of one byte of a body of each message, judged by a plain reader.
 
-use crate::message_tests::{
-    frame_of_reply, frame_of_request, read_reply, read_request, replies, requests,
-};
-use eden_ids::Kind;
-use eden_messages::Reply;
+use crate::messages::{frame_of_reply, frame_of_request, read_reply, read_request};
 use eden_query::DecodeFault;
 use std::alloc::Global;
 use std::test::Fail;
-use test_kit::{framed, joined};
+use test_kit::{REPLY_BODIES, REQUEST_BODIES, framed, joined};
 
 /// What is left of a body that is being read.
 #[derive(Drop)]
@@ -270,59 +266,47 @@ fn read_otherwise(
     Ok(None)
 }
 
-/// That a body is read as the plain reader reads it: each front of it, and with each value of each of its bytes, its own too.
-fn read_plainly(alloc: Global, body: &[u8], is_request: bool) -> Result<(), Fail> {
+/// The first place of a body in parts at which its front, or another value of the byte there, is not read as the plain reader reads it, with
+/// that value; if there is one.
+fn first_wrong(
+    alloc: Global,
+    parts: &[&[u8]],
+    is_request: bool,
+) -> Result<Option<(usize, Option<u8>)>, Fail> {
+    let body = joined(alloc, parts)?;
     for place in 0..body.len() {
         if !is_read_plainly(alloc, &body[..place], is_request)? {
-            return Err(Fail::new(format_args!("{place} bytes are read otherwise")));
+            return Ok(Some((place, None)));
         }
-        if let Some(value) = read_otherwise(alloc, body, place, is_request)? {
-            return Err(Fail::new(format_args!("{value} at {place} is read otherwise")));
+        let value = read_otherwise(alloc, body.as_slice(), place, is_request)?;
+        if value.is_some() {
+            return Ok(Some((place, value)));
         }
     }
-    Ok(())
+    Ok(None)
 }
 
-/// The bodies of a basis, a poll and a list with two patterns, since those of `requests` have none: what stands before the patterns.
+/// The parts of the bodies of a basis, a poll and a list with two patterns, since those of `REQUEST_BODIES` have none.
 const WITH_PATTERNS: [&[&[u8]]; 3] = [
-    &[&[2, 1], &[0; 24]],
-    &[&[2, 2], &[0; 24], &[7; 36]],
-    &[&[2, 4], &[0; 24], &[0, 1, b'd']],
+    &[&[2, 1], &[0; 24], &PATTERNS],
+    &[&[2, 2], &[0; 24], &[7; 36], &PATTERNS],
+    &[&[2, 4], &[0; 24], &[0, 1, b'd'], &PATTERNS],
 ];
 
 const PATTERNS: [u8; 12] = [2, 0, 4, b'a', b'/', b'*', b'*', 0, 3, b'b', b'\\', b'['];
 
 #[test]
 fn every_byte_of_each_request(rt: HostRuntime) -> Result<(), Fail> {
-    let alloc = rt.alloc();
-    for (_, body) in &requests(alloc)? {
-        read_plainly(alloc, body.as_slice(), true)?;
-    }
-    for parts in &WITH_PATTERNS {
-        let head = joined(alloc, parts)?;
-        let body = joined(alloc, &[head.as_slice(), &PATTERNS])?;
-        read_plainly(alloc, body.as_slice(), true)?;
+    for parts in REQUEST_BODIES.iter().chain(&WITH_PATTERNS) {
+        assert_eq!(rt; first_wrong(rt.alloc(), parts, true)?, None);
     }
     Ok(())
 }
 
-/// Whether a reply has a file that is not plain: its body is the plain one's with another value of one byte.
-fn is_other_kind(reply: &Reply) -> bool {
-    match reply {
-        Reply::ContentIs { content, .. } => {
-            matches!(content, Some(file) if file.kind != Kind::Plain)
-        }
-        _ => false,
-    }
-}
-
 #[test]
 fn every_byte_of_each_reply(rt: HostRuntime) -> Result<(), Fail> {
-    let alloc = rt.alloc();
-    for (reply, body) in &replies(alloc)? {
-        if !is_other_kind(reply) {
-            read_plainly(alloc, body.as_slice(), false)?;
-        }
+    for parts in &REPLY_BODIES {
+        assert_eq!(rt; first_wrong(rt.alloc(), parts, false)?, None);
     }
     Ok(())
 }

@@ -1,12 +1,13 @@
 //! The table of worked scripts, played over a mount that is asked by calls and by frames.
 
+use crate::calls::{opened, served};
+use crate::messages::{frame_of_request, read_reply};
 use eden_accumulate::Mount;
 use eden_history::{Answer, Change, ChangeFault, MountFault};
 use eden_ids::{GitNaming, Id};
 use eden_messages::{Reply, Request};
 use eden_objects::Store;
-use eden_query::{decode_reply, encode_request, reply_to, serve};
-use eden_stream::Counted;
+use eden_query::reply_to;
 use std::alloc::Global;
 use std::process::Abort;
 use std::test::Fail;
@@ -22,17 +23,13 @@ struct Asked {
 
 /// What a mount replies by a frame to a request in one.
 fn framed(alloc: Global, mount: &mut Mount<GitNaming>, request: &Request) -> Result<Reply, Fail> {
-    let frame = encode_request(alloc, request)?;
-    let mut reader = Counted::new(frame.as_slice());
-    let mut written = Vec::new(alloc);
-    let mut writer = Counted::new(&mut written);
-    let served = serve(alloc, &mut reader, &mut writer, mount)?;
-    let body = written.get(4..).unwrap_or(b"".as_slice());
-    let reply = decode_reply(alloc, body)?;
-    if served == 1 {
-        return Ok(reply);
+    let frame = frame_of_request(alloc, request)?;
+    let (written, ended) = served(alloc, frame.as_slice(), mount);
+    if ended != Ok(1) {
+        return Err(Fail::new("one frame is not answered"));
     }
-    Err(Fail::new("one frame is not answered"))
+    let body = written.get(4..).unwrap_or(b"".as_slice());
+    Ok(read_reply(alloc, body)?)
 }
 
 impl Played for Asked {
@@ -82,8 +79,7 @@ fn worked_rows(rt: HostRuntime) -> Result<(), Fail> {
 #[test]
 fn change_refusals(rt: HostRuntime) -> Result<(), Fail> {
     let alloc = rt.alloc();
-    let store = Store::new(alloc, GitNaming);
-    let mut mount = Mount::mount(alloc, store, Id::ZERO, 7, 1000)?;
+    let mut mount = opened(alloc)?;
     let answer = mount.apply(&write_too_large(alloc)?)?;
     assert!(rt; answer == Answer::Refused(ChangeFault::TooLarge));
     Ok(())

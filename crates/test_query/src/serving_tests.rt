@@ -1,11 +1,10 @@
 //! Frames of requests and what a mount replies, in whatever pieces they come.
 
+use crate::calls::{opened, served};
 use eden_accumulate::Mount;
 use eden_history::Change;
-use eden_ids::{GitNaming, Id, Kind, Path, Sequence};
-use eden_objects::Store;
-use eden_query::{FrameFault, ServeFault, Served, serve};
-use eden_stream::Counted;
+use eden_ids::{GitNaming, Kind, Path, Sequence};
+use eden_query::{FrameFault, ServeFault};
 use std::alloc::Global;
 use std::test::Fail;
 use test_devices::{Endless, Source};
@@ -83,12 +82,6 @@ pub(crate) fn refusal(alloc: Global, cause: u8, number: u8) -> Result<Vec<u8>, F
     Ok(joined(alloc, &[&[0, 0, 0, 0x23, 2, 0x84], &Q, &value])?)
 }
 
-/// A mount of the empty commit, in generation 7.
-pub(crate) fn opened(alloc: Global, limit: u64) -> Result<Mount<GitNaming>, Fail> {
-    let store = Store::new(alloc, GitNaming);
-    Ok(Mount::mount(alloc, store, Id::ZERO, 7, limit)?)
-}
-
 /// Writes a file.
 fn write(
     alloc: Global,
@@ -106,24 +99,6 @@ fn write(
     Ok(())
 }
 
-/// What a mount writes to these bytes, and how the serving ends.
-fn served(
-    alloc: Global,
-    mount: &mut Mount<GitNaming>,
-    bytes: &[u8],
-    most: usize,
-    cut: usize,
-) -> (Vec<u8>, Result<u64, ServeFault>) {
-    let mut pieces = Source::new(bytes);
-    pieces.most = most;
-    pieces.cut = cut;
-    let mut written = Vec::new(alloc);
-    let mut reader = Counted::new(&mut pieces);
-    let mut writer = Counted::new(&mut written);
-    let ended = serve(alloc, &mut reader, &mut writer, mount);
-    (written, ended)
-}
-
 fn stops(number: u64, fault: FrameFault) -> Result<u64, ServeFault> {
     Err(ServeFault::Frame { number, fault })
 }
@@ -137,7 +112,10 @@ pub(crate) fn is_served(
     text: &[u8],
     end: Result<u64, ServeFault>,
 ) -> bool {
-    let (written, ended) = served(alloc, mount, bytes, pieces.0, pieces.1);
+    let mut source = Source::new(bytes);
+    source.most = pieces.0;
+    source.cut = pieces.1;
+    let (written, ended) = served(alloc, source, mount);
     written.as_slice() == text && ended == end
 }
 
@@ -148,7 +126,7 @@ fn answers(
     text: &[u8],
     end: Result<u64, ServeFault>,
 ) -> Result<bool, Fail> {
-    let mut mount = opened(alloc, 1000)?;
+    let mut mount = opened(alloc)?;
     let whole = (usize::MAX, usize::MAX);
     let mut same = is_served(alloc, &mut mount, frames, whole, text, end)
         && is_served(alloc, &mut mount, frames, (1, usize::MAX), text, end);
@@ -176,7 +154,7 @@ fn is_refused(alloc: Global, generation: u8, sequence: u8, cause: (u8, u8)) -> R
     answers(alloc, frame.as_slice(), reply.as_slice(), Ok(1))
 }
 
-/// A frame and its reply.
+/// Frames and their replies.
 pub(crate) const KNOWN: [(&[&[u8]], &[&[u8]]); 4] = [
     (FETCH, ABSENT),
     (BASIS, NO_PATHS),
@@ -210,26 +188,34 @@ fn trailing(alloc: Global, frame: &[u8]) -> Result<Vec<u8>, Fail> {
 fn is_framed(alloc: Global, frame: &[u8], reply: &[u8]) -> Result<bool, Fail> {
     let longer = trailing(alloc, frame)?;
     let (short, more) = (FrameFault::CutShort, FrameFault::Trailing);
-    Ok(
-        answers(alloc, longer.as_slice(), &[], stops(1, more))?
-            && answers_parts(alloc, &[&[0; 4], frame], &[], stops(1, short))?
-            && answers_parts(alloc, &[frame, frame], &[reply, reply], Ok(2))?
-            && answers_parts(alloc, &[frame, &[0; 3]], &[reply], stops(2, short))?,
-    )
+    let rows: [(&[&[u8]], &[&[u8]], Result<u64, ServeFault>); 4] = [
+        (&[longer.as_slice()], &[], stops(1, more)),
+        (&[&[0; 4], frame], &[], stops(1, short)),
+        (&[frame, frame], &[reply, reply], Ok(2)),
+        (&[frame, &[0; 3]], &[reply], stops(2, short)),
+    ];
+    for (frames, replies, end) in &rows {
+        if !answers_parts(alloc, frames, replies, *end)? {
+            return Ok(false);
+        }
+    }
+    Ok(true)
+}
+
+/// So many copies of these bytes.
+fn repeated(alloc: Global, bytes: &[u8], copies: usize) -> Result<Vec<u8>, Fail> {
+    let mut all = Vec::new(alloc);
+    for _ in 0..copies {
+        all.extend_from_slice(bytes)?;
+    }
+    Ok(all)
 }
 
 /// Whether a frame that comes for ever, a byte a read, is answered so many times by the same reply, and then its reads are spent.
 fn spends(alloc: Global, frame: &[u8], reply: &[u8], replies: usize) -> Result<bool, Fail> {
-    let mut endless = Endless::new(frame);
-    let mut mount = opened(alloc, 1000)?;
-    let mut written = Vec::new(alloc);
-    let mut reader = Counted::new(&mut endless);
-    let mut writer = Counted::new(&mut written);
-    let ended = serve(alloc, &mut reader, &mut writer, &mut mount);
-    let mut wanted = Vec::new(alloc);
-    for _ in 0..replies {
-        wanted.extend_from_slice(reply)?;
-    }
+    let mut mount = opened(alloc)?;
+    let (written, ended) = served(alloc, Endless::new(frame), &mut mount);
+    let wanted = repeated(alloc, reply, replies)?;
     Ok(ended == Err(ServeFault::TurnsSpent) && written == wanted)
 }
 
@@ -269,7 +255,7 @@ fn poll_frames(rt: HostRuntime) -> Result<(), Fail> {
 /// The first front of a frame, by its length, that is not refused as one that is cut short.
 fn not_cut_short(alloc: Global, parts: &[&[u8]]) -> Result<Option<usize>, Fail> {
     let frame = joined(alloc, parts)?;
-    let mut mount = opened(alloc, 1000)?;
+    let mut mount = opened(alloc)?;
     let (whole, end) = ((usize::MAX, usize::MAX), stops(1, FrameFault::CutShort));
     for left in 1..frame.len() {
         if !is_served(alloc, &mut mount, &frame[..left], whole, &[], end) {
@@ -295,15 +281,19 @@ fn reads_spent(rt: HostRuntime) -> Result<(), Fail> {
     Ok(())
 }
 
-/// What the plain reading says of a poll in which the byte at a place has another value: the bytes written, or the fault.
-fn expected(
-    alloc: Global,
-    place: usize,
-    value: u8,
-    reply: &[u8],
-) -> Result<Result<Vec<u8>, FrameFault>, Fail> {
-    let mut changed = reply.to_vec(alloc)?;
-    Ok(match place {
+/// What is written to a poll.
+#[derive(Clone, Copy)]
+enum Written {
+    Reply,
+    /// The reply with the byte that the poll has in the same place.
+    ReplyWithByte,
+    /// The refusal for a cause, with a number.
+    Refusal(u8, u8),
+}
+
+/// What the plain reading says of a poll in which the byte at a place has another value: what is written, or the fault.
+fn expected(place: usize, value: u8) -> Result<Written, FrameFault> {
+    match place {
         // The length: above the limit, or another one than the body has.
         0 => Err(FrameFault::TooLarge),
         1..=3 => Err(FrameFault::CutShort),
@@ -313,21 +303,34 @@ fn expected(
         5 if value == 3 || value == 4 => Err(FrameFault::BadField),
         5 => Err(FrameFault::BadTag),
         // The query is the reply's.
-        6..=29 => {
-            if let Some(byte) = changed.get_mut(place) {
-                *byte = value;
-            }
-            Ok(changed)
-        }
-        30..=37 => Ok(refusal(alloc, 1, 7)?),
-        45 if value == 0 => Ok(refusal(alloc, 3, 1)?),
-        38..=45 => Ok(refusal(alloc, 2, 1)?),
+        6..=29 => Ok(Written::ReplyWithByte),
+        30..=37 => Ok(Written::Refusal(1, 7)),
+        45 if value == 0 => Ok(Written::Refusal(3, 1)),
+        38..=45 => Ok(Written::Refusal(2, 1)),
         // The root decides nothing.
-        46..=65 => Ok(changed),
+        46..=65 => Ok(Written::Reply),
         // The number of patterns, of which none is there.
         _ if value > 32 => Err(FrameFault::BadField),
         _ => Err(FrameFault::CutShort),
-    })
+    }
+}
+
+/// These bytes with this value at a place.
+fn changed(alloc: Global, parts: &[&[u8]], place: usize, value: u8) -> Result<Vec<u8>, Fail> {
+    let mut bytes = joined(alloc, parts)?;
+    if let Some(byte) = bytes.get_mut(place) {
+        *byte = value;
+    }
+    Ok(bytes)
+}
+
+/// The text that is written to a poll with this value at a place.
+fn text_of(alloc: Global, written: Written, place: usize, value: u8) -> Result<Vec<u8>, Fail> {
+    match written {
+        Written::Reply => Ok(joined(alloc, NO_CHANGES)?),
+        Written::ReplyWithByte => changed(alloc, NO_CHANGES, place, value),
+        Written::Refusal(cause, number) => refusal(alloc, cause, number),
+    }
 }
 
 /// Whether a poll in which the byte at a place has another value is answered as the plain reading says.
@@ -337,28 +340,19 @@ fn is_read_plainly(
     place: usize,
     value: u8,
 ) -> Result<bool, Fail> {
-    let (mut frame, reply) = (joined(alloc, POLL)?, joined(alloc, NO_CHANGES)?);
-    if let Some(changed) = frame.get_mut(place) {
-        *changed = value;
-    }
+    let (text, end) = match expected(place, value) {
+        Ok(written) => (text_of(alloc, written, place, value)?, Ok(1)),
+        Err(fault) => (Vec::new(alloc), stops(1, fault)),
+    };
+    let frame = changed(alloc, POLL, place, value)?;
     let whole = (usize::MAX, usize::MAX);
-    Ok(match expected(alloc, place, value, reply.as_slice())? {
-        Ok(text) => is_served(
-            alloc,
-            mount,
-            frame.as_slice(),
-            whole,
-            text.as_slice(),
-            Ok(1),
-        ),
-        Err(fault) => is_served(alloc, mount, frame.as_slice(), whole, &[], stops(1, fault)),
-    })
+    Ok(is_served(alloc, mount, frame.as_slice(), whole, text.as_slice(), end))
 }
 
 #[test]
 fn single_byte_changes(rt: HostRuntime) -> Result<(), Fail> {
     let alloc = rt.alloc();
-    let mut mount = opened(alloc, 1000)?;
+    let mut mount = opened(alloc)?;
     for (place, byte) in joined(alloc, POLL)?.iter().enumerate() {
         for value in &VALUES {
             let right = value == byte || is_read_plainly(alloc, &mut mount, place, *value)?;
@@ -370,7 +364,7 @@ fn single_byte_changes(rt: HostRuntime) -> Result<(), Fail> {
 
 /// A mount in generation 7 of the files `d/a` and `e`, which hold `hi`.
 fn two_files(alloc: Global) -> Result<Mount<GitNaming>, Fail> {
-    let mut mount = opened(alloc, 1000)?;
+    let mut mount = opened(alloc)?;
     for at in [b"d/a".as_slice(), b"e".as_slice()] {
         write(alloc, &mut mount, at, Kind::Exec, b"hi".as_slice())?;
     }
@@ -485,20 +479,24 @@ fn answers_two(
     ))
 }
 
-#[test]
-fn basis_of_a_pattern_and_a_file(rt: HostRuntime) -> Result<(), Fail> {
-    assert!(rt; answers_two(rt.alloc(), ASKED, REPLIED, 1)?);
-    Ok(())
-}
+/// What it is called, two frames, their replies, and how many bytes come at once.
+type TwoFrames = (
+    &'static str,
+    &'static [&'static [u8]],
+    &'static [&'static [u8]],
+    usize,
+);
+
+const TWO_FRAMES: [TwoFrames; 3] = [
+    ("basis_of_a_pattern_and_a_file", ASKED, REPLIED, 1),
+    ("poll_by_a_pattern", POLLED, CHANGED, usize::MAX),
+    ("list_of_a_directory", LISTED, BELOW, 1),
+];
 
 #[test]
-fn poll_by_a_pattern(rt: HostRuntime) -> Result<(), Fail> {
-    assert!(rt; answers_two(rt.alloc(), POLLED, CHANGED, usize::MAX)?);
-    Ok(())
-}
-
-#[test]
-fn list_of_a_directory(rt: HostRuntime) -> Result<(), Fail> {
-    assert!(rt; answers_two(rt.alloc(), LISTED, BELOW, 1)?);
+fn frames_by_patterns(rt: HostRuntime) -> Result<(), Fail> {
+    for (name, frames, replies, most) in &TWO_FRAMES {
+        assert!(rt; answers_two(rt.alloc(), frames, replies, *most)?, "{name}");
+    }
     Ok(())
 }
