@@ -1,14 +1,15 @@
 //! What a stored history keeps of a stream of frames that was served.
 
 use crate::audit_tests::{Asks, Entry, Log, Notes, audited, verdict};
-use crate::calls::{answered, hold, served};
+use crate::calls::{hold, served};
 use crate::messages::{
     Asked, EMPTY, Told, frame_of_reply, frame_of_request, position, reply_of, request_of,
 };
 use eden_audit::{AuditFault, Audited, Settled};
+use eden_globs::Filter;
 use eden_history::Mark;
 use eden_ids::{GitNaming, Kind};
-use eden_query::append_reply;
+use eden_query::{answer, append_reply};
 use std::alloc::Global;
 use std::test::Fail;
 
@@ -123,7 +124,7 @@ fn append(
     text: &mut Vec<u8>,
 ) -> Result<(), Fail> {
     let (raw, store) = hold(alloc, audited, number, asked)?;
-    let reply = answered(alloc, &raw, &store)?;
+    let reply = answer(alloc, &raw, &store, &Filter::all(alloc))?;
     append_reply(text, &reply)?;
     Ok(())
 }

@@ -188,18 +188,12 @@ fn trailing(alloc: Global, frame: &[u8]) -> Result<Vec<u8>, Fail> {
 fn is_framed(alloc: Global, frame: &[u8], reply: &[u8]) -> Result<bool, Fail> {
     let longer = trailing(alloc, frame)?;
     let (short, more) = (FrameFault::CutShort, FrameFault::Trailing);
-    let rows: [(&[&[u8]], &[&[u8]], Result<u64, ServeFault>); 4] = [
-        (&[longer.as_slice()], &[], stops(1, more)),
-        (&[&[0; 4], frame], &[], stops(1, short)),
-        (&[frame, frame], &[reply, reply], Ok(2)),
-        (&[frame, &[0; 3]], &[reply], stops(2, short)),
-    ];
-    for (frames, replies, end) in &rows {
-        if !answers_parts(alloc, frames, replies, *end)? {
-            return Ok(false);
-        }
-    }
-    Ok(true)
+    Ok(
+        answers_parts(alloc, &[longer.as_slice()], &[], stops(1, more))?
+            && answers_parts(alloc, &[&[0; 4], frame], &[], stops(1, short))?
+            && answers_parts(alloc, &[frame, frame], &[reply, reply], Ok(2))?
+            && answers_parts(alloc, &[frame, &[0; 3]], &[reply], stops(2, short))?,
+    )
 }
 
 /// So many copies of these bytes.
