@@ -129,7 +129,7 @@ hold() {
 what=REFUSE narrow=0 calls=1 hits=2 told_of=NoMemory
 all=0 all_same=0 all_told=0
 printf '%-24s %8s %8s %8s\n' 'growths of' refused same NoMemory
-for name in puts checkouts ranges directories imports batches decoding serving staying overlapping repeated remounted scripts; do
+for name in puts checkouts ranges directories imports batches decoding serving staying overlapping repeated remounted desks served-desks scripts; do
     each "$name" judge_rig /dev/null "$rig" "$name"
 done
 edends 'edend run'

@@ -12,6 +12,7 @@
 mod batches;
 mod bodies;
 mod decoding;
+mod desks;
 mod mounted;
 mod objects;
 mod refusals;
@@ -25,6 +26,7 @@ mod told;
 use crate::batches::read_batch;
 use crate::bodies::read_bodies;
 use crate::decoding::decode;
+use crate::desks::{call, serve_desk};
 use crate::mounted::go_through;
 use crate::objects::puts;
 use crate::refusals::{Refusals, again};
@@ -37,7 +39,7 @@ use std::env;
 use std::sync::Wait;
 
 /// What is called one after another.
-const NAMES: [&str; 13] = [
+const NAMES: [&str; 15] = [
     "puts",
     "checkouts",
     "ranges",
@@ -50,6 +52,8 @@ const NAMES: [&str; 13] = [
     "overlapping",
     "repeated",
     "remounted",
+    "desks",
+    "served-desks",
     "scripts",
 ];
 
@@ -83,6 +87,8 @@ fn make(rt: &HostRuntime, wait: &impl Wait, name: &str) -> Result<u64> {
         "overlapping" => follow(rt, &OVERLAPPING),
         "repeated" => follow(rt, &REPEATED),
         "remounted" => follow(rt, &REMOUNTED),
+        "desks" => call(rt, wait),
+        "served-desks" => serve_desk(rt, wait),
         "scripts" => run_all(rt),
         _ => make_low(rt, name),
     }
