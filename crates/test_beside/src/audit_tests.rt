@@ -1,9 +1,8 @@
 //! Audits of what was drawn by lot: callers note what the world says, and a mount that stores its history is audited by that.
 
-use crate::calls::{hold, world_answers, world_replies};
 use crate::imports::Roots;
 use crate::lot::Lot;
-use crate::sights::{OF_CHANGES, Seen};
+use crate::outcomes::Outcomes;
 use crate::stores::{Commits, family};
 use eden_accumulate::Mount;
 use eden_audit::{Answer, AuditFault, Audited, Call, CallLog, LogEntry, audit};
@@ -25,12 +24,6 @@ struct Scribes {
     audited: Audited<GitNaming>,
     world: World<GitNaming>,
     notes: Vec<(u64, LogEntry)>,
-}
-
-/// Makes a change for a caller.
-fn make(audited: &mut Audited<GitNaming>, caller: u64, change: &Change) -> Result<(), Fail> {
-    let _ = audited.apply(caller, change)?;
-    Ok(())
 }
 
 impl Scribes {
@@ -61,13 +54,13 @@ impl Scribes {
         alloc: Global,
         lot: &mut Lot,
         roots: &mut Roots,
-        seen: &mut Seen,
+        outcomes: &mut Outcomes,
     ) -> Result<(), Fail> {
         let caller = lot.below(3) as u64;
         let change = lot.change(alloc, roots, self.world.now())?;
-        make(&mut self.audited, caller, &change)?;
-        let told = world_answers(&mut self.world, &change)?;
-        seen.note_change(&change, &told, roots);
+        let _ = self.audited.apply(caller, &change)?;
+        let told = self.world.apply(&change)?;
+        outcomes.count(&change, &told, roots);
         self.note(caller, Call::Change(change), Answer::from(told))
     }
 
@@ -87,8 +80,8 @@ impl Scribes {
     }
 
     fn ask_one(&mut self, caller: u64, request: Request) -> Result<(), Fail> {
-        let _ = hold(&mut self.audited, caller, &request)?;
-        let reply = world_replies(&self.world, &request)?;
+        let _ = self.audited.hold(caller, &request)?;
+        let reply = self.world.reply(&request)?;
         self.note(caller, Call::Ask(request), Answer::Replied(reply))
     }
 
@@ -168,12 +161,12 @@ impl Scribes {
         alloc: Global,
         seed: u64,
         first: &[Id; 4],
-        seen: &mut Seen,
+        outcomes: &mut Outcomes,
     ) -> Result<(), Fail> {
         let mut lot = Lot::new(seed);
         let mut roots = Roots::new(first);
         for _ in 0..30 {
-            self.change(alloc, &mut lot, &mut roots, seen)?;
+            self.change(alloc, &mut lot, &mut roots, outcomes)?;
             if lot.below(3) == 0 {
                 self.ask(alloc, &mut lot)?;
             }
@@ -198,10 +191,10 @@ fn audit_alike(
     alloc: Global,
     commits: &mut Commits<4>,
     seed: u64,
-    seen: &mut Seen,
+    outcomes: &mut Outcomes,
 ) -> Result<(), Fail> {
     let mut scribes = Scribes::opened(alloc, commits, 400)?;
-    scribes.go_on(alloc, seed, &commits.ids, seen)?;
+    scribes.go_on(alloc, seed, &commits.ids, outcomes)?;
     assert!(rt; scribes.said(alloc, None)? == Ok(()), "seed {seed}");
     let untold = scribes.untold(alloc)?;
     assert!(rt; untold.is_none(), "seed {seed}, ticket {untold:?}");
@@ -212,10 +205,10 @@ fn audit_alike(
 fn generated_audits(rt: HostRuntime) -> Result<(), Fail> {
     let alloc = rt.alloc();
     let mut commits = family(alloc)?;
-    let mut seen = Seen::new();
+    let mut outcomes = Outcomes::new();
     for seed in 0..12_u64 {
-        audit_alike(&rt, alloc, &mut commits, seed, &mut seen)?;
+        audit_alike(&rt, alloc, &mut commits, seed, &mut outcomes)?;
     }
-    assert_eq!(rt; seen.missing(&OF_CHANGES), None);
+    assert!(rt; outcomes.has_all(), "{outcomes:?}");
     Ok(())
 }

@@ -1,6 +1,5 @@
 //! A mount and a world side by side, and what each of them says.
 
-use crate::calls::{mount_answers, world_answers};
 use eden_accumulate::{Mount, expand};
 use eden_globs::Filter;
 use eden_history::{Answer, Change, Marked, Position, SinceFault};
@@ -37,15 +36,13 @@ impl Step<'_> {
 }
 
 /// The kind and the bytes of a file.
-type Shown<'a> = Option<(Kind, &'a [u8])>;
-
-pub(crate) fn shown(file: Option<&Content>) -> Shown<'_> {
+fn seen(file: Option<&Content>) -> Option<(Kind, &[u8])> {
     let content = file?;
     Some((content.kind, content.bytes.as_slice()))
 }
 
 /// The file that a mount reads at a path.
-pub(crate) fn read<'a>(mount: &'a Mount<GitNaming>, path: &Path) -> Shown<'a> {
+fn read<'a>(mount: &'a Mount<GitNaming>, path: &Path) -> Option<(Kind, &'a [u8])> {
     mount.read(path).ok()
 }
 
@@ -103,16 +100,15 @@ impl Pair {
 
     /// Makes the change on both: they answer alike.
     pub(crate) fn apply(&mut self, step: &Step) -> Result<Answer, Fail> {
-        let told = mount_answers(&mut self.mount, step.change)?;
-        let expected = world_answers(&mut self.world, step.change)?;
-        step.alike(&told, &expected)?;
+        let told = self.mount.apply(step.change)?;
+        step.alike(&told, &self.world.apply(step.change)?)?;
         step.alike(self.mount.position(), self.world.position())?;
         Ok(told)
     }
 
     /// Both have the same file at a path.
     fn same_file(&self, step: &Step, path: &Path) -> Result<(), Fail> {
-        let expected = shown(file(&self.world, path));
+        let expected = seen(file(&self.world, path));
         step.alike((path, read(&self.mount, path)), (path, expected))
     }
 
@@ -140,21 +136,7 @@ impl Pair {
         step.alike(dirty.as_slice(), expected.as_slice())
     }
 
-    /// What the mount says changed since a position: the paths with their marks, and the directories that were renamed.
-    fn mount_since(
-        &self,
-        alloc: Global,
-        since: &Position,
-    ) -> Result<Result<Told, SinceFault>, Fail> {
-        let range = match self.mount.range_since(since) {
-            Ok(range) => range,
-            Err(fault) => return Ok(Err(fault)),
-        };
-        let marked = Sequence::from_vec(expand(alloc, self.mount.store(), &range)?);
-        Ok(Ok((marked, range.prefixes)))
-    }
-
-    /// What the world says of that.
+    /// What the world says changed since a position: the paths with their marks, and the directories that were renamed.
     fn world_since(&self, since: &Position) -> Result<Result<Told, SinceFault>, Fail> {
         if let Some(fault) = self.world.now().status(self.world.floor()?, *since) {
             return Ok(Err(fault));
@@ -165,10 +147,20 @@ impl Pair {
     }
 
     /// Both say the same of what changed since a position.
-    fn same_since(&self, alloc: Global, step: &Step, since: &Position) -> Result<(), Fail> {
-        let told = self.mount_since(alloc, since)?;
-        let expected = self.world_since(since)?;
-        step.alike((since, told), (since, expected))
+    pub(crate) fn same_since(
+        &self,
+        alloc: Global,
+        step: &Step,
+        since: &Position,
+    ) -> Result<(), Fail> {
+        match (self.mount.range_since(since), self.world_since(since)?) {
+            (Ok(range), Ok((marked, prefixes))) => {
+                let told = expand(alloc, self.mount.store(), &range)?;
+                step.alike((since, told.as_slice()), (since, marked.as_slice()))?;
+                step.alike((since, &range.prefixes), (since, &prefixes))
+            }
+            (told, expected) => step.alike((since, told.err()), (since, expected.err())),
+        }
     }
 
     /// Both say the same since each number up to the present one, of the first hundred.

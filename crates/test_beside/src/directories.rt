@@ -2,7 +2,7 @@
 
 use crate::lot::Lot;
 use crate::stores::path;
-use eden_history::Change;
+use eden_history::{Answer, Change, ChangeFault};
 use eden_ids::{Files, Path};
 use std::alloc::Global;
 use std::test::Fail;
@@ -50,5 +50,68 @@ impl Lot {
             old: self.one_of(alloc, present.as_slice(), 3)?,
             new: self.one_of(alloc, present.as_slice(), 1)?,
         })
+    }
+}
+
+/// How many directories were renamed, to another path and to their own, and how many renames were refused, for each cause.
+#[derive(Clone, Copy, Debug, PartialEq)]
+pub(crate) struct Moved {
+    away: u64,
+    in_place: u64,
+    no_directory: u64,
+    no_entry: u64,
+    into_itself: u64,
+    taken: u64,
+}
+
+/// One more.
+fn count(number: &mut u64) {
+    *number = number.saturating_add(1);
+}
+
+impl Moved {
+    /// None yet.
+    pub(crate) fn new() -> Moved {
+        Moved {
+            away: 0,
+            in_place: 0,
+            no_directory: 0,
+            no_entry: 0,
+            into_itself: 0,
+            taken: 0,
+        }
+    }
+
+    /// Counts a change by its answer.
+    pub(crate) fn count(&mut self, change: &Change, answer: &Answer) {
+        let Change::RenameDir { old, new } = change else {
+            return;
+        };
+        match answer {
+            Answer::At(_) if old == new => count(&mut self.in_place),
+            Answer::At(_) => count(&mut self.away),
+            Answer::Refused(fault) => self.count_refusal(*fault),
+            Answer::Checked { .. } => {}
+        }
+    }
+
+    fn count_refusal(&mut self, fault: ChangeFault) {
+        match fault {
+            ChangeFault::NotADirectory => count(&mut self.no_directory),
+            ChangeFault::NoEntry => count(&mut self.no_entry),
+            ChangeFault::IntoItself => count(&mut self.into_itself),
+            ChangeFault::IsADirectory => count(&mut self.taken),
+            _ => {}
+        }
+    }
+
+    /// Whether there was some of each.
+    pub(crate) fn has_all(&self) -> bool {
+        self.away > 0
+            && self.in_place > 0
+            && self.no_directory > 0
+            && self.no_entry > 0
+            && self.into_itself > 0
+            && self.taken > 0
     }
 }

@@ -3,7 +3,7 @@
 use crate::comparing::{Pair, Step};
 use crate::imports::Roots;
 use crate::lot::Lot;
-use crate::sights::{OF_CHANGES, Seen};
+use crate::outcomes::Outcomes;
 use crate::stores::{Commits, family};
 use std::alloc::Global;
 use std::test::Fail;
@@ -14,10 +14,10 @@ fn go_on(
     pair: &mut Pair,
     step: &Step,
     roots: &Roots,
-    seen: &mut Seen,
+    outcomes: &mut Outcomes,
 ) -> Result<(), Fail> {
     let answer = pair.apply(step)?;
-    seen.note_change(step.change, &answer, roots);
+    outcomes.count(step.change, &answer, roots);
     pair.same_files(alloc, step)?;
     pair.same_dirty(alloc, step)?;
     pair.same_past(alloc, step)
@@ -28,7 +28,7 @@ fn go_alike(
     alloc: Global,
     commits: &mut Commits<4>,
     limit: u64,
-    seen: &mut Seen,
+    outcomes: &mut Outcomes,
 ) -> Result<(), Fail> {
     let mut pair = Pair::mounted(alloc, &mut commits.store, commits.ids[2], limit)?;
     let mut lot = Lot::new(limit);
@@ -40,7 +40,7 @@ fn go_alike(
             number,
             change: &change,
         };
-        go_on(alloc, &mut pair, &step, &roots, seen)?;
+        go_on(alloc, &mut pair, &step, &roots, outcomes)?;
     }
     Ok(())
 }
@@ -49,10 +49,10 @@ fn go_alike(
 fn generated_changes(rt: HostRuntime) -> Result<(), Fail> {
     let alloc = rt.alloc();
     let mut commits = family(alloc)?;
-    let mut seen = Seen::new();
+    let mut outcomes = Outcomes::new();
     for limit in [0, 150, 400, 2000, 1_000_000] {
-        go_alike(alloc, &mut commits, limit, &mut seen)?;
+        go_alike(alloc, &mut commits, limit, &mut outcomes)?;
     }
-    assert_eq!(rt; seen.missing(&OF_CHANGES), None);
+    assert!(rt; outcomes.has_all(), "{outcomes:?}");
     Ok(())
 }

@@ -1,6 +1,5 @@
 //! Imports that are made or refused, by a mount and by the world alike.
 
-use crate::calls::{mount_answers, world_answers};
 use eden_accumulate::Mount;
 use eden_history::{Answer, Change, ChangeFault, Position};
 use eden_ids::{Id, Sequence};
@@ -42,8 +41,8 @@ impl Colliding {
     fn import(&mut self, alloc: Global, texts: &[&str]) -> Result<Answer, Fail> {
         let objects = files(alloc, texts)?;
         let change = Change::Import { objects };
-        let told = mount_answers(&mut self.mount, &change)?;
-        if told == world_answers(&mut self.world, &change)? {
+        let told = self.mount.apply(&change)?;
+        if told == self.world.apply(&change)? {
             return Ok(told);
         }
         Err(Fail::new("the world answers otherwise"))
@@ -86,11 +85,9 @@ impl Colliding {
     /// Whether both are at a position, and have this file under its first byte.
     fn has(&self, at: Position, file: Option<&str>) -> bool {
         let held = self.mount.store().blob(Id([b'a'; 20]));
-        let same = match file {
-            Some(text) => held == Some(text.as_bytes()),
-            None => held.is_none(),
-        };
-        same && self.mount.position() == at && self.world.position() == at
+        held == file.map(|text: &str| text.as_bytes())
+            && self.mount.position() == at
+            && self.world.position() == at
     }
 }
 

@@ -1,9 +1,9 @@
 //! Imports drawn by lot, and the commits that changes go over to.
 
 use crate::lot::Lot;
-use eden_history::Change;
+use eden_history::{Answer, Change, ChangeFault};
 use eden_ids::{GitNaming, Id, Naming, Sequence};
-use eden_objects::{Object, Word};
+use eden_objects::{Object, PutFault, Word};
 use std::alloc::Global;
 use std::test::Fail;
 use test_kit::{commit_of, push_entry};
@@ -49,7 +49,7 @@ impl Roots {
     }
 
     /// Whether the store had no such commit in the beginning.
-    pub(crate) fn is_imported(&self, commit: Id) -> bool {
+    fn is_imported(&self, commit: Id) -> bool {
         !self.first.contains(&commit)
     }
 }
@@ -113,5 +113,55 @@ impl Lot {
         roots.newest = batch.grow_all()?;
         let objects = Sequence::from_vec(batch.objects);
         Ok(Change::Import { objects })
+    }
+}
+
+/// How many imports were made, and how many were refused for a child that is missing or of another kind; and how many changes went over to
+/// a commit that an import had put.
+#[derive(Clone, Copy, Debug, PartialEq)]
+pub(crate) struct Imported {
+    made: u64,
+    missing: u64,
+    wrong: u64,
+    gone_over: u64,
+}
+
+/// One more.
+fn count(number: &mut u64) {
+    *number = number.saturating_add(1);
+}
+
+impl Imported {
+    /// None yet.
+    pub(crate) fn new() -> Imported {
+        Imported {
+            made: 0,
+            missing: 0,
+            wrong: 0,
+            gone_over: 0,
+        }
+    }
+
+    /// Counts a change by its answer.
+    pub(crate) fn count(&mut self, change: &Change, answer: &Answer, roots: &Roots) {
+        match (change, answer) {
+            (Change::Import { .. }, Answer::At(_)) => count(&mut self.made),
+            (_, Answer::Refused(ChangeFault::BadObject { fault, .. })) => match fault {
+                PutFault::MissingChild => count(&mut self.missing),
+                PutFault::WrongChildKind => count(&mut self.wrong),
+                _ => {}
+            },
+            (Change::Checkout { commit, .. }, Answer::Checked { position, .. })
+            | (Change::Reset { commit }, Answer::At(position))
+                if position.root == *commit && roots.is_imported(*commit) => {
+                count(&mut self.gone_over);
+            }
+            _ => {}
+        }
+    }
+
+    /// Whether there was some of each.
+    pub(crate) fn has_all(&self) -> bool {
+        self.made > 0 && self.missing > 0 && self.wrong > 0 && self.gone_over > 0
     }
 }

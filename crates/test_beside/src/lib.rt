@@ -8,8 +8,6 @@
 #[cfg(test)]
 mod audit_tests;
 #[cfg(test)]
-mod calls;
-#[cfg(test)]
 mod changes_tests;
 #[cfg(test)]
 mod comparing;
@@ -32,6 +30,8 @@ mod messages_tests;
 #[cfg(test)]
 mod mount_tests;
 #[cfg(test)]
+mod outcomes;
+#[cfg(test)]
 mod past;
 #[cfg(test)]
 mod scene;
@@ -39,7 +39,5 @@ mod scene;
 mod schedule_lot;
 #[cfg(test)]
 mod schedule_tests;
-#[cfg(test)]
-mod sights;
 #[cfg(test)]
 mod stores;

@@ -60,48 +60,7 @@ impl Lot {
         Ok(Filter::parse(alloc, &patterns[..self.below(3)])?)
     }
 
-    /// A place not far from the present one.
-    fn place(&mut self, now: &Position) -> Position {
-        Position {
-            generation: now.generation.saturating_sub(self.below(8) as u64 / 7),
-            sequence: now
-                .sequence
-                .saturating_add(1)
-                .saturating_sub(self.below(16) as u64),
-            root: now.root,
-        }
-    }
-
-    /// A request of this kind by a filter: a basis, a poll since a place not far from the present one, a fetch, or else a list of what stands
-    /// below a directory.
-    pub(crate) fn request(
-        &mut self,
-        alloc: Global,
-        kind: usize,
-        query: Query,
-        now: &Position,
-        filter: Filter,
-    ) -> Result<Request, Fail> {
-        Ok(match kind {
-            0 => Request::Basis { query, filter },
-            1 => Request::Poll {
-                query,
-                since: self.place(now),
-                filter,
-            },
-            2 => Request::Fetch {
-                query,
-                path: self.path(alloc)?,
-            },
-            _ => Request::List {
-                query,
-                prefix: self.directory(alloc)?,
-                filter,
-            },
-        })
-    }
-
-    /// A request of each kind by a filter.
+    /// A basis, a poll since a place not far from the present one, a fetch, and a list of what stands below a directory, by a filter.
     pub(crate) fn requests(
         &mut self,
         alloc: Global,
@@ -109,10 +68,33 @@ impl Lot {
         now: &Position,
         filter: &Filter,
     ) -> Result<Vec<Request>, Fail> {
+        let since = Position {
+            generation: now.generation.saturating_sub(self.below(8) as u64 / 7),
+            sequence: now
+                .sequence
+                .saturating_add(1)
+                .saturating_sub(self.below(16) as u64),
+            root: now.root,
+        };
         let mut requests = Vec::new(alloc);
-        for kind in 0..4 {
-            requests.push(self.request(alloc, kind, query, now, filter.copy()?)?)?;
-        }
+        requests.push(Request::Basis {
+            query,
+            filter: filter.copy()?,
+        })?;
+        requests.push(Request::Poll {
+            query,
+            since,
+            filter: filter.copy()?,
+        })?;
+        requests.push(Request::Fetch {
+            query,
+            path: self.path(alloc)?,
+        })?;
+        requests.push(Request::List {
+            query,
+            prefix: self.directory(alloc)?,
+            filter: filter.copy()?,
+        })?;
         Ok(requests)
     }
 

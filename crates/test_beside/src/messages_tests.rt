@@ -1,18 +1,17 @@
 //! What a mount replies, to frames and from what it held, beside what the world says.
 
-use crate::calls::{hold, world_replies};
 use crate::comparing::{Pair, Step};
 use crate::frames::replied;
 use crate::imports::Roots;
 use crate::lot::Lot;
-use crate::sights::{OF_CHANGES, Seen};
+use crate::outcomes::Outcomes;
 use crate::stores::{Commits, family};
 use eden_globs::Filter;
 use eden_history::Change;
 use eden_ids::GitNaming;
 use eden_messages::{Query, Reply, Request};
 use eden_objects::Store;
-use eden_query::{Raw, answer};
+use eden_query::{Raw, Served, answer};
 use std::alloc::Global;
 use std::test::Fail;
 
@@ -51,8 +50,8 @@ fn held_alike(
     filter: Filter,
 ) -> Result<Held, Fail> {
     let told = replied(alloc, &mut pair.mount, &request)?;
-    let reply = world_replies(&pair.world, &request)?;
-    let (raw, store) = hold(&mut pair.mount, 1, &request)?;
+    let reply = pair.world.reply(&request)?;
+    let (raw, store) = pair.mount.hold(1, &request)?;
     let held = Held {
         request,
         filter,
@@ -133,9 +132,9 @@ impl Replies {
     }
 
     /// Makes the change on both, and asks.
-    fn go_on(&mut self, alloc: Global, step: &Step, seen: &mut Seen) -> Result<(), Fail> {
+    fn go_on(&mut self, alloc: Global, step: &Step, outcomes: &mut Outcomes) -> Result<(), Fail> {
         let answer = self.pair.apply(step)?;
-        seen.note_change(step.change, &answer, &self.roots);
+        outcomes.count(step.change, &answer, &self.roots);
         self.keep(alloc, step)?;
         if step.number % 4 == 0 {
             self.kept.clear();
@@ -149,7 +148,7 @@ fn reply_alike(
     alloc: Global,
     commits: &mut Commits<4>,
     limit: u64,
-    seen: &mut Seen,
+    outcomes: &mut Outcomes,
 ) -> Result<(), Fail> {
     let mut replies = Replies::opened(alloc, commits, limit)?;
     for number in 1..=80 {
@@ -159,7 +158,7 @@ fn reply_alike(
             number,
             change: &change,
         };
-        replies.go_on(alloc, &step, seen)?;
+        replies.go_on(alloc, &step, outcomes)?;
     }
     Ok(())
 }
@@ -168,10 +167,10 @@ fn reply_alike(
 fn generated_requests(rt: HostRuntime) -> Result<(), Fail> {
     let alloc = rt.alloc();
     let mut commits = family(alloc)?;
-    let mut seen = Seen::new();
+    let mut outcomes = Outcomes::new();
     for limit in [0, 150, 400, 2000, 1_000_000] {
-        reply_alike(alloc, &mut commits, limit, &mut seen)?;
+        reply_alike(alloc, &mut commits, limit, &mut outcomes)?;
     }
-    assert_eq!(rt; seen.missing(&OF_CHANGES), None);
+    assert!(rt; outcomes.has_all(), "{outcomes:?}");
     Ok(())
 }

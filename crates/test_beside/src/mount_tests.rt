@@ -1,6 +1,5 @@
 //! What a mount alone says.
 
-use crate::calls::mount_answers;
 use crate::stores::{Commits, path, sharing, two_commits};
 use eden_accumulate::{ChangeFault, Mode, Mount, expand};
 use eden_globs::Filter;
@@ -11,7 +10,6 @@ use eden_objects::{Object, Store, Word};
 use eden_workcopy::WorkCopy;
 use std::alloc::Global;
 use std::test::Fail;
-use test_kit::spaced;
 
 fn mount_first(alloc: Global, commits: &mut Commits<2>) -> Result<Mount<GitNaming>, Fail> {
     Ok(Mount::mount(alloc, commits.store.share()?, commits.ids[0], 7, 1000)?)
@@ -94,29 +92,14 @@ fn make(
     })
 }
 
-/// Makes these calls, none of which may be refused.
-fn make_all(alloc: Global, mount: &mut Mount<GitNaming>, acts: &[Act]) -> Result<(), Fail> {
-    for act in acts {
-        let _ = make(alloc, mount, *act, Id::ZERO)??;
-    }
-    Ok(())
-}
-
-/// How many paths are told of what changed since a number.
-fn told_since(mount: &Mount<GitNaming>, sequence: u64) -> Result<usize, SinceFault> {
-    let mut place = mount.position();
-    place.sequence = sequence;
-    match mount.changes_since(&place) {
-        Ok(changes) => Ok(changes.marked.len()),
-        Err(fault) => Err(fault),
-    }
-}
-
 /// What is told of a mount at the last number: no file, and no path that changed since; what changed since the fifth number is truncated.
 fn tells_nothing(alloc: Global, mount: &Mount<GitNaming>) -> Result<bool, Fail> {
-    let none = told_since(mount, u64::MAX) == Ok(0);
-    let truncated = told_since(mount, 5) == Err(SinceFault::Truncated(u64::MAX));
-    Ok(none && truncated && listed(alloc, mount)?.is_empty())
+    let mut place = mount.position();
+    let none = mount.changes_since(&place)?.marked.is_empty();
+    place.sequence = 5;
+    let fault = mount.changes_since(&place).err();
+    let files = listed(alloc, mount, &Filter::all(alloc))?;
+    Ok(none && files.is_empty() && fault == Some(SinceFault::Truncated(u64::MAX)))
 }
 
 /// Whether a mount reads no file at a path.
@@ -204,7 +187,8 @@ fn parted(
 ) -> Result<(Mount<GitNaming>, Mount<GitNaming>), Fail> {
     let mut mount = mount_first(alloc, commits)?;
     let before = mount.copy()?;
-    make_all(alloc, &mut mount, &[Act::Write("a"), Act::Import])?;
+    mount.write(&path(alloc, "a")?, Kind::Exec, b"1".as_slice())?;
+    mount.import(file(alloc)?.as_slice())?;
     Ok((before, mount))
 }
 
@@ -232,7 +216,7 @@ fn are_parted(
     before: &Mount<GitNaming>,
     mount: &Mount<GitNaming>,
 ) -> Result<bool, Fail> {
-    let written = holds(alloc, mount, "a", (Kind::Plain, b"1".as_slice()))?;
+    let written = holds(alloc, mount, "a", (Kind::Exec, b"1".as_slice()))?;
     let kept = holds(alloc, before, "a", (Kind::Plain, b"x".as_slice()))?;
     let numbers = (before.position().sequence, mount.position().sequence);
     Ok(written && kept && numbers == (1, 2))
@@ -248,17 +232,22 @@ fn copies_part(rt: HostRuntime) -> Result<(), Fail> {
     Ok(())
 }
 
-/// The paths of the files, as a snapshot tells them, each with a space behind it.
-fn listed(alloc: Global, mount: &Mount<GitNaming>) -> Result<Vec<u8>, Fail> {
+/// The paths of the files that a filter admits, as a snapshot tells them, each with a space behind it.
+fn listed(alloc: Global, mount: &Mount<GitNaming>, filter: &Filter) -> Result<Vec<u8>, Fail> {
     let snapshot = mount.snapshot()?;
-    let paths = snapshot.files(mount.store(), &Filter::all(alloc))?;
-    Ok(spaced(alloc, paths.as_slice())?)
+    let mut text = Vec::new(alloc);
+    for path in snapshot.files(mount.store(), filter)? {
+        text.extend_from_slice(path.as_bytes())?;
+        text.push(b' ')?;
+    }
+    Ok(text)
 }
 
 /// A mount of the first commit where one file was written and another one removed.
 fn changed(alloc: Global, commits: &mut Commits<2>) -> Result<Mount<GitNaming>, Fail> {
     let mut mount = mount_first(alloc, commits)?;
-    make_all(alloc, &mut mount, &[Act::Write("d/e"), Act::Remove("a")])?;
+    mount.write(&path(alloc, "d/e")?, Kind::Link, b"1".as_slice())?;
+    mount.remove(&path(alloc, "a")?)?;
     Ok(mount)
 }
 
@@ -267,43 +256,57 @@ fn snapshot_lists(rt: HostRuntime) -> Result<(), Fail> {
     let alloc = rt.alloc();
     let mut commits = two_commits(alloc)?;
     let mount = changed(alloc, &mut commits)?;
-    let text = listed(alloc, &mount)?;
+    let text = listed(alloc, &mount, &Filter::all(alloc))?;
     assert!(rt; text.as_slice() == b"b d/e ".as_slice());
     let place = mount.snapshot()?.position();
     assert!(rt; place == mount.position());
     Ok(())
 }
 
+/// The checkout that goes over to the second commit.
+fn checkout_of(commits: &Commits<2>) -> Change {
+    Change::Checkout {
+        commit: commits.ids[1],
+        mode: Mode::Normal,
+    }
+}
+
+/// That it is made, with no conflict.
+fn made(alloc: Global, commits: &Commits<2>) -> Answer {
+    Answer::Checked {
+        position: Position {
+            generation: 7,
+            sequence: 2,
+            root: commits.ids[1],
+        },
+        conflicts: Sequence::new(alloc),
+    }
+}
+
 /// Whether what changed since a position is `f` alone, which the root named: no file was changed, and no path is unclean.
 fn names_one(alloc: Global, mount: &Mount<GitNaming>, since: &Position) -> Result<bool, Fail> {
     let range = mount.range_since(since)?;
     let marked = expand(alloc, mount.store(), &range)?;
-    let [Marked { mark, path }] = marked.as_slice() else {
-        return Ok(false);
-    };
+    let named = [Marked {
+        mark: Mark::Root,
+        path: path(alloc, "f")?,
+    }];
     Ok(
-        range.changes.is_empty()
-            && range.unclean.is_empty()
-            && *mark == Mark::Root
-            && path.as_bytes() == b"f".as_slice(),
+        range.changes.as_slice().is_empty()
+            && range.unclean.as_slice().is_empty()
+            && marked.as_slice() == named.as_slice(),
     )
 }
 
-/// Whether the mount goes over to a commit as its second number, with no conflict.
-fn goes_over(mount: &mut Mount<GitNaming>, commit: Id) -> Result<bool, Fail> {
-    let mode = Mode::Normal;
-    let wanted = Position {
-        generation: 7,
-        sequence: 2,
-        root: commit,
-    };
-    match mount_answers(mount, &Change::Checkout { commit, mode })? {
-        Answer::Checked {
-            position,
-            conflicts,
-        } => Ok(position == wanted && conflicts.is_empty()),
-        _ => Ok(false),
-    }
+/// Whether the mount goes over to the second commit, with no conflict.
+fn goes_over(
+    alloc: Global,
+    mount: &mut Mount<GitNaming>,
+    commits: &Commits<2>,
+) -> Result<bool, Fail> {
+    let change = checkout_of(commits);
+    let answer = mount.apply(&change)?;
+    Ok(answer == made(alloc, commits))
 }
 
 // Of the two to the fortieth files that the commits share none is read or listed, or the test would not end.
@@ -313,7 +316,7 @@ fn checkout_of_shared_subtrees(rt: HostRuntime) -> Result<(), Fail> {
     let mut commits = sharing(alloc, 40)?;
     let mut mount = mount_first(alloc, &mut commits)?;
     let since = mount.position();
-    assert!(rt; goes_over(&mut mount, commits.ids[1])?);
+    assert!(rt; goes_over(alloc, &mut mount, &commits)?);
     assert!(rt; names_one(alloc, &mount, &since)?);
     assert!(rt; holds(alloc, &mount, "f", (Kind::Plain, b"y".as_slice()))?);
     Ok(())

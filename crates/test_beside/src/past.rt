@@ -1,6 +1,5 @@
 //! Which positions a mount has had, and what stood where then.
 
-use crate::calls::world_answers;
 use eden_history::{Answer, Change, Position};
 use eden_ids::{Content, Files, GitNaming, Path};
 use eden_world::{Row, World};
@@ -39,7 +38,7 @@ impl Past {
     /// Makes a change, and keeps what the world is after it.
     pub(crate) fn apply(&mut self, change: &Change) -> Result<Answer, Fail> {
         let before = self.world.position();
-        let answer = world_answers(&mut self.world, change)?;
+        let answer = self.world.apply(change)?;
         if self.world.position() != before {
             self.moments.push(moment_of(&self.world)?)?;
         }

@@ -1,17 +1,15 @@
 //! A mount, mirrors of it, and every frame that was ever sent between them.
 
-use crate::calls::mount_answers;
-use crate::comparing::{read, shown};
 use crate::frames::{asked, replied, reply_in, served};
 use crate::imports::Roots;
 use crate::lot::PATHS;
+use crate::outcomes::Outcomes;
 use crate::past::Past;
-use crate::sights::{AT_HEAD, BEHIND, EMPTIED, LISTED, PLACED, REFUSED, Seen, TOGETHER, TOLD};
 use crate::stores::path;
 use eden_accumulate::Mount;
 use eden_globs::Filter;
 use eden_history::{Change, Marked, Position, SinceFault};
-use eden_ids::{Content, GitNaming, Path};
+use eden_ids::{Content, GitNaming, Kind, Path};
 use eden_messages::{Cause, Outcome, Query, Reply, Request};
 use eden_mirror::Mirror;
 use eden_world::{Row, World};
@@ -19,7 +17,7 @@ use std::alloc::Global;
 use std::test::Fail;
 
 /// One thing that happens. Mirrors, requests and replies are told by their place among those that there are.
-#[derive(Drop)]
+#[derive(Debug, Drop)]
 pub(crate) enum Step {
     /// The mount is changed, or refuses it.
     Change(Change),
@@ -56,6 +54,30 @@ pub(crate) struct Sent {
 pub(crate) struct Follower {
     pub(crate) mirror: Mirror,
     filter: Filter,
+}
+
+/// In how many states, after a step, a mirror had a place, had one at the head, held something else than the working copy, and then was
+/// refused what changed since or was told it by a list; how often two mirrors at the head held the same file; how often one took a list of
+/// the files below a directory, and one of none; and what became of imports and of renames of directories.
+#[derive(Clone, Copy, Debug, PartialEq)]
+pub(crate) struct Tally {
+    placed: u64,
+    at_head: u64,
+    behind: u64,
+    refused: u64,
+    told: u64,
+    together: u64,
+    listed: u64,
+    emptied: u64,
+    outcomes: Outcomes,
+}
+
+/// The kind and the bytes of a file.
+type Seen<'a> = Option<(Kind, &'a [u8])>;
+
+fn seen(file: Option<&Content>) -> Seen<'_> {
+    let content = file?;
+    Some((content.kind, content.bytes.as_slice()))
 }
 
 /// Whether a path is one of those that changed, or lies below one of the directories that files were moved between.
@@ -114,22 +136,64 @@ fn polled(
     replied(alloc, mount, &request)
 }
 
-/// Notes a list of what stands below a directory, where it is one that a mirror took.
-fn note_list(seen: &mut Seen, reply: &Reply, outcome: Outcome) {
-    if let Reply::ListIs { paths, .. } = reply {
-        let taken = outcome != Outcome::Ignored;
-        let empty = paths.as_slice().is_empty();
-        seen.note(LISTED, taken && !empty);
-        seen.note(EMPTIED, taken && empty);
+/// One more, where this is so.
+fn count(number: &mut u64, so: bool) {
+    *number = number.saturating_add(u64::from(so));
+}
+
+impl Tally {
+    /// None yet.
+    pub(crate) fn new() -> Tally {
+        Tally {
+            placed: 0,
+            at_head: 0,
+            behind: 0,
+            refused: 0,
+            told: 0,
+            together: 0,
+            listed: 0,
+            emptied: 0,
+            outcomes: Outcomes::new(),
+        }
+    }
+
+    /// Whether there was some of each, but for lists that told a mirror what it lacks: over a journal that holds nothing there is none.
+    pub(crate) fn has_all(&self) -> bool {
+        self.placed > 0
+            && self.at_head > 0
+            && self.behind > 0
+            && self.refused > 0
+            && self.together > 0
+            && self.outcomes.has_all()
+    }
+
+    /// Whether a list told a mirror what it lacks, and what stands below a directory was listed to one, files and no file.
+    pub(crate) fn has_told(&self) -> bool {
+        self.told > 0 && self.listed > 0 && self.emptied > 0
+    }
+
+    /// One more list of what stands below a directory, where it is one that a mirror took.
+    fn count_list(&mut self, reply: &Reply, outcome: Outcome) {
+        if let Reply::ListIs { paths, .. } = reply {
+            let taken = outcome != Outcome::Ignored;
+            let empty = paths.as_slice().is_empty();
+            count(&mut self.listed, taken && !empty);
+            count(&mut self.emptied, taken && empty);
+        }
+    }
+
+    /// One more reply by which a mirror learned that it is behind.
+    fn count_reply(&mut self, reply: &Reply) {
+        let refused = matches!(reply, Reply::Refused { .. });
+        count(&mut self.behind, true);
+        count(&mut self.refused, refused);
+        count(&mut self.told, !refused);
     }
 }
 
-/// Notes a reply by which a mirror learned that it is behind.
-fn note_behind(seen: &mut Seen, reply: &Reply) {
-    let refused = matches!(reply, Reply::Refused { .. });
-    seen.note(BEHIND, true);
-    seen.note(REFUSED, refused);
-    seen.note(TOLD, !refused);
+/// The file that a mount reads at a path.
+fn read<'a>(mount: &'a Mount<GitNaming>, path: &Path) -> Seen<'a> {
+    mount.read(path).ok()
 }
 
 impl Follower {
@@ -159,7 +223,7 @@ impl Follower {
     ) -> Result<Vec<Path>, Fail> {
         let mut list = Vec::new(alloc);
         for path in paths {
-            if self.wants(path) && shown(self.held(path)) != read(mount, path) {
+            if self.wants(path) && seen(self.held(path)) != read(mount, path) {
                 list.push(path.copy()?)?;
             }
         }
@@ -183,8 +247,8 @@ impl Follower {
         }
     }
 
-    /// Whether both hold the same at each of the paths that both want. A file that both hold is noted.
-    fn agrees_with(&self, other: &Follower, paths: &[Path], seen: &mut Seen) -> bool {
+    /// Whether both hold the same at each of the paths that both want. The files that they hold there are counted.
+    fn agrees_with(&self, other: &Follower, paths: &[Path], tally: &mut Tally) -> bool {
         for path in paths {
             if !self.wants(path) || !other.wants(path) {
                 continue;
@@ -193,7 +257,7 @@ impl Follower {
             if held != other.held(path) {
                 return false;
             }
-            seen.note(TOGETHER, held.is_some());
+            count(&mut tally.together, held.is_some());
         }
         true
     }
@@ -253,10 +317,10 @@ impl Scene {
     }
 
     /// The mount and the world make a change, or refuse it.
-    fn change(&mut self, change: &Change, roots: &Roots, seen: &mut Seen) -> Result<(), Fail> {
-        let told = mount_answers(&mut self.mount, change)?;
+    fn change(&mut self, change: &Change, roots: &Roots, tally: &mut Tally) -> Result<(), Fail> {
+        let told = self.mount.apply(change)?;
         let expected = self.past.apply(change)?;
-        seen.note_change(change, &told, roots);
+        tally.outcomes.count(change, &told, roots);
         if told == expected && self.mount.position() == self.past.position() {
             return self.past.add_paths(&mut self.paths);
         }
@@ -286,13 +350,13 @@ impl Scene {
         alloc: Global,
         reply: usize,
         mirror: usize,
-        seen: &mut Seen,
+        tally: &mut Tally,
     ) -> Result<(), Fail> {
         if let Some(given) = self.replies.get(reply) {
             let reply = reply_in(alloc, given.frame.as_slice())?;
             if let Some(follower) = self.followers.get_mut(mirror) {
                 let outcome = follower.mirror.deliver(&reply)?;
-                note_list(seen, &reply, outcome);
+                tally.count_list(&reply, outcome);
             }
         }
         Ok(())
@@ -342,14 +406,14 @@ impl Scene {
         alloc: Global,
         step: &Step,
         roots: &Roots,
-        seen: &mut Seen,
+        tally: &mut Tally,
     ) -> Result<(), Fail> {
         match step {
-            Step::Change(change) => self.change(change, roots, seen),
+            Step::Change(change) => self.change(change, roots, tally),
             Step::Begin(mirror) => self.begin(*mirror),
             Step::Send(mirror) => self.ask(alloc, *mirror),
             Step::Serve(place) => self.serve(alloc, *place),
-            Step::Come { reply, mirror } => self.come(alloc, *reply, *mirror, seen),
+            Step::Come { reply, mirror } => self.come(alloc, *reply, *mirror, tally),
             Step::Refilter(mirror, filter) => self.refilter(*mirror, filter),
             Step::Restart(mirror, filter) => self.restart(alloc, *mirror, filter),
             Step::Strange(request) => {
@@ -360,14 +424,14 @@ impl Scene {
     }
 
     /// Whether each two mirrors at the head hold the same at the paths that both want.
-    fn agree_at_head(&self, seen: &mut Seen) -> bool {
+    fn agree_at_head(&self, tally: &mut Tally) -> bool {
         let now = self.mount.position();
         for one in &self.followers {
             for other in &self.followers {
                 let both = one.mirror.id() < other.mirror.id()
                     && one.is_at(&now)
                     && other.is_at(&now);
-                if both && !one.agrees_with(other, self.paths.as_slice(), seen) {
+                if both && !one.agrees_with(other, self.paths.as_slice(), tally) {
                     return false;
                 }
             }
@@ -381,7 +445,7 @@ impl Scene {
     pub(crate) fn broken(
         &mut self,
         alloc: Global,
-        seen: &mut Seen,
+        tally: &mut Tally,
     ) -> Result<Option<&'static str>, Fail> {
         let paths = self.paths.as_slice();
         for follower in &self.followers {
@@ -391,12 +455,12 @@ impl Scene {
             if !follower.is_of(&self.past, &place, paths) {
                 return Ok(Some("a place or a file that the mount never had"));
             }
-            let broken = broken_of(alloc, &mut self.mount, follower, place, paths, seen)?;
+            let broken = broken_of(alloc, &mut self.mount, follower, place, paths, tally)?;
             if broken.is_some() {
                 return Ok(broken);
             }
         }
-        if !self.agree_at_head(seen) {
+        if !self.agree_at_head(tally) {
             return Ok(Some("two mirrors at the head hold other files"));
         }
         Ok(None)
@@ -410,7 +474,7 @@ fn broken_behind(
     follower: &Follower,
     place: Position,
     behind: &[Path],
-    seen: &mut Seen,
+    tally: &mut Tally,
 ) -> Result<Option<&'static str>, Fail> {
     if behind.is_empty() {
         return Ok(None);
@@ -422,7 +486,7 @@ fn broken_behind(
     if !behind.iter().all(|path| tells(&reply, path)) {
         return Ok(Some("a path is not told"));
     }
-    note_behind(seen, &reply);
+    tally.count_reply(&reply);
     Ok(None)
 }
 
@@ -433,10 +497,10 @@ fn broken_of(
     follower: &Follower,
     place: Position,
     paths: &[Path],
-    seen: &mut Seen,
+    tally: &mut Tally,
 ) -> Result<Option<&'static str>, Fail> {
     let behind = follower.behind(alloc, mount, paths)?;
-    let broken = broken_behind(alloc, mount, follower, place, behind.as_slice(), seen)?;
+    let broken = broken_behind(alloc, mount, follower, place, behind.as_slice(), tally)?;
     if broken.is_some() {
         return Ok(broken);
     }
@@ -444,7 +508,7 @@ fn broken_of(
     if at_head && !(behind.is_empty() && follower.as_many(mount, paths)?) {
         return Ok(Some("a mirror at the head holds other files"));
     }
-    seen.note(PLACED, true);
-    seen.note(AT_HEAD, at_head);
+    count(&mut tally.placed, true);
+    count(&mut tally.at_head, at_head);
     Ok(None)
 }

@@ -8,18 +8,6 @@ use eden_messages::{Query, Request};
 use std::alloc::Global;
 use std::test::Fail;
 
-/// The patterns of filters: half of them admit all paths.
-const FILTERS: [&[&[u8]]; 8] = [
-    &[],
-    &[],
-    &[],
-    &[],
-    &[b"a*", b"**/e"],
-    &[b"a/**"],
-    &[b"b", b"d/?"],
-    &[b"a?b", b"d", b"a"],
-];
-
 /// Which steps come next follows from the seed and from what has happened so far. Mostly something goes on: the next reply comes, the next
 /// request is served, or a mirror begins a round or sends what it asks. In between anything else happens.
 #[derive(Drop)]
@@ -47,7 +35,17 @@ impl ScheduleLot {
     }
 
     pub(crate) fn filter(&mut self, alloc: Global) -> Result<Filter, Fail> {
-        Ok(Filter::parse(alloc, FILTERS[self.lot.below(8)])?)
+        let parsed = match self.lot.below(8) {
+            0..=3 => Ok(Filter::all(alloc)),
+            4 => Filter::parse(alloc, &[b"a*".as_slice(), b"**/e".as_slice()]),
+            5 => Filter::parse(alloc, &[b"a/**".as_slice()]),
+            6 => Filter::parse(alloc, &[b"b".as_slice(), b"d/?".as_slice()]),
+            _ => Filter::parse(
+                alloc,
+                &[b"a?b".as_slice(), b"d".as_slice(), b"a".as_slice()],
+            ),
+        };
+        Ok(parsed?)
     }
 
     /// A request under a life that no mirror ever has, or an id that none has.
@@ -57,9 +55,26 @@ impl ScheduleLot {
             life: 0,
             number: 1,
         };
-        let (kind, filter) = (self.lot.below(4), self.filter(alloc)?);
-        self.lot
-            .request(alloc, kind, query, &scene.mount.position(), filter)
+        Ok(match self.lot.below(4) {
+            0 => Request::Basis {
+                query,
+                filter: self.filter(alloc)?,
+            },
+            1 => Request::Poll {
+                query,
+                since: scene.mount.position(),
+                filter: self.filter(alloc)?,
+            },
+            2 => Request::List {
+                query,
+                prefix: self.lot.directory(alloc)?,
+                filter: self.filter(alloc)?,
+            },
+            _ => Request::Fetch {
+                query,
+                path: self.lot.path(alloc)?,
+            },
+        })
     }
 
     /// The next one after a place; sometimes one is lost.
