@@ -78,27 +78,39 @@ const CASES: [Case; 5] = [
     ),
 ];
 
-/// Blobs, and a tree `r` of a file `p` below so many levels of two directories each.
-fn below_levels(alloc: Global, levels: u32) -> Result<Objects, Fail> {
+/// Blobs, a tree `r` of a file `p` below so many levels of two directories each, and what a script puts over them.
+fn objects_of(alloc: Global, levels: u32, script: &str) -> Result<Objects, Fail> {
     let mut objects = Objects::of(alloc, "blob x x;blob y y;tree r 100644 p y")?;
     objects.repeat(alloc, "tree r 40000 r r 40000 s r", levels)?;
+    for line in script.split(';') {
+        objects.put(alloc, line)?;
+    }
     Ok(objects)
+}
+
+/// A working copy over these objects, over which changes were made, refused ones among them; and its commits `c` and `d`.
+fn changed_over(
+    alloc: Global,
+    objects: Objects,
+    root: &str,
+    changes: &str,
+) -> Result<(Mounted, [Id; 2]), Fail> {
+    let ids = [objects.id("c"), objects.id("d")];
+    let root = objects.id(root);
+    let mut made = Mounted::over(alloc, objects.store, root)?;
+    for change in changes.split(';') {
+        let _ = made.change(alloc, change)?;
+    }
+    Ok((made, ids))
 }
 
 /// The first checkout that doesn't tell what its case says, or leaves other files, from 0.
 fn first_wrong(alloc: Global, levels: u32, case: &Case) -> Result<Option<usize>, Fail> {
     let (script, root, changes, checkouts) = case;
-    let mut objects = below_levels(alloc, levels)?;
-    for line in script.split(';') {
-        objects.put(alloc, line)?;
-    }
-    let (root, first, second) = (objects.id(root), objects.id("c"), objects.id("d"));
-    let mut made = Mounted::over(alloc, objects.store, root)?;
-    for change in changes.split(';') {
-        let _ = made.change(alloc, change)?;
-    }
+    let objects = objects_of(alloc, levels, script)?;
+    let (mut made, ids) = changed_over(alloc, objects, root, changes)?;
     for (place, (label, mode, told, files)) in checkouts.iter().enumerate() {
-        let commit = if *label == "c" { first } else { second };
+        let commit = if *label == "c" { ids[0] } else { ids[1] };
         let text = made.checkout(alloc, commit, *mode)?;
         let shown = made.shown(alloc, PATHS.as_slice())?;
         if text.as_slice() != told.as_bytes() || shown.as_slice() != files.as_bytes() {
@@ -132,6 +144,11 @@ fn wide_commits(rt: HostRuntime) -> Result<(), Fail> {
     Ok(())
 }
 
+/// Why there is no checkout.
+fn fault_of(alloc: Global, made: &Mounted, commit: Id, mode: Mode) -> Option<CommitFault> {
+    plan(alloc, &made.store, &made.work, commit, mode).err()
+}
+
 #[test]
 fn no_commit(rt: HostRuntime) -> Result<(), Fail> {
     let alloc = rt.alloc();
@@ -139,8 +156,8 @@ fn no_commit(rt: HostRuntime) -> Result<(), Fail> {
     let commit = objects.id("c");
     let made = Mounted::over(alloc, objects.store, commit)?;
     for mode in [Mode::Normal, Mode::Dry, Mode::Force] {
-        let answer = plan(alloc, &made.store, &made.work, Id([1; 20]), mode);
-        assert_eq!(rt; answer.err(), Some(CommitFault::NoCommit));
+        let fault = fault_of(alloc, &made, Id([1; 20]), mode);
+        assert_eq!(rt; fault, Some(CommitFault::NoCommit));
     }
     Ok(())
 }

@@ -6,7 +6,7 @@ ghost use Rattle.eden_workcopy.specs.Meanings.{FitsIn};
 use eden_checkout::plan;
 use eden_globs::Filter;
 use eden_history::{ChangeFault, Mode};
-use eden_ids::{GitNaming, Id, Kind, Path};
+use eden_ids::{GitNaming, Id, Kind, Path, Sequence};
 use eden_objects::{CommitFault, Store};
 use eden_workcopy::WorkCopy;
 use std::alloc::Global;
@@ -21,11 +21,40 @@ pub(crate) struct Mounted {
     ghost fits: { FitsIn store work } by { Prim.hlevel props },
 }
 
+/// The first three words of a text, which are empty where it has fewer.
+fn words(text: &str) -> (&str, &str, &str) {
+    let mut words = text.split(' ');
+    let first = words.next().unwrap_or("");
+    let second = words.next().unwrap_or("");
+    (first, second, words.next().unwrap_or(""))
+}
+
 impl Mounted {
     /// A working copy that holds a commit.
     pub(crate) fn over(alloc: Global, store: Store<GitNaming>, root: Id) -> Result<Mounted, Fail> {
         let work = WorkCopy::new(alloc, &store, root)?;
         Ok(Mounted { store, work })
+    }
+
+    fn write(&mut self, at: &Path, text: &str) -> Option<ChangeFault> {
+        let bytes = text.as_bytes();
+        self.work.write(&self.store, at, Kind::Plain, bytes).err()
+    }
+
+    fn remove(&mut self, at: &Path) -> Option<ChangeFault> {
+        self.work.remove(&self.store, at).err()
+    }
+
+    fn revert(&mut self, at: &Path) -> Option<ChangeFault> {
+        self.work.revert(&self.store, at).err()
+    }
+
+    fn rename(&mut self, old: &Path, new: &Path) -> Option<ChangeFault> {
+        self.work.rename(&self.store, old, new).err()
+    }
+
+    fn rename_dir(&mut self, old: &Path, new: &Path) -> Option<ChangeFault> {
+        self.work.rename_dir(&self.store, old, new).err()
     }
 
     /// What is answered to a change: a call's name, a path, and text or another path.
@@ -34,30 +63,24 @@ impl Mounted {
         alloc: Global,
         text: &str,
     ) -> Result<Option<ChangeFault>, Fail> {
-        let mut words = text.split(' ');
-        let call = words.next().unwrap_or("");
-        let at = path(alloc, words.next().unwrap_or(""))?;
-        let rest = words.next().unwrap_or("");
-        if call == "write" {
-            let bytes = rest.as_bytes();
-            return Ok(self.work.write(&self.store, &at, Kind::Plain, bytes).err());
-        }
-        if call == "remove" {
-            return Ok(self.work.remove(&self.store, &at).err());
-        }
-        if call == "revert" {
-            return Ok(self.work.revert(&self.store, &at).err());
-        }
-        let new = path(alloc, rest)?;
-        if call == "renamedir" {
-            return Ok(self.work.rename_dir(&self.store, &at, &new).err());
-        }
-        Ok(self.work.rename(&self.store, &at, &new).err())
+        let (call, at, rest) = words(text);
+        let at = path(alloc, at)?;
+        Ok(match call {
+            "write" => self.write(&at, rest),
+            "remove" => self.remove(&at),
+            "revert" => self.revert(&at),
+            "renamedir" => self.rename_dir(&at, &path(alloc, rest)?),
+            _ => self.rename(&at, &path(alloc, rest)?),
+        })
+    }
+
+    fn files(&self, alloc: Global) -> Result<Vec<Path>, Fail> {
+        Ok(self.work.list(&self.store, &Filter::all(alloc))?)
     }
 
     /// The paths of all files, each with a space behind it.
     pub(crate) fn list(&self, alloc: Global) -> Result<Vec<u8>, Fail> {
-        let paths = self.work.list(&self.store, &Filter::all(alloc))?;
+        let paths = self.files(alloc)?;
         Ok(spaced(alloc, &paths)?)
     }
 
@@ -85,6 +108,23 @@ impl Mounted {
         Ok(())
     }
 
+    /// Makes a checkout. Gives its conflicts and its unclean paths.
+    fn check_out(
+        &mut self,
+        commit: Id,
+        mode: Mode,
+    ) -> Result<(Sequence<Path>, Sequence<Path>), CommitFault> {
+        let planned = plan(
+            self.store.allocator(),
+            &self.store,
+            &self.work,
+            commit,
+            mode,
+        )?;
+        self.work = planned.next;
+        Ok((planned.conflicts, planned.unclean))
+    }
+
     /// Makes a checkout, and tells its conflicts and then its unclean paths, each with a space behind it, with a bar between both; or why
     /// there is none.
     pub(crate) fn checkout(
@@ -93,17 +133,10 @@ impl Mounted {
         commit: Id,
         mode: Mode,
     ) -> Result<Vec<u8>, Fail> {
-        let planned = plan(
-            self.store.allocator(),
-            &self.store,
-            &self.work,
-            commit,
-            mode,
-        )?;
-        let mut text = spaced(alloc, planned.conflicts.as_slice())?;
+        let (conflicts, unclean) = self.check_out(commit, mode)?;
+        let mut text = spaced(alloc, conflicts.as_slice())?;
         text.extend_from_slice(b"| ".as_slice())?;
-        text.extend_from_slice(spaced(alloc, planned.unclean.as_slice())?.as_slice())?;
-        self.work = planned.next;
+        text.extend_from_slice(spaced(alloc, unclean.as_slice())?.as_slice())?;
         Ok(text)
     }
 
@@ -130,7 +163,7 @@ impl Mounted {
     /// The paths of all files, each with what it holds.
     pub(crate) fn held(&self, alloc: Global) -> Result<Vec<u8>, Fail> {
         let mut text = Vec::new(alloc);
-        for path in &self.work.list(&self.store, &Filter::all(alloc))? {
+        for path in &self.files(alloc)? {
             self.tell_file(path.as_bytes(), &mut text)?;
         }
         Ok(text)

@@ -3,8 +3,8 @@
 use crate::mounted::Mounted;
 use eden_globs::Filter;
 use eden_history::ChangeFault;
-use eden_ids::{Content, GitNaming, Id, Kind, Path, Sequence};
-use eden_objects::{CommitFault, Store};
+use eden_ids::{Content, GitNaming, Id, Kind, Path};
+use eden_objects::{CommitFault, NoCommit, Store};
 use eden_workcopy::{WorkCopy, touched_law, woven};
 use std::alloc::Global;
 use std::test::Fail;
@@ -101,20 +101,6 @@ const OVER_A_COMMIT: [Step; 21] = [
     ("revert a", None, "a a.b b d/x ", "b "),
 ];
 
-#[test]
-fn changes_over_a_commit(rt: HostRuntime) -> Result<(), Fail> {
-    let alloc = rt.alloc();
-    let script = "blob b 1;tree d 100644 x b;tree t 100644 a b 100644 a.b b 40000 d d;commit c t";
-    let objects = Objects::of(alloc, script)?;
-    let root = objects.id("c");
-    let mut mounted = Mounted::over(alloc, objects.store, root)?;
-    let wrong = first_wrong(alloc, &mut mounted, &OVER_A_COMMIT)?;
-    assert_eq!(rt; wrong, None);
-    assert!(rt; mounted.reads(alloc, "b", Kind::Plain, "4")?);
-    assert_eq!(rt; mounted.work.copy()?.root(), root);
-    Ok(())
-}
-
 /// Renames of directories over a commit with the files `a`, `d/e/y`, `d/x` and `d.x`.
 const OF_DIRECTORIES: [Step; 17] = [
     (
@@ -193,94 +179,151 @@ const OF_DIRECTORIES: [Step; 17] = [
     ("renamedir d f", None, "a d.x f/y ", "d/e/y d/x f/y "),
 ];
 
-#[test]
-fn directories_over_a_commit(rt: HostRuntime) -> Result<(), Fail> {
-    let alloc = rt.alloc();
-    let script = "blob b 1;blob n 2;tree e 100644 y n;tree d 40000 e e 100644 x b;\
-        tree t 100644 a b 100644 d.x b 40000 d d;commit c t";
-    let objects = Objects::of(alloc, script)?;
+/// What it is called, a commit `c`, changes over it, and a file that stands then, with what it holds.
+const OVER_COMMITS: [(&str, &str, &[Step], &str, &str); 2] = [
+    (
+        "changes_over_a_commit",
+        "blob b 1;tree d 100644 x b;tree t 100644 a b 100644 a.b b 40000 d d;commit c t",
+        &OVER_A_COMMIT,
+        "b",
+        "4",
+    ),
+    (
+        "directories_over_a_commit",
+        "blob b 1;blob n 2;tree e 100644 y n;tree d 40000 e e 100644 x b;tree t 100644 a b 100644 d.x b 40000 d d;commit c t",
+        &OF_DIRECTORIES,
+        "f/y",
+        "2",
+    ),
+];
+
+/// A working copy over the commit `c`.
+fn over_commit(alloc: Global, objects: Objects) -> Result<Mounted, Fail> {
     let root = objects.id("c");
-    let mut mounted = Mounted::over(alloc, objects.store, root)?;
-    let wrong = first_wrong(alloc, &mut mounted, &OF_DIRECTORIES)?;
-    assert_eq!(rt; wrong, None);
-    assert!(rt; mounted.reads(alloc, "f/y", Kind::Plain, "2")?);
-    assert_eq!(rt; mounted.work.root(), root);
+    Mounted::over(alloc, objects.store, root)
+}
+
+/// A copy of a working copy is over the same commit.
+fn root_of(work: &WorkCopy) -> Result<Id, Fail> {
+    Ok(work.copy()?.root())
+}
+
+#[test]
+fn changes_over_commits(rt: HostRuntime) -> Result<(), Fail> {
+    let alloc = rt.alloc();
+    for (name, script, steps, path, text) in &OVER_COMMITS {
+        let objects = Objects::of(alloc, script)?;
+        let root = objects.id("c");
+        let mut mounted = over_commit(alloc, objects)?;
+        let wrong = first_wrong(alloc, &mut mounted, steps)?;
+        assert!(rt; wrong.is_none(), "{name}: {wrong:?}");
+        let reads = mounted.reads(alloc, path, Kind::Plain, text)?;
+        assert!(rt; reads && root_of(&mounted.work)? == root, "{name}");
+    }
     Ok(())
+}
+
+/// A working copy over the empty commit, of no object.
+fn over_nothing(alloc: Global) -> Result<Mounted, Fail> {
+    Mounted::over(alloc, Store::new(alloc, GitNaming), Id::ZERO)
 }
 
 // A path of 64 names is the deepest that there is.
 #[test]
 fn a_directory_with_a_deep_path(rt: HostRuntime) -> Result<(), Fail> {
     let alloc = rt.alloc();
-    let mut mounted = Mounted::over(alloc, Store::new(alloc, GitNaming), Id::ZERO)?;
+    let mut mounted = over_nothing(alloc)?;
     let names = "a/".repeat(alloc, 62)?;
     let write = format!(in alloc; "write d/{names}x 1")?;
-    assert_eq!(rt; mounted.change(alloc, &write)?, None);
-    assert_eq!(rt; mounted.change(alloc, "renamedir d e")?, None);
-    let deeper = mounted.change(alloc, "renamedir e f/g")?;
-    assert_eq!(rt; deeper, Some(ChangeFault::PathTooLong));
+    for (change, answer) in [
+        (write.as_str(), None),
+        ("renamedir d e", None),
+        ("renamedir e f/g", Some(ChangeFault::PathTooLong)),
+    ] {
+        assert_eq!(rt; mounted.change(alloc, change)?, answer);
+    }
     let wanted = format!(in alloc; "e/{names}x ")?;
     assert_eq!(rt; mounted.list(alloc)?.as_slice(), wanted.as_bytes());
     Ok(())
 }
 
+/// Changes over the empty commit.
+const OVER_NOTHING: [Step; 6] = [
+    ("write a 1", None, "a ", "a "),
+    ("write b 2", None, "a b ", "a b "),
+    ("rename a b", None, "b ", "b "),
+    ("rename b b", None, "b ", "b "),
+    ("rename a a", Some(ChangeFault::NoEntry), "b ", "b "),
+    ("revert b", None, "", ""),
+];
+
 #[test]
 fn changes_over_nothing(rt: HostRuntime) -> Result<(), Fail> {
-    let alloc = rt.alloc();
-    let mut mounted = Mounted::over(alloc, Store::new(alloc, GitNaming), Id::ZERO)?;
-    let steps: [Step; 6] = [
-        ("write a 1", None, "a ", "a "),
-        ("write b 2", None, "a b ", "a b "),
-        ("rename a b", None, "b ", "b "),
-        ("rename b b", None, "b ", "b "),
-        ("rename a a", Some(ChangeFault::NoEntry), "b ", "b "),
-        ("revert b", None, "", ""),
-    ];
-    assert_eq!(rt; first_wrong(alloc, &mut mounted, &steps)?, None);
+    let mut mounted = over_nothing(rt.alloc())?;
+    assert_eq!(rt; first_wrong(rt.alloc(), &mut mounted, &OVER_NOTHING)?, None);
     Ok(())
 }
+
+/// The commit `c` of a plain file `f`, and the commit `d` of an executable one with the same bytes.
+const KINDS: &str = "blob b 1;tree t 100644 f b;commit c t;tree u 100755 f b;commit d u";
+
+/// What is reverted comes back as the other commit has it.
+const REVERTED: [Step; 2] = [
+    ("rename f f", None, "f ", "f "),
+    ("revert f", None, "f ", ""),
+];
 
 // The two commits have `f` with the same bytes, and differ in its kind alone.
 #[test]
 fn reroot_and_revert(rt: HostRuntime) -> Result<(), Fail> {
     let alloc = rt.alloc();
-    let script = "blob b 1;tree t 100644 f b;commit c t;tree u 100755 f b;commit d u";
-    let objects = Objects::of(alloc, script)?;
-    let (plain, exec) = (objects.id("c"), objects.id("d"));
-    let mut mounted = Mounted::over(alloc, objects.store, plain)?;
+    let objects = Objects::of(alloc, KINDS)?;
+    let exec = objects.id("d");
+    let mut mounted = over_commit(alloc, objects)?;
     assert_eq!(rt; mounted.reroot(Id([1; 20])), Err(CommitFault::NoCommit));
     mounted.reroot(exec)?;
     assert!(rt; mounted.reads(alloc, "f", Kind::Plain, "1")?);
-    let steps: [Step; 2] = [
-        ("rename f f", None, "f ", "f "),
-        ("revert f", None, "f ", ""),
-    ];
-    assert_eq!(rt; first_wrong(alloc, &mut mounted, &steps)?, None);
+    assert_eq!(rt; first_wrong(alloc, &mut mounted, &REVERTED)?, None);
     assert!(rt; mounted.reads(alloc, "f", Kind::Exec, "1")?);
-    assert_eq!(rt; mounted.work.root(), exec);
+    assert_eq!(rt; root_of(&mounted.work)?, exec);
     Ok(())
+}
+
+fn work_over(alloc: Global, store: &Store<GitNaming>, root: Id) -> Result<WorkCopy, NoCommit> {
+    WorkCopy::new(alloc, store, root)
+}
+
+/// Sets a file at a path, or that there is none, whatever stands there.
+fn set(alloc: Global, work: &mut WorkCopy, at: &str, file: Option<Content>) -> Result<(), Fail> {
+    Ok(work.set(path(alloc, at)?, file)?)
+}
+
+fn file<'a>(work: &'a WorkCopy, store: &'a Store<GitNaming>, at: &str) -> Option<(Kind, &'a [u8])> {
+    work.file(store, at.as_bytes())
+}
+
+/// The touched paths, each with a sign behind it that tells whether a file stands there.
+fn touched_signs(alloc: Global, work: &WorkCopy) -> Result<Vec<u8>, Fail> {
+    let mut text = Vec::new(alloc);
+    for (path, is_there) in &work.touched()? {
+        text.extend_from_slice(path.as_bytes())?;
+        text.push(if *is_there { b'+' } else { b'-' })?;
+    }
+    Ok(text)
 }
 
 #[test]
 fn paths_set_unjudged(rt: HostRuntime) -> Result<(), Fail> {
     let alloc = rt.alloc();
     let store = Store::new(alloc, GitNaming);
-    let mut work = WorkCopy::new(alloc, &store, Id::ZERO)?;
-    work.set(path(alloc, "b")?, None)?;
-    let link = Content {
-        kind: Kind::Link,
-        bytes: Sequence::from_vec(b"1".to_vec(alloc)?),
-    };
-    work.set(path(alloc, "a")?, Some(link))?;
-    assert_eq!(rt;
-        work.file(&store, b"a".as_slice()),
-        Some((Kind::Link, b"1".as_slice()))
-    );
-    assert_eq!(rt; work.file(&store, b"b".as_slice()), None);
-    let touched = work.touched()?;
-    assert_eq!(rt; touched.len(), 2);
-    assert!(rt; touched[0].1 && !touched[1].1);
-    assert!(rt; WorkCopy::new(alloc, &store, Id([1; 20])).is_err());
+    let mut work = work_over(alloc, &store, Id::ZERO)?;
+    let link = Content::from_bytes(alloc, Kind::Link, b"1".as_slice())?;
+    set(alloc, &mut work, "b", None)?;
+    set(alloc, &mut work, "a", Some(link))?;
+    let held = Some((Kind::Link, b"1".as_slice()));
+    assert!(rt; file(&work, &store, "a") == held && file(&work, &store, "b").is_none());
+    assert_eq!(rt; touched_signs(alloc, &work)?.as_slice(), b"a+b-".as_slice());
+    assert!(rt; work_over(alloc, &store, Id([1; 20])).is_err());
     Ok(())
 }
 
@@ -289,36 +332,64 @@ fn copied(work: &WorkCopy, store: &Store<GitNaming>, path: &Path) -> Result<Opti
     Ok(work.over(store).file_copy(path)?)
 }
 
+fn shift(work: &mut WorkCopy, old: &Path, new: &Path, content: Content) -> Result<(), Fail> {
+    Ok(work.shift_file(old, new, content)?)
+}
+
 #[test]
 fn files_are_copied_and_shifted(rt: HostRuntime) -> Result<(), Fail> {
     let alloc = rt.alloc();
     let store = Store::new(alloc, GitNaming);
-    let mut work = WorkCopy::new(alloc, &store, Id::ZERO)?;
+    let mut work = work_over(alloc, &store, Id::ZERO)?;
     let (old, new) = (path(alloc, "a")?, path(alloc, "b")?);
     let file = Some(plain(alloc, "1")?);
-    work.set(old.copy()?, Content::copy_of(&file)?)?;
+    set(alloc, &mut work, "a", Content::copy_of(&file)?)?;
     assert!(rt; copied(&work, &store, &old)? == file);
     assert!(rt; copied(&work, &store, &new)?.is_none());
-    work.shift_file(&old, &new, plain(alloc, "1")?)?;
+    shift(&mut work, &old, &new, plain(alloc, "1")?)?;
     assert!(rt; copied(&work, &store, &old)?.is_none());
     assert!(rt; copied(&work, &store, &new)? == file);
     Ok(())
 }
 
-/// The paths that a pattern admits of the commit of a working copy and of what was changed over it, each with a space behind it.
+/// The files of a commit that a filter admits.
+type Rows = Vec<(Path, Kind, Id)>;
+
+fn rows_of(store: &Store<GitNaming>, root: Id, filter: &Filter) -> Result<Rows, Fail> {
+    Ok(store.list(root, filter)?)
+}
+
+/// The paths that a filter admits of rows of a commit and of what was changed over it.
 fn woven_paths(
+    alloc: Global,
+    rows: Rows,
+    work: &WorkCopy,
+    filter: &Filter,
+) -> Result<Vec<Path>, Fail> {
+    touched_law();
+    let touched = work.touched()?;
+    Ok(woven(alloc, rows, touched.as_slice(), filter)?)
+}
+
+/// The paths that a pattern admits of the commit of a working copy and of what was changed over it, each with a space behind it.
+fn woven_text(
     alloc: Global,
     store: &Store<GitNaming>,
     work: &WorkCopy,
     pattern: &str,
 ) -> Result<Vec<u8>, Fail> {
-    touched_law();
     let filter = Filter::parse(alloc, &[pattern.as_bytes()])?;
-    let rows = store.list(work.root(), &filter)?;
-    let touched = work.touched()?;
-    let paths = woven(alloc, rows, touched.as_slice(), &filter)?;
+    let rows = rows_of(store, work.root(), &filter)?;
+    let paths = woven_paths(alloc, rows, work, &filter)?;
     Ok(spaced(alloc, paths.as_slice())?)
 }
+
+/// A pattern, and the paths that it admits of the commit and of what was changed over it.
+const WOVEN: [(&str, &str); 3] = [
+    ("**", "a.b b d/x d/y "),
+    ("*", "a.b b "),
+    ("d/*", "d/x d/y "),
+];
 
 // The commit has `a`, `a.b` and `d/x`; over it `a` is gone, and `b` and `d/y` are there.
 #[test]
@@ -326,17 +397,14 @@ fn touched_paths_lie_over_a_commit(rt: HostRuntime) -> Result<(), Fail> {
     let alloc = rt.alloc();
     let script = "blob b 1;tree d 100644 x b;tree t 100644 a b 100644 a.b b 40000 d d;commit c t";
     let objects = Objects::of(alloc, script)?;
-    let mut work = WorkCopy::new(alloc, &objects.store, objects.id("c"))?;
-    work.set(path(alloc, "a")?, None)?;
-    work.set(path(alloc, "b")?, Some(plain(alloc, "2")?))?;
-    work.set(path(alloc, "d/y")?, Some(plain(alloc, "2")?))?;
-    for (pattern, wanted) in &[
-        ("**", "a.b b d/x d/y "),
-        ("*", "a.b b "),
-        ("d/*", "d/x d/y "),
-    ] {
-        let paths = woven_paths(alloc, &objects.store, &work, pattern)?;
-        assert!(rt; paths.as_slice() == wanted.as_bytes(), "{pattern}");
+    let mut work = work_over(alloc, &objects.store, objects.id("c"))?;
+    set(alloc, &mut work, "a", None)?;
+    for at in ["b", "d/y"] {
+        set(alloc, &mut work, at, Some(plain(alloc, "2")?))?;
+    }
+    for (pattern, wanted) in &WOVEN {
+        let text = woven_text(alloc, &objects.store, &work, pattern)?;
+        assert!(rt; text.as_slice() == wanted.as_bytes(), "{pattern}");
     }
     Ok(())
 }
