@@ -9,18 +9,22 @@ use eden_query::{
 use std::alloc::Global;
 use test_kit::{REPLY_BODIES, REQUEST_BODIES, joined};
 
+/// The request that a body spells.
 pub(crate) fn request_of(alloc: Global, body: &[u8]) -> Result<Request, DecodeFault> {
     decode_request(alloc, body)
 }
 
+/// The reply that a body spells.
 pub(crate) fn reply_of(alloc: Global, body: &[u8]) -> Result<Reply, DecodeFault> {
     decode_reply(alloc, body)
 }
 
+/// The frame of a request.
 pub(crate) fn request_frame(alloc: Global, request: &Request) -> Result<Vec<u8>, EncodeFault> {
     encode_request(alloc, request)
 }
 
+/// The frame of a reply.
 pub(crate) fn reply_frame(alloc: Global, reply: &Reply) -> Result<Vec<u8>, EncodeFault> {
     encode_reply(alloc, reply)
 }

@@ -203,30 +203,31 @@ fn ask_all<L: Ledger>(rt: &HostRuntime, wait: &impl Wait, office: &mut Office<L>
     Ok(())
 }
 
-/// The frames are served at the writer's desk.
-fn serve_all<L: Ledger>(rt: &HostRuntime, wait: &impl Wait, office: &mut Office<L>) -> Result<()> {
+/// Serves the frames at the writer's desk.
+fn serve_once<L: Ledger>(
+    wait: &impl Wait,
+    office: &mut Office<L>,
+    frames: &[u8],
+) -> Result<Served> {
     let alloc = office.alloc;
-    let frames = frames(alloc, &mut office.refusals)?;
-    let frames = frames.as_slice();
     let place = room(alloc, &mut office.refusals)?;
-    let first = served(
+    Ok(served(
         wait,
         alloc,
         &office.shared,
         &mut office.writer,
         frames,
         place,
-    );
+    ))
+}
+
+/// The frames are served, and again where that was cut.
+fn serve_all<L: Ledger>(rt: &HostRuntime, wait: &impl Wait, office: &mut Office<L>) -> Result<()> {
+    let alloc = office.alloc;
+    let frames = frames(alloc, &mut office.refusals)?;
+    let first = serve_once(wait, office, frames.as_slice())?;
     if is_cut(&mut office.refusals, &first) {
-        let place = room(alloc, &mut office.refusals)?;
-        let whole = served(
-            wait,
-            alloc,
-            &office.shared,
-            &mut office.writer,
-            frames,
-            place,
-        );
+        let whole = serve_once(wait, office, frames.as_slice())?;
         return tell_served(rt, alloc, &mut office.refusals, Some(first.0), whole);
     }
     tell_served(rt, alloc, &mut office.refusals, None, first)
