@@ -13,6 +13,7 @@ use eden_ids::{GitNaming, Id, Kind, Path, Sequence};
 use eden_messages::{Query, Request};
 use eden_objects::Store;
 use eden_query::{Served, reply_to};
+use rig_kit::nanoseconds;
 use std::alloc::Global;
 use std::time::{CpuClock, Duration};
 
@@ -99,12 +100,6 @@ fn calls(alloc: Global, audited: &mut Audited<GitNaming>) -> Result<CallLog> {
     })
 }
 
-/// The milliseconds of a time.
-fn milliseconds(time: Duration) -> u64 {
-    let whole = time.as_secs().saturating_mul(1_000);
-    whole.saturating_add(u64::from(time.subsec_nanos()) / 1_000_000)
-}
-
 /// Audits a log, tells what the audit says, and gives the time that it took.
 fn told(rt: &HostRuntime, audited: &mut Audited<GitNaming>, log: CallLog) -> Result<Duration> {
     let logs = vec![in rt.alloc(); log]?;
@@ -126,8 +121,8 @@ fn main(rt: HostRuntime) -> Result<()> {
     let judged = told(&rt, &mut audited, log)?;
     eprintln!(rt;
         "{CALLS} calls: {} ms, audit {} ms",
-        milliseconds(made),
-        milliseconds(judged)
+        nanoseconds(made) / 1_000_000,
+        nanoseconds(judged) / 1_000_000
     )?;
     Ok(())
 }

@@ -8,52 +8,22 @@
 use anyhow::Result;
 use eden_accumulate::Mount;
 use eden_globs::Filter;
-use eden_ids::{GitNaming, Id};
+use eden_ids::GitNaming;
 use eden_messages::{Query, Request};
 use eden_objects::Store;
 use eden_query::{encode_request, serve};
 use eden_stream::Counted;
+use rig_kit::{nanoseconds, put_commit};
 use std::alloc::Global;
 use std::time::{CpuClock, Duration};
-use test_kit::{commit_of, push_entry};
 
 /// How often each call is measured. The least time counts, since other work on the machine makes it longer and never shorter.
 const TRIES: usize = 20;
 
-/// How many directories there are.
-const DIRECTORIES: usize = 1_000;
-
-/// How many files each has.
-const FILES: usize = 100;
-
-/// Puts a directory whose files have one content, which no other directory has.
-fn put_directory(alloc: Global, store: &mut Store<GitNaming>, number: usize) -> Result<Id> {
-    let text = format!(in alloc; "text {number}")?;
-    let blob = store.put_blob(text.as_bytes())?;
-    let mut payload = Vec::new(alloc);
-    for file in 0..FILES {
-        let name = format!(in alloc; "file{file:02}")?;
-        push_entry(&mut payload, "100644", name.as_bytes(), blob)?;
-    }
-    Ok(store.put_tree(payload.as_slice())?)
-}
-
-/// Puts the commit of all directories.
-fn put_commit(alloc: Global, store: &mut Store<GitNaming>) -> Result<Id> {
-    let mut payload = Vec::new(alloc);
-    for number in 0..DIRECTORIES {
-        let id = put_directory(alloc, store, number)?;
-        let name = format!(in alloc; "dir{number:03}")?;
-        push_entry(&mut payload, "40000", name.as_bytes(), id)?;
-    }
-    let tree = store.put_tree(payload.as_slice())?;
-    Ok(store.put_commit(commit_of(alloc, tree, "")?.as_slice())?)
-}
-
-/// A mount of that commit.
+/// A mount of 100,000 files.
 fn mounted(alloc: Global) -> Result<Mount<GitNaming>> {
     let mut store = Store::new(alloc, GitNaming);
-    let commit = put_commit(alloc, &mut store)?;
+    let commit = put_commit(alloc, &mut store, "text")?;
     Ok(Mount::mount(alloc, store, commit, 1, 1_000)?)
 }
 
@@ -77,12 +47,6 @@ fn reply(
     let _ = serve(rt.alloc(), &mut reader, &mut writer, mount)?;
     let time = rt.thread_cpu_time()?.saturating_sub(start);
     Ok((written.len(), time))
-}
-
-/// The nanoseconds of a time.
-fn nanoseconds(time: Duration) -> u64 {
-    let whole = time.as_secs().saturating_mul(1_000_000_000);
-    whole.saturating_add(u64::from(time.subsec_nanos()))
 }
 
 /// Tells the files that a filter admits, and gives the least time that listing them takes.

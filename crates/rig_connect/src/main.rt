@@ -13,13 +13,14 @@ use eden_messages::{Query, Reply, Request};
 use eden_stay::stay_program;
 use eden_stream::Counted;
 use eden_wire::encode_request;
+use rig_kit::nanoseconds;
 use std::alloc::Global;
 use std::net::{Net, TcpListener, TcpStream};
 use std::sync::Wait;
 use std::sync::atomic::{AtomicBool, Ordering};
 use std::thread;
 use std::thread::Threads;
-use std::time::{Clock, Duration, Instant};
+use std::time::{Clock, Instant};
 use test_sockets::{Feed, ask, connect, free_port};
 
 /// How many files a poll tells.
@@ -87,11 +88,6 @@ fn listed(reply: &Reply) -> u64 {
         Reply::ChangesAre { marked, .. } => marked.len() as u64,
         _ => 0,
     }
-}
-
-/// How many nanoseconds a time has.
-fn nanoseconds(time: Duration) -> u64 {
-    u64::try_from(time.as_nanos()).unwrap_or(u64::MAX)
 }
 
 /// What a client came to: how many paths it was told, and how many nanoseconds that took.

@@ -7,6 +7,7 @@
 use anyhow::Result;
 use eden_globs::Filter;
 use eden_ids::Path;
+use rig_kit::nanoseconds;
 use std::alloc::{AllocError, Global};
 use std::time::{CpuClock, Duration};
 
@@ -110,12 +111,7 @@ fn measure(rt: &HostRuntime, title: &str, pattern: &[u8], path: &Path) -> Result
                 lengths.1, lengths.0
             )?;
         }
-        let nanoseconds = u64::from(time.subsec_nanos());
-        least = least.min(
-            time.as_secs()
-                .saturating_mul(1_000_000_000)
-                .saturating_add(nanoseconds),
-        );
+        least = least.min(nanoseconds(time));
     }
     let each = least / (CALLS as u64);
     let product = (lengths.0 as u64).saturating_mul(lengths.1 as u64);

@@ -8,40 +8,12 @@ use anyhow::Result;
 use eden_ids::{GitNaming, Id, Kind, Path};
 use eden_objects::Store;
 use eden_workcopy::WorkCopy;
+use rig_kit::{Order, each};
 use std::alloc::Global;
-use std::time::{CpuClock, Duration};
-
-/// In which order the paths come.
-#[derive(Clone, Copy)]
-enum Order {
-    Ascending,
-    Descending,
-    /// Neighbours far from each other.
-    Scattered,
-}
-
-impl Order {
-    fn name(self) -> &'static str {
-        match self {
-            Order::Ascending => "ascending",
-            Order::Descending => "descending",
-            Order::Scattered => "scattered",
-        }
-    }
-
-    /// The number of the path that comes at a turn, where there are so many.
-    fn number(self, turn: usize, count: usize) -> usize {
-        match self {
-            Order::Ascending => turn,
-            Order::Descending => count.saturating_sub(turn).saturating_sub(1),
-            // 61,803 and a power of ten times eight have no common divisor, so each comes once.
-            Order::Scattered => turn.wrapping_mul(61_803).checked_rem(count).unwrap_or(0),
-        }
-    }
-}
+use std::time::CpuClock;
 
 /// A hundred files stand in a directory.
-fn paths(alloc: Global, name: &str, count: usize, order: Order) -> Result<Vec<Path>> {
+fn paths(alloc: Global, name: &str, count: u64, order: Order) -> Result<Vec<Path>> {
     let mut paths = Vec::new(alloc);
     for turn in 0..count {
         let number = order.number(turn, count);
@@ -91,18 +63,8 @@ impl Mounted {
     }
 }
 
-/// The nanoseconds from then to now, one of so many.
-fn each(from: Duration, to: Duration, count: usize) -> u64 {
-    let time = to.saturating_sub(from);
-    time.as_secs()
-        .saturating_mul(1_000_000_000)
-        .saturating_add(u64::from(time.subsec_nanos()))
-        .checked_div(count as u64)
-        .unwrap_or(0)
-}
-
 /// Measures so many files in this order.
-fn measure(rt: &HostRuntime, count: usize, order: Order) -> Result<()> {
+fn measure(rt: &HostRuntime, count: u64, order: Order) -> Result<()> {
     let old = paths(rt.alloc(), "file", count, order)?;
     let new = paths(rt.alloc(), "moved", count, order)?;
     let store = Store::new(rt.alloc(), GitNaming);
@@ -123,9 +85,9 @@ fn measure(rt: &HostRuntime, count: usize, order: Order) -> Result<()> {
     eprintln!(rt;
         "{count} files {}: {} ns a write, {} ns a rename, {} ns a removal",
         order.name(),
-        each(start, written, count),
-        each(written, renamed, count),
-        each(renamed, removed, count)
+        each(written.saturating_sub(start), count),
+        each(renamed.saturating_sub(written), count),
+        each(removed.saturating_sub(renamed), count)
     )?;
     Ok(())
 }

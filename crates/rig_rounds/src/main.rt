@@ -10,6 +10,7 @@ use eden_history::Position;
 use eden_ids::{Content, Id, Kind, NoMemory, Path, Sequence};
 use eden_messages::{Outcome, Query, Reply};
 use eden_mirror::Mirror;
+use rig_kit::{Order, nanoseconds};
 use std::alloc::Global;
 use std::time::{CpuClock, Duration};
 
@@ -29,37 +30,6 @@ const PLACE: Position = Position {
     sequence: 1,
     root: Id::ZERO,
 };
-
-/// In which order the contents come.
-#[derive(Clone, Copy)]
-enum Order {
-    /// As the paths are listed, ascending.
-    Listed,
-    /// The last path's first.
-    Reversed,
-    /// Neighbours far from each other.
-    Scattered,
-}
-
-impl Order {
-    fn name(self) -> &'static str {
-        match self {
-            Order::Listed => "in order",
-            Order::Reversed => "in reverse",
-            Order::Scattered => "in no order",
-        }
-    }
-
-    /// Whose content comes at a turn, where there are so many.
-    fn place(self, turn: usize, count: usize) -> usize {
-        match self {
-            Order::Listed => turn,
-            Order::Reversed => count.saturating_sub(turn).saturating_sub(1),
-            // 61,803 and a power of ten have no common divisor, so each comes once.
-            Order::Scattered => turn.wrapping_mul(61_803).checked_rem(count).unwrap_or(0),
-        }
-    }
-}
 
 /// So many paths, ascending.
 fn paths(alloc: Global, count: usize) -> Result<Vec<Path>> {
@@ -85,8 +55,9 @@ fn content_at(path: &Path, content: &Content) -> Result<Reply, NoMemory> {
 fn contents(alloc: Global, paths: &[Path], order: Order) -> Result<Vec<Reply>, NoMemory> {
     let content = Content::from_bytes(alloc, Kind::Plain, b"text".as_slice())?;
     let mut replies = Vec::new(alloc);
-    for turn in 0..paths.len() {
-        if let Some(path) = paths.get(order.place(turn, paths.len())) {
+    let count = paths.len() as u64;
+    for turn in 0..count {
+        if let Some(path) = paths.get(order.number(turn, count) as usize) {
             replies.push(content_at(path, &content)?)?;
         }
     }
@@ -119,12 +90,7 @@ fn least(rt: &HostRuntime, list: &Reply, paths: &[Path], order: Order) -> Result
     for _ in 0..TRIES {
         let replies = contents(rt.alloc(), paths, order)?;
         let (outcome, time) = one_round(rt, list, replies)?;
-        let nanoseconds = u64::from(time.subsec_nanos());
-        least = least.min(
-            time.as_secs()
-                .saturating_mul(1_000_000_000)
-                .saturating_add(nanoseconds),
-        );
+        least = least.min(nanoseconds(time));
         last = outcome;
     }
     Ok((last, least))
@@ -147,7 +113,7 @@ fn measure(rt: &HostRuntime, count: usize, order: Order) -> Result<()> {
 
 fn main(rt: HostRuntime) -> Result<()> {
     for count in [1_000, 10_000, 100_000] {
-        for order in [Order::Listed, Order::Reversed, Order::Scattered] {
+        for order in [Order::Ascending, Order::Descending, Order::Scattered] {
             measure(&rt, count, order)?;
         }
     }

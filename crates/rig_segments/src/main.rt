@@ -8,6 +8,7 @@ use anyhow::Result;
 use eden_ids::{Id, NoMemory};
 use eden_segments::{Share, Shared, Table};
 use indexmap::IndexMap;
+use rig_kit::{each, scattered};
 use std::alloc::Global;
 use std::hint::black_box;
 use std::time::{CpuClock, Duration};
@@ -52,21 +53,6 @@ fn id(number: u64) -> Id {
         *byte = highest;
     }
     Id(bytes)
-}
-
-/// The number that is asked at a turn: each of so many comes once, and neighbours are far from each other.
-fn scattered(turn: u64, count: u64) -> u64 {
-    // 61,803 and a power of ten have no common divisor.
-    turn.wrapping_mul(61_803).checked_rem(count).unwrap_or(0)
-}
-
-/// The nanoseconds of a time, one of so many.
-fn each(time: Duration, count: u64) -> u64 {
-    time.as_secs()
-        .saturating_mul(1_000_000_000)
-        .saturating_add(u64::from(time.subsec_nanos()))
-        .checked_div(count)
-        .unwrap_or(0)
 }
 
 /// Adds the row of a number, unless its id has one.

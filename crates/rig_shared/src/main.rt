@@ -15,6 +15,7 @@ use eden_ids::{GitNaming, Id, Kind, Path, Sequence};
 use eden_messages::{Answer, Call, Query, Reply, Request};
 use eden_objects::Store;
 use eden_shared::{AuditFault, Audited, CallLog, Desk, OpenGate, Pass, Shared, audit};
+use rig_kit::{nanoseconds, put_commit};
 use std::alloc::Global;
 use std::marker::Brand;
 use std::sync::Wait;
@@ -22,13 +23,6 @@ use std::sync::ledger::{Blank, Ledger};
 use std::thread;
 use std::thread::Threads;
 use std::time::{Clock, Duration, Instant};
-use test_kit::{commit_of, push_entry};
-
-/// How many directories each of the two commits has.
-const DIRECTORIES: usize = 1_000;
-
-/// How many files each directory has.
-const FILES: usize = 100;
 
 /// How often each writer writes, and how many files in turn.
 const WRITES: u64 = 1_000;
@@ -108,35 +102,6 @@ struct Measured {
     audit: Result<(), AuditFault>,
 }
 
-/// Puts a directory whose files have one content, which no other directory has.
-fn put_directory(
-    alloc: Global,
-    store: &mut Store<GitNaming>,
-    word: &str,
-    number: usize,
-) -> Result<Id> {
-    let text = format!(in alloc; "{word} {number}")?;
-    let blob = store.put_blob(text.as_bytes())?;
-    let mut payload = Vec::new(alloc);
-    for file in 0..FILES {
-        let name = format!(in alloc; "file{file:02}")?;
-        push_entry(&mut payload, "100644", name.as_bytes(), blob)?;
-    }
-    Ok(store.put_tree(payload.as_slice())?)
-}
-
-/// Puts the commit of all directories. Under two words no file of the one has the content of the other.
-fn put_commit(alloc: Global, store: &mut Store<GitNaming>, word: &str) -> Result<Id> {
-    let mut payload = Vec::new(alloc);
-    for number in 0..DIRECTORIES {
-        let id = put_directory(alloc, store, word, number)?;
-        let name = format!(in alloc; "dir{number:03}")?;
-        push_entry(&mut payload, "40000", name.as_bytes(), id)?;
-    }
-    let tree = store.put_tree(payload.as_slice())?;
-    Ok(store.put_commit(commit_of(alloc, tree, "")?.as_slice())?)
-}
-
 /// A mount that has gone over from one commit to another, and its position before that.
 fn mounted(alloc: Global) -> Result<(Mount<GitNaming>, Position)> {
     let mut store = Store::new(alloc, GitNaming);
@@ -207,12 +172,6 @@ fn callers<L: Ledger>(
         })?;
     }
     Ok(callers)
-}
-
-/// The nanoseconds of a time.
-fn nanoseconds(time: Duration) -> u64 {
-    let whole = time.as_secs().saturating_mul(1_000_000_000);
-    whole.saturating_add(u64::from(time.subsec_nanos()))
 }
 
 /// Makes a call, and gives the time that it took.

@@ -7,9 +7,11 @@ use anyhow::Result;
 use eden_accumulate::Mount;
 use eden_ids::{GitNaming, Id, Naming, Path, Sequence};
 use eden_objects::{Object, Store, Word};
+use rig_kit::{each, scattered};
 use std::alloc::Global;
 use std::hint::black_box;
 use std::time::{CpuClock, Duration};
+use test_kit::{commit_of, push_entry};
 
 /// How many blobs are put or imported.
 const BLOBS: u64 = 100_000;
@@ -25,21 +27,6 @@ const FILES: u64 = 100;
 /// The bytes of a numbered blob: some 30 of them.
 fn blob(alloc: Global, number: u64) -> Result<Vec<u8>> {
     Ok(format!(in alloc; "the contents of blob {number:09}\n")?.into_bytes())
-}
-
-/// The number that is asked at a turn: each of so many comes once, and neighbours are far from each other.
-fn scattered(turn: u64, count: u64) -> u64 {
-    // 61,803 and a power of ten have no common divisor.
-    turn.wrapping_mul(61_803).checked_rem(count).unwrap_or(0)
-}
-
-/// The nanoseconds of a time, one of so many.
-fn each(time: Duration, count: u64) -> u64 {
-    time.as_secs()
-        .saturating_mul(1_000_000_000)
-        .saturating_add(u64::from(time.subsec_nanos()))
-        .checked_div(count)
-        .unwrap_or(0)
 }
 
 /// A store of so many blobs.
@@ -206,16 +193,6 @@ fn copies(rt: &HostRuntime, count: u64) -> Result<()> {
     Ok(())
 }
 
-/// An entry of a tree.
-fn push_entry(payload: &mut Vec<u8>, mode: &str, name: &[u8], id: Id) -> Result<()> {
-    payload.extend_from_slice(mode.as_bytes())?;
-    payload.push(b' ')?;
-    payload.extend_from_slice(name)?;
-    payload.push(b'\0')?;
-    payload.extend_from_slice(id.0.as_slice())?;
-    Ok(())
-}
-
 /// Puts a directory of numbered files.
 fn put_directory(alloc: Global, store: &mut Store<GitNaming>, from: u64) -> Result<Id> {
     let mut payload = Vec::new(alloc);
@@ -237,11 +214,7 @@ fn put_commit(alloc: Global, store: &mut Store<GitNaming>) -> Result<Id> {
         push_entry(&mut root, "40000", name.as_bytes(), tree)?;
     }
     let root = store.put_tree(root.as_slice())?;
-    let mut commit = Vec::new(alloc);
-    commit.extend_from_slice(b"tree ".as_slice())?;
-    commit.extend_from_slice(root.to_hex().as_slice())?;
-    commit.push(b'\n')?;
-    Ok(store.put_commit(commit.as_slice())?)
+    Ok(store.put_commit(commit_of(alloc, root, "")?.as_slice())?)
 }
 
 /// The paths of the files, scattered.

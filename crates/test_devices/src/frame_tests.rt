@@ -43,12 +43,14 @@ impl Teller<Frames, (), FrameFault> for Echo {
 // How a service ended, and the calls of its reader.
 type End = (Result<u64, ServeFault>, u64);
 
-// Serves what the source gives. It has no clause: its callers compare values.
-fn told<R: Read + Drop>(alloc: Global, source: R, sink: &mut Sink) -> End {
+// Serves what the source gives, and tells what was written. It has no clause: its callers compare values.
+fn told<R: Read + Drop>(alloc: Global, source: R, sink: Sink) -> (End, Vec<u8>) {
+    let mut sink = sink;
     let mut reader = Counted::new(source);
-    let mut writer = Counted::new(sink);
+    let mut writer = Counted::new(&mut sink);
     let end = tell_frames(alloc, &mut reader, &mut writer, &Echo, &mut ());
-    (end, reader.calls())
+    let told = (end, reader.calls());
+    (told, sink.bytes)
 }
 
 // A stream, the replies to its frames, and how its serving ends.
@@ -86,21 +88,29 @@ fn cases() -> [Case; 11] {
     ]
 }
 
+// Whether frames end and are answered so in pieces of at most so many bytes, cut anywhere, with interrupts and without.
+fn is_told_in_pieces(alloc: Global, case: &Case, most: usize, interrupts: bool) -> bool {
+    for cut in 0..=case.stream.len() {
+        let mut source = Source::new(case.stream);
+        source.most = most;
+        source.cut = cut;
+        source.interrupts = interrupts;
+        let mut sink = Sink::new(alloc);
+        sink.interrupts = interrupts;
+        let (end, text) = told(alloc, source, sink);
+        if end.0 != case.end || text.as_slice() != case.text {
+            return false;
+        }
+    }
+    true
+}
+
 #[test]
 fn pieces_of_frames_do_not_matter(rt: HostRuntime) {
     for case in &cases() {
         for most in [usize::MAX, 1, 2] {
-            for cut in 0..=case.stream.len() {
-                for interrupts in [false, true] {
-                    let mut source = Source::new(case.stream);
-                    source.most = most;
-                    source.cut = cut;
-                    source.interrupts = interrupts;
-                    let mut sink = Sink::new(rt.alloc());
-                    sink.interrupts = interrupts;
-                    assert_eq!(rt; told(rt.alloc(), source, &mut sink).0, case.end);
-                    assert_eq!(rt; sink.bytes.as_slice(), case.text);
-                }
+            for interrupts in [false, true] {
+                assert!(rt; is_told_in_pieces(rt.alloc(), case, most, interrupts));
             }
         }
     }
@@ -113,23 +123,22 @@ fn serve_long(
     length: &[u8],
     count: usize,
     most: usize,
-) -> Result<(Result<u64, ServeFault>, usize), Fail> {
+) -> Result<(End, usize), Fail> {
     let body = vec![in alloc; b'a'; count]?;
     let mut stream = Vec::new(alloc);
     stream.extend_from_slice(length)?;
     stream.extend_from_slice(&body)?;
     let mut source = Source::new(&stream);
     source.most = most;
-    let mut sink = Sink::new(alloc);
-    let end = told(alloc, source, &mut sink);
-    Ok((end.0, sink.bytes.len()))
+    let (end, text) = told(alloc, source, Sink::new(alloc));
+    Ok((end, text.len()))
 }
 
 #[test]
 fn a_body_has_at_most_16777216_bytes(rt: HostRuntime) -> Result<(), Fail> {
     for most in [usize::MAX, 100] {
-        let served = serve_long(rt.alloc(), b"\x01\0\0\0", 16_777_216, most)?;
-        assert_eq!(rt; served, (Ok(1), 16_777_217));
+        let (end, written) = serve_long(rt.alloc(), b"\x01\0\0\0", 16_777_216, most)?;
+        assert_eq!(rt; (end.0, written), (Ok(1), 16_777_217));
     }
     Ok(())
 }
@@ -137,54 +146,53 @@ fn a_body_has_at_most_16777216_bytes(rt: HostRuntime) -> Result<(), Fail> {
 #[test]
 fn many_frames_are_answered(rt: HostRuntime) -> Result<(), Fail> {
     let stream = vec![in rt.alloc(); 0; 800_000]?;
-    let mut sink = Sink::new(rt.alloc());
-    let end = told(rt.alloc(), Source::new(&stream), &mut sink);
-    assert_eq!(rt; end.0, Ok(200_000));
-    assert_eq!(rt; sink.bytes.len(), 200_000);
+    let (end, text) = told(rt.alloc(), Source::new(&stream), Sink::new(rt.alloc()));
+    assert_eq!(rt; (end.0, text.len()), (Ok(200_000), 200_000));
     Ok(())
 }
 
+// Where a reader of two frames fails, and what is written of the replies to whole frames.
+const READ: [(usize, &[u8]); 5] = [
+    (0, b""),
+    (4, b""),
+    (5, b"a\n"),
+    (9, b"a\n"),
+    (10, b"a\nb\n"),
+];
+
+// How a service of three frames ends whose writer is full at a place and takes at most so many bytes at a time, and what is written.
+fn written_to(alloc: Global, full_at: usize, most: usize) -> (End, Vec<u8>) {
+    let mut sink = Sink::new(alloc);
+    sink.full_at = full_at;
+    sink.most = most;
+    told(
+        alloc,
+        Source::new(b"\0\0\0\x01a\0\0\0\x02bc\0\0\0\x01!"),
+        sink,
+    )
+}
+
 #[test]
-fn failed_devices_leave_whole_frames_or_a_part_of_the_replies(rt: HostRuntime) -> Result<(), Fail> {
-    for (fails_at, text) in [
-        (0, b"".as_slice()),
-        (4, b"".as_slice()),
-        (5, b"a\n".as_slice()),
-        (9, b"a\n".as_slice()),
-        (10, b"a\nb\n".as_slice()),
-    ] {
-        let mut source = Source::new(b"\0\0\0\x01a\0\0\0\x01b");
-        source.cut = fails_at;
-        source.fails_at = fails_at;
-        let mut sink = Sink::new(rt.alloc());
-        assert_eq!(rt;
-            told(rt.alloc(), source, &mut sink).0,
-            Err(ServeFault::Read)
-        );
-        assert_eq!(rt; sink.bytes.as_slice(), text, "at {fails_at}");
+fn failed_devices_leave_whole_frames_or_a_part_of_the_replies(rt: HostRuntime) {
+    let alloc = rt.alloc();
+    for (place, text) in READ {
+        let source = Source::failing_at(b"\0\0\0\x01a\0\0\0\x01b", place);
+        let (end, written) = told(alloc, source, Sink::new(alloc));
+        assert_eq!(rt; end.0, Err(ServeFault::Read));
+        assert_eq!(rt; written.as_slice(), text, "at {place}");
     }
-    let text = b"a\nbc\n";
-    for fails_at in 0..text.len() {
-        for most in [usize::MAX, 1, 3] {
-            let source = Source::new(b"\0\0\0\x01a\0\0\0\x02bc\0\0\0\x01!");
-            let mut sink = Sink::new(rt.alloc());
-            sink.full_at = fails_at;
-            sink.most = most;
-            assert_eq!(rt;
-                told(rt.alloc(), source, &mut sink).0,
-                Err(ServeFault::Write)
-            );
-            assert_eq!(rt; sink.bytes.as_slice(), &text[..fails_at]);
+    for most in [usize::MAX, 1, 3] {
+        for place in 0..5usize {
+            let (end, written) = written_to(alloc, place, most);
+            assert_eq!(rt; end.0, Err(ServeFault::Write));
+            assert_eq!(rt; Some(written.as_slice()), b"a\nbc\n".get(..place));
         }
     }
-    Ok(())
 }
 
 #[test]
-fn endless_frames_spend_the_reads(rt: HostRuntime) -> Result<(), Fail> {
-    let mut sink = Sink::new(rt.alloc());
-    let end = told(rt.alloc(), Endless::new(&[0]), &mut sink);
+fn endless_frames_spend_the_reads(rt: HostRuntime) {
+    let (end, text) = told(rt.alloc(), Endless::new(&[0]), Sink::new(rt.alloc()));
     assert_eq!(rt; end, (Err(ServeFault::TurnsSpent), 1_000_000));
-    assert_eq!(rt; sink.bytes.len(), 250_000);
-    Ok(())
+    assert_eq!(rt; text.len(), 250_000);
 }

@@ -1,4 +1,5 @@
-//! Devices for tests: they give and take a few bytes at a time, break off at a chosen place, or never end.
+//! Devices for tests: they give and take a few bytes at a time, break off at a chosen place, or never end; and what a stream carries to them, with
+//! where each item ends.
 //!
 //! What they give and take is for the test to compare: they promise no more than std's `Read` and `Write` do. The pump of
 //! `eden_stream` is tested over them here.
@@ -17,6 +18,7 @@
 //! ```
 #![tactic(auto)]
 
+mod exchange;
 #[cfg(test)]
 mod frame_tests;
 #[cfg(test)]
@@ -26,5 +28,6 @@ mod source;
 #[cfg(test)]
 mod tests;
 
+pub use exchange::Exchange;
 pub use sink::Sink;
 pub use source::{Endless, Source};

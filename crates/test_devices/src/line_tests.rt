@@ -40,12 +40,14 @@ impl LineMachine for Echo {
 // How a run ended, the faults and the calls of its reader, and the faults of its writer.
 type End = (Result<u64, RunFault>, u64, u64, u64);
 
-// Runs what the source gives. It has no clause: its callers compare values.
-fn told<R: Read + Drop>(alloc: Global, source: R, sink: &mut Sink) -> End {
+// Runs what the source gives, and tells what was printed. It has no clause: its callers compare values.
+fn told<R: Read + Drop>(alloc: Global, source: R, sink: Sink) -> (End, Vec<u8>) {
+    let mut sink = sink;
     let mut reader = Counted::new(source);
-    let mut writer = Counted::new(sink);
+    let mut writer = Counted::new(&mut sink);
     let end = run_lines(alloc, &mut reader, &mut writer, &mut Echo);
-    (end, reader.faults(), reader.calls(), writer.faults())
+    let told = (end, reader.faults(), reader.calls(), writer.faults());
+    (told, sink.bytes)
 }
 
 // A script, what its lines print, and how its run ends.
@@ -77,108 +79,111 @@ fn cases() -> [Case; 12] {
     ]
 }
 
+// Whether a script ends and prints so in pieces of at most so many bytes, cut anywhere, with interrupts and without.
+fn is_told_in_pieces(alloc: Global, case: &Case, most: usize, interrupts: bool) -> bool {
+    for cut in 0..=case.script.len() {
+        let mut source = Source::new(case.script);
+        source.most = most;
+        source.cut = cut;
+        source.interrupts = interrupts;
+        let mut sink = Sink::new(alloc);
+        sink.interrupts = interrupts;
+        let (end, text) = told(alloc, source, sink);
+        if end.0 != case.end || text.as_slice() != case.text {
+            return false;
+        }
+    }
+    true
+}
+
 #[test]
 fn pieces_do_not_matter(rt: HostRuntime) {
     for case in &cases() {
         for most in [usize::MAX, 1, 2] {
-            for cut in 0..=case.script.len() {
-                for interrupts in [false, true] {
-                    let mut source = Source::new(case.script);
-                    source.most = most;
-                    source.cut = cut;
-                    source.interrupts = interrupts;
-                    let mut sink = Sink::new(rt.alloc());
-                    sink.interrupts = interrupts;
-                    assert_eq!(rt; told(rt.alloc(), source, &mut sink).0, case.end);
-                    assert_eq!(rt; sink.bytes.as_slice(), case.text);
-                }
+            for interrupts in [false, true] {
+                assert!(rt; is_told_in_pieces(rt.alloc(), case, most, interrupts));
             }
         }
     }
 }
 
-// How a script of one long line ends, with what it prints.
-fn run_long(
-    alloc: Global,
-    first: u8,
-    count: usize,
-    end: &[u8],
-) -> Result<(Result<u64, RunFault>, usize), Fail> {
+// How a script of one long line ends, with how much it prints.
+fn run_long(alloc: Global, first: u8, count: usize, behind: &[u8]) -> Result<(End, usize), Fail> {
     let mut script = vec![in alloc; first; count]?;
-    script.extend_from_slice(end)?;
-    let mut sink = Sink::new(alloc);
-    let end = told(alloc, Source::new(&script), &mut sink);
-    Ok((end.0, sink.bytes.len()))
+    script.extend_from_slice(behind)?;
+    let (end, text) = told(alloc, Source::new(&script), Sink::new(alloc));
+    Ok((end, text.len()))
 }
+
+// A byte that a line begins with, so many times; what stands behind it; how the run ends, and how much it prints.
+const LONG: [(u8, usize, &[u8], Result<u64, RunFault>, usize); 10] = [
+    (b'a', 65_536, b"\nb\n", Ok(2), 65_539),
+    (b'a', 65_536, b"\r\nb", Ok(2), 65_539),
+    (b'a', 65_536, b"", Ok(1), 65_537),
+    (b'a', 65_536, b"\r", Err(RunFault::BadLine(1)), 0),
+    (b'a', 65_537, b"\nb\n", Err(RunFault::BadLine(1)), 0),
+    (b'a', 65_537, b"\r\nb\n", Err(RunFault::BadLine(1)), 0),
+    (b'a', 200_000, b"", Err(RunFault::BadLine(1)), 0),
+    (b'#', 200_000, b"\nb\n", Ok(2), 2),
+    (b'#', 200_000, b"", Ok(1), 0),
+    (b'\n', 200_000, b"b", Ok(200_001), 2),
+];
 
 #[test]
 fn a_line_has_at_most_65536_bytes(rt: HostRuntime) -> Result<(), Fail> {
-    let bad = Err(RunFault::BadLine(1));
-    assert_eq!(rt;
-        run_long(rt.alloc(), b'a', 65_536, b"\nb\n")?,
-        (Ok(2), 65_539)
-    );
-    assert_eq!(rt;
-        run_long(rt.alloc(), b'a', 65_536, b"\r\nb")?,
-        (Ok(2), 65_539)
-    );
-    assert_eq!(rt; run_long(rt.alloc(), b'a', 65_536, b"")?, (Ok(1), 65_537));
-    assert_eq!(rt; run_long(rt.alloc(), b'a', 65_536, b"\r")?, (bad, 0));
-    assert_eq!(rt; run_long(rt.alloc(), b'a', 65_537, b"\nb\n")?, (bad, 0));
-    assert_eq!(rt; run_long(rt.alloc(), b'a', 65_537, b"\r\nb\n")?, (bad, 0));
-    assert_eq!(rt; run_long(rt.alloc(), b'a', 200_000, b"")?, (bad, 0));
-    assert_eq!(rt; run_long(rt.alloc(), b'#', 200_000, b"\nb\n")?, (Ok(2), 2));
-    assert_eq!(rt; run_long(rt.alloc(), b'#', 200_000, b"")?, (Ok(1), 0));
-    assert_eq!(rt;
-        run_long(rt.alloc(), b'\n', 200_000, b"b")?,
-        (Ok(200_001), 2)
-    );
+    for (first, count, behind, wanted, length) in LONG {
+        let (end, printed) = run_long(rt.alloc(), first, count, behind)?;
+        assert_eq!(rt; (end.0, printed), (wanted, length), "{count}");
+    }
     Ok(())
+}
+
+// Where a reader of `a`, `bc`, `#` and `d` fails, and what is printed of whole lines.
+const READ: [(usize, &[u8]); 7] = [
+    (0, b""),
+    (1, b""),
+    (2, b"a\n"),
+    (4, b"a\n"),
+    (5, b"a\nbc\n"),
+    (7, b"a\nbc\n"),
+    (8, b"a\nbc\n"),
+];
+
+// How a run ends whose writer is full at a place and takes at most so many bytes at a time, and what is printed.
+fn written_to(alloc: Global, full_at: usize, most: usize) -> (End, Vec<u8>) {
+    let mut sink = Sink::new(alloc);
+    sink.full_at = full_at;
+    sink.most = most;
+    told(alloc, Source::new(b"a\nbc\nd\n!\n"), sink)
 }
 
 // A reader fails in front of each byte, or a writer behind it, whatever it takes at once.
 #[test]
-fn failed_devices_leave_whole_lines_or_a_part_of_the_text(rt: HostRuntime) -> Result<(), Fail> {
-    let script = b"a\nbc\n#\nd";
-    for (fails_at, text) in [
-        (0, b"".as_slice()),
-        (1, b"".as_slice()),
-        (2, b"a\n".as_slice()),
-        (4, b"a\n".as_slice()),
-        (5, b"a\nbc\n".as_slice()),
-        (7, b"a\nbc\n".as_slice()),
-        (8, b"a\nbc\n".as_slice()),
-    ] {
-        let mut source = Source::new(script);
-        source.cut = fails_at;
-        source.fails_at = fails_at;
-        let mut sink = Sink::new(rt.alloc());
-        let end = told(rt.alloc(), source, &mut sink);
+fn failed_devices_leave_whole_lines_or_a_part_of_the_text(rt: HostRuntime) {
+    let alloc = rt.alloc();
+    for (place, text) in READ {
+        let (end, printed) = told(
+            alloc,
+            Source::failing_at(b"a\nbc\n#\nd", place),
+            Sink::new(alloc),
+        );
         assert_eq!(rt; (end.0, end.1, end.3), (Err(RunFault::Read), 1, 0));
-        assert_eq!(rt; sink.bytes.as_slice(), text, "at {fails_at}");
+        assert_eq!(rt; printed.as_slice(), text, "at {place}");
     }
-    let text = b"a\nbc\nd\n";
-    for fails_at in 0..text.len() {
-        for most in [usize::MAX, 1, 3] {
-            let mut sink = Sink::new(rt.alloc());
-            sink.full_at = fails_at;
-            sink.most = most;
-            let end = told(rt.alloc(), Source::new(b"a\nbc\nd\n!\n"), &mut sink);
+    for most in [usize::MAX, 1, 3] {
+        for place in 0..7usize {
+            let (end, printed) = written_to(alloc, place, most);
             assert_eq!(rt; (end.0, end.1, end.3), (Err(RunFault::Write), 0, 1));
-            assert_eq!(rt; sink.bytes.as_slice(), &text[..fails_at]);
+            assert_eq!(rt; Some(printed.as_slice()), b"a\nbc\nd\n".get(..place));
         }
     }
-    Ok(())
 }
 
 #[test]
-fn an_endless_reader_spends_the_reads(rt: HostRuntime) -> Result<(), Fail> {
-    for byte in [b'#', b'\n'] {
-        let bytes = [byte];
-        let mut sink = Sink::new(rt.alloc());
-        let end = told(rt.alloc(), Endless::new(&bytes), &mut sink);
+fn an_endless_reader_spends_the_reads(rt: HostRuntime) {
+    for bytes in [b"#", b"\n"] {
+        let (end, printed) = told(rt.alloc(), Endless::new(bytes), Sink::new(rt.alloc()));
         assert_eq!(rt; end, (Err(RunFault::TurnsSpent), 0, 1_000_000, 0));
-        assert!(rt; sink.bytes.is_empty());
+        assert!(rt; printed.is_empty());
     }
-    Ok(())
 }

@@ -32,6 +32,14 @@ impl<'a> Source<'a> {
             interrupted: false,
         }
     }
+
+    /// A source that gives the bytes in front of a place, and fails there.
+    pub fn failing_at(bytes: &'a [u8], place: usize) -> Source<'a> {
+        let mut source = Source::new(bytes);
+        source.cut = place;
+        source.fails_at = place;
+        source
+    }
 }
 
 impl<'a> Read for Source<'a> {

@@ -1,8 +1,34 @@
 //! What the devices give and take, and where they fail.
 
 use super::{Endless, Sink, Source};
+use std::alloc::Global;
+use std::io;
 use std::io::{ErrorKind, Read, Write};
 use std::test::Fail;
+
+/// What a read gave: its bytes and an LF, or `~` where it was interrupted, or `!` where it failed otherwise.
+fn push_read(text: &mut Vec<u8>, place: &[u8], read: io::Result<usize>) -> Result<(), Fail> {
+    match read {
+        Ok(count) => {
+            text.extend_from_slice(place.get(..count).ok_or("more than there is room for")?)?;
+            text.push(b'\n')?;
+        }
+        Err(fault) if fault.kind() == ErrorKind::Interrupted => text.push(b'~')?,
+        Err(_) => text.push(b'!')?,
+    }
+    Ok(())
+}
+
+/// What reads give that have room for so many bytes each.
+fn reads(alloc: Global, source: &mut Source<'_>, rooms: &[usize]) -> Result<Vec<u8>, Fail> {
+    let mut text = Vec::new(alloc);
+    for room in rooms {
+        let mut place = vec![in alloc; 0; *room]?;
+        let read = source.read(&mut place);
+        push_read(&mut text, place.as_slice(), read)?;
+    }
+    Ok(text)
+}
 
 #[test]
 fn a_source_in_pieces(rt: HostRuntime) -> Result<(), Fail> {
@@ -10,14 +36,8 @@ fn a_source_in_pieces(rt: HostRuntime) -> Result<(), Fail> {
     source.most = 3;
     source.cut = 4;
     source.fails_at = 6;
-    let mut place = [0; 2];
-    assert_eq!(rt; source.read(&mut place)?, 2);
-    assert_eq!(rt; place.as_slice(), b"ab".as_slice());
-    let mut place = [0; 9];
-    assert_eq!(rt; source.read(&mut place)?, 2);
-    assert_eq!(rt; source.read(&mut place)?, 3);
-    assert_eq!(rt; &place[..3], b"efg".as_slice());
-    assert!(rt; source.read(&mut place).is_err());
+    let told = reads(rt.alloc(), &mut source, &[2, 9, 9, 9])?;
+    assert_eq!(rt; told.as_slice(), b"ab\ncd\nefg\n!".as_slice());
     Ok(())
 }
 
@@ -25,15 +45,14 @@ fn a_source_in_pieces(rt: HostRuntime) -> Result<(), Fail> {
 fn interrupted_devices(rt: HostRuntime) -> Result<(), Fail> {
     let mut source = Source::new(b"ab");
     source.interrupts = true;
-    let mut place = [0; 9];
-    for _ in 0..2 {
-        match source.read(&mut place) {
-            Err(fault) => assert!(rt; fault.kind() == ErrorKind::Interrupted),
-            Ok(_) => assert!(rt; false, "no interrupt"),
-        }
-        assert!(rt; source.read(&mut place).is_ok());
-    }
+    let told = reads(rt.alloc(), &mut source, &[9; 4])?;
+    assert_eq!(rt; told.as_slice(), b"~ab\n~\n".as_slice());
     Ok(())
+}
+
+/// How many bytes each of three writes takes.
+fn writes(sink: &mut Sink, bytes: &[u8]) -> io::Result<[usize; 3]> {
+    Ok([sink.write(bytes)?, sink.write(bytes)?, sink.write(bytes)?])
 }
 
 #[test]
@@ -41,18 +60,15 @@ fn a_full_sink(rt: HostRuntime) -> Result<(), Fail> {
     let mut sink = Sink::new(rt.alloc());
     sink.most = 2;
     sink.full_at = 3;
-    assert_eq!(rt; sink.write(b"abc")?, 2);
-    assert_eq!(rt; sink.write(b"abc")?, 1);
-    assert_eq!(rt; sink.write(b"abc")?, 0);
+    assert_eq!(rt; writes(&mut sink, b"abc")?, [2, 1, 0]);
     assert_eq!(rt; sink.bytes.as_slice(), b"aba".as_slice());
     Ok(())
 }
 
 #[test]
 fn bytes_without_end(rt: HostRuntime) -> Result<(), Fail> {
-    let mut source = Endless::new(b"ab");
     let mut text = [0; 5];
-    source.read_exact(&mut text)?;
+    Endless::new(b"ab").read_exact(&mut text)?;
     assert_eq!(rt; text.as_slice(), b"ababa".as_slice());
     assert_eq!(rt; Endless::new(b"").read(&mut text)?, 0);
     Ok(())

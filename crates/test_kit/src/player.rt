@@ -4,7 +4,7 @@ use crate::labels::Labels;
 use crate::mounted::Mounted;
 use crate::objects::{Objects, command_of};
 use crate::played::Played;
-use crate::rows::Row;
+use crate::rows::{ANSWER_ROWS, CHANGE_ROWS, LABEL_ROWS, OBJECT_ROWS, Row};
 use crate::text::{differing_line, lines};
 use eden_globs::{Filter, FilterFault};
 use eden_history::{Answer, Change, ChangeFault, Position};
@@ -268,7 +268,7 @@ impl<P: Played + Drop> Player<P> {
 }
 
 /// The number of the first line, from 1, that a row prints otherwise when it is played, if there is one.
-pub fn first_wrong<P: Played + Drop>(alloc: Global, row: &Row) -> Result<Option<usize>, Fail> {
+fn wrong_line<P: Played + Drop>(alloc: Global, row: &Row) -> Result<Option<usize>, Fail> {
     let mut player: Player<P> = Player {
         alloc,
         objects: Objects::new(alloc),
@@ -280,4 +280,15 @@ pub fn first_wrong<P: Played + Drop>(alloc: Global, row: &Row) -> Result<Option<
     }
     let wanted = lines(alloc, row.prints)?;
     Ok(differing_line(player.text.as_slice(), wanted.as_slice()))
+}
+
+/// The name of the first row of the tables that goes another way when it is played over this, and the number of its line, if there is one.
+pub fn first_wrong<P: Played + Drop>(alloc: Global) -> Result<Option<(&'static str, usize)>, Fail> {
+    let rows = CHANGE_ROWS.iter().chain(&ANSWER_ROWS);
+    for row in rows.chain(&OBJECT_ROWS).chain(&LABEL_ROWS) {
+        if let Some(line) = wrong_line::<P>(alloc, row)? {
+            return Ok(Some((row.name, line)));
+        }
+    }
+    Ok(None)
 }

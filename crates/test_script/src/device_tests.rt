@@ -2,9 +2,9 @@
 
 use eden_edend::{RunFault, run};
 use eden_stream::Counted;
-use std::alloc::Global;
+use std::alloc::{AllocError, Global};
 use std::test::Fail;
-use test_devices::{Sink, Source};
+use test_devices::{Exchange, Sink, Source};
 use test_kit::{CHANGE_ROWS, lines};
 
 /// The script of the first row of the table, and what it prints.
@@ -90,75 +90,51 @@ const LINES: [(&str, &str); 24] = [
     ("", ""),
 ];
 
-/// The script of these lines, what it prints, and where each line and what is printed by then end.
-#[derive(Drop)]
-struct Lines {
-    script: Vec<u8>,
-    text: Vec<u8>,
-    ends: Vec<(usize, usize)>,
-}
-
-fn all_lines(alloc: Global) -> Result<Lines, Fail> {
-    let mut script = Vec::new(alloc);
-    let mut text = Vec::new(alloc);
-    let mut ends = Vec::new(alloc);
+fn all_lines(alloc: Global) -> Result<Exchange, AllocError> {
+    let mut lines = Exchange::new(alloc);
     for (line, prints) in &LINES {
-        script.extend_from_slice(line.as_bytes())?;
-        script.push(b'\n')?;
-        text.extend_from_slice(prints.as_bytes())?;
-        ends.push((script.len(), text.len()))?;
+        lines.add(&[line.as_bytes(), b"\n".as_slice()], prints.as_bytes())?;
     }
-    Ok(Lines { script, text, ends })
+    Ok(lines)
 }
 
-impl Lines {
-    /// What the lines print that end at a place of the script or before it.
-    fn text_before(&self, place: usize) -> &[u8] {
-        let mut last = 0;
-        for (end, text) in &self.ends {
-            if *end <= place {
-                last = *text;
-            }
-        }
-        self.text.get(..last).unwrap_or(&[])
-    }
+/// Whether a reader that fails at this place leaves what the lines before it print.
+fn is_run_before(alloc: Global, lines: &Exchange, place: usize, most: usize) -> bool {
+    let mut sink = Sink::new(alloc);
+    let ended = ran(alloc, lines.source_to(place, most), &mut sink);
+    ended == Err(RunFault::Read) && sink.bytes.as_slice() == lines.text_before(place)
+}
 
-    /// Whether a reader that fails at this place leaves what the lines before it print.
-    fn is_run_before(&self, alloc: Global, place: usize, most: usize) -> bool {
-        let mut source = Source::new(self.script.as_slice());
-        source.cut = place;
-        source.fails_at = place;
-        source.most = most;
-        let mut sink = Sink::new(alloc);
-        let ended = ran(alloc, source, &mut sink);
-        ended == Err(RunFault::Read) && sink.bytes.as_slice() == self.text_before(place)
-    }
-
-    /// Whether a writer that fails behind so many bytes has the first bytes of the text.
-    fn is_written_to(&self, alloc: Global, place: usize, most: usize) -> bool {
-        let mut sink = Sink::new(alloc);
-        sink.full_at = place;
-        sink.most = most;
-        let ended = ran(alloc, Source::new(self.script.as_slice()), &mut sink);
-        ended == Err(RunFault::Write) && Some(sink.bytes.as_slice()) == self.text.get(..place)
-    }
+/// Whether a writer that fails behind so many bytes has the first bytes of the text.
+fn is_written_to(alloc: Global, lines: &Exchange, place: usize, most: usize) -> bool {
+    let mut sink = Sink::new(alloc);
+    sink.full_at = place;
+    sink.most = most;
+    let ended = ran(alloc, Source::new(lines.stream.as_slice()), &mut sink);
+    ended == Err(RunFault::Write) && Some(sink.bytes.as_slice()) == lines.text.get(..place)
 }
 
 #[test]
 fn devices_that_fail_at_each_byte(rt: HostRuntime) -> Result<(), Fail> {
     let alloc = rt.alloc();
     let lines = all_lines(alloc)?;
-    let (script, text) = (lines.script.len(), lines.text.len());
+    let (script, text) = (lines.stream.len(), lines.text.len());
     let mut sink = Sink::new(alloc);
-    let ended = ran(alloc, Source::new(lines.script.as_slice()), &mut sink);
+    let ended = ran(alloc, Source::new(lines.stream.as_slice()), &mut sink);
     assert_eq!(rt; ended, Ok(24));
     assert!(rt; sink.bytes == lines.text);
     for most in [usize::MAX, 1, 3] {
         for place in 0..=script {
-            assert!(rt; lines.is_run_before(alloc, place, most), "read to {place}");
+            assert!(rt;
+                is_run_before(alloc, &lines, place, most),
+                "read to {place}"
+            );
         }
         for place in 0..text {
-            assert!(rt; lines.is_written_to(alloc, place, most), "write to {place}");
+            assert!(rt;
+                is_written_to(alloc, &lines, place, most),
+                "write to {place}"
+            );
         }
     }
     Ok(())

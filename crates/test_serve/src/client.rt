@@ -1,93 +1,29 @@
-//! A client that sends one frame and reads the reply.
+//! A client that asks for one file, and for what changed.
 
-use eden_globs::Filter;
-use eden_history::{Mark, Marked, Position};
-use eden_ids::{Content, Id, Kind};
-use eden_messages::{Query, Reply, Request};
-use eden_wire::{decode_reply, encode_request};
+use eden_ids::{Content, Kind};
+use eden_messages::Reply;
 use std::alloc::Global;
-use std::io::{Read, Write};
-use std::net::{Ipv4Addr, Net, TcpListener, TcpStream};
+use std::net::TcpStream;
 use std::test::Fail;
-use test_kit::path;
+use test_sockets::{QUERY, ask, fetch_frame, poll_frame, told_up_to};
 
-/// Whose questions they are.
-pub(crate) const QUERY: Query = Query {
-    mirror: 1,
-    life: 1,
-    number: 1,
-};
-
-/// Where a mount of the empty commit begins.
-const BEGUN: Position = Position {
-    generation: 7,
-    sequence: 1,
-    root: Id::ZERO,
-};
-
-/// What a client sends.
+/// What a client sends, and where the lines begin that change what it asks for.
 #[derive(Drop)]
 pub(crate) struct Frames {
     /// Whether `w` changed since the mount.
     pub(crate) poll: Vec<u8>,
     /// What stands at `notes`.
     pub(crate) notes: Vec<u8>,
-    /// What stands at `big`.
-    pub(crate) big: Vec<u8>,
+    /// The number of the last event before those of `w`.
+    pub(crate) begun: u64,
 }
 
-/// The frame of a fetch.
-fn fetch(alloc: Global, at: &str) -> Result<Vec<u8>, Fail> {
-    let path = path(alloc, at)?;
-    Ok(encode_request(alloc, &Request::Fetch { query: QUERY, path })?)
-}
-
-pub(crate) fn make_frames(alloc: Global) -> Result<Frames, Fail> {
-    let poll = Request::Poll {
-        query: QUERY,
-        since: BEGUN,
-        filter: Filter::parse(alloc, &[b"w".as_slice()])?,
-    };
+pub(crate) fn make_frames(alloc: Global, begun: u64) -> Result<Frames, Fail> {
     Ok(Frames {
-        poll: encode_request(alloc, &poll)?,
-        notes: fetch(alloc, "notes")?,
-        big: fetch(alloc, "big")?,
+        poll: poll_frame(alloc)?,
+        notes: fetch_frame(alloc, "notes")?,
+        begun,
     })
-}
-
-/// A port of this machine on which nobody listens.
-pub(crate) fn free_port<R: Net<Listener = TcpListener, Stream = TcpStream>>(
-    rt: &R,
-) -> Result<u16, Fail> {
-    Ok(listen(rt)?.local_addr()?.port())
-}
-
-/// A listener on such a port.
-pub(crate) fn listen<R: Net<Listener = TcpListener, Stream = TcpStream>>(
-    rt: &R,
-) -> Result<TcpListener, Fail> {
-    Ok(TcpListener::bind(rt, (Ipv4Addr::LOCALHOST, 0))?)
-}
-
-/// A connection to a port of this machine, if one is taken there.
-pub(crate) fn connect<R: Net<Stream = TcpStream>>(rt: &R, port: u16) -> Option<TcpStream> {
-    TcpStream::connect(rt, (Ipv4Addr::LOCALHOST, port)).ok()
-}
-
-/// Reads one reply. None where no whole frame comes, or where it is none of a reply.
-pub(crate) fn read_reply(alloc: Global, mut stream: &TcpStream) -> Option<Reply> {
-    let mut length = [0; 4];
-    stream.read_exact(&mut length).ok()?;
-    let length = u32::from_be_bytes(length) as usize;
-    let mut body = vec![in alloc; 0; length].ok()?;
-    stream.read_exact(&mut body).ok()?;
-    decode_reply(alloc, &body).ok()
-}
-
-/// Sends a frame, and reads the reply to it.
-pub(crate) fn ask(alloc: Global, mut stream: &TcpStream, frame: &[u8]) -> Option<Reply> {
-    stream.write_all(frame).ok()?;
-    read_reply(alloc, stream)
 }
 
 /// Whether a reply tells that `notes` is a plain file with this text.
@@ -102,41 +38,11 @@ fn tells_notes(reply: &Reply, text: &[u8]) -> bool {
     }
 }
 
-/// The number of the mount's last event, where a reply tells it, and that `w` was created since the mount. That it was not is right before the
-/// first of the lines that write it, up to number 3.
-fn told_up_to(reply: &Reply) -> Option<u64> {
-    let Reply::ChangesAre {
-        query,
-        target,
-        marked,
-        prefixes,
-    } = reply
-    else {
-        return None;
-    };
-    let is_right = match marked.as_slice() {
-        [] => target.sequence <= 3,
-        [
-            Marked {
-                mark: Mark::Created,
-                path,
-            },
-        ] => target.sequence > 2 && path.as_bytes() == b"w".as_slice(),
-        _ => false,
-    };
-    let is_whole = is_right && prefixes.as_slice().is_empty();
-    if is_whole && *query == QUERY && target.generation == 7 && target.root == Id::ZERO {
-        Some(target.sequence)
-    } else {
-        None
-    }
-}
-
 /// Asks for `notes` and for the changes of `w`, and gives the number up to which they are told. None where a reply is not right.
 pub(crate) fn ask_both(alloc: Global, stream: &TcpStream, frames: &Frames) -> Option<u64> {
     let notes = ask(alloc, stream, &frames.notes)?;
     if !tells_notes(&notes, b"to do") {
         return None;
     }
-    told_up_to(&ask(alloc, stream, &frames.poll)?)
+    told_up_to(&ask(alloc, stream, &frames.poll)?, frames.begun)
 }

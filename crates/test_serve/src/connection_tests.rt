@@ -1,7 +1,7 @@
 //! Connections that are open at once, and a writer meanwhile.
 
-use crate::client::{Frames, ask_both, connect, listen, make_frames};
-use crate::feed::{PRINTED, SCRIPT, serve};
+use crate::client::{Frames, ask_both, make_frames};
+use crate::feed::{PRINTED, SCRIPT, SEQUENCE, serve};
 use eden_edend::{LineInput, Objects};
 use eden_serve::{ProgramFault, read_opening, serve_listener};
 use std::alloc::Global;
@@ -12,9 +12,10 @@ use std::test::Fail;
 use std::thread;
 use std::thread::Threads;
 use std::time::Clock;
+use test_sockets::{connect, listen};
 
 /// Opens so many connections.
-fn connect_all<R: Net<Stream = TcpStream>>(
+fn connect_all<R: Net<Stream = TcpStream> + Clock>(
     rt: &R,
     alloc: Global,
     port: u16,
@@ -41,7 +42,7 @@ fn ask_all(alloc: Global, streams: &[TcpStream], frames: &Frames) -> bool {
 }
 
 /// Opens so many connections, asks on each of them twice, and closes them. Then the writer is to end.
-fn run_clients<R: Net<Stream = TcpStream>>(
+fn run_clients<R: Net<Stream = TcpStream> + Clock>(
     rt: &R,
     alloc: Global,
     port: u16,
@@ -79,7 +80,7 @@ fn are_served<R: Threads + Wait + Clock + Net<Listener = TcpListener, Stream = T
 
 #[test]
 fn connections_at_once(rt: HostRuntime) -> Result<(), Fail> {
-    let frames = make_frames(rt.alloc())?;
+    let frames = make_frames(rt.alloc(), SEQUENCE)?;
     for count in [1, 8, 64] {
         assert!(rt; are_served(&rt, rt.alloc(), count, &frames)?, "{count}");
     }

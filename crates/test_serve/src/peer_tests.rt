@@ -1,6 +1,6 @@
 //! Peers that do not do what they should, and one that is served beside them.
 
-use crate::client::{Frames, ask_both, connect, listen, make_frames, read_reply};
+use crate::client::{Frames, ask_both, make_frames};
 use crate::feed::serve;
 use std::alloc::Global;
 use std::io::Write;
@@ -11,54 +11,15 @@ use std::test::Fail;
 use std::thread;
 use std::thread::Threads;
 use std::time::Clock;
+use test_sockets::{
+    BIG_SEQUENCE, big_script, connect, hostile_texts, listen, read_reply, send_all,
+};
 
-/// What is printed by a script that writes two files.
+/// What is printed by the script that writes two files.
 const PRINTED: &[u8] = b"at 7 1 empty\nat 7 2 empty\nat 7 3 empty\n";
-
-/// A script that writes a big file, and a small one.
-fn script(alloc: Global) -> Result<Vec<u8>, Fail> {
-    let mut script = Vec::new(alloc);
-    script.extend_from_slice(b"mount empty 7 1000000\nwrite big plain ")?;
-    script.extend_from_slice(&vec![in alloc; b'x'; 60_000]?)?;
-    script.extend_from_slice(b"\nwrite notes plain to\\sdo\nlisten\n")?;
-    Ok(script)
-}
-
-/// What peers send at once: nothing; a part of a frame; a length of 4 GiB; what is no frame; and a thousand requests for `big`, to which they
-/// read no reply.
-fn hostile_texts(alloc: Global, frames: &Frames) -> Result<Vec<Vec<u8>>, Fail> {
-    let mut texts = Vec::new(alloc);
-    texts.push(Vec::new(alloc))?;
-    texts.push([0, 0, 0, 63, 2, 2].as_slice().to_vec(alloc)?)?;
-    texts.push([255; 4].as_slice().to_vec(alloc)?)?;
-    texts.push(b"GET / HTTP/1.0\r\n\r\n".as_slice().to_vec(alloc)?)?;
-    let mut many = Vec::new(alloc);
-    for _ in 0..1_000 {
-        many.extend_from_slice(&frames.big)?;
-    }
-    texts.push(many)?;
-    Ok(texts)
-}
-
-/// Sends each of the texts on a connection of its own, and keeps the connections open.
-fn send_all<R: Net<Stream = TcpStream>>(
-    rt: &R,
-    alloc: Global,
-    port: u16,
-    texts: &[Vec<u8>],
-) -> Option<Vec<TcpStream>> {
-    let mut streams = Vec::new(alloc);
-    for text in texts {
-        let mut stream = connect(rt, port)?;
-        stream.write_all(text).ok()?;
-        streams.push(stream).ok()?;
-    }
-    Some(streams)
-}
 
 /// Sends a frame a byte at a time, and says whether a reply comes to it.
 fn ask_slowly(alloc: Global, mut stream: &TcpStream, frame: &[u8]) -> Option<bool> {
-    stream.set_nodelay(true).ok()?;
     for byte in frame {
         stream.write_all(&[*byte]).ok()?;
     }
@@ -66,7 +27,7 @@ fn ask_slowly(alloc: Global, mut stream: &TcpStream, frame: &[u8]) -> Option<boo
 }
 
 /// Asks beside peers whose connections are open meanwhile, and then beside one that ends inside a frame. Says whether each reply is right.
-fn ask_beside<R: Net<Stream = TcpStream>>(
+fn ask_beside<R: Net<Stream = TcpStream> + Clock>(
     rt: &R,
     alloc: Global,
     port: u16,
@@ -87,7 +48,7 @@ fn ask_beside<R: Net<Stream = TcpStream>>(
 }
 
 /// Asks so, and then the writer is to end.
-fn run_peers<R: Net<Stream = TcpStream>>(
+fn run_peers<R: Net<Stream = TcpStream> + Clock>(
     rt: &R,
     alloc: Global,
     port: u16,
@@ -106,7 +67,7 @@ fn is_served_beside<
 >(rt: &R, alloc: Global, frames: &Frames, texts: &[Vec<u8>]) -> Result<bool, Fail> {
     let listener = listen(rt)?;
     let port = listener.local_addr()?.port();
-    let script = script(alloc)?;
+    let script = big_script(alloc)?;
     let script = script.as_slice();
     let ended = AtomicBool::new(false);
     let (served, right) = thread::join(
@@ -119,8 +80,8 @@ fn is_served_beside<
 
 #[test]
 fn hostile_peers(rt: HostRuntime) -> Result<(), Fail> {
-    let frames = make_frames(rt.alloc())?;
-    let texts = hostile_texts(rt.alloc(), &frames)?;
+    let frames = make_frames(rt.alloc(), BIG_SEQUENCE)?;
+    let texts = hostile_texts(rt.alloc())?;
     assert!(rt; is_served_beside(&rt, rt.alloc(), &frames, texts.as_slice())?);
     Ok(())
 }

@@ -1,7 +1,7 @@
 //! Scripts with their line `listen`: what is printed, and how the program ends.
 
-use crate::client::{Frames, ask_both, connect, free_port, listen, make_frames};
-use crate::feed::{PRINTED, SCRIPT};
+use crate::client::{Frames, ask_both, make_frames};
+use crate::feed::{PRINTED, SCRIPT, SEQUENCE};
 use eden_serve::{ProgramFault, serve_program};
 use std::alloc::Global;
 use std::io::Read;
@@ -10,8 +10,9 @@ use std::sync::Wait;
 use std::test::Fail;
 use std::thread;
 use std::thread::Threads;
-use std::time::{Clock, Duration};
+use std::time::Clock;
 use test_devices::{Endless, Sink, Source};
+use test_sockets::{connect, free_port, listen};
 
 /// How a program ends.
 type End = Result<(), ProgramFault>;
@@ -245,27 +246,23 @@ fn a_comment_may_spend_them(rt: HostRuntime) -> Result<(), Fail> {
     Ok(())
 }
 
-/// Connects once the port is taken, ten seconds from now at the most, and asks. Says whether the replies are right, and whether nobody listens
-/// on another address of this machine.
+/// Connects once the port is taken, and asks. Says whether the replies are right, and whether nobody listens on another address of this machine.
 fn ask_once<R: Net<Stream = TcpStream> + Clock>(
     rt: &R,
     alloc: Global,
     port: u16,
     frames: &Frames,
 ) -> bool {
-    for _ in 0..10_000 {
-        if let Some(stream) = connect(rt, port) {
-            let other = TcpStream::connect(rt, (Ipv4Addr::new(127, 0, 0, 2), port));
-            return other.is_err() && ask_both(alloc, &stream, frames).is_some();
-        }
-        thread::sleep(rt, Duration::from_millis(1));
-    }
-    false
+    let Some(stream) = connect(rt, port) else {
+        return false;
+    };
+    let other = TcpStream::connect(rt, (Ipv4Addr::new(127, 0, 0, 2), port));
+    other.is_err() && ask_both(alloc, &stream, frames).is_some()
 }
 
 #[test]
 fn a_program_serves_its_port(rt: HostRuntime) -> Result<(), Fail> {
-    let frames = make_frames(rt.alloc())?;
+    let frames = make_frames(rt.alloc(), SEQUENCE)?;
     let port = free_port(&rt)?;
     let alloc = rt.alloc();
     let mut output = Vec::new(alloc);

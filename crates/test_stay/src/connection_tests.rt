@@ -1,12 +1,11 @@
 //! Many connections, at once and one after another, and peers that do not do what they should.
 
-use crate::client::{QUERY, ask_often, connect, free_port, poll};
-use crate::feed::stay;
+use crate::client::poll_often;
 use eden_command::ProgramFault;
-use eden_messages::Request;
-use eden_query::encode_request;
+use eden_edend::Objects;
+use eden_stay::stay_program;
+use eden_stream::Counted;
 use std::alloc::Global;
-use std::io::{Read, Write};
 use std::net::{Net, TcpListener, TcpStream};
 use std::process::Abort;
 use std::sync::Wait;
@@ -15,17 +14,28 @@ use std::test::Fail;
 use std::thread;
 use std::thread::Threads;
 use std::time::{Clock, Duration, Instant};
-use test_kit::path;
+use test_sockets::{Feed, LINES, big_script, free_port, hostile_texts, poll_frame, send_all};
 
-/// A script that mounts, and writes `big`, of 60,000 bytes.
-fn script(alloc: Global) -> Result<Vec<u8>, Fail> {
-    let mut script = Vec::new(alloc);
-    script.extend_from_slice(b"mount empty 7 1000000\nwrite big plain ")?;
-    for _ in 0..60_000 {
-        script.push(b'x')?;
-    }
-    script.extend_from_slice(b"\nlisten\n")?;
-    Ok(script)
+/// Runs a script, and behind it lines that write `w`, in front of so many threads, until the flag is set.
+fn stay<R: Threads + Wait + Clock + Net<Listener = TcpListener, Stream = TcpStream> + Sync>(
+    rt: &R,
+    alloc: Global,
+    script: &[u8],
+    ended: &AtomicBool,
+    port: u16,
+    threads: u64,
+) -> Result<(), ProgramFault> {
+    let feed = Feed::new(rt, script, LINES, b"".as_slice(), ended);
+    let mut writer = Counted::new(Vec::new(alloc));
+    stay_program(
+        rt,
+        alloc,
+        Objects::new(alloc),
+        feed,
+        &mut writer,
+        port,
+        threads,
+    )
 }
 
 /// Eight clients ask so often each. Says whether all replies are right.
@@ -36,48 +46,10 @@ fn eight_clients<R: Threads + Net<Listener = TcpListener, Stream = TcpStream> + 
     frame: &[u8],
     times: u32,
 ) -> bool {
-    match thread::map_indices(rt, alloc, 8, &|_| ask_often(rt, alloc, port, frame, times)) {
+    match thread::map_indices(rt, alloc, 8, &|_| poll_often(rt, alloc, port, frame, times)) {
         Ok(right) => right.as_slice().iter().all(|right| *right),
         Err(_) => false,
     }
-}
-
-/// What hostile peers send: nothing; a part of a frame; a length of 4 GiB; what is no frame; and more requests than they read replies to,
-/// a thousand for `big`.
-fn hostile_texts(alloc: Global) -> Result<Vec<Vec<u8>>, Fail> {
-    let request = Request::Fetch {
-        query: QUERY,
-        path: path(alloc, "big")?,
-    };
-    let frame = encode_request(alloc, &request)?;
-    let part = frame.get(..9).ok_or("a frame is too short")?;
-    let mut texts = Vec::new(alloc);
-    texts.push(Vec::new(alloc))?;
-    texts.push(part.to_vec(alloc)?)?;
-    texts.push([255; 4].as_slice().to_vec(alloc)?)?;
-    texts.push(b"GET / HTTP/1.0\r\n\r\n".as_slice().to_vec(alloc)?)?;
-    let mut many = Vec::new(alloc);
-    for _ in 0..1_000 {
-        many.extend_from_slice(frame.as_slice())?;
-    }
-    texts.push(many)?;
-    Ok(texts)
-}
-
-/// Sends each of these on a connection of its own, and keeps the connections.
-fn send_all<R: Net<Stream = TcpStream> + Clock>(
-    rt: &R,
-    alloc: Global,
-    port: u16,
-    texts: &[Vec<u8>],
-) -> Option<Vec<TcpStream>> {
-    let mut streams = Vec::new(alloc);
-    for text in texts {
-        let mut stream = connect(rt, port)?;
-        stream.write_all(text).ok()?;
-        streams.push(stream).ok()?;
-    }
-    Some(streams)
 }
 
 /// The script, what hostile peers send, and what each of eight clients asks how often, each time on another connection.
@@ -136,9 +108,9 @@ fn serves_beside<
     R: Threads + Wait + Clock + Net<Listener = TcpListener, Stream = TcpStream> + Abort + Sync,
 >(rt: &R, alloc: Global, hostile: Vec<Vec<u8>>, times: u32) -> Result<(), Fail> {
     let plan = Plan {
-        script: script(alloc)?,
+        script: big_script(alloc)?,
         hostile,
-        frame: poll(alloc)?,
+        frame: poll_frame(alloc)?,
         times,
     };
     let port = free_port(rt)?;

@@ -1,18 +1,18 @@
 //! How the program ends, and what it prints.
 
-use crate::client::{address, free_port};
 use eden_command::ProgramFault;
 use eden_edend::Objects;
 use eden_stay::stay_program;
 use eden_stream::Counted;
 use std::alloc::Global;
 use std::io::Read;
-use std::net::{Net, TcpListener, TcpStream};
+use std::net::{Ipv4Addr, Net, TcpListener, TcpStream};
 use std::sync::Wait;
 use std::test::Fail;
 use std::thread::Threads;
 use std::time::Clock;
 use test_devices::{Sink, Source};
+use test_sockets::free_port;
 
 /// How the program ends on this input, in front of so many threads.
 fn outcome<R: Threads + Wait + Clock + Net<Listener = TcpListener, Stream = TcpStream> + Sync>(
@@ -101,7 +101,7 @@ fn devices_fail(rt: HostRuntime) -> Result<(), Fail> {
     let mut sink = Sink::new(alloc);
     let ended = outcome(&rt, alloc, Source::new(script), &mut sink, port, 0);
     assert_eq!(rt; ended, Err(ProgramFault::NoConnection));
-    let _other = rt.bind(address(port))?;
+    let _other = TcpListener::bind(&rt, (Ipv4Addr::LOCALHOST, port))?;
     let ended = outcome(&rt, alloc, Source::new(script), &mut sink, port, 1);
     assert_eq!(rt; ended, Err(ProgramFault::NoConnection));
     Ok(())

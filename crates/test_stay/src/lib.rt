@@ -10,6 +10,4 @@ mod connection_tests;
 #[cfg(test)]
 mod ending_tests;
 #[cfg(test)]
-mod feed;
-#[cfg(test)]
 mod stopping_tests;

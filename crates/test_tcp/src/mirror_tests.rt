@@ -1,21 +1,18 @@
 //! Many mirrors at once, while lines change what they follow.
 
 use eden_connect::{Quiet, connect_program};
-use eden_edend::{LineInput, Objects};
 use eden_globs::Filter;
 use eden_ids::Path;
 use eden_messages::{Query, Reply, Request};
-use eden_serve::{read_opening, serve_listener};
 use eden_wire::encode_request;
 use std::alloc::Global;
 use std::net::{Net, TcpListener, TcpStream};
-use std::sync::Wait;
 use std::sync::atomic::{AtomicBool, Ordering};
 use std::test::Fail;
 use std::thread;
 use std::thread::Threads;
 use std::time::{Clock, Duration};
-use test_sockets::{Feed, ask, connect, listen};
+use test_sockets::{Feed, ask, connect, listen, serve_feed};
 
 /// What is mounted, what the lines behind `listen` change again and again, and what they do last.
 const SCRIPT: &[u8] = b"mount empty 7 1000000\nwrite notes plain to\\sdo\nlisten\n";
@@ -33,27 +30,6 @@ const ROUNDS: u32 = 5;
 
 /// How often somebody asks whether the lines have ended, a millisecond later each time.
 const TRIES: u32 = 10_000;
-
-/// Serves so many connections, until the flag is set and all have gone. Says whether that ends well, and the audit with it.
-fn serve_all<R: Threads + Wait + Clock + Sync>(
-    rt: &R,
-    alloc: Global,
-    ended: &AtomicBool,
-    listener: &TcpListener,
-    connections: u64,
-) -> bool {
-    let feed = Feed::new(rt, SCRIPT, LINES, LAST, ended);
-    let Ok(mut input) = LineInput::new(alloc, feed) else {
-        return false;
-    };
-    let mut output = Vec::new(alloc);
-    let objects = Objects::new(alloc);
-    let Ok(opened) = read_opening(alloc, objects, &mut input, &mut output) else {
-        return false;
-    };
-    let served = serve_listener(rt, alloc, opened, input, &mut output, listener, connections);
-    served.is_ok() && output.ends_with(b"audit ok\n".as_slice())
-}
 
 /// What a mirror of this number tells after so many rounds, where it is placed.
 fn follow<R: Net<Stream = TcpStream>>(
@@ -173,7 +149,10 @@ fn mirrors_at_once(rt: HostRuntime) -> Result<(), Fail> {
         let ended = AtomicBool::new(false);
         let (served, kept) = thread::join(
             &rt,
-            || serve_all(&rt, alloc, &ended, &listener, 2 * count + 1),
+            || {
+                let feed = Feed::new(&rt, SCRIPT, LINES, LAST, &ended);
+                serve_feed(&rt, alloc, feed, &listener, 2 * count + 1).is_some()
+            },
             || {
                 let follow = |(mirror, rounds)| follow(&rt, alloc, port, mirror, rounds);
                 let kept = run_mirrors(&rt, alloc, port, count, &ended, &follow);

@@ -1,0 +1,28 @@
+//! A daemon that serves so many connections and audits what they were told.
+
+use crate::feed::Feed;
+use eden_edend::{LineInput, Objects};
+use eden_serve::{read_opening, serve_listener};
+use std::alloc::Global;
+use std::net::TcpListener;
+use std::sync::Wait;
+use std::thread::Threads;
+use std::time::Clock;
+
+/// Serves what a script opens to so many connections, and changes it meanwhile as the lines behind it say. What was written, where that ends well
+/// and the audit agrees; the last line, which says so, is left out.
+pub fn serve_feed<R: Threads + Wait + Clock + Sync>(
+    rt: &R,
+    alloc: Global,
+    feed: Feed<'_, R>,
+    listener: &TcpListener,
+    connections: u64,
+) -> Option<Vec<u8>> {
+    let mut input = LineInput::new(alloc, feed).ok()?;
+    let mut output = Vec::new(alloc);
+    let opened = read_opening(alloc, Objects::new(alloc), &mut input, &mut output).ok()?;
+    serve_listener(rt, alloc, opened, input, &mut output, listener, connections).ok()?;
+    let printed = output.strip_suffix(b"audit ok\n".as_slice())?.len();
+    output.truncate(printed);
+    Some(output)
+}
