@@ -18,7 +18,7 @@ const NAMES: [&str; 11] = [
     "rename_directory",
     "flush_and_remount",
     "checkout_modes",
-    "import then checkout",
+    "import_then_checkout",
     "questions and their refusals",
 ];
 

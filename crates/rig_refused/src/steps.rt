@@ -86,7 +86,7 @@ pub(crate) const RENAME_DIRECTORY: Opening = Opening {
     ],
 };
 
-/// The row `import then checkout`.
+/// The row `import_then_checkout`.
 pub(crate) const IMPORT_THEN_CHECKOUT: Opening = Opening {
     commits: &[],
     root: "empty",

@@ -132,7 +132,7 @@ pub const CHANGE_ROWS: [Row; 20] = [
             changes 1 to 7 4 empty;Changed a;changes 0 to 7 4 empty",
     },
     Row {
-        name: "import then checkout",
+        name: "import_then_checkout",
         script: "mount empty 7 1000;blob x x;tree t 100644 a x;commit c t;checkout c normal;since 7 1;blob y y;tree u 100644 a y;\
             commit d u;checkout d normal;since 7 2;mount c 7 1",
         prints: "at 7 1 empty;ok;ok;ok;at 7 2 c;conflicts 0;changes 1 to 7 2 c;Root a;ok;ok;ok;at 7 3 d;conflicts 0;\

@@ -19,6 +19,7 @@ const ALL: usize = usize::MAX;
 type Row = (&'static str, usize, u8, &'static str, &'static str);
 
 const ROWS: [Row; 14] = [
+    // follow_demo
     ("follow demo", ALL, 0, "audit ok\nfollowers agree\n", ""),
     ("follow demo", 4, 3, "audi", "follow: Write\n"),
     ("follow --version", ALL, 0, "follow 0.1.0\n", ""),
