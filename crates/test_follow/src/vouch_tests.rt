@@ -121,27 +121,50 @@ fn vouched(alloc: Global, logs: &[CallLog], follower: &Follower) -> Result<(), V
     vouch(alloc, logs, follower)
 }
 
-/// A follower that was told of no path, and asked what changed since.
-fn first_round(rt: &impl Abort, alloc: Global) -> Result<Follower, Fail> {
-    let mut follower = Follower::new(alloc, 3, 1, Filter::all(alloc));
-    assert!(rt; matches!(step(&mut follower)?.as_slice(), [Request::Basis { .. }]));
-    assert_eq!(rt; deliver(&mut follower, 1, &listed(alloc))?, Outcome::Placed);
-    assert_eq!(rt;
-        vouched(alloc, &[], &follower),
-        Err(VouchFault::StrangeReply)
-    );
-    assert!(rt; matches!(step(&mut follower)?.as_slice(), [Request::Poll { .. }]));
-    Ok(follower)
+/// Whether the next step asks for the first files alone.
+fn asks_first_files(follower: &mut Follower) -> Result<bool, Fail> {
+    Ok(matches!(step(follower)?.as_slice(), [Request::Basis { .. }]))
 }
 
-/// A follower that was told of `p`, and asks for it.
-fn second_round(rt: &impl Abort, alloc: Global) -> Result<Follower, Fail> {
-    let mut follower = first_round(rt, alloc)?;
-    let told = changed(alloc)?;
-    assert_eq!(rt; deliver(&mut follower, 5, &told)?, Outcome::Taken);
+/// Whether it asks for what changed alone.
+fn asks_changes(follower: &mut Follower) -> Result<bool, Fail> {
+    Ok(matches!(step(follower)?.as_slice(), [Request::Poll { .. }]))
+}
+
+/// Whether just this is asked.
+fn is_only(requests: &[Request], wanted: &Request) -> bool {
+    matches!(requests, [request] if request == wanted)
+}
+
+/// Whether the next step asks for the content of `p` alone.
+fn asks_content(alloc: Global, follower: &mut Follower) -> Result<bool, Fail> {
     let wanted = fetch(alloc, query(1, 2))?;
-    assert!(rt; step(&mut follower)?.as_slice() == [wanted].as_slice());
-    Ok(follower)
+    Ok(is_only(step(follower)?.as_slice(), &wanted))
+}
+
+/// What becomes of the reply to the question for the first files.
+fn take_files(alloc: Global, follower: &mut Follower) -> Result<Outcome, Fail> {
+    deliver(follower, 1, &listed(alloc))
+}
+
+/// What becomes of the reply to the question for what changed.
+fn take_changes(alloc: Global, follower: &mut Follower) -> Result<Outcome, Fail> {
+    deliver(follower, 5, &changed(alloc)?)
+}
+
+/// The follower is told of no path, and asks what changed since; then it is told of `p`, and asks for that.
+fn take_two_rounds(rt: &impl Abort, alloc: Global, follower: &mut Follower) -> Result<(), Fail> {
+    assert!(rt; asks_first_files(follower)?);
+    assert_eq!(rt; take_files(alloc, follower)?, Outcome::Placed);
+    assert_eq!(rt;
+        vouched(alloc, &[], follower),
+        Err(VouchFault::StrangeReply)
+    );
+    assert!(rt; asks_changes(follower)?);
+    assert_eq!(rt; take_changes(alloc, follower)?, Outcome::Taken);
+    assert!(rt; asks_content(alloc, follower)?);
+    assert_eq!(rt; follower.mirror().position(), Some(position(1)));
+    Ok(())
 }
 
 /// Of a request for the content of `p` that another service took: its ticket, life and number, and whether the logs vouch.
@@ -154,14 +177,33 @@ const TAKEN: [(u64, u64, u64, Result<(), VouchFault>); 5] = [
     (4, 2, 2, Ok(())),
 ];
 
+/// What is said of the follower where another service took a request with this ticket, life and number.
+fn judged(
+    alloc: Global,
+    follower: &Follower,
+    taken: (u64, u64, u64),
+) -> Result<Result<(), VouchFault>, Fail> {
+    let logs = both_logs(alloc, taken.0, taken.1, taken.2)?;
+    Ok(vouched(alloc, logs.as_slice(), follower))
+}
+
+/// The logs of both services vouch where they should.
+fn judge(rt: &impl Abort, alloc: Global, follower: &Follower) -> Result<(), Fail> {
+    for (ticket, life, number, said) in TAKEN {
+        let told = judged(alloc, follower, (ticket, life, number))?;
+        assert_eq!(rt; told, said, "{ticket}, {life}, {number}");
+    }
+    Ok(())
+}
+
+fn follow_and_judge(rt: &impl Abort, alloc: Global, follower: &mut Follower) -> Result<(), Fail> {
+    take_two_rounds(rt, alloc, follower)?;
+    judge(rt, alloc, follower)
+}
+
 #[test]
 fn vouch_faults(rt: HostRuntime) -> Result<(), Fail> {
     let alloc = rt.alloc();
-    let follower = second_round(&rt, alloc)?;
-    assert_eq!(rt; follower.mirror().position(), Some(position(1)));
-    for (ticket, life, number, said) in TAKEN {
-        let logs = both_logs(alloc, ticket, life, number)?;
-        assert_eq!(rt; vouched(alloc, logs.as_slice(), &follower), said);
-    }
-    Ok(())
+    let mut follower = Follower::new(alloc, 3, 1, Filter::all(alloc));
+    follow_and_judge(&rt, alloc, &mut follower)
 }
