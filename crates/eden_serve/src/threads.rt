@@ -1,6 +1,6 @@
 //! The threads: the writer's, and one for each connection.
 
-use crate::writing::{Behind, Lines, write_lines};
+use crate::writing::{Behind, Lines, Wrote, write_lines};
 use eden_ids::NoMemory;
 use eden_shared::{CallLog, Desk, OpenGate, Pass, serve_shared};
 use eden_stream::{Counted, RunFault};
@@ -10,7 +10,7 @@ use std::net::{TcpListener, TcpStream};
 use std::sync::Wait;
 use std::sync::ledger::Ledger;
 use std::thread;
-use std::thread::Threads;
+use std::thread::{JoinHandle, Scope, Threads};
 
 /// What all threads end with.
 #[derive(Drop)]
@@ -22,12 +22,39 @@ pub(crate) struct Ended<L: Ledger> {
 }
 
 impl<L: Ledger> Ended<L> {
+    /// Nothing yet.
+    fn none(alloc: Global) -> Ended<L> {
+        Ended {
+            passes: Vec::new(alloc),
+            logs: Vec::new(alloc),
+            ran: Ok(0),
+        }
+    }
+
     /// Takes the pass and the log of a desk.
     fn add(&mut self, desk: Desk<L>) -> Result<(), NoMemory> {
         let (pass, log) = desk.finish();
         self.passes.push(pass)?;
         self.logs.push(log)?;
         Ok(())
+    }
+
+    /// Joins the threads of connections, and takes their desks.
+    fn join(
+        &mut self,
+        rt: &impl Threads,
+        threads: Vec<JoinHandle<Desk<L>>>,
+    ) -> Result<(), NoMemory> {
+        for thread in threads {
+            self.add(thread.join(rt))?;
+        }
+        Ok(())
+    }
+
+    /// Takes what the writer ends with.
+    fn add_writer(&mut self, wrote: Wrote<L>) -> Result<(), NoMemory> {
+        self.ran = wrote.ran;
+        self.add(wrote.desk)
     }
 }
 
@@ -55,6 +82,59 @@ fn serve_one<L: Ledger>(
     desk
 }
 
+/// Accepts a connection, which is served in a thread of its own. Gives the desk back where there is no such thread: it has served the connection, if
+/// one was accepted.
+fn accept_one<'s, E, L: Ledger + Send + Sync + 's, R: Threads + Wait + Sync>(
+    scope: &Scope<'s, E>,
+    rt: &'s R,
+    alloc: Global,
+    shared: &'s Behind<L>,
+    listener: &TcpListener,
+    desk: Desk<L>,
+) -> Result<JoinHandle<Desk<L>>, Desk<L>> {
+    let Ok((stream, _)) = listener.accept() else {
+        return Err(desk);
+    };
+    match scope.spawn(move || serve_one(rt, alloc, shared, desk, stream)) {
+        Ok(thread) => Ok(thread),
+        Err(kept) => Err((kept.value)()),
+    }
+}
+
+/// Accepts a connection for each of these desks, and gives the threads that serve them. The desks of no thread are taken.
+fn accept_all<'s, E, L: Ledger + Send + Sync + 's, R: Threads + Wait + Sync>(
+    scope: &Scope<'s, E>,
+    rt: &'s R,
+    alloc: Global,
+    shared: &'s Behind<L>,
+    listener: &TcpListener,
+    desks: Vec<Desk<L>>,
+    ended: &mut Ended<L>,
+) -> Result<Vec<JoinHandle<Desk<L>>>, NoMemory> {
+    let mut threads = Vec::new(alloc);
+    for desk in desks {
+        match accept_one(scope, rt, alloc, shared, listener, desk) {
+            Ok(thread) => threads.push(thread)?,
+            Err(desk) => ended.add(desk)?,
+        }
+    }
+    Ok(threads)
+}
+
+/// Serves all connections to their ends, and takes their desks.
+fn serve_all<'s, E, L: Ledger + Send + Sync + 's, R: Threads + Wait + Sync>(
+    scope: &Scope<'s, E>,
+    rt: &'s R,
+    alloc: Global,
+    shared: &'s Behind<L>,
+    listener: &TcpListener,
+    desks: Vec<Desk<L>>,
+    ended: &mut Ended<L>,
+) -> Result<(), NoMemory> {
+    let threads = accept_all(scope, rt, alloc, shared, listener, desks, ended)?;
+    ended.join(rt, threads)
+}
+
 /// Runs the writer in a thread and accepts a connection for each of these desks, each served in a thread of its own; joins all. Where no
 /// connection is accepted the desk does nothing. Where no thread can be made the connection is served here, and the writer's lines are run
 /// here behind the last connection.
@@ -68,37 +148,20 @@ pub(crate) fn run_threads<L: Ledger + Send + Sync, R: Threads + Wait + Sync, I: 
     desks: Vec<Desk<L>>,
     lines: Lines<L, I>,
 ) -> Result<Ended<L>, NoMemory> {
-    thread::scope(
+    let mut ended = Ended::none(alloc);
+    let (served, wrote) = thread::scope(
         thread::scope_env(),
         rt,
-        move |scope| -> Result<Ended<L>, NoMemory> {
-            let mut ended = Ended {
-                passes: Vec::new(alloc),
-                logs: Vec::new(alloc),
-                ran: Ok(0),
-            };
-            let mut threads = Vec::new(alloc);
+        |scope| -> (Result<(), NoMemory>, Wrote<L>) {
             let writing = scope.spawn(move || write_lines(rt, alloc, shared, lines));
-            for desk in desks {
-                let Ok((stream, _)) = listener.accept() else {
-                    ended.add(desk)?;
-                    continue;
-                };
-                match scope.spawn(move || serve_one(rt, alloc, shared, desk, stream)) {
-                    Ok(thread) => threads.push(thread)?,
-                    Err(kept) => ended.add((kept.value)())?,
-                }
+            let served = serve_all(scope, rt, alloc, shared, listener, desks, &mut ended);
+            match writing {
+                Ok(thread) => (served, thread.join(rt)),
+                Err(kept) => (served, (kept.value)()),
             }
-            for thread in threads {
-                ended.add(thread.join(rt))?;
-            }
-            let wrote = match writing {
-                Ok(thread) => thread.join(rt),
-                Err(kept) => (kept.value)(),
-            };
-            ended.add(wrote.desk)?;
-            ended.ran = wrote.ran;
-            Ok(ended)
         },
-    )
+    );
+    served?;
+    ended.add_writer(wrote)?;
+    Ok(ended)
 }
