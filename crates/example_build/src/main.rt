@@ -31,6 +31,31 @@ struct Job<L: Ledger> {
     files: [&'static str; 2],
 }
 
+/// What desks hand back.
+#[derive(Drop)]
+struct Ended<L: Ledger> {
+    passes: Vec<Pass<L>>,
+    logs: Vec<CallLog>,
+}
+
+impl<L: Ledger> Ended<L> {
+    /// Nothing yet.
+    fn none(alloc: Global) -> Ended<L> {
+        Ended {
+            passes: Vec::new(alloc),
+            logs: Vec::new(alloc),
+        }
+    }
+
+    /// Takes what one desk hands back.
+    fn add(&mut self, back: (Pass<L>, CallLog)) -> anyhow::Result<()> {
+        let (pass, log) = back;
+        self.passes.push(pass)?;
+        self.logs.push(log)?;
+        Ok(())
+    }
+}
+
 /// Writes a text to each file of a job.
 fn write_files<L: Ledger>(
     rt: &impl Wait,
@@ -61,18 +86,18 @@ fn open_jobs<L: Ledger>(
     Ok(jobs)
 }
 
-/// Does each job in a thread, and gives what the desks hand back.
+/// Does each job in a thread, and takes what the desks hand back.
 fn write_all<L: Ledger + Send + Sync, R: Threads + Wait + Sync>(
     rt: &R,
     alloc: Global,
     tree: &Tree<L>,
-) -> anyhow::Result<Vec<(Pass<L>, CallLog)>> {
+    ended: &mut Ended<L>,
+) -> anyhow::Result<()> {
     let jobs = open_jobs(rt, alloc, tree)?;
-    let mut ended = Vec::new(alloc);
     for done in thread::map_vec(rt, jobs, &|job| write_files(rt, alloc, tree, job))? {
-        ended.push(done?)?;
+        ended.add(done?)?;
     }
-    Ok(ended)
+    Ok(())
 }
 
 /// Prints below which directories any file may have changed, since these were renamed.
@@ -124,19 +149,32 @@ fn open_mount(alloc: Global) -> anyhow::Result<Audited<GitNaming>>
     Ok(Audited::new(alloc, mount)?)
 }
 
-/// Two threads write while a follower waits, and then it tells what changed. Gives what all desks hand back.
+/// Two threads write while a follower waits, and then it tells what changed.
 fn work<L: Ledger + Send + Sync, R: Threads + Wait + Print + Sync>(
     rt: &R,
     alloc: Global,
     tree: &Tree<L>,
+    desk: &mut Desk<L>,
     follower: &mut Follower,
-) -> anyhow::Result<Vec<(Pass<L>, CallLog)>> {
+    ended: &mut Ended<L>,
+) -> anyhow::Result<()> {
+    take_step(rt, tree, desk, follower)?;
+    write_all(rt, alloc, tree, ended)?;
+    take_step(rt, tree, desk, follower)?;
+    take_step(rt, tree, desk, follower)
+}
+
+/// Works at a desk of the follower's own. Gives what all desks hand back.
+fn work_at_desks<L: Ledger + Send + Sync, R: Threads + Wait + Print + Sync>(
+    rt: &R,
+    alloc: Global,
+    tree: &Tree<L>,
+    follower: &mut Follower,
+) -> anyhow::Result<Ended<L>> {
     let mut desk = Desk::new(alloc, tree.pass(rt)?);
-    take_step(rt, tree, &mut desk, follower)?;
-    let mut ended = write_all(rt, alloc, tree)?;
-    take_step(rt, tree, &mut desk, follower)?;
-    take_step(rt, tree, &mut desk, follower)?;
-    ended.push(desk.finish())?;
+    let mut ended = Ended::none(alloc);
+    work(rt, alloc, tree, &mut desk, follower, &mut ended)?;
+    ended.add(desk.finish())?;
     Ok(ended)
 }
 
@@ -144,16 +182,30 @@ fn work<L: Ledger + Send + Sync, R: Threads + Wait + Print + Sync>(
 fn check(
     rt: &impl Print,
     alloc: Global,
-    audited: Audited<GitNaming>,
+    audited: &mut Audited<GitNaming>,
     logs: &[CallLog],
     follower: &Follower,
 ) -> anyhow::Result<()> {
-    let mut audited = audited;
-    audit(alloc, &mut audited, logs)?;
+    audit(alloc, audited, logs)?;
     vouch(alloc, logs, follower)?;
     println!(rt; "{} files", follower.mirror().files()?.len())?;
     println!(rt; "{} calls, as the logs say", audited.entries().len())?;
     Ok(())
+}
+
+/// Takes the mount back from the lock, and checks what was done.
+fn close<L: Ledger>(
+    rt: &impl Print,
+    alloc: Global,
+    tree: Tree<L>,
+    ended: Ended<L>,
+    follower: &Follower,
+) -> anyhow::Result<()>
+    requires { L.parts ≡ 256 }
+{
+    let Ended { passes, logs } = ended;
+    let mut audited = tree.finish(passes)?;
+    check(rt, alloc, &mut audited, logs.as_slice(), follower)
 }
 
 /// Mounts the empty commit behind a lock, works there, and checks that.
@@ -166,14 +218,11 @@ fn build<L: Ledger + Send + Sync, R: Threads + Wait + Print + Sync>(
     requires parts { blank.parts ≡ L.parts }
     requires whole { blank.parts ≡ 256 }
 {
+    let filter = Filter::parse(alloc, &[b"src/**"])?;
     let tree: Tree<L> = Shared::new(open_mount(alloc)?, blank);
-    let mut follower = Follower::new(alloc, 1, 1, Filter::parse(alloc, &[b"src/**"])?);
-    let (mut passes, mut logs) = (Vec::new(alloc), Vec::new(alloc));
-    for (pass, log) in work(rt, alloc, &tree, &mut follower)? {
-        passes.push(pass)?;
-        logs.push(log)?;
-    }
-    check(rt, alloc, tree.finish(passes)?, logs.as_slice(), &follower)
+    let mut follower = Follower::new(alloc, 1, 1, filter);
+    let ended = work_at_desks(rt, alloc, &tree, &mut follower)?;
+    close(rt, alloc, tree, ended, &follower)
 }
 
 fn main(rt: HostRuntime) -> anyhow::Result<()> {
