@@ -36,7 +36,7 @@ build() {
     crate=$1 file=$2
     shift 2
     needs rt
-    echo "$(basename "$0"): proving and building $crate, silently, up to 20 minutes the first time" >&2
+    echo "$(basename "$0"): proving and building $crate, silently, up to two hours the first time" >&2
     mkdir -p "$root/crates/$crate/out"
     (cd "$root/crates/$crate" && rt "$@" < /dev/null) > "$root/crates/$crate/out/built" 2>&1 || {
         cat "$root/crates/$crate/out/built" >&2

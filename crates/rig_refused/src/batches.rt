@@ -86,16 +86,32 @@ fn read_mount(alloc: Global, refusals: &mut Refusals, ids: &[Id]) -> Result<Moun
     Ok(mount)
 }
 
-/// Reads the batch into a store and into a mount, and tells which of its objects both have.
-pub(crate) fn read_batch(rt: &HostRuntime) -> Result<u64> {
-    let alloc = rt.alloc();
-    let mut refusals = Refusals::new();
-    let ids = again!(refusals, _, ids(alloc));
-    let store = read_store(alloc, &mut refusals, ids.as_slice())?;
-    let mount = read_mount(alloc, &mut refusals, ids.as_slice())?;
-    for id in &ids {
-        let both = has(&store, *id) && has(mount.store(), *id);
+/// Tells which of these objects both have.
+fn tell_both(
+    rt: &HostRuntime,
+    store: &Store<GitNaming>,
+    mounted: &Store<GitNaming>,
+    ids: &[Id],
+) -> Result<()> {
+    for id in ids {
+        let both = has(store, *id) && has(mounted, *id);
         tell_id(rt, if both { "has" } else { "lacks" }, *id)?;
     }
+    Ok(())
+}
+
+/// Reads the batch into a store and into a mount, and tells which of its objects both have.
+fn read_both(rt: &HostRuntime, refusals: &mut Refusals, ids: &[Id]) -> Result<()> {
+    let alloc = rt.alloc();
+    let store = read_store(alloc, refusals, ids)?;
+    let mount = read_mount(alloc, refusals, ids)?;
+    tell_both(rt, &store, mount.store(), ids)
+}
+
+/// Reads the batch where each growth may be refused.
+pub(crate) fn read_batch(rt: &HostRuntime) -> Result<u64> {
+    let mut refusals = Refusals::new();
+    let ids = again!(refusals, _, ids(rt.alloc()));
+    read_both(rt, &mut refusals, ids.as_slice())?;
     Ok(refusals.count())
 }

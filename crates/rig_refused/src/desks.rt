@@ -68,6 +68,16 @@ fn desk<L: Ledger>(wait: &impl Wait, alloc: Global, shared: &Behind<L>) -> Resul
     Ok(Desk::new(alloc, shared.pass(wait)?))
 }
 
+/// Desks for a caller that writes and for a service.
+fn two_desks<L: Ledger>(
+    wait: &impl Wait,
+    alloc: Global,
+    shared: &Behind<L>,
+) -> Result<(Desk<L>, Desk<L>)> {
+    let writer = desk(wait, alloc, shared)?;
+    Ok((writer, desk(wait, alloc, shared)?))
+}
+
 /// Opens the lock of a mount of two files, with two desks.
 fn open<L: Ledger>(wait: &impl Wait, alloc: Global, blank: Blank) -> Result<Office<L>>
     requires name { blank.name ≡ L.name }
@@ -76,8 +86,7 @@ fn open<L: Ledger>(wait: &impl Wait, alloc: Global, blank: Blank) -> Result<Offi
 {
     let mut refusals = Refusals::new();
     let shared = behind::<L>(alloc, &mut refusals, blank)?;
-    let writer = desk(wait, alloc, &shared)?;
-    let service = desk(wait, alloc, &shared)?;
+    let (writer, service) = two_desks(wait, alloc, &shared)?;
     Ok(Office {
         alloc,
         refusals,
@@ -313,6 +322,14 @@ fn take<L: Ledger>(given: &mut Given<L>, desk: Desk<L>) -> bool {
     given.passes.push(pass).is_ok() && given.logs.push(log).is_ok()
 }
 
+/// Takes what both desks hand back.
+fn take_both<L: Ledger>(given: &mut Given<L>, writer: Desk<L>, service: Desk<L>) -> Result<()> {
+    if take(given, writer) && take(given, service) {
+        return Ok(());
+    }
+    bail!("there is no room for what callers hand back")
+}
+
 /// What is left of an office once all is handed back.
 #[derive(Drop)]
 struct Closed {
@@ -322,12 +339,10 @@ struct Closed {
     follower: Follower,
 }
 
-/// Hands all back.
-fn close<L: Ledger>(office: Office<L>) -> Result<Closed>
+/// Hands all back, into a place with room for it.
+fn hand_back<L: Ledger>(office: Office<L>, given: Given<L>) -> Result<Closed>
     requires { L.parts ≡ 256 }
 {
-    let mut office = office;
-    let mut given = room_for_two::<L>(office.alloc, &mut office.refusals)?;
     let Office {
         refusals,
         shared,
@@ -336,9 +351,8 @@ fn close<L: Ledger>(office: Office<L>) -> Result<Closed>
         follower,
         ..
     } = office;
-    if !take(&mut given, writer) || !take(&mut given, service) {
-        bail!("there is no room for what callers hand back");
-    }
+    let mut given = given;
+    take_both(&mut given, writer, service)?;
     let Given { passes, logs } = given;
     let audited = shared.finish(passes)?;
     Ok(Closed {
@@ -366,6 +380,31 @@ fn tell_closed(rt: &HostRuntime, closed: &mut Closed) -> Result<u64> {
     Ok(closed.refusals.count())
 }
 
+/// Hands all back.
+fn close<L: Ledger>(office: Office<L>) -> Result<Closed>
+    requires { L.parts ≡ 256 }
+{
+    let mut office = office;
+    let given = room_for_two::<L>(office.alloc, &mut office.refusals)?;
+    hand_back(office, given)
+}
+
+/// Hands all back, and tells what is said of that.
+fn close_and_tell<L: Ledger>(rt: &HostRuntime, office: Office<L>) -> Result<u64>
+    requires { L.parts ≡ 256 }
+{
+    tell_closed(rt, &mut close(office)?)
+}
+
+/// Two callers make their calls.
+fn call_in<L: Ledger>(rt: &HostRuntime, wait: &impl Wait, office: &mut Office<L>) -> Result<()> {
+    ask_all(rt, wait, office)?;
+    ask_all(rt, wait, office)?;
+    write_at(wait, office, b"p".as_slice())?;
+    ask_all(rt, wait, office)?;
+    ask_all(rt, wait, office)
+}
+
 /// Two callers make their calls, and are audited.
 fn call_all<L: Ledger>(rt: &HostRuntime, wait: &impl Wait, blank: Blank) -> Result<u64>
     requires name { blank.name ≡ L.name }
@@ -373,12 +412,8 @@ fn call_all<L: Ledger>(rt: &HostRuntime, wait: &impl Wait, blank: Blank) -> Resu
     requires whole { blank.parts ≡ 256 }
 {
     let mut office = open::<L>(wait, rt.alloc(), blank)?;
-    ask_all(rt, wait, &mut office)?;
-    ask_all(rt, wait, &mut office)?;
-    write_at(wait, &mut office, b"p".as_slice())?;
-    ask_all(rt, wait, &mut office)?;
-    ask_all(rt, wait, &mut office)?;
-    tell_closed(rt, &mut close(office)?)
+    call_in(rt, wait, &mut office)?;
+    close_and_tell(rt, office)
 }
 
 /// Calls at desks, a follower's questions among them.
@@ -394,7 +429,7 @@ fn serve_office<L: Ledger>(rt: &HostRuntime, wait: &impl Wait, blank: Blank) -> 
 {
     let mut office = open::<L>(wait, rt.alloc(), blank)?;
     serve_all(rt, wait, &mut office)?;
-    tell_closed(rt, &mut close(office)?)
+    close_and_tell(rt, office)
 }
 
 /// Frames that are served at a desk.

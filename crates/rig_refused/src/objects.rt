@@ -147,20 +147,33 @@ fn differing(putting: &mut Putting, first: Id, second: Id) -> Result<Vec<Path>> 
     ))
 }
 
-/// Puts two commits, in the second of which a directory stands where the first has a file, and tells their ids and where they differ.
-pub(crate) fn puts(rt: &HostRuntime) -> Result<u64> {
-    let mut putting = Putting::new(rt.alloc());
+/// Puts two commits, in the second of which a directory stands where the first has a file. Gives the ids of the blob, of the first tree and commit,
+/// of the directory, and of the second tree and commit.
+fn put_both(putting: &mut Putting) -> Result<[Id; 6]> {
     let x = putting.put(Word::Blob, b"x".as_slice())?;
-    let t = put_tree(&mut putting, &[("100644", "a", x), ("100644", "a.b", x)])?;
-    let c = put_commit(&mut putting, t)?;
-    let s = put_tree(&mut putting, &[("100644", "b", x)])?;
-    let u = put_tree(&mut putting, &[("100644", "a.b", x), ("40000", "a", s)])?;
-    let d = put_commit(&mut putting, u)?;
+    let t = put_tree(putting, &[("100644", "a", x), ("100644", "a.b", x)])?;
+    let c = put_commit(putting, t)?;
+    let s = put_tree(putting, &[("100644", "b", x)])?;
+    let u = put_tree(putting, &[("100644", "a.b", x), ("40000", "a", s)])?;
+    let d = put_commit(putting, u)?;
+    Ok([x, t, c, s, u, d])
+}
+
+/// Puts them, and tells their ids and where the commits differ.
+fn put_and_tell(rt: &HostRuntime, putting: &mut Putting) -> Result<()> {
+    let [x, t, c, s, u, d] = put_both(putting)?;
     for (name, id) in [("x", x), ("t", t), ("c", c), ("s", s), ("u", u), ("d", d)] {
         tell_id(rt, name, id)?;
     }
-    for path in &differing(&mut putting, c, d)? {
+    for path in &differing(putting, c, d)? {
         println!(rt; "differ {}", text_of(path.as_bytes())?)?;
     }
+    Ok(())
+}
+
+/// Puts two commits into an empty store.
+pub(crate) fn puts(rt: &HostRuntime) -> Result<u64> {
+    let mut putting = Putting::new(rt.alloc());
+    put_and_tell(rt, &mut putting)?;
     Ok(putting.refusals.count())
 }

@@ -237,14 +237,19 @@ impl Pair {
             _ => self.show(rt),
         }
     }
+
+    /// The mirror goes through these steps, and tells what it has come to.
+    fn go_through(&mut self, rt: &HostRuntime, steps: &[Step]) -> Result<()> {
+        for step in steps {
+            self.go(rt, *step)?;
+        }
+        self.show(rt)
+    }
 }
 
 /// A mirror goes through these steps.
 pub(crate) fn follow(rt: &HostRuntime, steps: &[Step]) -> Result<u64> {
     let mut pair = Pair::open(rt.alloc())?;
-    for step in steps {
-        pair.go(rt, *step)?;
-    }
-    pair.show(rt)?;
+    pair.go_through(rt, steps)?;
     Ok(pair.refusals.count())
 }

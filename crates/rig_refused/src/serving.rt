@@ -92,26 +92,47 @@ fn tell_asked(
     tell_reply(rt, &reply)
 }
 
-/// A third file is written, and again where memory was refused: the files are as before then.
+/// A change is made, and again where memory was refused: the files are as before then.
+fn change_again(
+    wait: &impl Wait,
+    refusals: &mut Refusals,
+    resident: &Behind,
+    made: &Change,
+    basis: &Request,
+) -> Result<()> {
+    let before = again!(refusals, _, ask(wait, resident, basis));
+    if change(wait, resident, made).is_ok() {
+        return Ok(());
+    }
+    refusals.add();
+    if ask(wait, resident, basis)? != before {
+        bail!("a change that was refused memory changed the mount");
+    }
+    let _ = change(wait, resident, made)?;
+    Ok(())
+}
+
+/// A third file is written.
 fn write_third(
-    rt: &HostRuntime,
     wait: &impl Wait,
     alloc: Global,
     refusals: &mut Refusals,
     resident: &Behind,
 ) -> Result<()> {
     let third = again!(refusals, _, write(alloc, b"f".as_slice(), b"x".as_slice()));
-    let basis = basis(alloc);
-    let before = again!(refusals, _, ask(wait, resident, &basis));
-    if change(wait, resident, &third).is_err() {
-        refusals.add();
-        if ask(wait, resident, &basis)? != before {
-            bail!("a change that was refused memory changed the mount");
-        }
-        let _ = change(wait, resident, &third)?;
-    }
+    change_again(wait, refusals, resident, &third, &basis(alloc))
+}
+
+/// Tells all files, and the third one.
+fn tell_third(
+    rt: &HostRuntime,
+    wait: &impl Wait,
+    refusals: &mut Refusals,
+    resident: &Behind,
+) -> Result<()> {
+    let alloc = rt.alloc();
+    tell_asked(rt, wait, refusals, resident, &basis(alloc))?;
     let fetch = again!(refusals, _, fetch(alloc, b"f".as_slice()));
-    tell_asked(rt, wait, refusals, resident, &basis)?;
     tell_asked(rt, wait, refusals, resident, &fetch)
 }
 
@@ -141,6 +162,7 @@ pub(crate) fn stay(rt: &HostRuntime, wait: &impl Wait) -> Result<u64> {
     let resident = Resident::new(mounted(alloc, &mut refusals)?);
     let frames = frames(alloc, &mut refusals)?;
     serve_behind_twice(rt, wait, &mut refusals, &resident, frames.as_slice())?;
-    write_third(rt, wait, alloc, &mut refusals, &resident)?;
+    write_third(wait, alloc, &mut refusals, &resident)?;
+    tell_third(rt, wait, &mut refusals, &resident)?;
     Ok(refusals.count())
 }
