@@ -152,7 +152,7 @@ fn many_frames_are_answered(rt: HostRuntime) -> Result<(), Fail> {
 }
 
 // Where a reader of two frames fails, and what is written of the replies to whole frames.
-const READ: [(usize, &[u8]); 5] = [
+const READ: &[(usize, &[u8])] = &[
     (0, b""),
     (4, b""),
     (5, b"a\n"),
@@ -175,7 +175,7 @@ fn written_to(alloc: Global, full_at: usize, most: usize) -> (End, Vec<u8>) {
 #[test]
 fn failed_devices_leave_whole_frames_or_a_part_of_the_replies(rt: HostRuntime) {
     let alloc = rt.alloc();
-    for (place, text) in READ {
+    for &(place, text) in READ {
         let source = Source::failing_at(b"\0\0\0\x01a\0\0\0\x01b", place);
         let (end, written) = told(alloc, source, Sink::new(alloc));
         assert_eq!(rt; end.0, Err(ServeFault::Read));

@@ -116,7 +116,7 @@ fn run_long(alloc: Global, first: u8, count: usize, behind: &[u8]) -> Result<(En
 }
 
 // A byte that a line begins with, so many times; what stands behind it; how the run ends, and how much it prints.
-const LONG: [(u8, usize, &[u8], Result<u64, RunFault>, usize); 10] = [
+const LONG: &[(u8, usize, &[u8], Result<u64, RunFault>, usize)] = &[
     (b'a', 65_536, b"\nb\n", Ok(2), 65_539),
     (b'a', 65_536, b"\r\nb", Ok(2), 65_539),
     (b'a', 65_536, b"", Ok(1), 65_537),
@@ -131,7 +131,7 @@ const LONG: [(u8, usize, &[u8], Result<u64, RunFault>, usize); 10] = [
 
 #[test]
 fn a_line_has_at_most_65536_bytes(rt: HostRuntime) -> Result<(), Fail> {
-    for (first, count, behind, wanted, length) in LONG {
+    for &(first, count, behind, wanted, length) in LONG {
         let (end, printed) = run_long(rt.alloc(), first, count, behind)?;
         assert_eq!(rt; (end.0, printed), (wanted, length), "{count}");
     }
@@ -139,7 +139,7 @@ fn a_line_has_at_most_65536_bytes(rt: HostRuntime) -> Result<(), Fail> {
 }
 
 // Where a reader of `a`, `bc`, `#` and `d` fails, and what is printed of whole lines.
-const READ: [(usize, &[u8]); 7] = [
+const READ: &[(usize, &[u8])] = &[
     (0, b""),
     (1, b""),
     (2, b"a\n"),
@@ -161,7 +161,7 @@ fn written_to(alloc: Global, full_at: usize, most: usize) -> (End, Vec<u8>) {
 #[test]
 fn failed_devices_leave_whole_lines_or_a_part_of_the_text(rt: HostRuntime) {
     let alloc = rt.alloc();
-    for (place, text) in READ {
+    for &(place, text) in READ {
         let (end, printed) = told(
             alloc,
             Source::failing_at(b"a\nbc\n#\nd", place),

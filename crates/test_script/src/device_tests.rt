@@ -63,7 +63,7 @@ fn failing_devices(rt: HostRuntime) -> Result<(), Fail> {
 }
 
 /// A line of each kind, and what it prints.
-const LINES: [(&str, &str); 24] = [
+const LINES: &[(&str, &str)] = &[
     ("# a comment", ""),
     ("blob x x", "ok\n"),
     ("tree t 100644 a x", "ok\n"),
@@ -92,7 +92,7 @@ const LINES: [(&str, &str); 24] = [
 
 fn all_lines(alloc: Global) -> Result<Exchange, AllocError> {
     let mut lines = Exchange::new(alloc);
-    for (line, prints) in &LINES {
+    for (line, prints) in LINES {
         lines.add(&[line.as_bytes(), b"\n".as_slice()], prints.as_bytes())?;
     }
     Ok(lines)

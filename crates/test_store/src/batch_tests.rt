@@ -71,7 +71,7 @@ const TWICE: &str =
     "e69de29bb2d1d6434b8b29ae775ad8c2e48c5391 e69de29bb2d1d6434b8b29ae775ad8c2e48c5391";
 
 /// Batches that are read to their ends.
-const WHOLE_BATCHES: [Case; 4] = [
+const WHOLE_BATCHES: &[Case] = &[
     (b"", "", None),
     (
         b"e69de29bb2d1d6434b8b29ae775ad8c2e48c5391 blob 0\n\n",
@@ -93,7 +93,7 @@ const WHOLE_BATCHES: [Case; 4] = [
 ];
 
 /// Streams that end within an object, or whose next bytes are no header.
-const BAD_FORMS: [Case; 18] = [
+const BAD_FORMS: &[Case] = &[
     (b"e", "", Some((1, ObjectFault::CutShort))),
     (b"g", "", Some((1, ObjectFault::BadHeader))),
     (
@@ -179,7 +179,7 @@ const BAD_FORMS: [Case; 18] = [
 ];
 
 /// Objects that are too large, are refused, or have another id than their headers tell.
-const BAD_OBJECTS: [Case; 8] = [
+const BAD_OBJECTS: &[Case] = &[
     (
         b"e69de29bb2d1d6434b8b29ae775ad8c2e48c5391 blob 8388608\n",
         "",
@@ -260,11 +260,7 @@ fn is_right(alloc: Global, case: &Case, most: usize) -> Result<bool, Fail> {
 
 #[test]
 fn batches_end_as_told(rt: HostRuntime) -> Result<(), Fail> {
-    for cases in [
-        WHOLE_BATCHES.as_slice(),
-        BAD_FORMS.as_slice(),
-        BAD_OBJECTS.as_slice(),
-    ] {
+    for cases in [WHOLE_BATCHES, BAD_FORMS, BAD_OBJECTS] {
         for (row, case) in cases.iter().enumerate() {
             for most in [usize::MAX, 1] {
                 assert!(rt; is_right(rt.alloc(), case, most)?, "row {row}: {case:?}");

@@ -45,7 +45,7 @@ fn told(
 }
 
 /// What it is called, what is put, and the paths on which the commits `c` and `d` differ.
-const DIFFERENCES: [(&str, &str, &str); 3] = [
+const DIFFERENCES: &[(&str, &str, &str)] = &[
     (
         "exec_bit_is_root",
         "blob b x;tree t 100644 f b;commit c t;tree u 100755 f b;commit d u",
@@ -67,7 +67,7 @@ const DIFFERENCES: [(&str, &str, &str); 3] = [
 #[test]
 fn known_differences(rt: HostRuntime) -> Result<(), Fail> {
     let alloc = rt.alloc();
-    for (name, script, paths) in &DIFFERENCES {
+    for (name, script, paths) in DIFFERENCES {
         let objects = Objects::of(alloc, script)?;
         let there = told(alloc, &objects, "", "c", "d")?;
         let back = told(alloc, &objects, "", "d", "c")?;
@@ -82,7 +82,7 @@ const LOWEST: &str =
     "blob x x;blob y y;tree n;tree p 100644 a x;tree m 100644 a x 40000 b n;tree o 100644 a y";
 
 /// Directories of one level more: each has the level below under two names.
-const LEVELS: [&str; 4] = [
+const LEVELS: &[&str] = &[
     "tree n 40000 a n 40000 b n",
     "tree p 40000 a p 40000 b p",
     "tree m 40000 a m 40000 b m",
@@ -90,7 +90,7 @@ const LEVELS: [&str; 4] = [
 ];
 
 /// Commits of them, and of a file.
-const TOPS: [&str; 12] = [
+const TOPS: &[&str] = &[
     "tree t 100644 f x 40000 z p",
     "commit px t",
     "tree t 100644 f y 40000 z p",
@@ -110,17 +110,17 @@ const TOPS: [&str; 12] = [
 /// another one. And `n`, whose lowest directories are empty.
 fn wide_commits(alloc: Global) -> Result<Objects, Fail> {
     let mut objects = Objects::of(alloc, LOWEST)?;
-    for line in &LEVELS {
+    for line in LEVELS {
         objects.repeat(alloc, line, 40)?;
     }
-    for line in &TOPS {
+    for line in TOPS {
         objects.put(alloc, line)?;
     }
     Ok(objects)
 }
 
 /// A pattern, or none, the labels of two of these commits, and the paths on which they differ.
-const WIDE: [(&str, &str, &str, &str); 6] = [
+const WIDE: &[(&str, &str, &str, &str)] = &[
     ("", "px", "py", "f "),
     ("", "px", "mx", ""),
     ("", "px", "my", "f "),
@@ -138,7 +138,7 @@ fn shared_subtrees(rt: HostRuntime) -> Result<(), Fail> {
     let alloc = rt.alloc();
     let objects = wide_commits(alloc)?;
     assert!(rt; objects.id("px") != objects.id("mx"));
-    for (pattern, first, second, paths) in &WIDE {
+    for (pattern, first, second, paths) in WIDE {
         let found = told(alloc, &objects, pattern, first, second)?;
         assert!(rt;
             found.as_slice() == paths.as_bytes(),
@@ -201,7 +201,7 @@ const FAMILY: &str =
     tree t 100644 a.b x 40000 a p 100644 a0 x;commit slash t;tree t 40000 a d 100644 a0 y;commit deep t;tree t 40000 a o 40000 b e;commit two t";
 
 /// The labels of these commits, and of the empty one.
-const COMMITS: [&str; 13] = [
+const COMMITS: &[&str] = &[
     "empty",
     "nothing",
     "plain",
@@ -218,13 +218,13 @@ const COMMITS: [&str; 13] = [
 ];
 
 /// No pattern, and patterns.
-const PATTERNS: [&str; 7] = ["", "**", "a/**", "*", "**/b", "a/a/a", "none"];
+const PATTERNS: &[&str] = &["", "**", "a/**", "*", "**/b", "a/a/a", "none"];
 
 /// Whether two commits differ on just those paths that are found one by one, by each of the patterns.
 fn is_right(alloc: Global, objects: &Objects, first: &str, second: &str) -> Result<bool, Fail> {
     let rows = files_of(alloc, objects, first)?;
     let others = files_of(alloc, objects, second)?;
-    for pattern in &PATTERNS {
+    for pattern in PATTERNS {
         let wanted = plain_diff(alloc, rows.as_slice(), others.as_slice(), pattern)?;
         if told(alloc, objects, pattern, first, second)? != wanted {
             return Ok(false);
@@ -237,8 +237,8 @@ fn is_right(alloc: Global, objects: &Objects, first: &str, second: &str) -> Resu
 fn each_pair_of_a_family(rt: HostRuntime) -> Result<(), Fail> {
     let alloc = rt.alloc();
     let objects = Objects::of(alloc, FAMILY)?;
-    for first in &COMMITS {
-        for second in &COMMITS {
+    for first in COMMITS {
+        for second in COMMITS {
             let right = is_right(alloc, &objects, first, second)?;
             assert!(rt; right, "{first} and {second}");
         }

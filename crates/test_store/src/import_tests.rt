@@ -148,7 +148,7 @@ const OF_X: Part = (Word::Commit, TREE_X);
 const TREE_X: &[u8] = b"tree c1b0730e0133447badcfd47fd144e254807b06e1\n";
 
 /// A letter for each of the files, the trees and the commits, and its id.
-const IDS: [(u8, &str); 6] = [
+const IDS: &[(u8, &str)] = &[
     (b'x', "c1b0730e0133447badcfd47fd144e254807b06e1"),
     (b'y', "e25f1814e51579d5f55c0f1fe0135ddb28a47f4a"),
     (b'a', "aebda9dc3ba9fcf157d984e4875052d313f51a60"),
@@ -173,7 +173,7 @@ fn file(store: &Store<GitNaming>) -> Result<Option<(Kind, &[u8])>, Fail> {
 /// The letters of those that a store has.
 fn letters(alloc: Global, store: &Store<GitNaming>) -> Result<Vec<u8>, Fail> {
     let mut letters = Vec::new(alloc);
-    for (letter, text) in &IDS {
+    for (letter, text) in IDS {
         if has_object(store, id_of(text)?) {
             letters.push(*letter)?;
         }
@@ -182,7 +182,7 @@ fn letters(alloc: Global, store: &Store<GitNaming>) -> Result<Vec<u8>, Fail> {
 }
 
 /// Imports into one store, one after another: the objects, the first one that is refused, and the letters of those that there are then.
-const IMPORTS_OF_KINDS: [(&[Part], Option<Bad>, &str); 11] = [
+const IMPORTS_OF_KINDS: &[(&[Part], Option<Bad>, &str)] = &[
     (&[], None, ""),
     (&[A], Some((0, PutFault::MissingChild)), ""),
     (&[X, OF_A, A], Some((1, PutFault::MissingChild)), ""),
@@ -208,7 +208,7 @@ const IMPORTS_OF_KINDS: [(&[Part], Option<Bad>, &str); 11] = [
 fn imports_of_each_kind(rt: HostRuntime) -> Result<(), Fail> {
     let alloc = rt.alloc();
     let mut store = Store::new(alloc, GitNaming);
-    for (parts, bad, held) in &IMPORTS_OF_KINDS {
+    for (parts, bad, held) in IMPORTS_OF_KINDS {
         assert!(rt; import_parts(&mut store, parts)? == *bad, "{parts:?}");
         let letters = letters(alloc, &store)?;
         assert!(rt; letters.as_slice() == held.as_bytes(), "{parts:?}");
@@ -235,7 +235,7 @@ fn fault_of_third(alloc: Global, word: Word, payload: Vec<u8>) -> Result<Option<
 type Entry = (&'static str, &'static str, u8);
 
 /// Entries that no tree has, and why. No object has the letter `z`.
-const BAD_TREES: [(&[Entry], PutFault); 6] = [
+const BAD_TREES: &[(&[Entry], PutFault)] = &[
     (&[("160000", "a", b'x')], PutFault::BadMode),
     (&[("100644", "..", b'x')], PutFault::BadName),
     (
@@ -268,7 +268,7 @@ fn entries_of(alloc: Global, entries: &[Entry]) -> Result<Vec<u8>, Fail> {
 }
 
 /// Payloads that no object has, and why.
-const BAD_PAYLOADS: [(Word, &[u8], PutFault); 4] = [
+const BAD_PAYLOADS: &[(Word, &[u8], PutFault)] = &[
     (Word::Tree, b"100644 b", PutFault::CutShort),
     (Word::Commit, b"tree ", PutFault::CutShort),
     (Word::Commit, &[b't'; 46], PutFault::BadCommit),
@@ -333,7 +333,7 @@ fn levels_of(alloc: Global, levels: usize, length: usize) -> Result<Vec<Object>,
 }
 
 /// How many levels, the length of each name, and which object is refused.
-const LEVELS: [(usize, usize, Option<Bad>); 5] = [
+const LEVELS: &[(usize, usize, Option<Bad>)] = &[
     (65, 1, Some((65, PutFault::TooDeep))),
     (64, 1, None),
     // 64 names of 15 bytes and the slashes between them have 1,023 bytes, and four names of 256 are too long at once.
@@ -345,7 +345,7 @@ const LEVELS: [(usize, usize, Option<Bad>); 5] = [
 #[test]
 fn imports_of_deep_trees(rt: HostRuntime) -> Result<(), Fail> {
     let alloc = rt.alloc();
-    for (levels, length, bad) in &LEVELS {
+    for (levels, length, bad) in LEVELS {
         let objects = levels_of(alloc, *levels, *length)?;
         let mut store = Store::new(alloc, GitNaming);
         assert!(rt;

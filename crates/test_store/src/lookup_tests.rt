@@ -83,7 +83,7 @@ fn listed_below(
 }
 
 /// What patterns admit of a commit below a directory, or below what is none.
-const BELOW: [(&str, &[&[u8]], &[Row]); 11] = [
+const BELOW: &[(&str, &[&[u8]], &[Row])] = &[
     ("a", &[], &[A_X]),
     ("d", &[], &[F]),
     ("d/e", &[], &[F]),
@@ -108,7 +108,7 @@ fn a_commit_lists_its_files(rt: HostRuntime) -> Result<(), Fail> {
     );
     let all = all_listed(alloc, store, commit)?;
     assert!(rt; has_rows(all.as_slice(), &[A_B, A_X, A0, F]));
-    for (top, patterns, rows) in &BELOW {
+    for (top, patterns, rows) in BELOW {
         let below = listed_below(alloc, store, commit, top, patterns)?;
         assert!(rt; has_rows(below.as_slice(), rows), "at {top}");
     }
@@ -134,7 +134,7 @@ fn blob(store: &Store<GitNaming>, id: Id) -> Option<&[u8]> {
 }
 
 /// Directories and what is none: no file stands there.
-const NO_FILE: [&str; 7] = ["a", "a-b/x", "a/y", "d/e", "d/e/f/g", "x", "z"];
+const NO_FILE: &[&str] = &["a", "a-b/x", "a/y", "d/e", "d/e/f/g", "x", "z"];
 
 #[test]
 fn a_file_is_looked_up(rt: HostRuntime) -> Result<(), Fail> {
@@ -148,7 +148,7 @@ fn a_file_is_looked_up(rt: HostRuntime) -> Result<(), Fail> {
             "at {path}"
         );
     }
-    for path in &NO_FILE {
+    for path in NO_FILE {
         assert!(rt; found(alloc, store, commit, path)? == Ok(None), "at {path}");
     }
     assert!(rt; blob(store, id_of(A_X.2)?) == Some(b"two\n".as_slice()));
@@ -183,7 +183,7 @@ fn below(store: &Store<GitNaming>, id: Id, top: &str) -> Option<(usize, bool)> {
 }
 
 /// A path, and the file at it.
-const HELD: [(&str, Option<(Kind, &[u8])>); 10] = [
+const HELD: &[(&str, Option<(Kind, &[u8])>)] = &[
     ("a-b", Some((Kind::Plain, b"one\n"))),
     ("a/x", Some((Kind::Exec, b"two\n"))),
     ("a0", Some((Kind::Link, b"a-b"))),
@@ -197,7 +197,7 @@ const HELD: [(&str, Option<(Kind, &[u8])>); 10] = [
 ];
 
 /// A path, and how many files stand below it.
-const COUNTS: [(&str, usize); 6] = [
+const COUNTS: &[(&str, usize)] = &[
     ("a", 1),
     ("d", 1),
     ("d/e", 1),
@@ -210,10 +210,10 @@ const COUNTS: [(&str, usize); 6] = [
 fn a_commit_that_is_held_tells_its_files(rt: HostRuntime) -> Result<(), Fail> {
     let objects = Objects::of(rt.alloc(), FILES)?;
     let (store, id) = (&objects.store, objects.id("c"));
-    for (path, file) in &HELD {
+    for (path, file) in HELD {
         assert!(rt; file_of(store, id, path) == Some(*file), "at {path}");
     }
-    for (top, files) in &COUNTS {
+    for (top, files) in COUNTS {
         assert!(rt;
             below(store, id, top) == Some((*files, *files == 1)),
             "below {top}"
@@ -307,7 +307,7 @@ fn is_repeated(listed: &[(Path, Kind, Id)], id: Id, count: usize) -> bool {
 }
 
 /// A pattern, and how many files it admits of the commit of many levels and of `x`.
-const ADMITTED: [(&str, usize); 4] = [("x", 1), ("?", 1), ("d/x", 0), ("*/*/b/f", 0)];
+const ADMITTED: &[(&str, usize)] = &[("x", 1), ("?", 1), ("d/x", 0), ("*/*/b/f", 0)];
 
 // 2 to the 40 files, of which none is listed; those below each of the two names are counted at once. And a directory that no pattern enters
 // is not read.
@@ -321,7 +321,7 @@ fn shared_subtrees(rt: HostRuntime) -> Result<(), Fail> {
     for (top, files) in &[("a", 549_755_813_888), ("b/a", 274_877_906_944)] {
         assert!(rt; has_just_below(store, commit, top, *files), "{top}");
     }
-    for (pattern, wanted) in &ADMITTED {
+    for (pattern, wanted) in ADMITTED {
         let listed = listed(alloc, store, objects.id("d"), &[pattern.as_bytes()])?;
         assert!(rt; is_repeated(listed.as_slice(), x, *wanted), "{pattern}");
     }

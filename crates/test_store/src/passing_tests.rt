@@ -63,7 +63,7 @@ fn has_but(
 /// A directory, where it is told, what is passed over, and whether there is a file below it that isn't.
 type Searched = ([&'static str; 3], bool);
 
-const SEARCHED: [Searched; 14] = [
+const SEARCHED: &[Searched] = &[
     (["a", "a", "z"], true),
     (["a", "a", "a"], false),
     (["a", "a", "a/x"], false),
@@ -81,9 +81,9 @@ const SEARCHED: [Searched; 14] = [
 ];
 
 /// The same of many directories with a file each, and of as many without one.
-const OF_MANY: [Searched; 2] = [(["b", "z", "z"], false), (["b", "z", "z/a"], true)];
+const OF_MANY: &[Searched] = &[(["b", "z", "z"], false), (["b", "z", "z/a"], true)];
 
-const OF_NONE: [Searched; 1] = [(["b", "z", "y"], false)];
+const OF_NONE: &[Searched] = &[(["b", "z", "y"], false)];
 
 /// The row of the first search of the commit `c` that is told otherwise.
 fn first_wrong(alloc: Global, objects: &Objects, rows: &[Searched]) -> Result<Option<usize>, Fail> {
@@ -111,17 +111,17 @@ fn first_wrong_level(
 fn a_file_that_is_not_passed_over(rt: HostRuntime) -> Result<(), Fail> {
     let alloc = rt.alloc();
     let files = Objects::of(alloc, FILES)?;
-    assert_eq!(rt; first_wrong(alloc, &files, &SEARCHED)?, None);
+    assert_eq!(rt; first_wrong(alloc, &files, SEARCHED)?, None);
     assert_eq!(rt;
-        first_wrong_level(alloc, "tree t 100644 a x", &OF_MANY)?,
+        first_wrong_level(alloc, "tree t 100644 a x", OF_MANY)?,
         None
     );
-    assert_eq!(rt; first_wrong_level(alloc, "tree t", &OF_NONE)?, None);
+    assert_eq!(rt; first_wrong_level(alloc, "tree t", OF_NONE)?, None);
     Ok(())
 }
 
 /// A directory, where it is told, a pattern, and the file that it admits, with the path at which it is told.
-const LISTED: [([&str; 3], Option<(&str, Row)>); 9] = [
+const LISTED: &[([&str; 3], Option<(&str, Row)>)] = &[
     (["a", "a", "**"], Some(("a/x", A_X))),
     (["a", "z", "**"], Some(("z/x", A_X))),
     (["a", "z", "z/*"], Some(("z/x", A_X))),
@@ -134,7 +134,7 @@ const LISTED: [([&str; 3], Option<(&str, Row)>); 9] = [
 ];
 
 /// What a pattern admits of a commit and isn't passed over.
-const SHOWN: [(&str, &str, &[Row]); 4] = [
+const SHOWN: &[(&str, &str, &[Row])] = &[
     ("**", "z", &[A_B, A_X, A0, F]),
     ("**", "a", &[A_B, A0, F]),
     ("**", "d/e/f", &[A_B, A_X, A0]),
@@ -224,7 +224,7 @@ fn a_list_that_passes_over_some(rt: HostRuntime) -> Result<(), Fail> {
     let alloc = rt.alloc();
     let objects = Objects::of(alloc, FILES)?;
     let commit = objects.store.commit_files(objects.id("c"));
-    for (places, file) in &LISTED {
+    for (places, file) in LISTED {
         assert!(rt;
             lists_alone(alloc, &commit, *places, file)?,
             "{} below {}",
@@ -232,7 +232,7 @@ fn a_list_that_passes_over_some(rt: HostRuntime) -> Result<(), Fail> {
             places[1]
         );
     }
-    for (pattern, passed, rows) in &SHOWN {
+    for (pattern, passed, rows) in SHOWN {
         let listed = listed_but(alloc, &commit, pattern, passed)?;
         assert!(rt; has_rows(listed.as_slice(), rows), "{pattern} but {passed}");
     }

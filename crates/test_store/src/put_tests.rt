@@ -18,7 +18,7 @@ fn put<N: Naming + Drop>(store: &mut Store<N>, word: Word, payload: &[u8]) -> Re
 }
 
 /// Objects that are put one after another, and their ids or why they are refused.
-const COLLIDING: [(Word, &[u8], Result<Id, PutFault>); 5] = [
+const COLLIDING: &[(Word, &[u8], Result<Id, PutFault>)] = &[
     (Word::Blob, b"ab", Ok(Id([b'a'; 20]))),
     (Word::Blob, b"ac", Err(PutFault::IdTaken)),
     (Word::Blob, b"", Err(PutFault::ZeroId)),
@@ -67,7 +67,7 @@ fn entries_of(alloc: Global, objects: &Objects, entries: &[Entry]) -> Result<Vec
 }
 
 /// An executable file, a link and a directory: their entries end behind 31, 64 and 92 bytes.
-const WHOLE: [Entry; 3] = [
+const WHOLE: &[Entry] = &[
     ("100755", "run", "b"),
     ("120000", "there", "b"),
     ("40000", "z", "t"),
@@ -75,7 +75,7 @@ const WHOLE: [Entry; 3] = [
 
 /// Entries of trees that lack their last byte, and why they are refused. A bad mode or name is told before the end that comes too early,
 /// and that before what the entry names.
-const CUT: [(&[Entry], PutFault); 5] = [
+const CUT: &[(&[Entry], PutFault)] = &[
     (&[("160000", "a", "b")], PutFault::BadMode),
     (&[("100644", "..", "b")], PutFault::BadName),
     (
@@ -121,12 +121,12 @@ fn put_cut(
 fn trees_cut_short(rt: HostRuntime) -> Result<(), Fail> {
     let alloc = rt.alloc();
     let mut objects = Objects::of(alloc, SMALL)?;
-    let whole = entries_of(alloc, &objects, &WHOLE)?;
+    let whole = entries_of(alloc, &objects, WHOLE)?;
     assert!(rt; whole.len() == 92);
     assert!(rt; put(&mut objects.store, Word::Tree, whole.as_slice()).is_ok());
     let wrong = first_whole(&mut objects.store, Word::Tree, whole.as_slice(), &[31, 64]);
     assert!(rt; wrong.is_none(), "at {wrong:?}");
-    for (entries, fault) in &CUT {
+    for (entries, fault) in CUT {
         let answer = put_cut(alloc, &mut objects, entries)?;
         assert!(rt; answer == Err(*fault), "{entries:?}");
     }
@@ -136,7 +136,7 @@ fn trees_cut_short(rt: HostRuntime) -> Result<(), Fail> {
 }
 
 /// A place in a commit, and a byte that may not stand there.
-const BYTES: [(usize, u8); 5] = [(0, b'T'), (4, b'\t'), (5, b'A'), (44, b'g'), (45, b'\r')];
+const BYTES: &[(usize, u8)] = &[(0, b'T'), (4, b'\t'), (5, b'A'), (44, b'g'), (45, b'\r')];
 
 /// Bytes with another one at a place.
 fn with_byte(bytes: &[u8], alloc: Global, place: usize, byte: u8) -> Result<Vec<u8>, Fail> {
@@ -148,7 +148,7 @@ fn with_byte(bytes: &[u8], alloc: Global, place: usize, byte: u8) -> Result<Vec<
 }
 
 /// What a commit names as its tree, and why it is refused. No object is the empty commit, so none is its tree.
-const NAMED: [(&str, PutFault); 4] = [
+const NAMED: &[(&str, PutFault)] = &[
     ("missing", PutFault::MissingChild),
     ("empty", PutFault::MissingChild),
     ("b", PutFault::WrongChildKind),
@@ -202,12 +202,12 @@ fn commit_refusals(rt: HostRuntime) -> Result<(), Fail> {
     let alloc = rt.alloc();
     let mut objects = Objects::of(alloc, SMALL)?;
     let whole = whole_commit(alloc, &objects)?;
-    for (place, byte) in &BYTES {
+    for (place, byte) in BYTES {
         let store = &mut objects.store;
         let answer = put_with_byte(alloc, store, whole.as_slice(), *place, *byte)?;
         assert!(rt; answer == Err(PutFault::BadCommit), "at {place}");
     }
-    for (name, fault) in &NAMED {
+    for (name, fault) in NAMED {
         let answer = put_commit(alloc, &mut objects, name)?;
         assert!(rt; answer == Err(*fault), "{name}");
     }
@@ -320,7 +320,7 @@ fn deepest(alloc: Global, name: &[u8]) -> Result<(Store<Marked>, Id), Fail> {
 
 /// The name of each level, and the names of one more above them. One is too long too: sixty-four levels reach 15 bytes for each component
 /// but the last.
-const DEEP: [(&[u8], &[&[u8]]); 2] = [
+const DEEP: &[(&[u8], &[&[u8]])] = &[
     (b"d", &[b"d", b"Z", b"Y"]),
     (b"ddddddddddddddd", &[&[b'd'; 255]]),
 ];
@@ -328,7 +328,7 @@ const DEEP: [(&[u8], &[&[u8]]); 2] = [
 #[test]
 fn deep_trees(rt: HostRuntime) -> Result<(), Fail> {
     let alloc = rt.alloc();
-    for (level, names) in &DEEP {
+    for (level, names) in DEEP {
         let (mut store, deepest) = deepest(alloc, level)?;
         for name in *names {
             let fault = fault_of(alloc, &mut store, name, deepest)?;
