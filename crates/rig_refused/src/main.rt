@@ -39,7 +39,7 @@ use std::env;
 use std::sync::Wait;
 
 /// What is called one after another.
-const NAMES: [&str; 15] = [
+const NAMES: &[&str] = &[
     "puts",
     "checkouts",
     "ranges",
@@ -84,9 +84,9 @@ fn make(rt: &HostRuntime, wait: &impl Wait, name: &str) -> Result<u64> {
     match name {
         "serving" => serve_frames(rt),
         "staying" => stay(rt, wait),
-        "overlapping" => follow(rt, &OVERLAPPING),
-        "repeated" => follow(rt, &REPEATED),
-        "remounted" => follow(rt, &REMOUNTED),
+        "overlapping" => follow(rt, OVERLAPPING),
+        "repeated" => follow(rt, REPEATED),
+        "remounted" => follow(rt, REMOUNTED),
         "desks" => call(rt, wait),
         "served-desks" => serve_desk(rt, wait),
         "scripts" => run_all(rt),
@@ -124,7 +124,7 @@ fn main(rt: HostRuntime) -> Result<()> {
         Some(name) => make_all(&rt, &rt, &[name])?,
         None => {
             read_bodies(&rt, BODIES.0, BODIES.1)?;
-            make_all(&rt, &rt, &NAMES)?
+            make_all(&rt, &rt, NAMES)?
         }
     };
     eprintln!(rt; "refused {}", count.saturating_add(refusals.count()))?;

@@ -31,7 +31,7 @@ pub(crate) enum Step {
 }
 
 /// The row `overlapping_rounds`.
-pub(crate) const OVERLAPPING: [Step; 17] = [
+pub(crate) const OVERLAPPING: &[Step] = &[
     Step::Begin,
     Step::Ask,
     Step::Comes(0),
@@ -52,7 +52,7 @@ pub(crate) const OVERLAPPING: [Step; 17] = [
 ];
 
 /// The row `lost_and_repeated_fetch`: the reply to the first question is lost, and it is asked twice again.
-pub(crate) const REPEATED: [Step; 12] = [
+pub(crate) const REPEATED: &[Step] = &[
     Step::Begin,
     Step::Ask,
     Step::Comes(0),
@@ -68,7 +68,7 @@ pub(crate) const REPEATED: [Step; 12] = [
 ];
 
 /// The row `remount_in_a_round`.
-pub(crate) const REMOUNTED: [Step; 22] = [
+pub(crate) const REMOUNTED: &[Step] = &[
     Step::Begin,
     Step::Ask,
     Step::Comes(0),

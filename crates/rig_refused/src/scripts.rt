@@ -8,7 +8,7 @@ use std::alloc::Global;
 use test_kit::{ANSWER_ROWS, CHANGE_ROWS, Row, lines};
 
 /// The rows of the table that are run: they have lines of every kind, and refusals.
-const NAMES: [&str; 11] = [
+const NAMES: &[&str] = &[
     "first_run",
     "file_becomes_directory",
     "tree_refusals",
@@ -53,7 +53,7 @@ fn printed(alloc: Global, refusals: &mut Refusals, script: &[u8]) -> Result<Vec<
 
 /// The row of a name.
 fn row(name: &str) -> Result<&'static Row> {
-    let rows = CHANGE_ROWS.iter().chain(&ANSWER_ROWS);
+    let rows = CHANGE_ROWS.iter().chain(ANSWER_ROWS);
     for row in rows {
         if row.name == name {
             return Ok(row);
@@ -66,7 +66,7 @@ fn row(name: &str) -> Result<&'static Row> {
 pub(crate) fn run_all(rt: &HostRuntime) -> Result<u64> {
     let alloc = rt.alloc();
     let mut refusals = Refusals::new();
-    for name in NAMES {
+    for &name in NAMES {
         let row = row(name)?;
         let script = again!(refusals, _, lines(alloc, row.script));
         let wanted = again!(refusals, _, lines(alloc, row.prints));

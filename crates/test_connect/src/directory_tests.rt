@@ -13,7 +13,7 @@ const CARRIED: &str =
 /// What a round tells that heard of the files before they were moved, and asked for them after it.
 const BETWEEN: &str = "placed 7 4 0000000000000000000000000000000000000000\nfiles 1\nplain 3 dz\n";
 
-const ROWS: [Row; 4] = [
+const ROWS: &[Row] = &[
     // Behind the first round: the second one hears of two directories, lists both, and takes two contents.
     Row {
         files: FILES,

@@ -20,7 +20,7 @@ const MOVED: &str = "placed 8 1 0000000000000000000000000000000000000000\nfiles 
 
 const LOST: Result<(), ProgramFault> = Err(ProgramFault::NoConnection);
 
-const ROWS: [Row; 12] = [
+const ROWS: &[Row] = &[
     // Nothing is lost.
     Row {
         files: ONE,

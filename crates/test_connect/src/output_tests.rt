@@ -15,7 +15,7 @@ use test_devices::Sink;
 use test_kit::{Objects, path};
 
 /// Files of each kind, and their paths with the bytes that are escaped.
-const FILES: [(&str, Kind, &str); 5] = [
+const FILES: &[(&str, Kind, &str)] = &[
     ("a b", Kind::Plain, "1"),
     ("c\nd", Kind::Exec, "22"),
     ("e\\f", Kind::Link, "333"),
@@ -33,7 +33,7 @@ fn kinds_and_escapes(rt: HostRuntime) -> Result<(), Fail> {
     let objects = Objects::of(alloc, "blob x x;tree t 100644 a x;commit c t")?;
     let commit = objects.id("c");
     let mut mount = Mount::mount(alloc, objects.store, commit, 7, 100_000)?;
-    for (at, kind, text) in &FILES {
+    for (at, kind, text) in FILES {
         let _ = mount.write(&path(alloc, at)?, *kind, text.as_bytes())?;
     }
     let (ended, output) = talk(&rt, alloc, &mut mount, &[Act::Serve], 1, &mut Quiet)?;

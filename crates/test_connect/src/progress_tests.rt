@@ -48,7 +48,7 @@ where
 /// Connections, rounds, and what is told.
 type Row = (&'static [Act], u32, &'static [(u64, u64)]);
 
-const ROWS: [Row; 5] = [
+const ROWS: &[Row] = &[
     (&[Act::Serve], 1, &[(1, 3), (2, 3), (3, 3)]),
     // Nothing has changed since the first round.
     (&[Act::Serve], 2, &[(1, 3), (2, 3), (3, 3)]),
@@ -66,7 +66,7 @@ const ROWS: [Row; 5] = [
 
 #[test]
 fn contents_are_told(rt: HostRuntime) -> Result<(), Fail> {
-    for (acts, rounds, wanted) in &ROWS {
+    for (acts, rounds, wanted) in ROWS {
         let notes = noted(&rt, rt.alloc(), acts, *rounds)?;
         assert!(rt; !notes.full && notes.finished == 1);
         assert!(rt;

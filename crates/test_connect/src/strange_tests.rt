@@ -63,7 +63,7 @@ const DRAWN: Act = Act::Say(
     b"\x9a\x3f\x02\xd7\x61\x4b\x8c\x15\xee\x70\xa2\x39\x5d\xc4\x1f\x86\x0b\xf3\x97\x28\x6e\xb5\x43\xda",
 );
 
-const ROWS: [Row; 10] = [
+const ROWS: &[Row] = &[
     // A round that the service refuses has ended, and one to which nothing is said that counts is given up. The next one begins.
     Row {
         files: TWO,

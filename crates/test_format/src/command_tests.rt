@@ -18,7 +18,7 @@ fn command(alloc: Global, line: &str) -> Result<Option<Command>, Fail> {
 }
 
 /// Lines that are commands.
-const COMMANDS: [&str; 19] = [
+const COMMANDS: &[&str] = &[
     "blob l \\e",
     "tree l",
     "tree l 100644 README l2",
@@ -41,7 +41,7 @@ const COMMANDS: [&str; 19] = [
 ];
 
 /// Lines that are none.
-const OTHERS: [&str; 17] = [
+const OTHERS: &[&str] = &[
     "",
     "blob empty x",
     "tree l 100644 README",
@@ -77,7 +77,7 @@ fn first_wrong<'a>(
 
 #[test]
 fn rows_of_the_table_and_other_lines(rt: HostRuntime) -> Result<(), Fail> {
-    for (lines, are_commands) in [(COMMANDS.as_slice(), true), (OTHERS.as_slice(), false)] {
+    for (lines, are_commands) in [(COMMANDS, true), (OTHERS, false)] {
         let wrong = first_wrong(rt.alloc(), lines, are_commands)?;
         assert!(rt; wrong.is_none(), "{wrong:?}");
     }
@@ -112,7 +112,7 @@ fn reads_and_binds(alloc: Global, text: &str) -> Result<(bool, bool), Fail> {
 }
 
 /// A text, whether it is a label that is read, and whether it is one that can be bound.
-const LABELS: [(&str, bool, bool); 9] = [
+const LABELS: &[(&str, bool, bool)] = &[
     ("a", true, true),
     ("z09", true, true),
     ("abcdefghijklmnopqrstuvwxyz012345", true, true),
@@ -127,7 +127,7 @@ const LABELS: [(&str, bool, bool); 9] = [
 #[test]
 fn labels(rt: HostRuntime) -> Result<(), Fail> {
     let alloc = rt.alloc();
-    for (text, reads, binds) in &LABELS {
+    for (text, reads, binds) in LABELS {
         assert!(rt; reads_and_binds(alloc, text)? == (*reads, *binds), "{text}");
     }
     let first = word(alloc, "a")?.and_then(Label::read).ok_or("no label")?;

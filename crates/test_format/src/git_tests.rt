@@ -11,7 +11,7 @@ use std::test::Fail;
 use test_kit::push_entry;
 
 /// An executable file, a directory and a link, each with the byte of which its id has twenty.
-const ENTRIES: [(&str, &str, Option<Kind>, u8); 3] = [
+const ENTRIES: &[(&str, &str, Option<Kind>, u8)] = &[
     ("100755", "a.b", Some(Kind::Exec), 1),
     ("40000", "a", None, 2),
     ("120000", "a link", Some(Kind::Link), 3),
@@ -114,7 +114,7 @@ fn have_same_names(alloc: Global, names: &str, others: &str) -> Result<bool, Fai
 }
 
 /// The names of two trees, and whether they are the same.
-const NAMES: [(&str, &str, bool); 6] = [
+const NAMES: &[(&str, &str, bool)] = &[
     ("a b.c d", "a b.c d", true),
     ("a b.c d", "a b.c e", false),
     ("a b.c d", "a b.cd", false),
@@ -125,7 +125,7 @@ const NAMES: [(&str, &str, bool); 6] = [
 
 #[test]
 fn names_of_two_trees(rt: HostRuntime) -> Result<(), Fail> {
-    for (names, others, same) in &NAMES {
+    for (names, others, same) in NAMES {
         let told = have_same_names(rt.alloc(), names, others)?;
         assert!(rt; told == *same, "{names}, {others}");
     }
@@ -137,7 +137,7 @@ fn fault_of(payload: &[u8]) -> Option<EntryFault> {
 }
 
 /// Bytes that are no entry, and why.
-const FAULTS: [(&str, EntryFault); 8] = [
+const FAULTS: &[(&str, EntryFault)] = &[
     ("100755", EntryFault::CutShort),
     ("100755 a", EntryFault::CutShort),
     ("160000 a", EntryFault::BadMode),
@@ -155,7 +155,7 @@ fn entries_that_cannot_be_read(rt: HostRuntime) -> Result<(), Fail> {
         let cut = &payload[..length.min(payload.len())];
         assert!(rt; fault_of(cut) == Some(EntryFault::CutShort), "at {length}");
     }
-    for (text, fault) in &FAULTS {
+    for (text, fault) in FAULTS {
         assert!(rt; fault_of(text.as_bytes()) == Some(*fault), "at {text}");
     }
     Ok(())
@@ -191,7 +191,7 @@ fn what_a_commit_names(rt: HostRuntime) -> Result<(), Fail> {
 }
 
 /// The words, and their texts.
-const WORDS: [(Word, &str); 3] = [
+const WORDS: &[(Word, &str)] = &[
     (Word::Blob, "blob"),
     (Word::Tree, "tree"),
     (Word::Commit, "commit"),
@@ -199,9 +199,9 @@ const WORDS: [(Word, &str); 3] = [
 
 #[test]
 fn words_and_cuts(rt: HostRuntime) {
-    for (word, text) in &WORDS {
+    for (word, text) in WORDS {
         assert!(rt; word.text() == text.as_bytes(), "{text}");
-        for (other, _) in &WORDS {
+        for (other, _) in WORDS {
             assert!(rt; same_word(*word, *other) == (word == other), "{text}");
         }
     }

@@ -22,7 +22,7 @@ fn is_displayed<F: Display>(alloc: Global, fault: &F, cause: Refusal) -> Result<
     Ok(shown == refused(alloc, cause)?)
 }
 
-const OF_CHANGES: [ChangeFault; 10] = [
+const OF_CHANGES: &[ChangeFault] = &[
     ChangeFault::NotADirectory,
     ChangeFault::IsADirectory,
     ChangeFault::NoEntry,
@@ -35,7 +35,7 @@ const OF_CHANGES: [ChangeFault; 10] = [
     ChangeFault::NoMemory,
 ];
 
-const OF_PATHS: [PathFault; 5] = [
+const OF_PATHS: &[PathFault] = &[
     PathFault::Empty,
     PathFault::TooLong,
     PathFault::BadComponent,
@@ -43,7 +43,7 @@ const OF_PATHS: [PathFault; 5] = [
     PathFault::NoMemory,
 ];
 
-const OF_PUTS: [PutFault; 14] = [
+const OF_PUTS: &[PutFault] = &[
     PutFault::TooLarge,
     PutFault::IdTaken,
     PutFault::ZeroId,
@@ -65,19 +65,19 @@ fn changes_paths_and_puts_are_refused_by_what_their_faults_display(
     rt: HostRuntime,
 ) -> Result<(), Fail> {
     let alloc = rt.alloc();
-    for fault in &OF_CHANGES {
+    for fault in OF_CHANGES {
         assert!(rt;
             is_displayed(alloc, fault, Refusal::File(*fault))?,
             "{fault}"
         );
     }
-    for fault in &OF_PATHS {
+    for fault in OF_PATHS {
         assert!(rt;
             is_displayed(alloc, fault, Refusal::Path(*fault))?,
             "{fault}"
         );
     }
-    for fault in &OF_PUTS {
+    for fault in OF_PUTS {
         assert!(rt;
             is_displayed(alloc, fault, Refusal::Put(*fault))?,
             "{fault}"
@@ -86,14 +86,14 @@ fn changes_paths_and_puts_are_refused_by_what_their_faults_display(
     Ok(())
 }
 
-const OF_POSITIONS: [SinceFault; 4] = [
+const OF_POSITIONS: &[SinceFault] = &[
     SinceFault::Stale(7),
     SinceFault::Ahead(18),
     SinceFault::Truncated(0),
     SinceFault::NoMemory,
 ];
 
-const OF_PATTERNS: [FilterFault; 4] = [
+const OF_PATTERNS: &[FilterFault] = &[
     FilterFault::TooMany,
     FilterFault::PatternTooLong,
     FilterFault::BadPattern(31),
@@ -105,13 +105,13 @@ fn positions_and_patterns_are_refused_by_what_their_faults_display(
     rt: HostRuntime,
 ) -> Result<(), Fail> {
     let alloc = rt.alloc();
-    for fault in &OF_POSITIONS {
+    for fault in OF_POSITIONS {
         assert!(rt;
             is_displayed(alloc, fault, Refusal::Since(*fault))?,
             "{fault}"
         );
     }
-    for fault in &OF_PATTERNS {
+    for fault in OF_PATTERNS {
         assert!(rt;
             is_displayed(alloc, fault, Refusal::Patterns(*fault))?,
             "{fault}"

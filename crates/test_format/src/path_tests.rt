@@ -25,7 +25,7 @@ fn fault_of(alloc: Global, bytes: &[u8]) -> Option<PathFault> {
 }
 
 /// Bytes that are no path, and why.
-const REFUSALS: [(&[u8], PathFault); 11] = [
+const REFUSALS: &[(&[u8], PathFault)] = &[
     (b"", PathFault::Empty),
     (&[b'a'; 1025], PathFault::TooLong),
     (&[b'a'; 256], PathFault::BadComponent),
@@ -57,12 +57,12 @@ fn is_kept(alloc: Global, bytes: &[u8]) -> Result<bool, Fail> {
 }
 
 /// Bytes that are a path.
-const PATHS: [&[u8]; 4] = [b"a", b"...", b"\xff\n /.h", &[b'a'; 255]];
+const PATHS: &[&[u8]] = &[b"a", b"...", b"\xff\n /.h", &[b'a'; 255]];
 
 #[test]
 fn paths_keep_their_bytes(rt: HostRuntime) -> Result<(), Fail> {
     let alloc = rt.alloc();
-    for bytes in &PATHS {
+    for bytes in PATHS {
         assert!(rt; is_kept(alloc, bytes)?, "{bytes:?}");
     }
     let deepest = deep(alloc, 64)?;
@@ -100,7 +100,7 @@ fn below_and_clash(alloc: Global, first: &str, second: &str) -> Result<(bool, bo
 }
 
 /// Two paths, whether the first stands below the second, and whether they clash.
-const PAIRS: [(&str, &str, bool, bool); 6] = [
+const PAIRS: &[(&str, &str, bool, bool)] = &[
     ("a/b", "a", true, true),
     ("a", "a/b", false, true),
     ("a", "a", false, false),
@@ -111,7 +111,7 @@ const PAIRS: [(&str, &str, bool, bool); 6] = [
 
 #[test]
 fn clashing_paths(rt: HostRuntime) -> Result<(), Fail> {
-    for (first, second, below, clash) in &PAIRS {
+    for (first, second, below, clash) in PAIRS {
         let told = below_and_clash(rt.alloc(), first, second)?;
         assert!(rt; told == (*below, *clash), "{first} and {second}");
     }

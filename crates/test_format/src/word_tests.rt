@@ -18,7 +18,7 @@ fn barred(alloc: Global, line: &[u8]) -> Result<Option<Vec<u8>>, AllocError> {
 }
 
 /// A line, and its words.
-const LINES: [(&[u8], &[u8]); 12] = [
+const LINES: &[(&[u8], &[u8])] = &[
     (b"a", b"a|"),
     (b"write a/b 12", b"write|a/b|12|"),
     (br"\\", br"\|"),
@@ -34,17 +34,17 @@ const LINES: [(&[u8], &[u8]); 12] = [
 ];
 
 /// Lines that have no words.
-const NO_WORDS: [&[u8]; 11] = [
+const NO_WORDS: &[&[u8]] = &[
     b"", b" ", b"a  b", b" a", b"a ", br"\x", br"\N", br"a\", br"\ a", br"\\\", br"a b\ c",
 ];
 
 #[test]
 fn lines_and_their_words(rt: HostRuntime) -> Result<(), Fail> {
-    for (line, wanted) in &LINES {
+    for (line, wanted) in LINES {
         let read = barred(rt.alloc(), line)?.ok_or("no reading")?;
         assert!(rt; read.as_slice() == *wanted, "{line:?}");
     }
-    for line in &NO_WORDS {
+    for line in NO_WORDS {
         assert!(rt; barred(rt.alloc(), line)?.is_none(), "{line:?}");
     }
     let mut words = words(rt.alloc(), br"one two\sthree")?.ok_or("no reading")?;
@@ -55,7 +55,7 @@ fn lines_and_their_words(rt: HostRuntime) -> Result<(), Fail> {
 }
 
 /// A word, and the number that it is, if it is one.
-const NUMBERS: [(&[u8], Option<u64>); 15] = [
+const NUMBERS: &[(&[u8], Option<u64>)] = &[
     (b"0", Some(0)),
     (b"7", Some(7)),
     (b"10", Some(10)),
@@ -75,13 +75,13 @@ const NUMBERS: [(&[u8], Option<u64>); 15] = [
 
 #[test]
 fn numbers(rt: HostRuntime) {
-    for (word, wanted) in &NUMBERS {
+    for (word, wanted) in NUMBERS {
         assert!(rt; number(word) == *wanted, "{word:?}");
     }
 }
 
 /// Bytes, and how they are written behind a `>`.
-const TEXTS: [(&[u8], &[u8]); 9] = [
+const TEXTS: &[(&[u8], &[u8])] = &[
     (b"", br">\e"),
     (b" ", br">\s"),
     (b"\n", br">\n"),
@@ -95,7 +95,7 @@ const TEXTS: [(&[u8], &[u8]); 9] = [
 
 #[test]
 fn escaped_and_plain_texts(rt: HostRuntime) -> Result<(), Fail> {
-    for (bytes, wanted) in &TEXTS {
+    for (bytes, wanted) in TEXTS {
         let mut text = Vec::from_slice(rt.alloc(), b">")?;
         push_escaped(&mut text, bytes)?;
         assert!(rt; text.as_slice() == *wanted, "{bytes:?}");

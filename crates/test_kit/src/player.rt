@@ -284,8 +284,8 @@ fn wrong_line<P: Played + Drop>(alloc: Global, row: &Row) -> Result<Option<usize
 
 /// The name of the first row of the tables that goes another way when it is played over this, and the number of its line, if there is one.
 pub fn first_wrong<P: Played + Drop>(alloc: Global) -> Result<Option<(&'static str, usize)>, Fail> {
-    let rows = CHANGE_ROWS.iter().chain(&ANSWER_ROWS);
-    for row in rows.chain(&OBJECT_ROWS).chain(&LABEL_ROWS) {
+    let rows = CHANGE_ROWS.iter().chain(ANSWER_ROWS);
+    for row in rows.chain(OBJECT_ROWS).chain(LABEL_ROWS) {
         if let Some(line) = wrong_line::<P>(alloc, row)? {
             return Ok(Some((row.name, line)));
         }

@@ -12,7 +12,7 @@ pub struct Row {
 }
 
 /// Scripts that were worked out by hand: what changes and checkouts do, and what is told of them.
-pub const CHANGE_ROWS: [Row; 20] = [
+pub const CHANGE_ROWS: &[Row] = &[
     Row {
         name: "first_run",
         script: "mount empty 7 1000;since 7 1;write a plain hi;write b plain yo;remove a;since 7 1;since 7 3;since 7 4",
@@ -141,7 +141,7 @@ pub const CHANGE_ROWS: [Row; 20] = [
 ];
 
 /// What is told of marks, questions, refusals, patterns and texts.
-pub const ANSWER_ROWS: [Row; 10] = [
+pub const ANSWER_ROWS: &[Row] = &[
     Row {
         name: "marks by the first and the last change",
         script: "mount empty 7 1000;write c plain 1;write d plain 1;write a plain 1;write b plain 1;write b plain 1;write c plain 1;\
@@ -214,7 +214,7 @@ pub const ANSWER_ROWS: [Row; 10] = [
 ];
 
 /// Objects: their ids, and what of a tree or a commit is refused, and before what.
-pub const OBJECT_ROWS: [Row; 10] = [
+pub const OBJECT_ROWS: &[Row] = &[
     Row {
         name: "ids of a tree of files and its commit",
         script: "blob x x;id x;tree t 100644 a x 100644 a.b x;id t;commit c t;id c",
@@ -289,7 +289,7 @@ pub const OBJECT_ROWS: [Row; 10] = [
 ];
 
 /// Labels: what binds them, and in which order the lines of a script are refused.
-pub const LABEL_ROWS: [Row; 9] = [
+pub const LABEL_ROWS: &[Row] = &[
     Row {
         name: "a blob can't be mounted",
         script: "blob x x;mount x 7 1;mount empty 7 1",

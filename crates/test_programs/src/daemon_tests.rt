@@ -85,7 +85,7 @@ const ALL: usize = usize::MAX;
 /// A script of one line.
 const ONE: &str = "mount empty 7 1000\n";
 
-const ROWS: [Row; 25] = [
+const ROWS: &[Row] = &[
     ("edend run", ONE, ALL, ALL, 0, "at 7 1 empty\n", ""),
     ("edend run", "", ALL, ALL, 0, "", ""),
     ("edend --version", "x", 0, ALL, 0, "edend 0.1.0\n", ""),
@@ -232,7 +232,7 @@ fn is_as_told<R: Threads + Wait + Clock + Net<Listener = TcpListener, Stream = T
 
 #[test]
 fn statuses(rt: HostRuntime) -> Result<(), Fail> {
-    for row in &ROWS {
+    for row in ROWS {
         let words = row.0;
         assert!(rt; is_as_told(&rt, rt.alloc(), row)?, "{words}");
     }
@@ -270,7 +270,7 @@ type ObjectsRow = (
     &'static str,
 );
 
-const OBJECTS_ROWS: [ObjectsRow; 12] = [
+const OBJECTS_ROWS: &[ObjectsRow] = &[
     (
         "edend run --objects batch",
         BATCH,
@@ -392,7 +392,7 @@ fn puts_as_told<R: Threads + Wait + Clock + Net<Listener = TcpListener, Stream =
 
 #[test]
 fn statuses_of_objects(rt: HostRuntime) -> Result<(), Fail> {
-    for row in &OBJECTS_ROWS {
+    for row in OBJECTS_ROWS {
         let (words, told) = (row.0, row.6);
         assert!(rt; puts_as_told(&rt, rt.alloc(), row)?, "{words}: {told}");
     }

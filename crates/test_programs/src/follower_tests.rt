@@ -18,7 +18,7 @@ const ALL: usize = usize::MAX;
 /// fault, or how that begins where `clap` says it.
 type Row = (&'static str, usize, u8, &'static str, &'static str);
 
-const ROWS: [Row; 14] = [
+const ROWS: &[Row] = &[
     // follow_demo
     ("follow demo", ALL, 0, "audit ok\nfollowers agree\n", ""),
     ("follow demo", 4, 3, "audi", "follow: Write\n"),
@@ -93,7 +93,7 @@ fn is_as_told<R: Threads + Wait + Clock + Net<Stream = TcpStream> + Sync>(
 
 #[test]
 fn statuses(rt: HostRuntime) -> Result<(), Fail> {
-    for row in &ROWS {
+    for row in ROWS {
         let words = row.0;
         assert!(rt; is_as_told(&rt, rt.alloc(), row)?, "{words}");
     }
@@ -101,7 +101,7 @@ fn statuses(rt: HostRuntime) -> Result<(), Fail> {
 }
 
 /// Each fault, its name, its status, and what standard error is told of it.
-const FAULTS: [(ProgramFault, &str, u8, &str); 9] = [
+const FAULTS: &[(ProgramFault, &str, u8, &str)] = &[
     (ProgramFault::BadLine(3), "BadLine", 1, "line 3: BadLine\n"),
     (ProgramFault::Unplaced, "Unplaced", 1, ""),
     (ProgramFault::Read, "Read", 3, "edend: Read\n"),
@@ -130,7 +130,7 @@ const FAULTS: [(ProgramFault, &str, u8, &str); 9] = [
 
 #[test]
 fn faults(rt: HostRuntime) -> Result<(), Fail> {
-    for (fault, name, status, told) in &FAULTS {
+    for (fault, name, status, told) in FAULTS {
         assert!(rt; format!(in rt.alloc(); "{fault}")?.as_str() == *name);
         let mut errors = Sink::new(rt.alloc());
         assert_eq!(rt; fault.tell(&mut errors, "edend"), *status);

@@ -14,7 +14,7 @@ use std::alloc::Global;
 use std::test::Fail;
 
 /// What changed since the mount and since the write, and the file: the number of a question, what it asks, and what is right.
-const QUESTIONS: [(u64, Asked, Told); 3] = [
+const QUESTIONS: &[(u64, Asked, Told)] = &[
     (1, SINCE_MOUNT, CREATED),
     (2, SINCE_WRITE, UNCHANGED),
     (3, FETCH, FILE),
@@ -69,7 +69,7 @@ fn add_reply(alloc: Global, number: u64, told: Told, frames: &mut Vec<u8>) -> Re
 /// The frames of the questions.
 fn requests(alloc: Global) -> Result<Vec<u8>, Fail> {
     let mut frames = Vec::new(alloc);
-    for (number, asked, _) in &QUESTIONS {
+    for (number, asked, _) in QUESTIONS {
         add_request(alloc, *number, *asked, &mut frames)?;
     }
     Ok(frames)
@@ -78,7 +78,7 @@ fn requests(alloc: Global) -> Result<Vec<u8>, Fail> {
 /// The frames of the right replies.
 fn replies(alloc: Global) -> Result<Vec<u8>, Fail> {
     let mut frames = Vec::new(alloc);
-    for (number, _, told) in &QUESTIONS {
+    for (number, _, told) in QUESTIONS {
         add_reply(alloc, *number, *told, &mut frames)?;
     }
     Ok(frames)
@@ -134,7 +134,7 @@ fn replies_are_appended_to_a_text(rt: HostRuntime) -> Result<(), Fail> {
     let alloc = rt.alloc();
     let mut audited = audited(alloc, WRITTEN)?;
     let mut text = Vec::new(alloc);
-    for (number, asked, _) in &QUESTIONS {
+    for (number, asked, _) in QUESTIONS {
         append(alloc, &mut audited, *number, *asked, &mut text)?;
     }
     assert!(rt; text == replies(alloc)?);

@@ -161,7 +161,7 @@ const WRONG: Result<(), AuditFault> = Err(AuditFault::WrongReply);
 const UNKNOWN: Result<(), AuditFault> = Err(AuditFault::UnknownCall);
 
 /// The last four: an entry twice in a log, a log that is handed in twice, one that is left out, and nothing at all.
-const AUDITS: [Audit; 7] = [
+const AUDITS: &[Audit] = &[
     (WRITTEN, &[(1, &[FIRST]), SECOND], Ok(())),
     (
         WRITTEN,
@@ -206,7 +206,7 @@ const BOTH: Told = Told::Changes(&[(Mark::Created, "a"), (Mark::Created, "b")]);
 const NONE: Told = Told::Changes(&[]);
 
 /// The reply of then, that of the opening, and none.
-const REPLIES: [Audit; 3] = [
+const REPLIES: &[Audit] = &[
     (
         ASKED,
         &[
@@ -275,7 +275,7 @@ const X_Y_Y: Asks = Asks::Import(Word::Blob, &["x", "y", "y"]);
 type TwoCalls = (Asks, u64, Notes, Result<(), AuditFault>);
 
 // An import takes no number.
-const OF_TWO_CALLS: [TwoCalls; 10] = [
+const OF_TWO_CALLS: &[TwoCalls] = &[
     (X_Y, 1, RIGHT, Ok(())),
     (X_Y, 2, RIGHT, WRONG),
     (X_Y, 1, Notes::Bad(0, PutFault::CutShort), WRONG),

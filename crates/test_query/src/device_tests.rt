@@ -48,7 +48,7 @@ fn add_ahead(alloc: Global, frames: &mut Exchange, polls: usize) -> Result<(), F
 fn five_frames(alloc: Global) -> Result<Exchange, Fail> {
     let mut frames = Exchange::new(alloc);
     add_ahead(alloc, &mut frames, 1)?;
-    for (frame, reply) in &KNOWN {
+    for (frame, reply) in KNOWN {
         let (frame, reply) = (joined(alloc, frame)?, joined(alloc, reply)?);
         frames.add(&[frame.as_slice()], reply.as_slice())?;
     }
@@ -95,7 +95,7 @@ fn devices_that_fail_at_each_byte(rt: HostRuntime) -> Result<(), Fail> {
 }
 
 /// Where a reader fails in a stream of polls that are refused, and how many of the 39 bytes of each reply are written.
-const BROKEN: [(usize, usize); 4] = [(20, 0), (67, 39), (87, 39), (134, 78)];
+const BROKEN: &[(usize, usize)] = &[(20, 0), (67, 39), (87, 39), (134, 78)];
 
 // Within the first frame, at its end, within the second, and at the end of that.
 #[test]
@@ -103,7 +103,7 @@ fn polls_that_break_off(rt: HostRuntime) -> Result<(), Fail> {
     let alloc = rt.alloc();
     let mut frames = Exchange::new(alloc);
     add_ahead(alloc, &mut frames, 2)?;
-    for (fails_at, written) in &BROKEN {
+    for (fails_at, written) in BROKEN {
         assert_eq!(rt; frames.text_before(*fails_at).len(), *written);
         let right = is_served_before(alloc, &frames, *fails_at, usize::MAX)?;
         assert!(rt; right, "{fails_at} bytes");

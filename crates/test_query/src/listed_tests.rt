@@ -16,7 +16,7 @@ const COMMIT: &str =
 /// A directory that is renamed, to which path, and then a directory and the paths below it.
 type Rename = (&'static str, &'static str, &'static str, &'static str);
 
-const RENAMES: [Rename; 5] = [
+const RENAMES: &[Rename] = &[
     ("d", "b", "b", "b/e/y b/x "),
     ("b/e", "d", "b", "b/x "),
     ("b", "d/e", "d", "d/e/x d/y "),
@@ -40,7 +40,7 @@ fn rename(alloc: Global, mount: &mut Mount<GitNaming>, old: &str, new: &str) -> 
 fn held(alloc: Global) -> Result<Vec<Held>, Fail> {
     let mut mount = mounted(alloc)?;
     let mut held = Vec::new(alloc);
-    for (old, new, top, _) in &RENAMES {
+    for (old, new, top, _) in RENAMES {
         rename(alloc, &mut mount, old, new)?;
         held.push(hold(alloc, &mut mount, 1, Asked::List(top))?)?;
     }
@@ -58,7 +58,7 @@ fn listed(alloc: Global, held: &Held) -> Result<Vec<u8>, Fail> {
 #[test]
 fn lists_below_renamed_directories(rt: HostRuntime) -> Result<(), Fail> {
     let alloc = rt.alloc();
-    for (held, (_, _, _, wanted)) in held(alloc)?.iter().zip(&RENAMES) {
+    for (held, (_, _, _, wanted)) in held(alloc)?.iter().zip(RENAMES) {
         let listed = listed(alloc, held)?;
         assert!(rt; listed.as_slice() == wanted.as_bytes(), "{wanted}");
     }

@@ -13,7 +13,7 @@ use std::test::Fail;
 use test_kit::{PLACE_BYTES as P, QUERY_BYTES as Q, REPLY_BODIES, REQUEST_BODIES, framed, joined};
 
 /// What the requests of `REQUEST_BODIES` ask.
-const REQUESTS: [Asked; 4] = [
+const REQUESTS: &[Asked] = &[
     Asked::Basis,
     Asked::Poll(1, EMPTY),
     Asked::Fetch("a"),
@@ -21,7 +21,7 @@ const REQUESTS: [Asked; 4] = [
 ];
 
 /// What the replies of `REPLY_BODIES` tell, and how long those are.
-const REPLIES: [(Told, usize); 9] = [
+const REPLIES: &[(Told, usize)] = &[
     (Told::Files(&["a", "a/b"]), 0x4a),
     (
         Told::Changes(&[(Mark::Removed, "a"), (Mark::Root, "b")]),
@@ -112,7 +112,7 @@ fn each_reply_is_spelled_and_read(rt: HostRuntime) -> Result<(), Fail> {
 }
 
 /// What further replies tell, how long their bodies are, and those.
-const MORE_REPLIES: [((Told, usize), &[&[u8]]); 2] = [
+const MORE_REPLIES: &[((Told, usize), &[&[u8]])] = &[
     ((Told::Changes(&[]), 0x46), &[&[2, 0x82], &Q, &P, &[0; 8]]),
     (
         (Told::Refused(Cause::Ahead(1)), 0x23),
@@ -122,7 +122,7 @@ const MORE_REPLIES: [((Told, usize), &[&[u8]]); 2] = [
 
 #[test]
 fn replies_have_their_frames(rt: HostRuntime) -> Result<(), Fail> {
-    for (told, parts) in &MORE_REPLIES {
+    for (told, parts) in MORE_REPLIES {
         assert!(rt; is_told_by(rt.alloc(), *told, parts)?);
     }
     Ok(())
@@ -132,7 +132,7 @@ fn replies_have_their_frames(rt: HostRuntime) -> Result<(), Fail> {
 type Bad = (&'static [&'static [u8]], DecodeFault);
 
 /// Bodies without a request.
-const NO_REQUESTS: [Bad; 18] = [
+const NO_REQUESTS: &[Bad] = &[
     (&[], DecodeFault::CutShort),
     (&[&[1]], DecodeFault::Version),
     (&[&[2]], DecodeFault::CutShort),
@@ -159,7 +159,7 @@ const NO_REQUESTS: [Bad; 18] = [
 ];
 
 /// Bodies without a reply.
-const NO_REPLIES: [Bad; 27] = [
+const NO_REPLIES: &[Bad] = &[
     (&[&[1]], DecodeFault::Version),
     (&[&[2]], DecodeFault::CutShort),
     // Changes of the version before this one, and a tag behind the last.
@@ -282,7 +282,7 @@ const NO_REPLIES: [Bad; 27] = [
 ];
 
 /// Changes of `b` and then of `a`, and of `a` twice.
-const NOT_ASCENDING: [Bad; 2] = [
+const NOT_ASCENDING: &[Bad] = &[
     (
         &[
             &[2, 0x82],
@@ -316,21 +316,21 @@ fn first_wrong(alloc: Global, bodies: &[Bad], is_request: bool) -> Result<Option
 
 #[test]
 fn bodies_without_a_request(rt: HostRuntime) -> Result<(), Fail> {
-    let wrong = first_wrong(rt.alloc(), NO_REQUESTS.as_slice(), true)?;
+    let wrong = first_wrong(rt.alloc(), NO_REQUESTS, true)?;
     assert_eq!(rt; wrong, None);
     Ok(())
 }
 
 #[test]
 fn bodies_without_a_reply(rt: HostRuntime) -> Result<(), Fail> {
-    let wrong = first_wrong(rt.alloc(), NO_REPLIES.as_slice(), false)?;
+    let wrong = first_wrong(rt.alloc(), NO_REPLIES, false)?;
     assert_eq!(rt; wrong, None);
     Ok(())
 }
 
 #[test]
 fn paths_ascend(rt: HostRuntime) -> Result<(), Fail> {
-    let wrong = first_wrong(rt.alloc(), NOT_ASCENDING.as_slice(), false)?;
+    let wrong = first_wrong(rt.alloc(), NOT_ASCENDING, false)?;
     assert_eq!(rt; wrong, None);
     Ok(())
 }

@@ -287,7 +287,7 @@ fn first_wrong(
 }
 
 /// The parts of the bodies of a basis, a poll and a list with two patterns, since those of `REQUEST_BODIES` have none.
-const WITH_PATTERNS: [&[&[u8]]; 3] = [
+const WITH_PATTERNS: &[&[&[u8]]] = &[
     &[&[2, 1], &[0; 24], &PATTERNS],
     &[&[2, 2], &[0; 24], &[7; 36], &PATTERNS],
     &[&[2, 4], &[0; 24], &[0, 1, b'd'], &PATTERNS],
@@ -297,7 +297,7 @@ const PATTERNS: [u8; 12] = [2, 0, 4, b'a', b'/', b'*', b'*', 0, 3, b'b', b'\\', 
 
 #[test]
 fn every_byte_of_each_request(rt: HostRuntime) -> Result<(), Fail> {
-    for parts in REQUEST_BODIES.iter().chain(&WITH_PATTERNS) {
+    for parts in REQUEST_BODIES.iter().chain(WITH_PATTERNS) {
         assert_eq!(rt; first_wrong(rt.alloc(), parts, true)?, None);
     }
     Ok(())

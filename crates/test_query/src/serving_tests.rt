@@ -155,7 +155,7 @@ fn is_refused(alloc: Global, generation: u8, sequence: u8, cause: (u8, u8)) -> R
 }
 
 /// Frames and their replies.
-pub(crate) const KNOWN: [(&[&[u8]], &[&[u8]]); 4] = [
+pub(crate) const KNOWN: &[(&[&[u8]], &[&[u8]])] = &[
     (FETCH, ABSENT),
     (BASIS, NO_PATHS),
     (POLL, NO_CHANGES),
@@ -165,7 +165,7 @@ pub(crate) const KNOWN: [(&[&[u8]], &[&[u8]]); 4] = [
 #[test]
 fn known_frames(rt: HostRuntime) -> Result<(), Fail> {
     let alloc = rt.alloc();
-    for (frame, reply) in &KNOWN {
+    for (frame, reply) in KNOWN {
         assert!(rt; answers_parts(alloc, frame, reply, Ok(1))?);
     }
     for (generation, sequence, cause) in [(7, 2, (2, 1)), (7, 0, (3, 1)), (8, 9, (1, 7))] {
@@ -214,7 +214,7 @@ fn spends(alloc: Global, frame: &[u8], reply: &[u8], replies: usize) -> Result<b
 }
 
 /// Bytes that are no frame, and why, or none where there is no byte.
-const FAULTS: [(&[u8], Option<FrameFault>); 4] = [
+const FAULTS: &[(&[u8], Option<FrameFault>)] = &[
     (&[0, 0, 0, 0], Some(FrameFault::CutShort)),
     (&[1, 0, 0, 1], Some(FrameFault::TooLarge)),
     (&[0, 0, 0], Some(FrameFault::CutShort)),
@@ -224,7 +224,7 @@ const FAULTS: [(&[u8], Option<FrameFault>); 4] = [
 #[test]
 fn frame_faults(rt: HostRuntime) -> Result<(), Fail> {
     let alloc = rt.alloc();
-    for (bytes, fault) in &FAULTS {
+    for (bytes, fault) in FAULTS {
         let end = fault.map_or(Ok(0), |fault| stops(1, fault));
         assert!(rt; answers(alloc, bytes, &[], end)?, "{bytes:?}");
     }
@@ -481,7 +481,7 @@ type TwoFrames = (
     usize,
 );
 
-const TWO_FRAMES: [TwoFrames; 3] = [
+const TWO_FRAMES: &[TwoFrames] = &[
     ("basis_of_a_pattern_and_a_file", ASKED, REPLIED, 1),
     ("poll_by_a_pattern", POLLED, CHANGED, usize::MAX),
     ("list_of_a_directory", LISTED, BELOW, 1),
@@ -489,7 +489,7 @@ const TWO_FRAMES: [TwoFrames; 3] = [
 
 #[test]
 fn frames_by_patterns(rt: HostRuntime) -> Result<(), Fail> {
-    for (name, frames, replies, most) in &TWO_FRAMES {
+    for (name, frames, replies, most) in TWO_FRAMES {
         assert!(rt; answers_two(rt.alloc(), frames, replies, *most)?, "{name}");
     }
     Ok(())

@@ -27,7 +27,7 @@ fn largest(alloc: Global) -> Result<Vec<u8>, Fail> {
 }
 
 /// The second round of a mirror that is told of one file.
-const TOLD: [Step; 2] = [
+const TOLD: &[Step] = &[
     Step::Begin,
     Step::Goes(Said::Created(2, (7, 2), "p"), Outcome::Taken),
 ];
@@ -63,9 +63,9 @@ fn largest_content(rt: HostRuntime) -> Result<(), Fail> {
     let bytes = largest(alloc)?;
     assert_eq!(rt; bytes.len(), LARGEST);
     let mut pair = Pair::new(alloc, opened_mount(alloc)?);
-    pair.goes(&PLACED)?;
+    pair.goes(PLACED)?;
     assert!(rt; takes(&mut pair.daemon, &at, bytes.as_slice()));
-    pair.goes(&TOLD)?;
+    pair.goes(TOLD)?;
     assert!(rt; places(&mut pair)?);
     assert!(rt; has_file(&pair.mirror, &at, bytes.as_slice()));
     Ok(())

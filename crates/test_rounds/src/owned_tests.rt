@@ -140,7 +140,7 @@ fn told_mirror(alloc: Global) -> Result<Mirror, Fail> {
 }
 
 /// What comes to that mirror, and with which outcome.
-const COMES: [(Said, Outcome); 7] = [
+const COMES: &[(Said, Outcome)] = &[
     (Said::Listed(2, (7, 2), "d", &[]), Outcome::Taken),
     (
         Said::Listed(2, (7, 2), "d", &["d/a", "d/b"]),
@@ -156,7 +156,7 @@ const COMES: [(Said, Outcome); 7] = [
 #[test]
 fn given_lists_of_directories(rt: HostRuntime) -> Result<(), Fail> {
     let alloc = rt.alloc();
-    for (said, wanted) in &COMES {
+    for (said, wanted) in COMES {
         let mut lent = told_mirror(alloc)?;
         let mut given = told_mirror(alloc)?;
         comes_alike(alloc, &mut lent, &mut given, said.reply(alloc)?, *wanted)?;
@@ -191,7 +191,7 @@ fn told_content(alloc: Global, life: u64, at: &str, text: Option<&str>) -> Resul
 }
 
 /// The life, the path and the text of a content that comes where that of `p` is awaited in the first life.
-const CONTENTS: [(u64, &str, Option<&str>, Outcome); 4] = [
+const CONTENTS: &[(u64, &str, Option<&str>, Outcome)] = &[
     (1, "p", Some("x"), Outcome::Placed),
     (1, "p", None, Outcome::Placed),
     (1, "r", Some("x"), Outcome::Ignored),
@@ -201,7 +201,7 @@ const CONTENTS: [(u64, &str, Option<&str>, Outcome); 4] = [
 #[test]
 fn given_contents(rt: HostRuntime) -> Result<(), Fail> {
     let alloc = rt.alloc();
-    for (life, at, text, wanted) in &CONTENTS {
+    for (life, at, text, wanted) in CONTENTS {
         let reply = told_content(alloc, *life, at, *text)?;
         behind(alloc, &["p"], reply, *wanted)?;
     }

@@ -10,7 +10,7 @@ use std::alloc::Global;
 use std::test::Fail;
 
 /// A mirror is placed at 7/3, and has some files below `d`, one beside it, and none below `e`.
-const PLACED: [Step; 5] = [
+const PLACED: &[Step] = &[
     Step::Begin,
     Step::Comes(
         Said::Basis(1, (7, 3), &["d.x", "d/x", "d/y"]),
@@ -22,7 +22,7 @@ const PLACED: [Step; 5] = [
 ];
 
 /// In its second round it is told that files were moved between `d` and `e`.
-const MOVED: [Step; 2] = [
+const MOVED: &[Step] = &[
     Step::Begin,
     Step::Comes(Said::Moved(2, (7, 4), &["d", "e"]), Outcome::Taken),
 ];
@@ -30,14 +30,14 @@ const MOVED: [Step; 2] = [
 /// That mirror, placed.
 fn placed(alloc: Global) -> Result<Pair<World<GitNaming>>, Fail> {
     let mut pair = Pair::new(alloc, opened_world(alloc)?);
-    pair.goes(&PLACED)?;
+    pair.goes(PLACED)?;
     Ok(pair)
 }
 
 /// That mirror, which was told that files were moved.
 fn told(alloc: Global) -> Result<Pair<World<GitNaming>>, Fail> {
     let mut pair = placed(alloc)?;
-    pair.goes(&MOVED)?;
+    pair.goes(MOVED)?;
     Ok(pair)
 }
 

@@ -7,14 +7,14 @@ use std::alloc::Global;
 use std::test::Fail;
 
 /// A mirror is placed at 7/1, where no file stands.
-pub(crate) const PLACED: [Step; 3] = [
+pub(crate) const PLACED: &[Step] = &[
     Step::Begin,
     Step::Goes(Said::Basis(1, (7, 1), &[]), Outcome::Placed),
     Step::Holds(Some((7, 1)), &[]),
 ];
 
 /// Then it gathers, in its second round, the file that was written behind it.
-const GATHERING: [Step; 4] = [
+const GATHERING: &[Step] = &[
     Step::Write("p", "x"),
     Step::Begin,
     Step::Goes(Said::Created(2, (7, 2), "p"), Outcome::Taken),
@@ -22,7 +22,7 @@ const GATHERING: [Step; 4] = [
 ];
 
 /// Then it begins a third round before the second is over, and is placed by that one.
-const OVERLAPPING: [Step; 8] = [
+const OVERLAPPING: &[Step] = &[
     Step::Asks(&[Said::Content(2, (7, 2), "p", "x")]),
     Step::Write("p", "y"),
     Step::Begin,
@@ -50,7 +50,7 @@ fn followed(alloc: Global, parts: &[&[Step]]) -> Result<(), Fail> {
 
 #[test]
 fn overlapping_rounds(rt: HostRuntime) -> Result<(), Fail> {
-    followed(rt.alloc(), &[&PLACED, &GATHERING, &OVERLAPPING])
+    followed(rt.alloc(), &[PLACED, GATHERING, OVERLAPPING])
 }
 
 // The reply to the first question is lost, and it is asked twice again.
@@ -65,7 +65,7 @@ fn lost_and_repeated_fetch(rt: HostRuntime) -> Result<(), Fail> {
         Step::Comes(only[0], Outcome::Ignored),
         Step::Holds(Some((7, 2)), &[("p", "x")]),
     ];
-    followed(rt.alloc(), &[&PLACED, &GATHERING, &steps])
+    followed(rt.alloc(), &[PLACED, GATHERING, &steps])
 }
 
 #[test]
@@ -88,7 +88,7 @@ fn remount_in_a_round(rt: HostRuntime) -> Result<(), Fail> {
         Step::Comes(Said::Content(4, (8, 2), "q", "z"), Outcome::Placed),
         Step::Holds(Some((8, 2)), &[("p", "x"), ("q", "z")]),
     ];
-    followed(rt.alloc(), &[&PLACED, &GATHERING, &steps])
+    followed(rt.alloc(), &[PLACED, GATHERING, &steps])
 }
 
 #[test]
@@ -100,7 +100,7 @@ fn ended_and_refiltered(rt: HostRuntime) -> Result<(), Fail> {
         Step::Asks(&[]),
         Step::Comes(Said::Refused(2, Cause::TooLarge), Outcome::Ignored),
     ];
-    followed(rt.alloc(), &[&PLACED, &ended])?;
+    followed(rt.alloc(), &[PLACED, &ended])?;
     let refiltered = [
         Step::Refilter,
         Step::Holds(None, &[]),
@@ -108,10 +108,7 @@ fn ended_and_refiltered(rt: HostRuntime) -> Result<(), Fail> {
         Step::Begin,
         Step::Goes(Said::Basis(4, (7, 3), &["p"]), Outcome::Taken),
     ];
-    followed(
-        rt.alloc(),
-        &[&PLACED, &GATHERING, &OVERLAPPING, &refiltered],
-    )
+    followed(rt.alloc(), &[PLACED, GATHERING, OVERLAPPING, &refiltered])
 }
 
 // The floor is raised while the mirror gathers.
@@ -130,11 +127,11 @@ fn truncated_in_a_round(rt: HostRuntime) -> Result<(), Fail> {
         Step::Goes(Said::Content(4, (7, 3), "p", "x"), Outcome::Placed),
         Step::Holds(Some((7, 3)), &[("p", "x")]),
     ];
-    followed(rt.alloc(), &[&PLACED, &GATHERING, &steps])
+    followed(rt.alloc(), &[PLACED, GATHERING, &steps])
 }
 
 /// A mirror is placed at 7/3, and has two files below `d`.
-const BELOW: [Step; 8] = [
+const BELOW: &[Step] = &[
     Step::Write("d/x", "1"),
     Step::Write("d/y", "2"),
     Step::Begin,
@@ -173,5 +170,5 @@ fn mirror_lists_prefix(rt: HostRuntime) -> Result<(), Fail> {
         Step::Comes(Said::Content(2, (7, 4), "e/y", "2"), Outcome::Placed),
         Step::Holds(Some((7, 4)), &[("e/x", "1"), ("e/y", "2")]),
     ];
-    followed(rt.alloc(), &[&BELOW, &steps])
+    followed(rt.alloc(), &[BELOW, &steps])
 }

@@ -27,7 +27,7 @@ enum Round {
     Listing,
 }
 
-const ROUNDS: [Round; 6] = [
+const ROUNDS: &[Round] = &[
     Round::NoneYet,
     Round::Over,
     Round::AllAsked,
@@ -47,7 +47,7 @@ enum Kind {
     TooLarge,
 }
 
-const KINDS: [Kind; 6] = [
+const KINDS: &[Kind] = &[
     Kind::Basis,
     Kind::Changes,
     Kind::Content,
@@ -57,7 +57,7 @@ const KINDS: [Kind; 6] = [
 ];
 
 /// What leads from one round to the next.
-const WAY: [Step; 8] = [
+const WAY: &[Step] = &[
     Step::Begin,
     Step::Goes(Said::Basis(1, (7, 1), &[]), Outcome::Placed),
     Step::Write("p", "x"),
@@ -84,7 +84,7 @@ fn steps_to(round: Round) -> (usize, u64) {
 fn mirror_in(alloc: Global, round: Round) -> Result<(Pair<World<GitNaming>>, Query), Fail> {
     let (steps, number) = steps_to(round);
     let mut pair = Pair::new(alloc, opened_world(alloc)?);
-    pair.goes(WAY.get(..steps).unwrap_or(&WAY))?;
+    pair.goes(WAY.get(..steps).unwrap_or(WAY))?;
     Ok((pair, query(number)))
 }
 
@@ -151,7 +151,7 @@ fn asked_by(mirror: u64, life: u64, number: u64) -> Query {
 type Strange = (&'static str, u64, u64, u64, u64, u64, &'static str);
 
 /// The content of `p` at 7/2 is awaited by the second round of mirror 1.
-const CONTENTS: [Strange; 8] = [
+const CONTENTS: &[Strange] = &[
     ("another mirror", 2, 1, 2, 7, 2, "p"),
     ("another life", 1, 2, 2, 7, 2, "p"),
     ("an old round", 1, 1, 1, 7, 2, "p"),
@@ -163,7 +163,7 @@ const CONTENTS: [Strange; 8] = [
 ];
 
 /// A list of `d` at 7/2 is awaited by its third round.
-const LISTS: [Strange; 8] = [
+const LISTS: &[Strange] = &[
     ("another mirror", 2, 1, 3, 7, 2, "d"),
     ("another life", 1, 2, 3, 7, 2, "d"),
     ("an old round", 1, 1, 2, 7, 2, "d"),
@@ -176,7 +176,7 @@ const LISTS: [Strange; 8] = [
 
 /// Delivers strange contents to a mirror that awaits one.
 fn ignores_contents(pair: &mut Pair<World<GitNaming>>) -> Result<(), Fail> {
-    for (said, mirror, life, number, generation, sequence, at) in &CONTENTS {
+    for (said, mirror, life, number, generation, sequence, at) in CONTENTS {
         let query = asked_by(*mirror, *life, *number);
         let here = position(*generation, *sequence);
         let reply = content(pair.alloc, query, here, at, "strange")?;
@@ -196,7 +196,7 @@ fn ignores_answers(
 }
 
 /// Then the content comes.
-const RIGHT: [Step; 2] = [
+const RIGHT: &[Step] = &[
     Step::Goes(Said::Content(2, (7, 2), "p", "x"), Outcome::Placed),
     Step::Holds(Some((7, 2)), &[("p", "x")]),
 ];
@@ -207,14 +207,14 @@ fn strange_replies(rt: HostRuntime) -> Result<(), Fail> {
     ignores_contents(&mut pair)?;
     ignores_answers(&mut pair, asked, Kind::Changes)?;
     ignores_answers(&mut pair, asked, Kind::TooLarge)?;
-    pair.goes(&RIGHT)
+    pair.goes(RIGHT)
 }
 
 #[test]
 fn strange_lists(rt: HostRuntime) -> Result<(), Fail> {
     let alloc = rt.alloc();
     let (mut pair, _) = mirror_in(alloc, Round::Listing)?;
-    for (said, mirror, life, number, generation, sequence, at) in &LISTS {
+    for (said, mirror, life, number, generation, sequence, at) in LISTS {
         let query = asked_by(*mirror, *life, *number);
         let here = position(*generation, *sequence);
         let reply = listed(alloc, query, here, at, &[])?;
@@ -228,7 +228,7 @@ fn strange_lists(rt: HostRuntime) -> Result<(), Fail> {
 }
 
 /// Whose question a reply answers: the mirror, its life, and whether the round is one to come.
-const ASKED: [(&str, u64, u64, bool); 4] = [
+const ASKED: &[(&str, u64, u64, bool)] = &[
     ("its own", 1, 1, false),
     ("another mirror's", 2, 1, false),
     ("another life's", 1, 2, false),
@@ -242,7 +242,7 @@ fn ignores_unasked(
     round: Round,
     kind: Kind,
 ) -> Result<(), Fail> {
-    for (said, mirror, life, to_come) in &ASKED {
+    for (said, mirror, life, to_come) in ASKED {
         let number = if *to_come { 4 } else { own.number };
         let asked = asked_by(*mirror, *life, number);
         if asked != own || !is_awaited(round, kind) {
@@ -256,9 +256,9 @@ fn ignores_unasked(
 
 #[test]
 fn replies_out_of_their_round(rt: HostRuntime) -> Result<(), Fail> {
-    for round in &ROUNDS {
+    for round in ROUNDS {
         let (mut pair, own) = mirror_in(rt.alloc(), *round)?;
-        for kind in &KINDS {
+        for kind in KINDS {
             ignores_unasked(&mut pair, own, *round, *kind)?;
         }
     }
@@ -287,8 +287,8 @@ fn counts(alloc: Global, round: Round, kind: Kind) -> Result<bool, Fail> {
 
 #[test]
 fn awaited_replies_count(rt: HostRuntime) -> Result<(), Fail> {
-    for round in &ROUNDS {
-        for kind in &KINDS {
+    for round in ROUNDS {
+        for kind in KINDS {
             assert!(rt; counts(rt.alloc(), *round, *kind)?, "{round:?}, {kind:?}");
         }
     }
@@ -301,7 +301,7 @@ fn begun_anew(rt: HostRuntime) -> Result<(), Fail> {
     let (mut pair, old) = mirror_in(alloc, Round::ChangesAsked)?;
     pair.mirror = Mirror::new(alloc, 1, 2, Filter::all(alloc));
     for _ in 0..2 {
-        for kind in &KINDS {
+        for kind in KINDS {
             let reply = reply_of(alloc, old, *kind)?;
             ignores(&mut pair, &reply, "a reply to the life before")?;
         }

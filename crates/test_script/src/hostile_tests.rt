@@ -9,7 +9,7 @@ type Case = (&'static str, Parts, Parts, u64);
 
 /// The first has two commits of two to the fortieth files each, of directories of forty levels, each with the level below under two names.
 /// Of them those alone are read that a filter admits something of, or in which something differs.
-const CASES: [Case; 3] = [
+const CASES: &[Case] = &[
     (
         "wide commits",
         &[
@@ -69,7 +69,7 @@ const CASES: [Case; 3] = [
 #[test]
 fn hostile_scripts(rt: HostRuntime) -> Result<(), Fail> {
     let alloc = rt.alloc();
-    for (name, script, prints, lines) in &CASES {
+    for (name, script, prints, lines) in CASES {
         let (printed, ended) = told(alloc, repeated(alloc, script)?.as_slice());
         assert!(rt; printed == repeated(alloc, prints)?, "{name}");
         assert_eq!(rt; ended, Ok(*lines), "{name}");

@@ -21,8 +21,8 @@ fn printed(rt: &impl Abort, alloc: Global, rows: &[Row]) -> Result<(), Fail> {
 #[test]
 fn worked_rows(rt: HostRuntime) -> Result<(), Fail> {
     let alloc = rt.alloc();
-    printed(&rt, alloc, CHANGE_ROWS.as_slice())?;
-    printed(&rt, alloc, ANSWER_ROWS.as_slice())?;
-    printed(&rt, alloc, OBJECT_ROWS.as_slice())?;
-    printed(&rt, alloc, LABEL_ROWS.as_slice())
+    printed(&rt, alloc, CHANGE_ROWS)?;
+    printed(&rt, alloc, ANSWER_ROWS)?;
+    printed(&rt, alloc, OBJECT_ROWS)?;
+    printed(&rt, alloc, LABEL_ROWS)
 }

@@ -88,7 +88,7 @@ fn a_script_over_objects(rt: HostRuntime) -> Result<(), Fail> {
 }
 
 /// Lines that no row of the language reads.
-const BAD_LINES: [&str; 67] = [
+const BAD_LINES: &[&str] = &[
     "lists",
     "flush 1",
     "rename a",
@@ -161,7 +161,7 @@ const BAD_LINES: [&str; 67] = [
 #[test]
 fn bad_lines(rt: HostRuntime) -> Result<(), Fail> {
     let alloc = rt.alloc();
-    for line in BAD_LINES {
+    for &line in BAD_LINES {
         for (before, number, text) in [
             ("", 1, ""),
             ("blob b x\n", 2, "ok\n"),
@@ -200,7 +200,7 @@ const WIDE: (&str, usize) = ("a", 255);
 
 /// Paths, patterns and lines that are as long, as deep or as many as they may be, and those that are more; what is printed behind the
 /// mount, and how the script ends.
-const LIMITS: [(Parts, &str, Result<u64, RunFault>); 15] = [
+const LIMITS: &[(Parts, &str, Result<u64, RunFault>)] = &[
     (
         &[
             ("remove ", 1),

@@ -10,7 +10,7 @@ use std::test::Fail;
 use test_kit::Objects;
 
 /// Paths in each other's places.
-const PATHS: [&str; 13] = [
+const PATHS: &[&str] = &[
     "a", "a/b", "b", "c", "d", "e", "k", "m", "m/p", "n", "q", "q/p", "u",
 ];
 
@@ -30,7 +30,7 @@ type Case = (
     &'static [(&'static str, Mode, &'static str, &'static str)],
 );
 
-const CASES: [Case; 5] = [
+const CASES: &[Case] = &[
     (
         EACH_RULE,
         "c",
@@ -112,7 +112,7 @@ fn first_wrong(alloc: Global, levels: u32, case: &Case) -> Result<Option<usize>,
     for (place, (label, mode, told, files)) in checkouts.iter().enumerate() {
         let commit = if *label == "c" { ids[0] } else { ids[1] };
         let text = made.checkout(alloc, commit, *mode)?;
-        let shown = made.shown(alloc, PATHS.as_slice())?;
+        let shown = made.shown(alloc, PATHS)?;
         if text.as_slice() != told.as_bytes() || shown.as_slice() != files.as_bytes() {
             return Ok(Some(place));
         }

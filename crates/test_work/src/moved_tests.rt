@@ -19,7 +19,7 @@ type Step = (
 );
 
 /// Where a file is seen at some step, in byte order; and `d-x`, `dd` and `d`, where none ever is.
-const PLACES: [&str; 18] = [
+const PLACES: &[&str] = &[
     "a", "b/e/y", "b/x", "c/e/y", "c/x", "c/y", "d", "d-x", "d.x", "d/e/y", "d/x", "d/y", "dd",
     "f/x", "f/y", "f/z/x", "g/e/y", "g/x",
 ];
@@ -29,7 +29,7 @@ const DEEP: &str =
     "1/2/3/4/5/6/7/8/9/0/1/2/3/4/5/6/7/8/9/0/1/2/3/4/5/6/7/8/9/0/1/2/3/4/5/6/7/8/9/0/1/2/3/4/5/6/7/8/9/0/1/2/3/4/5/6/7/8/9/0/1/2/3/4";
 
 /// Renames over a commit with the files `a`, `d.x`, `d/e/y` and `d/x`.
-const RENAMES: [Step; 13] = [
+const RENAMES: &[Step] = &[
     // What only begins with the same bytes stays.
     (
         "d",
@@ -105,7 +105,7 @@ const RENAMES: [Step; 13] = [
 fn seen(alloc: Global, objects: &Objects, moves: &Moves) -> Result<Vec<u8>, Fail> {
     let moved = Moved::of(objects.store.commit_files(objects.id("c")), moves);
     let mut text = Vec::new(alloc);
-    for place in PLACES {
+    for &place in PLACES {
         if let Some((_, bytes)) = moved.file(place.as_bytes()) {
             text.extend_from_slice(place.as_bytes())?;
             text.push(b'=')?;
@@ -204,7 +204,7 @@ fn a_commit_is_seen_through_renamed_directories(rt: HostRuntime) -> Result<(), F
     assert!(rt; unmoved.as_slice() == b"a=1 d.x=4 d/e/y=3 d/x=2 ".as_slice());
     let all = listed(alloc, &objects, &Moves::new(alloc))?;
     assert!(rt; all.as_slice() == b"a=1 d.x=4 d/e/y=3 d/x=2 ".as_slice());
-    assert_eq!(rt; first_wrong(alloc, &objects, &RENAMES)?, None);
+    assert_eq!(rt; first_wrong(alloc, &objects, RENAMES)?, None);
     Ok(())
 }
 
@@ -212,7 +212,7 @@ fn a_commit_is_seen_through_renamed_directories(rt: HostRuntime) -> Result<(), F
 type Below = (&'static str, &'static str, &'static str);
 
 /// A directory that is renamed, to which path, and what is seen below directories then.
-const BELOW: [(&str, &str, &[Below]); 3] = [
+const BELOW: &[(&str, &str, &[Below])] = &[
     (
         "d",
         "b",
@@ -271,7 +271,7 @@ fn files_below_a_renamed_directory(rt: HostRuntime) -> Result<(), Fail> {
     let alloc = rt.alloc();
     let objects = Objects::of(alloc, COMMIT)?;
     let mut moves = Moves::new(alloc);
-    for (old, new, cases) in &BELOW {
+    for (old, new, cases) in BELOW {
         moves.rename(&path(alloc, old)?, &path(alloc, new)?)?;
         assert_eq!(rt; first_other(alloc, &objects, &moves, cases)?, None);
     }
@@ -310,7 +310,7 @@ fn said(alloc: Global, moves: &Moves) -> Result<Vec<u8>, Fail> {
 }
 
 /// Directories, each with the commit's directory that is seen there, after `d` was renamed to `b`, and then `b/e` to `f`.
-const SOURCES: [(&str, Option<&str>); 9] = [
+const SOURCES: &[(&str, Option<&str>)] = &[
     ("a", Some("a")),
     ("b", Some("d")),
     ("b/e", None),
@@ -324,7 +324,7 @@ const SOURCES: [(&str, Option<&str>); 9] = [
 
 /// The first directory at which another one is seen.
 fn first_other_source(alloc: Global, moves: &Moves) -> Result<Option<&'static str>, Fail> {
-    for (dir, wanted) in &SOURCES {
+    for (dir, wanted) in SOURCES {
         let source = moves.source_dir(&path(alloc, dir)?)?;
         let alike = match (&source, wanted) {
             (Some(source), Some(wanted)) => source.as_bytes() == wanted.as_bytes(),
@@ -359,7 +359,7 @@ fn a_begun_rename_is_done_or_undone(rt: HostRuntime) -> Result<(), Fail> {
 }
 
 /// A path, a directory above it, what that is renamed to, and the path's new place, if that is a path.
-const CARRIED: [(&str, &str, &str, Option<&str>); 4] = [
+const CARRIED: &[(&str, &str, &str, Option<&str>)] = &[
     ("d/x", "d", "b", Some("b/x")),
     ("d/e/y", "d/e", "f", Some("f/y")),
     ("a/b/c", "a/b", "a/b/d", Some("a/b/d/c")),
@@ -369,7 +369,7 @@ const CARRIED: [(&str, &str, &str, Option<&str>); 4] = [
 #[test]
 fn a_path_is_carried_with_its_directory(rt: HostRuntime) -> Result<(), Fail> {
     let alloc = rt.alloc();
-    for (from, old, new, wanted) in &CARRIED {
+    for (from, old, new, wanted) in CARRIED {
         let (from, old, new) = (path(alloc, from)?, path(alloc, old)?, path(alloc, new)?);
         assert!(rt; from.is_below(&old));
         match (carried_path(alloc, &from, &old, &new), wanted) {

@@ -36,7 +36,7 @@ fn first_wrong<'a>(
 }
 
 /// Renames over the commit `c`, and changes between them.
-const RENAMES: [Step<'static>; 23] = [
+const RENAMES: &[Step<'static>] = &[
     (
         "renamedir d b",
         None,
@@ -178,7 +178,7 @@ fn over_first(alloc: Global, objects: Objects) -> Result<Mounted, Fail> {
 fn renamed_directories_keep_their_files(rt: HostRuntime) -> Result<(), Fail> {
     let alloc = rt.alloc();
     let mut mounted = over_first(alloc, Objects::of(alloc, COMMITS)?)?;
-    assert_eq!(rt; first_wrong(alloc, &mut mounted, &RENAMES)?, None);
+    assert_eq!(rt; first_wrong(alloc, &mut mounted, RENAMES)?, None);
     Ok(())
 }
 
@@ -232,7 +232,7 @@ fn another_commit_below_renamed_directories(rt: HostRuntime) -> Result<(), Fail>
 }
 
 /// What a checkout of the commit `k` tells in each mode where `d` was renamed to `b` over the commit `c`, and the files that it leaves.
-const CHECKOUTS: [(Mode, &str, &str); 3] = [
+const CHECKOUTS: &[(Mode, &str, &str)] = &[
     (Mode::Dry, "d/x | ", "a=1 b/e/y=3 b/x=2 d.x=4 g/x=5 "),
     (
         Mode::Normal,
@@ -249,7 +249,7 @@ const CHECKOUTS: [(Mode, &str, &str); 3] = [
 #[test]
 fn checkouts_over_renamed_directories(rt: HostRuntime) -> Result<(), Fail> {
     let alloc = rt.alloc();
-    for (mode, told, files) in &CHECKOUTS {
+    for (mode, told, files) in CHECKOUTS {
         let objects = Objects::of(alloc, COMMITS)?;
         let second = objects.id("k");
         let mut mounted = over_first(alloc, objects)?;
@@ -263,7 +263,7 @@ fn checkouts_over_renamed_directories(rt: HostRuntime) -> Result<(), Fail> {
 }
 
 /// Renames over a commit with `d/x` and one more file below `d`, whose path has 62 names of 64 at the most: the star stands for 60 directories.
-const DEEP: [Step<'static>; 6] = [
+const DEEP: &[Step<'static>] = &[
     (
         "renamedir d e/f/g",
         None,
@@ -289,7 +289,7 @@ const DEEP: [Step<'static>; 6] = [
 ];
 
 /// Renames over a commit with `d/x` and one more file below `d`, whose path has 1,023 bytes of 1,024 at the most: the star stands for 4 directories.
-const LONG: [Step<'static>; 5] = [
+const LONG: &[Step<'static>] = &[
     (
         "renamedir d bc",
         None,
@@ -348,7 +348,7 @@ fn renamed_directories_with_deep_paths(rt: HostRuntime) -> Result<(), Fail> {
     objects.put(alloc, "commit c t")?;
     let mut mounted = over_first(alloc, objects)?;
     let names = "n/".repeat(alloc, 60)?;
-    let wrong = first_wrong_below(alloc, &mut mounted, names.as_str(), &DEEP)?;
+    let wrong = first_wrong_below(alloc, &mut mounted, names.as_str(), DEEP)?;
     assert_eq!(rt; wrong, None);
     Ok(())
 }
@@ -366,7 +366,7 @@ fn renamed_directories_with_long_paths(rt: HostRuntime) -> Result<(), Fail> {
     objects.put(alloc, "commit c t")?;
     let mut mounted = over_first(alloc, objects)?;
     let names = spelled(alloc, "*/*/*/*/", name.as_str())?;
-    let wrong = first_wrong_below(alloc, &mut mounted, names.as_str(), &LONG)?;
+    let wrong = first_wrong_below(alloc, &mut mounted, names.as_str(), LONG)?;
     assert_eq!(rt; wrong, None);
     Ok(())
 }

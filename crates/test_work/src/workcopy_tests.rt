@@ -39,7 +39,7 @@ fn first_wrong(
 }
 
 /// Changes over a commit with the files `a`, `a.b` and `d/x`.
-const OVER_A_COMMIT: [Step; 21] = [
+const OVER_A_COMMIT: &[Step] = &[
     (
         "write d 1",
         Some(ChangeFault::IsADirectory),
@@ -102,7 +102,7 @@ const OVER_A_COMMIT: [Step; 21] = [
 ];
 
 /// Renames of directories over a commit with the files `a`, `d/e/y`, `d/x` and `d.x`.
-const OF_DIRECTORIES: [Step; 17] = [
+const OF_DIRECTORIES: &[Step] = &[
     (
         "renamedir a b",
         Some(ChangeFault::NotADirectory),
@@ -180,18 +180,18 @@ const OF_DIRECTORIES: [Step; 17] = [
 ];
 
 /// What it is called, a commit `c`, changes over it, and a file that stands then, with what it holds.
-const OVER_COMMITS: [(&str, &str, &[Step], &str, &str); 2] = [
+const OVER_COMMITS: &[(&str, &str, &[Step], &str, &str)] = &[
     (
         "changes_over_a_commit",
         "blob b 1;tree d 100644 x b;tree t 100644 a b 100644 a.b b 40000 d d;commit c t",
-        &OVER_A_COMMIT,
+        OVER_A_COMMIT,
         "b",
         "4",
     ),
     (
         "directories_over_a_commit",
         "blob b 1;blob n 2;tree e 100644 y n;tree d 40000 e e 100644 x b;tree t 100644 a b 100644 d.x b 40000 d d;commit c t",
-        &OF_DIRECTORIES,
+        OF_DIRECTORIES,
         "f/y",
         "2",
     ),
@@ -211,7 +211,7 @@ fn root_of(work: &WorkCopy) -> Result<Id, Fail> {
 #[test]
 fn changes_over_commits(rt: HostRuntime) -> Result<(), Fail> {
     let alloc = rt.alloc();
-    for (name, script, steps, path, text) in &OVER_COMMITS {
+    for (name, script, steps, path, text) in OVER_COMMITS {
         let objects = Objects::of(alloc, script)?;
         let root = objects.id("c");
         let mut mounted = over_commit(alloc, objects)?;
@@ -248,7 +248,7 @@ fn a_directory_with_a_deep_path(rt: HostRuntime) -> Result<(), Fail> {
 }
 
 /// Changes over the empty commit.
-const OVER_NOTHING: [Step; 6] = [
+const OVER_NOTHING: &[Step] = &[
     ("write a 1", None, "a ", "a "),
     ("write b 2", None, "a b ", "a b "),
     ("rename a b", None, "b ", "b "),
@@ -260,7 +260,7 @@ const OVER_NOTHING: [Step; 6] = [
 #[test]
 fn changes_over_nothing(rt: HostRuntime) -> Result<(), Fail> {
     let mut mounted = over_nothing(rt.alloc())?;
-    assert_eq!(rt; first_wrong(rt.alloc(), &mut mounted, &OVER_NOTHING)?, None);
+    assert_eq!(rt; first_wrong(rt.alloc(), &mut mounted, OVER_NOTHING)?, None);
     Ok(())
 }
 
@@ -268,7 +268,7 @@ fn changes_over_nothing(rt: HostRuntime) -> Result<(), Fail> {
 const KINDS: &str = "blob b 1;tree t 100644 f b;commit c t;tree u 100755 f b;commit d u";
 
 /// What is reverted comes back as the other commit has it.
-const REVERTED: [Step; 2] = [
+const REVERTED: &[Step] = &[
     ("rename f f", None, "f ", "f "),
     ("revert f", None, "f ", ""),
 ];
@@ -283,7 +283,7 @@ fn reroot_and_revert(rt: HostRuntime) -> Result<(), Fail> {
     assert_eq!(rt; mounted.reroot(Id([1; 20])), Err(CommitFault::NoCommit));
     mounted.reroot(exec)?;
     assert!(rt; mounted.reads(alloc, "f", Kind::Plain, "1")?);
-    assert_eq!(rt; first_wrong(alloc, &mut mounted, &REVERTED)?, None);
+    assert_eq!(rt; first_wrong(alloc, &mut mounted, REVERTED)?, None);
     assert!(rt; mounted.reads(alloc, "f", Kind::Exec, "1")?);
     assert_eq!(rt; root_of(&mounted.work)?, exec);
     Ok(())
@@ -385,7 +385,7 @@ fn woven_text(
 }
 
 /// A pattern, and the paths that it admits of the commit and of what was changed over it.
-const WOVEN: [(&str, &str); 3] = [
+const WOVEN: &[(&str, &str)] = &[
     ("**", "a.b b d/x d/y "),
     ("*", "a.b b "),
     ("d/*", "d/x d/y "),
@@ -402,7 +402,7 @@ fn touched_paths_lie_over_a_commit(rt: HostRuntime) -> Result<(), Fail> {
     for at in ["b", "d/y"] {
         set(alloc, &mut work, at, Some(plain(alloc, "2")?))?;
     }
-    for (pattern, wanted) in &WOVEN {
+    for (pattern, wanted) in WOVEN {
         let text = woven_text(alloc, &objects.store, &work, pattern)?;
         assert!(rt; text.as_slice() == wanted.as_bytes(), "{pattern}");
     }
