@@ -101,27 +101,7 @@ fn accept_one<'s, E, L: Ledger + Send + Sync + 's, R: Threads + Wait + Sync>(
     }
 }
 
-/// Accepts a connection for each of these desks, and gives the threads that serve them. The desks of no thread are taken.
-fn accept_all<'s, E, L: Ledger + Send + Sync + 's, R: Threads + Wait + Sync>(
-    scope: &Scope<'s, E>,
-    rt: &'s R,
-    alloc: Global,
-    shared: &'s Behind<L>,
-    listener: &TcpListener,
-    desks: Vec<Desk<L>>,
-    ended: &mut Ended<L>,
-) -> Result<Vec<JoinHandle<Desk<L>>>, NoMemory> {
-    let mut threads = Vec::new(alloc);
-    for desk in desks {
-        match accept_one(scope, rt, alloc, shared, listener, desk) {
-            Ok(thread) => threads.push(thread)?,
-            Err(desk) => ended.add(desk)?,
-        }
-    }
-    Ok(threads)
-}
-
-/// Serves all connections to their ends, and takes their desks.
+/// Accepts a connection for each of these desks, serves all to their ends, each in a thread of its own, and takes their desks.
 fn serve_all<'s, E, L: Ledger + Send + Sync + 's, R: Threads + Wait + Sync>(
     scope: &Scope<'s, E>,
     rt: &'s R,
@@ -131,7 +111,13 @@ fn serve_all<'s, E, L: Ledger + Send + Sync + 's, R: Threads + Wait + Sync>(
     desks: Vec<Desk<L>>,
     ended: &mut Ended<L>,
 ) -> Result<(), NoMemory> {
-    let threads = accept_all(scope, rt, alloc, shared, listener, desks, ended)?;
+    let mut threads = Vec::new(alloc);
+    for desk in desks {
+        match accept_one(scope, rt, alloc, shared, listener, desk) {
+            Ok(thread) => threads.push(thread)?,
+            Err(desk) => ended.add(desk)?,
+        }
+    }
     ended.join(rt, threads)
 }
 
