@@ -3,6 +3,7 @@ import contextlib
 import os
 import random
 import shutil
+import signal
 import socket
 import subprocess
 import sys
@@ -13,6 +14,8 @@ import unittest
 HERE = os.path.dirname(os.path.realpath(__file__))
 CLIENTS = os.path.dirname(HERE)
 sys.path.insert(0, os.path.join(CLIENTS, "python"))
+# A shell that runs the tests in the background has them ignore interrupts, and what they start would ignore them too.
+signal.signal(signal.SIGINT, signal.default_int_handler)
 
 
 def free_port():

@@ -201,7 +201,7 @@ class Following(Fed):
         self.feed("--empty")
         self.assertTrue(wait_until(lambda: b"following" in self.text("stderr")))
         self.move(("d", "m"))
-        self.assertTrue(wait_until(lambda: set(self.world.files) == {b"m/x"}), self.since(self.count))
+        self.assertTrue(wait_until(lambda: self.world is not None and set(self.world.files) == {b"m/x"}), self.since(self.count))
         self.assertTrue(wait_until(lambda: self.since(self.count)[-1] == b"remove m/large"), self.since(self.count))
         self.assertEqual([line for line in self.since(self.count) if not line.startswith(b"write")],
                          [b"remove d/large", b"renamedir d m", b"remove m/large"])
