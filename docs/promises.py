@@ -6,8 +6,12 @@
 import glob
 import os
 import re
+import sys
 
 os.chdir(os.path.join(os.path.dirname(os.path.abspath(__file__)), ".."))
+if len(sys.argv) > 1:
+    print(__doc__)
+    sys.exit(0 if sys.argv[1] in ("-h", "--help") else 2)
 
 HEAD = """# What is promised, call by call
 

@@ -9,8 +9,12 @@ Definitions of the standard library and declared types (structs and enums of src
 import glob
 import os
 import re
+import sys
 
 os.chdir(os.path.join(os.path.dirname(os.path.abspath(__file__)), ".."))
+if len(sys.argv) > 1:
+    print(__doc__)
+    sys.exit(0 if sys.argv[1] in ("-h", "--help") else 2)
 
 # each promise: its crate, and the functions whose clauses say it
 PROMISES = [
