@@ -79,6 +79,7 @@ def keep(key, make):
 
 def copy(name, at, to):
     if os.path.isdir(f"{at}/{name}"):
+        shutil.rmtree(f"{to}/{name}", ignore_errors=True)  # of a check that was killed, and that another run has done meanwhile
         shutil.copytree(f"{at}/{name}", f"{to}/{name}")
     elif os.path.isfile(f"{at}/{name}"):
         shutil.copy2(f"{at}/{name}", f"{to}/{name}")
