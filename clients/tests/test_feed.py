@@ -77,6 +77,11 @@ class Fed(InFolder):
         self.assertTrue(wait_until(lambda: b"following" in self.text("stderr")), self.text("stderr"))
         self.equal()
 
+    def follows(self, *names):
+        """Waits until the feeder follows, and the mount holds just these files: what it printed may be read later than what it told."""
+        self.assertTrue(wait_until(lambda: b"following" in self.text("stderr")), self.text("stderr"))
+        self.assertTrue(wait_until(lambda: self.world is not None and set(self.world.files) == {*names}), self.lines_of)
+
     def write(self, name, text):
         path = os.path.join(os.fsencode(self.path("w")), name)
         os.makedirs(os.path.dirname(path), exist_ok=True)
@@ -199,7 +204,7 @@ class Following(Fed):
         for name in (b"d/large", b"d/x", b"e/large"):
             self.write(name, b"x" * (1 if name == b"d/x" else 70_000))
         self.feed("--empty")
-        self.assertTrue(wait_until(lambda: b"following" in self.text("stderr")))
+        self.follows(b"d/x")
         self.move(("d", "m"))
         self.assertTrue(wait_until(lambda: self.world is not None and set(self.world.files) == {b"m/x"}), self.since(self.count))
         self.assertTrue(wait_until(lambda: self.since(self.count)[-1] == b"remove m/large"), self.since(self.count))
@@ -231,8 +236,7 @@ class Following(Fed):
         self.write(b"huge", b"")
         os.truncate(self.path("w", "huge"), 9_000_000_000)
         self.feed("--empty")
-        self.assertTrue(wait_until(lambda: b"following" in self.text("stderr")))
-        self.assertEqual(set(self.world.files), {b"fits"})
+        self.follows(b"fits")
         for name in (b"large", b"escaped", b"huge"):
             self.assertEqual(self.text("stderr").count(b"feed: " + name + b": "), 1)
         # Each change of it is one of its path.
