@@ -57,7 +57,7 @@ fn label(alloc: Global, name: &str) -> Result<Label, Fail> {
     Ok(Label::read_to_bind(word).ok_or("no label")?)
 }
 
-/// Objects that no line of the script puts: a commit, bound to `c`, of one file.
+/// Objects that no line of the script puts: a commit, bound to `c` and to its own label, of one file.
 fn one_commit(alloc: Global) -> Result<Objects, Fail> {
     let mut objects = Objects::new(alloc);
     let blob = objects.store.put_blob(b"hi".as_slice())?;
@@ -67,14 +67,17 @@ fn one_commit(alloc: Global) -> Result<Objects, Fail> {
         .store
         .put_commit(commit_of(alloc, tree, "")?.as_slice())?;
     objects.labels.bind(label(alloc, "c")?, commit)?;
+    objects.name_commits(&[blob, commit])?;
     Ok(objects)
 }
 
 #[test]
 fn a_script_over_objects(rt: HostRuntime) -> Result<(), Fail> {
     let alloc = rt.alloc();
-    let script = b"id c\nid d\nmount c 7 1000\nread a\n".as_slice();
-    let text = "id ae53c5cf5cae1824317566fa17bd1a2b37a872aa\nrefused NoLabel\nat 7 1 c\nplain hi\n";
+    let script =
+        b"id c\nid d\nid ae53c5cf5cae1824317566fa17bd1a2b\nid 32f95c0d1244a78b2be1bab8de17906f\nmount c 7 1000\nread a\n".as_slice();
+    let text =
+        "id ae53c5cf5cae1824317566fa17bd1a2b37a872aa\nrefused NoLabel\nid ae53c5cf5cae1824317566fa17bd1a2b37a872aa\nrefused NoLabel\nat 7 1 c\nplain hi\n";
     let mut printed = Vec::new(alloc);
     let ended = run_over(
         alloc,
@@ -82,7 +85,7 @@ fn a_script_over_objects(rt: HostRuntime) -> Result<(), Fail> {
         &mut Counted::new(script),
         &mut Counted::new(&mut printed),
     );
-    assert_eq!(rt; ended, Ok(4));
+    assert_eq!(rt; ended, Ok(6));
     assert!(rt; printed.as_slice() == text.as_bytes());
     Ok(())
 }
