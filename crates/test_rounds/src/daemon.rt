@@ -139,9 +139,14 @@ impl<D: Daemon + Drop> Pair<D> {
         Ok(self.mirror.deliver(reply)?)
     }
 
-    /// Begins a round.
+    /// Begins a round. Where none is under way it asks what was told of it before.
     pub(crate) fn begin(&mut self) -> Result<(), Fail> {
+        let is_idle = self.mirror.is_idle();
+        let next = self.mirror.next_requests()?;
         self.mirror.begin()?;
+        if is_idle && next.as_slice() != self.mirror.outstanding()?.as_slice() {
+            return Err(Fail::new(format_args!("{next:?} is not asked")));
+        }
         Ok(())
     }
 
