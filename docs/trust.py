@@ -36,7 +36,7 @@ PROMISES = [
     ("a follower, and what vouches for it (`Follower`, `vouch`, `merge_law`)", "eden_follow eden_headline", ["step", "deliver", "vouch", "merge_law"]),
     ("a mount of which nothing is kept (`Resident`, `serve_resident`)", "eden_resident", ["change", "hold", "ask", "serve_resident"]),
     ("a script (`run`), up to `listen` (`run_to_listen`) and behind it (`run_changes`)", "eden_edend", ["run", "run_to_listen", "run_changes"]),
-    ("what a daemon that stays prints (`stay_program`)", "eden_stay", ["stay_program"]),
+    ("what a daemon prints (`serve_over`), also one that stays (`stay_program`)", "eden_serve eden_stay", ["serve_over", "stay_program"]),
     ("what a client prints of its mirror (`connect_program`)", "eden_connect", ["connect_program"]),
 ]
 

@@ -109,11 +109,11 @@ fn work<
                 stays,
             },
         ) => {
+            let mut writer = Counted::new(output);
             if stays {
-                let mut writer = Counted::new(output);
                 stay_program(rt, alloc, objects, input, &mut writer, port, connections)
             } else {
-                serve_over(rt, alloc, objects, input, output, port, connections)
+                serve_over(rt, alloc, objects, input, &mut writer, port, connections)
             }
         }
     }

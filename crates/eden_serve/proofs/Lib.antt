@@ -1,2 +1,1 @@
-mod Opening
 mod Judging

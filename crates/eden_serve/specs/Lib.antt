@@ -1,1 +1,2 @@
+pub mod Printings
 pub mod Servings

@@ -1,5 +1,5 @@
--- What a program that serves writes and notes.
-use Rattle.std.specs.Prelude.{◌≡◌, ℕ, ◌+◌, List, [], ◌∷◌, ◌++◌, length, codes, decimal, Option, None, Some}
+-- How a program that serves ends, and what it notes.
+use Rattle.std.specs.Prelude.{◌≡◌, ℕ, List, [], ◌∷◌, ◌++◌, length}
 use Rattle.eden_accumulate.specs.Mounts.{StandsFor}
 use Rattle.eden_audit.specs.Audits.{Stored}
 use Rattle.eden_command.specs.declared.fault.ProgramFault.{ProgramFault}
@@ -25,19 +25,6 @@ program_fault ran.Read = faults.Read
 program_fault ran.Write = faults.Write
 program_fault ran.TurnsSpent = faults.TurnsSpent
 program_fault ran.NoMemory = faults.NoMemory
-
--- the line that tells where connections are taken
-abbrev pub listening_text : ℕ → List ℕ
-listening_text port = codes "listening " ++ decimal port ++ codes "\n"
-
--- The line of this number comes behind lines of the script, and is none of them itself.
-pub record Opens (script : List (List ℕ) → Option (List ℕ)) (line : ℕ) : Type 0 where
-  pub good : List (List ℕ)
-  pub bad : List ℕ
-  pub text : List ℕ
-  pub prints : script good ≡ Some text
-  pub refused : script (good ++ bad ∷ []) ≡ None
-  pub number_is : line ≡ length good + 1
 
 -- A desk made a change, and noted it with the answer.
 pub record NotesChange (before : DeskView) (change : Change) (after : DeskView) : Type 0 where

@@ -4,18 +4,20 @@
 //!
 //! ```rust
 //! use eden_serve::serve_program;
+//! use eden_stream::Counted;
 //!
 //! let script = b"mount empty 7 1000\nlisten\nwrite notes plain to\\sdo\n";
 //! let mut text = Vec::new(alloc);
+//! let mut writer = Counted::new(&mut text);
 //! // A port that nobody listens at, and no connection.
-//! let ended = serve_program(rt, alloc, script.as_slice(), &mut text, port, 0);
+//! let ended = serve_program(rt, alloc, script.as_slice(), &mut writer, port, 0);
 //! assert_eq!(rt; ended, Ok(()));
 //! assert!(rt; text.starts_with(b"at 7 1 empty\nlistening ".as_slice()));
 //! assert!(rt; text.ends_with(b"\naudit ok\n".as_slice()));
 //! ```
 #![tactic(auto)]
 
-pub use crate::listening::{open_port, program_fault, read_opening, tell_port};
+pub use crate::listening::{Listening, listen, program_fault};
 pub use crate::program::{serve_listener, serve_over, serve_program};
 pub use eden_command::ProgramFault;
 

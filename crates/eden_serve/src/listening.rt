@@ -4,12 +4,13 @@ ghost use Rattle.std.specs.Prelude.{◌≡◌, IfErr, IfOk, OnOk};
 ghost use Rattle.std.specs.Io.KnownBytes.{Appends};
 ghost use Rattle.eden_script.specs.ScriptText.{script_text};
 ghost use Rattle.eden_script.specs.Sessions.{session_over};
-ghost use Rattle.eden_serve.specs.Servings.{Opens, listening_text, program_fault};
+ghost use Rattle.eden_serve.specs.Printings.{TellsPort, listening_text};
+ghost use Rattle.eden_serve.specs.Servings.{program_fault};
 
 use eden_command::ProgramFault;
 use eden_edend::{LineInput, Objects, Opened, run_to_listen};
 use eden_script::{push_bytes, push_number};
-use eden_stream::{Counted, RunFault};
+use eden_stream::{Counted, CountedWrite, RunFault};
 use std::alloc::{AllocError, Global};
 use std::io::{Read, Write};
 use std::net::{Ipv4Addr, Net, TcpListener, TcpStream};
@@ -27,30 +28,8 @@ pub fn program_fault(fault: RunFault) -> ProgramFault
     }
 }
 
-/// Runs the lines of a script up to `listen`, which begins with some objects and their labels, and writes what they print. The input is left at
-/// the end of that line.
-///
-/// # Errors
-///
-/// As those of `eden_edend::run_to_listen`.
-pub fn read_opening<I: Read + Drop, O: Write>(
-    alloc: Global,
-    objects: Objects,
-    input: &mut LineInput<I>,
-    output: &mut O,
-) -> Result<Opened, ProgramFault>
-    ensures { IfOk result (λ opened. Opens (script_text (session_over objects.store objects.labels)) opened.line) }
-{
-    let mut reader = Counted::new(input);
-    let mut writer = Counted::new(output);
-    match run_to_listen(alloc, objects, &mut reader, &mut writer) {
-        Ok(opened) => Ok(opened),
-        Err(fault) => Err(program_fault(fault)),
-    }
-}
-
 /// Listens on a port of 127.0.0.1, and on no other address. `NoConnection` comes where it can't be bound.
-pub fn open_port<R: Net<Listener = TcpListener, Stream = TcpStream>>(
+fn open_port<R: Net<Listener = TcpListener, Stream = TcpStream>>(
     rt: &R,
     port: u16,
 ) -> Result<TcpListener, ProgramFault>
@@ -74,7 +53,7 @@ fn port_text(alloc: Global, port: u16) -> Result<Vec<u8>, AllocError>
 }
 
 /// Writes that connections are taken on this port, at once: `Write` comes where the output fails, and `NoMemory` where a growth was refused.
-pub fn tell_port<O: Write>(alloc: Global, output: &mut O, port: u16) -> Result<(), ProgramFault>
+fn tell_port<O: Write>(alloc: Global, output: &mut O, port: u16) -> Result<(), ProgramFault>
     ensures { OnOk result (Appends (O.contents output.old) (O.contents output.new) (listening_text port)) }
 {
     let Ok(text) = port_text(alloc, port) else {
@@ -84,4 +63,54 @@ pub fn tell_port<O: Write>(alloc: Global, output: &mut O, port: u16) -> Result<(
         return Err(ProgramFault::Write);
     }
     Ok(())
+}
+
+/// What a program that serves has once connections are taken.
+#[derive(Drop)]
+pub struct Listening<I: Read + Drop> {
+    /// What the script up to `listen` leaves.
+    pub opened: Opened,
+    /// The input, which goes on behind that line.
+    pub input: LineInput<I>,
+    /// What takes the connections.
+    pub listener: TcpListener,
+}
+
+/// Runs a script, which begins with some objects and with labels that are bound to some of them, up to its first line that is `listen`, and then
+/// listens on a port of 127.0.0.1.
+///
+/// What the lines before `listen` print is written, and then `listening` and the port, once connections are taken there. Nothing else is written.
+///
+/// # Errors
+///
+/// - `BadLine`, with the number of the first line that can't be read, of `listen` where there is no mount, or of the line behind the last, where
+///   the script ends before `listen`: no port is bound.
+/// - `NoConnection`, where the port can't be bound.
+/// - `Read`, `Write`, `TurnsSpent` and `NoMemory` as those of `eden_edend::run`, of the lines before `listen`; `Write` and `NoMemory` also where the
+///   port can't be told.
+pub fn listen<R: Net<Listener = TcpListener, Stream = TcpStream>, I: Read + Drop, W: CountedWrite>(
+    rt: &R,
+    alloc: Global,
+    objects: Objects,
+    input: I,
+    writer: &mut W,
+    port: u16,
+) -> Result<Listening<I>, ProgramFault>
+    ensures { OnOk result (TellsPort (script_text (session_over objects.store objects.labels)) port (I.remaining input) (W.contents writer.old) (W.contents writer.new)) }
+{
+    let Ok(mut input) = LineInput::new(alloc, input) else {
+        return Err(ProgramFault::NoMemory);
+    };
+    let mut reader = Counted::new(&mut input);
+    let opened = match run_to_listen(alloc, objects, &mut reader, writer) {
+        Ok(opened) => opened,
+        Err(fault) => return Err(program_fault(fault)),
+    };
+    let listener = open_port(rt, port)?;
+    tell_port(alloc, writer, port)?;
+    Ok(Listening {
+        opened,
+        input,
+        listener,
+    })
 }

@@ -2,9 +2,12 @@
 
 ghost use Rattle.std.specs.Prelude.{◌≡◌, [], IfOk, IsOk, OnOk, codes};
 ghost use Rattle.std.specs.Io.KnownBytes.{Appends};
+ghost use Rattle.eden_script.specs.ScriptText.{script_text};
+ghost use Rattle.eden_script.specs.Sessions.{first_session, session_over};
+ghost use Rattle.eden_serve.specs.Printings.{TellsAudit};
 
 use crate::auditing::{judge, tell_audit};
-use crate::listening::{open_port, program_fault, read_opening, tell_port};
+use crate::listening::{Listening, listen, program_fault};
 use crate::threads::{Ended, run_threads};
 use crate::writing::{Behind, Lines};
 use eden_accumulate::Mount;
@@ -13,6 +16,7 @@ use eden_command::ProgramFault;
 use eden_edend::{LineInput, Objects, Opened};
 use eden_ids::{GitNaming, NoMemory};
 use eden_shared::{Desk, Shared};
+use eden_stream::CountedWrite;
 use std::alloc::Global;
 use std::io::{Read, Write};
 use std::marker::Brand;
@@ -164,29 +168,30 @@ pub fn serve_listener<R: Threads + Wait + Sync, I: Read + Send + Drop, O: Write>
 pub fn serve_over<
     R: Threads + Wait + Net<Listener = TcpListener, Stream = TcpStream> + Sync,
     I: Read + Send + Drop,
-    O: Write,
+    W: CountedWrite,
 >(
     rt: &R,
     alloc: Global,
     objects: Objects,
     input: I,
-    output: &mut O,
+    output: &mut W,
     port: u16,
     connections: u64,
-) -> Result<(), ProgramFault> {
-    let Ok(mut input) = LineInput::new(alloc, input) else {
-        return Err(ProgramFault::NoMemory);
-    };
-    let opened = read_opening(alloc, objects, &mut input, output)?;
-    let listener = open_port(rt, port)?;
-    tell_port(alloc, output, port)?;
+) -> Result<(), ProgramFault>
+    ensures { OnOk result (TellsAudit (script_text (session_over objects.store objects.labels)) port (I.remaining input) (W.contents output.old) (W.contents output.new)) }
+{
+    let Listening {
+        opened,
+        input,
+        listener,
+    } = listen(rt, alloc, objects, input, output, port)?;
     serve_listener(rt, alloc, opened, input, output, &listener, connections)
 }
 
 /// Runs a script up to its first line that is `listen`, and then serves its mount to so many connections over TCP, on a port of 127.0.0.1.
 ///
 /// The lines before `listen` are run as `eden_edend::run` does, and what they print is written. Then `listening` and the port are written, once
-/// connections are taken there. The rest is as `serve_listener` says.
+/// connections are taken there. The rest is as `serve_listener` says: where that ends well `audit ok` is all that is written behind it.
 ///
 /// # Errors
 ///
@@ -198,15 +203,17 @@ pub fn serve_over<
 pub fn serve_program<
     R: Threads + Wait + Net<Listener = TcpListener, Stream = TcpStream> + Sync,
     I: Read + Send + Drop,
-    O: Write,
+    W: CountedWrite,
 >(
     rt: &R,
     alloc: Global,
     input: I,
-    output: &mut O,
+    output: &mut W,
     port: u16,
     connections: u64,
-) -> Result<(), ProgramFault> {
+) -> Result<(), ProgramFault>
+    ensures { OnOk result (TellsAudit (script_text first_session) port (I.remaining input) (W.contents output.old) (W.contents output.new)) }
+{
     serve_over(
         rt,
         alloc,

@@ -3,14 +3,14 @@
 ghost use Rattle.std.specs.Prelude.{OnOk};
 ghost use Rattle.eden_script.specs.ScriptText.{script_text};
 ghost use Rattle.eden_script.specs.Sessions.{session_over};
-ghost use Rattle.eden_stay.specs.Printings.{TellsPort};
+ghost use Rattle.eden_serve.specs.Printings.{TellsPort};
 
 use crate::lines::Lines;
 use crate::station::Station;
 use eden_command::ProgramFault;
-use eden_edend::{LineInput, Objects, Opened, run_to_listen};
-use eden_serve::{open_port, program_fault, tell_port};
-use eden_stream::{Counted, CountedWrite};
+use eden_edend::{LineInput, Objects, Opened};
+use eden_serve::{Listening, listen};
+use eden_stream::CountedWrite;
 use std::alloc::Global;
 use std::io::Read;
 use std::net::{Net, TcpListener, TcpStream};
@@ -107,15 +107,10 @@ pub fn stay_program<
 ) -> Result<(), ProgramFault>
     ensures { OnOk result (TellsPort (script_text (session_over objects.store objects.labels)) port (I.remaining input) (W.contents writer.old) (W.contents writer.new)) }
 {
-    let Ok(mut input) = LineInput::new(alloc, input) else {
-        return Err(ProgramFault::NoMemory);
-    };
-    let mut reader = Counted::new(&mut input);
-    let opened = match run_to_listen(alloc, objects, &mut reader, writer) {
-        Ok(opened) => opened,
-        Err(fault) => return Err(program_fault(fault)),
-    };
-    let listener = open_port(rt, port)?;
-    tell_port(alloc, writer, port)?;
+    let Listening {
+        opened,
+        input,
+        listener,
+    } = listen(rt, alloc, objects, input, writer, port)?;
     stay_listener(rt, alloc, opened, input, listener, threads)
 }

@@ -604,11 +604,13 @@ fn eden_serve_example<
     R: Abort + Threads + Wait + Net<Listener = TcpListener, Stream = TcpStream> + Sync,
 >(rt: &R, alloc: Global, port: u16) -> Result<(), Fail> {
     use eden_serve::serve_program;
+    use eden_stream::Counted;
 
     let script = b"mount empty 7 1000\nlisten\nwrite notes plain to\\sdo\n";
     let mut text = Vec::new(alloc);
+    let mut writer = Counted::new(&mut text);
     // A port that nobody listens at, and no connection.
-    let ended = serve_program(rt, alloc, script.as_slice(), &mut text, port, 0);
+    let ended = serve_program(rt, alloc, script.as_slice(), &mut writer, port, 0);
     assert_eq!(rt; ended, Ok(()));
     assert!(rt; text.starts_with(b"at 7 1 empty\nlistening ".as_slice()));
     assert!(rt; text.ends_with(b"\naudit ok\n".as_slice()));

@@ -2,8 +2,9 @@
 
 use crate::client::{Frames, ask_both, make_frames};
 use crate::feed::{PRINTED, SCRIPT, SEQUENCE, serve};
-use eden_edend::{LineInput, Objects};
-use eden_serve::{ProgramFault, read_opening, serve_listener};
+use eden_edend::{LineInput, Objects, run_to_listen};
+use eden_serve::{ProgramFault, serve_listener};
+use eden_stream::Counted;
 use std::alloc::Global;
 use std::net::{Net, TcpListener, TcpStream};
 use std::sync::Wait;
@@ -97,8 +98,9 @@ fn refused<R: Threads + Wait + Net<Listener = TcpListener, Stream = TcpStream> +
     let listener = listen(rt)?;
     listener.set_nonblocking(true)?;
     let mut input = LineInput::new(alloc, SCRIPT)?;
-    let opened = read_opening(alloc, Objects::new(alloc), &mut input, output)?;
-    output.clear();
+    let mut reader = Counted::new(&mut input);
+    let mut unread = Counted::new(Vec::new(alloc));
+    let opened = run_to_listen(alloc, Objects::new(alloc), &mut reader, &mut unread)?;
     Ok(serve_listener(rt, alloc, opened, input, output, &listener, connections))
 }
 

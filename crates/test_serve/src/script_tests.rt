@@ -3,6 +3,7 @@
 use crate::client::{Frames, ask_both, make_frames};
 use crate::feed::{PRINTED, SCRIPT, SEQUENCE};
 use eden_serve::{ProgramFault, serve_program};
+use eden_stream::Counted;
 use std::alloc::Global;
 use std::io::Read;
 use std::net::{Ipv4Addr, Net, TcpListener, TcpStream};
@@ -51,7 +52,7 @@ fn ends_so<
 ) -> Result<(End, bool), Fail> {
     let mut output = Sink::new(alloc);
     output.full_at = full_at;
-    let end = serve_program(rt, alloc, input, &mut output, port, 0);
+    let end = serve_program(rt, alloc, input, &mut Counted::new(&mut output), port, 0);
     let wanted = text_of(alloc, text, port)?;
     let most = wanted.len().min(full_at);
     Ok((end, output.bytes.as_slice() == &wanted[..most]))
@@ -268,7 +269,7 @@ fn a_program_serves_its_port(rt: HostRuntime) -> Result<(), Fail> {
     let mut output = Vec::new(alloc);
     let (end, right) = thread::join(
         &rt,
-        || serve_program(&rt, alloc, SCRIPT, &mut output, port, 1),
+        || serve_program(&rt, alloc, SCRIPT, &mut Counted::new(&mut output), port, 1),
         || ask_once(&rt, alloc, port, &frames),
     );
     assert_eq!(rt; end, Ok(()));

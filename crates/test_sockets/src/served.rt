@@ -1,8 +1,9 @@
 //! A daemon that serves so many connections and audits what they were told.
 
 use crate::feed::Feed;
-use eden_edend::{LineInput, Objects};
-use eden_serve::{read_opening, serve_listener};
+use eden_edend::{LineInput, Objects, run_to_listen};
+use eden_serve::serve_listener;
+use eden_stream::Counted;
 use std::alloc::Global;
 use std::net::TcpListener;
 use std::sync::Wait;
@@ -20,7 +21,9 @@ pub fn serve_feed<R: Threads + Wait + Clock + Sync>(
 ) -> Option<Vec<u8>> {
     let mut input = LineInput::new(alloc, feed).ok()?;
     let mut output = Vec::new(alloc);
-    let opened = read_opening(alloc, Objects::new(alloc), &mut input, &mut output).ok()?;
+    let mut reader = Counted::new(&mut input);
+    let mut writer = Counted::new(&mut output);
+    let opened = run_to_listen(alloc, Objects::new(alloc), &mut reader, &mut writer).ok()?;
     serve_listener(rt, alloc, opened, input, &mut output, listener, connections).ok()?;
     let printed = output.strip_suffix(b"audit ok\n".as_slice())?.len();
     output.truncate(printed);

@@ -4,6 +4,7 @@ use eden_command::ProgramFault;
 use eden_connect::{Quiet, connect_program};
 use eden_globs::Filter;
 use eden_serve::serve_program;
+use eden_stream::Counted;
 use std::alloc::Global;
 use std::net::{Ipv4Addr, Net, TcpListener, TcpStream};
 use std::sync::Wait;
@@ -34,7 +35,7 @@ fn serve_one<R: Threads + Wait + Net<Listener = TcpListener, Stream = TcpStream>
     port: u16,
 ) -> Told {
     let mut output = Vec::new(alloc);
-    let ended = serve_program(rt, alloc, SCRIPT, &mut output, port, 1);
+    let ended = serve_program(rt, alloc, SCRIPT, &mut Counted::new(&mut output), port, 1);
     (ended, output)
 }
 
