@@ -5,26 +5,15 @@ ghost use Rattle.std.specs.List.{flat_map};
 ghost use Rattle.std.specs.Io.KnownBytes.{Appends, Keeps};
 ghost use Rattle.eden_ids.specs.FileMaps.{file_at};
 ghost use Rattle.eden_ids.specs.Fronts.{KeepsFront};
-ghost use Rattle.eden_script.specs.ToldText.{kind_text};
 ghost use Rattle.eden_connect.specs.Reports.{position_text, place_text, file_text, files_text, report_text};
 
 use eden_command::ProgramFault;
 use eden_history::Position;
-use eden_ids::{Content, Kind, NoMemory, Path};
+use eden_ids::{Content, NoMemory, Path};
 use eden_mirror::Mirror;
-use eden_script::{push_bytes, push_escaped, push_id, push_number};
+use eden_script::{kind_name, push_bytes, push_escaped, push_id, push_number};
 use std::alloc::{AllocError, Global};
 use std::io::Write;
-
-fn kind_name(kind: Kind) -> &'static [u8]
-    ensures { result.now ≡ kind_text kind }
-{
-    match kind {
-        Kind::Plain => b"plain".as_slice(),
-        Kind::Exec => b"exec".as_slice(),
-        Kind::Link => b"link".as_slice(),
-    }
-}
 
 /// The line of a position.
 fn push_position(text: &mut Vec<u8>, position: &Position) -> Result<(), AllocError>

@@ -14,7 +14,6 @@ use Rattle.eden_objects.specs.declared.fault.PutFault.TheVariants as puts
 use Rattle.eden_objects.specs.declared.fault.PutFault.TheVariants.{IdTaken, ZeroId, TooDeep, PathTooLong}
 use Rattle.eden_objects.specs.declared.import.Object.{Object}
 use Rattle.eden_objects.specs.declared.import.ImportFault.TheVariants as imports
-use Rattle.eden_objects.specs.declared.import.ImportFault.TheVariants.{BadObject}
 use Rattle.eden_objects.specs.Objects.{Held, find, zero_id}
 use Rattle.eden_objects.specs.Trees.{entries_depth, entries_reach, tree_depth, tree_reach}
 use Rattle.eden_objects.specs.Puts.{Outcome, commit_fault, entries_fault, first_fault, if_so, kept_or_added, named, put_outcome, size_fault, too_large, tree_fault, unless}

@@ -28,7 +28,8 @@ pub use crate::laws::{
 pub use crate::lines::{Word, words};
 pub use crate::numbers::push_number;
 pub use crate::texts::{
-    push_all_marked, push_content, push_id, push_id_line, push_listed, push_ok, push_refusal,
+    kind_name, push_all_marked, push_content, push_id, push_id_line, push_listed, push_ok,
+    push_refusal,
 };
 pub use crate::told::{Lent, Refusal, Told};
 pub use eden_numbers::number;

@@ -202,7 +202,8 @@ pub fn push_listed(text: &mut Vec<u8>, what: &[u8], paths: &[Path]) -> Result<()
     push_paths(text, paths)
 }
 
-fn kind_name(kind: Kind) -> &'static [u8]
+/// The word for a file's kind: `plain`, `exec` or `link`.
+pub fn kind_name(kind: Kind) -> &'static [u8]
     ensures { result.now ≡ kind_text kind }
 {
     match kind {
