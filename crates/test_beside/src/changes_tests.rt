@@ -1,12 +1,13 @@
 //! Changes of each kind, and of each refusal.
 
 use crate::comparing::{Pair, Step};
-use crate::stores::{path, sharing, two_commits};
+use crate::stores::{sharing, two_commits};
 use eden_accumulate::Mount;
 use eden_history::{Change, Mode};
 use eden_ids::{GitNaming, Id, Kind, Sequence};
 use std::alloc::Global;
 use std::test::Fail;
+use test_kit::path;
 
 /// What is done to a file.
 #[derive(Clone, Copy)]

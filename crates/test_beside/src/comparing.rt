@@ -1,9 +1,10 @@
 //! A mount and a world side by side, and what each of them says.
 
+use crate::seen::{read, seen};
 use eden_accumulate::{Mount, expand};
 use eden_globs::Filter;
 use eden_history::{Answer, Change, Marked, Position, SinceFault};
-use eden_ids::{Content, GitNaming, Id, Kind, Path, PathTable, Sequence};
+use eden_ids::{Content, GitNaming, Id, Path, PathTable, Sequence};
 use eden_objects::Store;
 use eden_world::World;
 use std::alloc::Global;
@@ -33,17 +34,6 @@ impl Step<'_> {
             self.seed, self.number, self.change
         )))
     }
-}
-
-/// The kind and the bytes of a file.
-fn seen(file: Option<&Content>) -> Option<(Kind, &[u8])> {
-    let content = file?;
-    Some((content.kind, content.bytes.as_slice()))
-}
-
-/// The file that a mount reads at a path.
-fn read<'a>(mount: &'a Mount<GitNaming>, path: &Path) -> Option<(Kind, &'a [u8])> {
-    mount.read(path).ok()
 }
 
 /// The file that stands at a path of a world.

@@ -1,11 +1,11 @@
 //! Renames of directories drawn by lot.
 
 use crate::lot::Lot;
-use crate::stores::path;
 use eden_history::{Answer, Change, ChangeFault};
 use eden_ids::{Files, Path};
 use std::alloc::Global;
 use std::test::Fail;
+use test_kit::path;
 
 /// Paths in each other's places, some of which are directories now and then.
 const DIRECTORIES: [&str; 8] = ["a", "d", "a/b", "b", "e", "d/e", "d/a", "e/d"];

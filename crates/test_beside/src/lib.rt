@@ -40,4 +40,6 @@ mod schedule_lot;
 #[cfg(test)]
 mod schedule_tests;
 #[cfg(test)]
+mod seen;
+#[cfg(test)]
 mod stores;

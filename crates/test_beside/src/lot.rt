@@ -3,7 +3,6 @@
 ghost use Rattle.std.specs.Prelude.{◌<◌};
 
 use crate::imports::Roots;
-use crate::stores::path;
 use eden_globs::Filter;
 use eden_history::{Change, Mode, Position};
 use eden_ids::{Kind, Path, Sequence};
@@ -13,6 +12,7 @@ use rand_core::utils::NextWord;
 use rand_pcg::Pcg32;
 use std::alloc::Global;
 use std::test::Fail;
+use test_kit::path;
 
 /// Paths in each other's places, and beside a slash in byte order.
 pub(crate) const PATHS: [&str; 8] = ["a", "a.b", "a/b", "a0", "a/b/c", "b", "d/e", "d"];

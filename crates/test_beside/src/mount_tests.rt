@@ -1,6 +1,6 @@
 //! What a mount alone says.
 
-use crate::stores::{Commits, path, sharing, two_commits};
+use crate::stores::{Commits, sharing, two_commits};
 use eden_accumulate::{ChangeFault, Mode, Mount, expand};
 use eden_globs::Filter;
 use eden_history::{Answer, Change, Mark, Marked, Position, SinceFault};
@@ -10,6 +10,7 @@ use eden_objects::{Object, Store, Word};
 use eden_workcopy::WorkCopy;
 use std::alloc::Global;
 use std::test::Fail;
+use test_kit::path;
 
 fn mount_first(alloc: Global, commits: &mut Commits<2>) -> Result<Mount<GitNaming>, Fail> {
     Ok(Mount::mount(alloc, commits.store.share()?, commits.ids[0], 7, 1000)?)
@@ -125,7 +126,7 @@ const EXHAUSTED: Option<ChangeFault> = Some(ChangeFault::SequenceExhausted);
 
 /// Calls at the last number, and why they are refused; none where they are made. What stands against a path is told first, and an import
 /// takes no number.
-const AT_LAST: [(Act, Option<ChangeFault>); 16] = [
+const AT_LAST: &[(Act, Option<ChangeFault>)] = &[
     (Act::Write("f"), EXHAUSTED),
     (Act::Remove("f"), EXHAUSTED),
     (Act::Rename("f", "n"), EXHAUSTED),
@@ -167,7 +168,7 @@ fn sequence_exhausted_over_files(rt: HostRuntime) -> Result<(), Fail> {
     let mut commits = sharing(alloc, 1)?;
     let [first, second] = commits.ids;
     let mut mount = last(alloc, &mut commits, first)?;
-    for (act, fault) in &AT_LAST {
+    for (act, fault) in AT_LAST {
         assert!(rt; stays(alloc, &mut mount, *act, second, *fault)?);
     }
     assert!(rt; holds(alloc, &mount, "f", (Kind::Plain, b"x".as_slice()))?);

@@ -5,16 +5,17 @@ use crate::imports::Roots;
 use crate::lot::PATHS;
 use crate::outcomes::Outcomes;
 use crate::past::Past;
-use crate::stores::path;
+use crate::seen::{read, seen};
 use eden_accumulate::Mount;
 use eden_globs::Filter;
 use eden_history::{Change, Marked, Position, SinceFault};
-use eden_ids::{Content, GitNaming, Kind, Path};
+use eden_ids::{Content, GitNaming, Path};
 use eden_messages::{Cause, Outcome, Query, Reply, Request};
 use eden_mirror::Mirror;
 use eden_world::{Row, World};
 use std::alloc::Global;
 use std::test::Fail;
+use test_kit::path;
 
 /// One thing that happens. Mirrors, requests and replies are told by their place among those that there are.
 #[derive(Debug, Drop)]
@@ -70,14 +71,6 @@ pub(crate) struct Tally {
     listed: u64,
     emptied: u64,
     outcomes: Outcomes,
-}
-
-/// The kind and the bytes of a file.
-type Seen<'a> = Option<(Kind, &'a [u8])>;
-
-fn seen(file: Option<&Content>) -> Seen<'_> {
-    let content = file?;
-    Some((content.kind, content.bytes.as_slice()))
 }
 
 /// Whether a path is one of those that changed, or lies below one of the directories that files were moved between.
@@ -189,11 +182,6 @@ impl Tally {
         count(&mut self.refused, refused);
         count(&mut self.told, !refused);
     }
-}
-
-/// The file that a mount reads at a path.
-fn read<'a>(mount: &'a Mount<GitNaming>, path: &Path) -> Seen<'a> {
-    mount.read(path).ok()
 }
 
 impl Follower {

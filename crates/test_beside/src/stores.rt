@@ -1,6 +1,6 @@
 //! Stores of commits for tests.
 
-use eden_ids::{GitNaming, Id, Path};
+use eden_ids::{GitNaming, Id};
 use eden_objects::Store;
 use std::alloc::Global;
 use std::test::Fail;
@@ -11,10 +11,6 @@ use test_kit::Objects;
 pub(crate) struct Commits<const COUNT: usize> {
     pub(crate) store: Store<GitNaming>,
     pub(crate) ids: [Id; COUNT],
-}
-
-pub(crate) fn path(alloc: Global, text: &str) -> Result<Path, Fail> {
-    Ok(Path::parse(alloc, text.as_bytes())?)
 }
 
 /// Two commits of two files each.

@@ -54,51 +54,86 @@ fn told<R: Read + Drop>(alloc: Global, source: R, sink: Sink) -> (End, Vec<u8>) 
 }
 
 // A stream, the replies to its frames, and how its serving ends.
-#[derive(Drop)]
-struct Case {
-    stream: &'static [u8],
-    text: &'static [u8],
-    end: Result<u64, ServeFault>,
-}
+type Case = (&'static [u8], &'static [u8], Result<u64, ServeFault>);
 
-fn make_case(stream: &'static [u8], text: &'static [u8], end: Result<u64, ServeFault>) -> Case {
-    Case { stream, text, end }
-}
-
-fn refuse(number: u64, fault: FrameFault) -> Result<u64, ServeFault> {
-    Err(ServeFault::Frame { number, fault })
-}
-
-fn cases() -> [Case; 11] {
-    let short = FrameFault::CutShort;
-    let large = FrameFault::TooLarge;
-    let bad = FrameFault::BadTag;
-    [
-        make_case(b"", b"", Ok(0)),
-        make_case(b"\0\0\0\x01a\0\0\0\x02bc", b"a\nbc\n", Ok(2)),
-        make_case(b"\0\0\0\0\0\0\0\0\0\0\0\x01a", b"\n\na\n", Ok(3)),
-        make_case(b"\0", b"", refuse(1, short)),
-        make_case(b"\0\0\0\x01a\0\0\0", b"a\n", refuse(2, short)),
-        make_case(b"\0\0\0\x01a\0\0\0\x02b", b"a\n", refuse(2, short)),
-        make_case(b"\0\0\0\x01a\x01\0\0\0!", b"a\n", refuse(2, short)),
-        make_case(b"\0\0\0\x01a\x01\0\0\x01", b"a\n", refuse(2, large)),
-        make_case(b"\xff\xff\xff\xffa\0\0\0\x01a", b"", refuse(1, large)),
-        make_case(b"\0\0\0\x01!\0\0\0\x01a", b"", refuse(1, bad)),
-        make_case(b"\0\0\0\x01a\0\0\0\x02!b\0\0\0", b"a\n", refuse(2, bad)),
-    ]
-}
+const CASES: &[Case] = &[
+    (b"", b"", Ok(0)),
+    (b"\0\0\0\x01a\0\0\0\x02bc", b"a\nbc\n", Ok(2)),
+    (b"\0\0\0\0\0\0\0\0\0\0\0\x01a", b"\n\na\n", Ok(3)),
+    (
+        b"\0",
+        b"",
+        Err(ServeFault::Frame {
+            number: 1,
+            fault: FrameFault::CutShort,
+        }),
+    ),
+    (
+        b"\0\0\0\x01a\0\0\0",
+        b"a\n",
+        Err(ServeFault::Frame {
+            number: 2,
+            fault: FrameFault::CutShort,
+        }),
+    ),
+    (
+        b"\0\0\0\x01a\0\0\0\x02b",
+        b"a\n",
+        Err(ServeFault::Frame {
+            number: 2,
+            fault: FrameFault::CutShort,
+        }),
+    ),
+    (
+        b"\0\0\0\x01a\x01\0\0\0!",
+        b"a\n",
+        Err(ServeFault::Frame {
+            number: 2,
+            fault: FrameFault::CutShort,
+        }),
+    ),
+    (
+        b"\0\0\0\x01a\x01\0\0\x01",
+        b"a\n",
+        Err(ServeFault::Frame {
+            number: 2,
+            fault: FrameFault::TooLarge,
+        }),
+    ),
+    (
+        b"\xff\xff\xff\xffa\0\0\0\x01a",
+        b"",
+        Err(ServeFault::Frame {
+            number: 1,
+            fault: FrameFault::TooLarge,
+        }),
+    ),
+    (
+        b"\0\0\0\x01!\0\0\0\x01a",
+        b"",
+        Err(ServeFault::Frame {
+            number: 1,
+            fault: FrameFault::BadTag,
+        }),
+    ),
+    (
+        b"\0\0\0\x01a\0\0\0\x02!b\0\0\0",
+        b"a\n",
+        Err(ServeFault::Frame {
+            number: 2,
+            fault: FrameFault::BadTag,
+        }),
+    ),
+];
 
 // Whether frames end and are answered so in pieces of at most so many bytes, cut anywhere, with interrupts and without.
 fn is_told_in_pieces(alloc: Global, case: &Case, most: usize, interrupts: bool) -> bool {
-    for cut in 0..=case.stream.len() {
-        let mut source = Source::new(case.stream);
-        source.most = most;
-        source.cut = cut;
-        source.interrupts = interrupts;
-        let mut sink = Sink::new(alloc);
-        sink.interrupts = interrupts;
+    let (stream, wanted, ends) = case;
+    for cut in 0..=stream.len() {
+        let source = Source::in_pieces(stream, most, cut, interrupts);
+        let sink = Sink::interrupting(alloc, interrupts);
         let (end, text) = told(alloc, source, sink);
-        if end.0 != case.end || text.as_slice() != case.text {
+        if end.0 != *ends || text.as_slice() != *wanted {
             return false;
         }
     }
@@ -107,7 +142,7 @@ fn is_told_in_pieces(alloc: Global, case: &Case, most: usize, interrupts: bool) 
 
 #[test]
 fn pieces_of_frames_do_not_matter(rt: HostRuntime) {
-    for case in &cases() {
+    for case in CASES {
         for most in [usize::MAX, 1, 2] {
             for interrupts in [false, true] {
                 assert!(rt; is_told_in_pieces(rt.alloc(), case, most, interrupts));

@@ -51,45 +51,31 @@ fn told<R: Read + Drop>(alloc: Global, source: R, sink: Sink) -> (End, Vec<u8>) 
 }
 
 // A script, what its lines print, and how its run ends.
-#[derive(Drop)]
-struct Case {
-    script: &'static [u8],
-    text: &'static [u8],
-    end: Result<u64, RunFault>,
-}
+type Case = (&'static [u8], &'static [u8], Result<u64, RunFault>);
 
-fn make_case(script: &'static [u8], text: &'static [u8], end: Result<u64, RunFault>) -> Case {
-    Case { script, text, end }
-}
-
-fn cases() -> [Case; 12] {
-    [
-        make_case(b"", b"", Ok(0)),
-        make_case(b"a\nbc\n", b"a\nbc\n", Ok(2)),
-        make_case(b"a\r\nbc", b"a\nbc\n", Ok(2)),
-        make_case(b"a\nbc\r", b"a\nbc\r\n", Ok(2)),
-        make_case(b"a\r\r\n", b"a\r\n", Ok(1)),
-        make_case(b"\n\n", b"", Ok(2)),
-        make_case(b"# said\n\nb\n", b"b\n", Ok(3)),
-        make_case(b"\r\n#\r\n", b"", Ok(2)),
-        make_case(b"a\n#!", b"a\n", Ok(2)),
-        make_case(b"a\n!x\nb\n", b"a\n", Err(RunFault::BadLine(2))),
-        make_case(b"#\n\na\n!x", b"a\n", Err(RunFault::BadLine(4))),
-        make_case(b" #\n!", b" #\n", Err(RunFault::BadLine(2))),
-    ]
-}
+const CASES: &[Case] = &[
+    (b"", b"", Ok(0)),
+    (b"a\nbc\n", b"a\nbc\n", Ok(2)),
+    (b"a\r\nbc", b"a\nbc\n", Ok(2)),
+    (b"a\nbc\r", b"a\nbc\r\n", Ok(2)),
+    (b"a\r\r\n", b"a\r\n", Ok(1)),
+    (b"\n\n", b"", Ok(2)),
+    (b"# said\n\nb\n", b"b\n", Ok(3)),
+    (b"\r\n#\r\n", b"", Ok(2)),
+    (b"a\n#!", b"a\n", Ok(2)),
+    (b"a\n!x\nb\n", b"a\n", Err(RunFault::BadLine(2))),
+    (b"#\n\na\n!x", b"a\n", Err(RunFault::BadLine(4))),
+    (b" #\n!", b" #\n", Err(RunFault::BadLine(2))),
+];
 
 // Whether a script ends and prints so in pieces of at most so many bytes, cut anywhere, with interrupts and without.
 fn is_told_in_pieces(alloc: Global, case: &Case, most: usize, interrupts: bool) -> bool {
-    for cut in 0..=case.script.len() {
-        let mut source = Source::new(case.script);
-        source.most = most;
-        source.cut = cut;
-        source.interrupts = interrupts;
-        let mut sink = Sink::new(alloc);
-        sink.interrupts = interrupts;
+    let (script, wanted, ends) = case;
+    for cut in 0..=script.len() {
+        let source = Source::in_pieces(script, most, cut, interrupts);
+        let sink = Sink::interrupting(alloc, interrupts);
         let (end, text) = told(alloc, source, sink);
-        if end.0 != case.end || text.as_slice() != case.text {
+        if end.0 != *ends || text.as_slice() != *wanted {
             return false;
         }
     }
@@ -98,7 +84,7 @@ fn is_told_in_pieces(alloc: Global, case: &Case, most: usize, interrupts: bool) 
 
 #[test]
 fn pieces_do_not_matter(rt: HostRuntime) {
-    for case in &cases() {
+    for case in CASES {
         for most in [usize::MAX, 1, 2] {
             for interrupts in [false, true] {
                 assert!(rt; is_told_in_pieces(rt.alloc(), case, most, interrupts));

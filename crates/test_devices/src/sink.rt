@@ -29,6 +29,13 @@ impl Sink {
             interrupted: false,
         }
     }
+
+    /// A sink that takes all that it is given, with interrupts or without.
+    pub fn interrupting(alloc: Global, interrupts: bool) -> Sink {
+        let mut sink = Sink::new(alloc);
+        sink.interrupts = interrupts;
+        sink
+    }
 }
 
 impl Write for Sink {

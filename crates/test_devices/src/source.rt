@@ -33,6 +33,15 @@ impl<'a> Source<'a> {
         }
     }
 
+    /// A source that gives at most so many bytes a read, and not beyond `cut` in one that begins below it, with interrupts or without.
+    pub fn in_pieces(bytes: &'a [u8], most: usize, cut: usize, interrupts: bool) -> Source<'a> {
+        let mut source = Source::new(bytes);
+        source.most = most;
+        source.cut = cut;
+        source.interrupts = interrupts;
+        source
+    }
+
     /// A source that gives the bytes in front of a place, and fails there.
     pub fn failing_at(bytes: &'a [u8], place: usize) -> Source<'a> {
         let mut source = Source::new(bytes);

@@ -168,7 +168,7 @@ fn take_two_rounds(rt: &impl Abort, alloc: Global, follower: &mut Follower) -> R
 }
 
 /// Of a request for the content of `p` that another service took: its ticket, life and number, and whether the logs vouch.
-const TAKEN: [(u64, u64, u64, Result<(), VouchFault>); 5] = [
+const TAKEN: &[(u64, u64, u64, Result<(), VouchFault>)] = &[
     (4, 1, 2, Err(VouchFault::BeforeCause)),
     (5, 1, 2, Err(VouchFault::BeforeCause)),
     (6, 1, 2, Ok(())),
@@ -190,8 +190,8 @@ fn judged(
 /// The logs of both services vouch where they should.
 fn judge(rt: &impl Abort, alloc: Global, follower: &Follower) -> Result<(), Fail> {
     for (ticket, life, number, said) in TAKEN {
-        let told = judged(alloc, follower, (ticket, life, number))?;
-        assert_eq!(rt; told, said, "{ticket}, {life}, {number}");
+        let told = judged(alloc, follower, (*ticket, *life, *number))?;
+        assert_eq!(rt; told, *said, "{ticket}, {life}, {number}");
     }
     Ok(())
 }

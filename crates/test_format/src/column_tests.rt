@@ -4,7 +4,7 @@ use eden_ids::{Id, IdColumn};
 use std::test::Fail;
 
 /// An id, and its five words, which begin with their highest byte.
-const IDS: [(Id, [u32; 5]); 2] = [
+const IDS: &[(Id, [u32; 5])] = &[
     (
         Id(*b"abcdefghijklmnopqrst"),
         [
@@ -59,7 +59,7 @@ fn columns_give_back_their_ids_and_words(rt: HostRuntime) -> Result<(), Fail> {
     let mut column = IdColumn::new(rt.alloc());
     assert!(rt; lengths(&column) == (0, [0; 5]));
     assert!(rt; id_at(&column, 0).is_none());
-    for (id, _) in &IDS {
+    for (id, _) in IDS {
         column.push(*id)?;
     }
     assert!(rt; lengths(&column) == (2, [2; 5]));

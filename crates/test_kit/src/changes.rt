@@ -1,5 +1,6 @@
-//! Changes, and the paths and contents of which they are made.
+//! Changes, the paths and contents of which they are made, and filters.
 
+use eden_globs::Filter;
 use eden_history::Change;
 use eden_ids::{Content, Kind, Path, Sequence};
 use std::alloc::Global;
@@ -13,6 +14,14 @@ pub fn path(alloc: Global, text: &str) -> Result<Path, Fail> {
 /// The content of a plain file with this text.
 pub fn plain(alloc: Global, text: &str) -> Result<Content, Fail> {
     Ok(Content::from_bytes(alloc, Kind::Plain, text.as_bytes())?)
+}
+
+/// The filter of a pattern, or of none where the text is empty.
+pub fn filter_of(alloc: Global, pattern: &str) -> Result<Filter, Fail> {
+    if pattern.is_empty() {
+        return Ok(Filter::all(alloc));
+    }
+    Ok(Filter::parse(alloc, &[pattern.as_bytes()])?)
 }
 
 /// That a plain file with this text is set at a path.

@@ -17,7 +17,7 @@
 
 pub use crate::batch::{GIT_PRINTED, GIT_PRINTED_IDS};
 pub use crate::bodies::{PLACE_BYTES, QUERY_BYTES, REPLY_BODIES, REQUEST_BODIES};
-pub use crate::changes::{path, plain, remove, rename, write, write_too_large};
+pub use crate::changes::{filter_of, path, plain, remove, rename, write, write_too_large};
 pub use crate::generated::{Bodies, framed};
 pub use crate::naming::FirstByte;
 pub use crate::objects::Objects;

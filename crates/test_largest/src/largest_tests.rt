@@ -8,22 +8,10 @@ use eden_query::serve;
 use eden_stream::Counted;
 use std::alloc::Global;
 use std::test::Fail;
-
-/// Three times the number 1: the query.
-const Q: [u8; 24] = [
-    0, 0, 0, 0, 0, 0, 0, 1, 0, 0, 0, 0, 0, 0, 0, 1, 0, 0, 0, 0, 0, 0, 0, 1,
-];
+use test_kit::{QUERY_BYTES as Q, joined};
 
 /// How many files there are whose paths have 1,024 bytes.
 const FILES: usize = 16_351;
-
-fn joined(alloc: Global, parts: &[&[u8]]) -> Result<Vec<u8>, Fail> {
-    let mut bytes = Vec::new(alloc);
-    for part in parts {
-        bytes.extend_from_slice(part)?;
-    }
-    Ok(bytes)
-}
 
 /// A path of this many bytes: a number of five digits, and letters behind it.
 fn long_path(alloc: Global, number: usize, bytes: usize) -> Result<Path, Fail> {

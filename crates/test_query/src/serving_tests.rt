@@ -8,16 +8,11 @@ use eden_query::{FrameFault, ServeFault};
 use std::alloc::Global;
 use std::test::Fail;
 use test_devices::{Endless, Source};
-use test_kit::joined;
+use test_kit::{QUERY_BYTES as Q, joined};
 
 /// What a byte is changed to: the least and the greatest values, the bits, and those around the greatest number of patterns.
 const VALUES: [u8; 16] = [
     0, 1, 2, 3, 4, 8, 16, 31, 32, 33, 64, 127, 128, 129, 254, 255,
-];
-
-/// Three times the number 1.
-const Q: [u8; 24] = [
-    0, 0, 0, 0, 0, 0, 0, 1, 0, 0, 0, 0, 0, 0, 0, 1, 0, 0, 0, 0, 0, 0, 0, 1,
 ];
 
 /// A root of the empty commit.

@@ -4,7 +4,7 @@ use crate::wanted::{Said, position};
 use eden_accumulate::Mount;
 use eden_globs::Filter;
 use eden_history::Change;
-use eden_ids::{Content, GitNaming, Id, Kind, Path, Sequence};
+use eden_ids::{GitNaming, Id};
 use eden_messages::{Outcome, Reply, Request};
 use eden_mirror::Mirror;
 use eden_objects::Store;
@@ -13,6 +13,7 @@ use eden_stream::Counted;
 use eden_world::World;
 use std::alloc::Global;
 use std::test::Fail;
+use test_kit::{path, plain, write};
 
 /// What makes changes and replies to requests.
 pub(crate) trait Daemon {
@@ -63,23 +64,6 @@ pub(crate) fn opened_world(alloc: Global) -> Result<World<GitNaming>, Fail> {
 pub(crate) fn opened_mount(alloc: Global) -> Result<Mount<GitNaming>, Fail> {
     let store = Store::new(alloc, GitNaming);
     Ok(Mount::mount(alloc, store, Id::ZERO, 7, 1000)?)
-}
-
-pub(crate) fn path(alloc: Global, text: &str) -> Result<Path, Fail> {
-    Ok(Path::parse(alloc, text.as_bytes())?)
-}
-
-pub(crate) fn plain(alloc: Global, text: &str) -> Result<Content, Fail> {
-    Ok(Content::from_bytes(alloc, Kind::Plain, text.as_bytes())?)
-}
-
-/// The change that writes a plain file.
-fn write(alloc: Global, at: &str, text: &str) -> Result<Change, Fail> {
-    Ok(Change::Write {
-        path: path(alloc, at)?,
-        kind: Kind::Plain,
-        bytes: Sequence::from_vec(text.as_bytes().to_vec(alloc)?),
-    })
 }
 
 /// What happens to a pair, and what is wanted of it.

@@ -1,6 +1,6 @@
 //! A file as large as one may be, and one that is larger by a byte.
 
-use crate::daemon::{Pair, Step, opened_mount, path};
+use crate::daemon::{Pair, Step, opened_mount};
 use crate::rounds_tests::PLACED;
 use crate::wanted::{Said, position};
 use eden_accumulate::Mount;
@@ -12,6 +12,7 @@ use eden_objects::{PutFault, Store};
 use eden_query::{DecodeFault, decode_reply};
 use std::alloc::Global;
 use std::test::Fail;
+use test_kit::path;
 
 /// How many bytes a file has at the most.
 const LARGEST: usize = 8_388_608;

@@ -1,6 +1,5 @@
 //! A mirror that is given a reply does what one does that is lent it.
 
-use crate::daemon::{path, plain};
 use crate::wanted::Said;
 use eden_globs::Filter;
 use eden_history::{Mark, Marked, Position};
@@ -9,6 +8,7 @@ use eden_messages::{Cause, Outcome, Query, Reply};
 use eden_mirror::Mirror;
 use std::alloc::Global;
 use std::test::Fail;
+use test_kit::{path, plain};
 
 /// The first question of mirror 1.
 const QUERY: Query = Query {

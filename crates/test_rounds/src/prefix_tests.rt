@@ -1,6 +1,6 @@
 //! Rounds that await what stands below directories, by replies made by hand.
 
-use crate::daemon::{Pair, Step, opened_world, path};
+use crate::daemon::{Pair, Step, opened_world};
 use crate::wanted::{Said, query};
 use eden_globs::Filter;
 use eden_ids::GitNaming;
@@ -8,6 +8,7 @@ use eden_messages::{Cause, Outcome, Request};
 use eden_world::World;
 use std::alloc::Global;
 use std::test::Fail;
+use test_kit::path;
 
 /// A mirror is placed at 7/3, and has some files below `d`, one beside it, and none below `e`.
 const PLACED: &[Step] = &[

@@ -1,11 +1,11 @@
 //! Replies as they are wanted, of a daemon that never goes over to another commit.
 
-use crate::daemon::{path, plain};
 use eden_history::{Mark, Marked, Position};
 use eden_ids::{Id, Path, Sequence};
 use eden_messages::{Cause, Query, Reply};
 use std::alloc::Global;
 use std::test::Fail;
+use test_kit::{path, plain};
 
 /// The question of the round with this number, of mirror 1 in its first life.
 pub(crate) fn query(number: u64) -> Query {

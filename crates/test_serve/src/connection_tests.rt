@@ -105,7 +105,7 @@ fn refused<R: Threads + Wait + Net<Listener = TcpListener, Stream = TcpStream> +
 }
 
 /// How many connections, and what comes of them where none is accepted. A lock has 255 callers, of whom one is the writer.
-const REFUSED: [(u64, Result<(), ProgramFault>, &[u8]); 4] = [
+const REFUSED: &[(u64, Result<(), ProgramFault>, &[u8])] = &[
     (0, Ok(()), b"audit ok\n"),
     (3, Ok(()), b"audit ok\n"),
     (254, Ok(()), b"audit ok\n"),
@@ -116,9 +116,9 @@ const REFUSED: [(u64, Result<(), ProgramFault>, &[u8]); 4] = [
 fn refused_connections_count(rt: HostRuntime) -> Result<(), Fail> {
     for (count, end, text) in REFUSED {
         let mut output = Vec::new(rt.alloc());
-        let served = refused(&rt, rt.alloc(), count, &mut output)?;
-        assert_eq!(rt; served, end);
-        assert_eq!(rt; output.as_slice(), text);
+        let served = refused(&rt, rt.alloc(), *count, &mut output)?;
+        assert_eq!(rt; served, *end);
+        assert_eq!(rt; output.as_slice(), *text);
     }
     Ok(())
 }

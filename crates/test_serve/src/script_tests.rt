@@ -87,7 +87,7 @@ fn bad(number: u64) -> End {
 }
 
 /// Scripts that open nothing, what they print, and the number of the line that they end with.
-const UNOPENED: [(&[u8], &[u8], u64); 10] = [
+const UNOPENED: &[(&[u8], &[u8], u64)] = &[
     (b"", b"", 1),
     (b"# a\n\n", b"", 3),
     (b"mount empty 7 1000\n", b"at 7 1 empty\n", 2),
@@ -121,14 +121,14 @@ fn scripts_that_open_nothing(rt: HostRuntime) -> Result<(), Fail> {
     for (script, text, number) in UNOPENED {
         for most in [ALL, 1, 3] {
             let ended = ends_over(&rt, rt.alloc(), script, most, ALL, ALL, text)?;
-            assert_eq!(rt; ended, (bad(number), true));
+            assert_eq!(rt; ended, (bad(*number), true));
         }
     }
     Ok(())
 }
 
 /// Scripts that open a mount, and the number of the line behind `listen` that can't be read, or 0 where each can.
-const BEHIND: [(&[u8], u64); 20] = [
+const BEHIND: &[(&[u8], u64)] = &[
     (b"mount empty 7 1000\nlisten", 0),
     (b"mount empty 7 1000\nlisten\n", 0),
     (b"mount empty 7 1000\r\nlisten\r\n\r\n# b\r\nflush\r\n", 0),
@@ -166,7 +166,7 @@ const BEHIND: [(&[u8], u64); 20] = [
 #[test]
 fn lines_behind_listen(rt: HostRuntime) -> Result<(), Fail> {
     for (script, number) in BEHIND {
-        let end = if number == 0 { Ok(()) } else { bad(number) };
+        let end = if *number == 0 { Ok(()) } else { bad(*number) };
         for most in [ALL, 1, 7] {
             let text = b"at 7 1 empty\n@audit ok\n";
             let ended = ends_over(&rt, rt.alloc(), script, most, ALL, ALL, text)?;
@@ -177,7 +177,7 @@ fn lines_behind_listen(rt: HostRuntime) -> Result<(), Fail> {
 }
 
 /// Where the input fails, and where the output is full; what is printed, up to there; and how the program ends.
-const FAILED: [(usize, usize, &[u8], ProgramFault); 8] = [
+const FAILED: &[(usize, usize, &[u8], ProgramFault)] = &[
     (0, ALL, b"", ProgramFault::Read),
     (20, ALL, b"at 7 1 empty\n", ProgramFault::Read),
     (26, ALL, b"at 7 1 empty\n@audit ok\n", ProgramFault::Read),
@@ -193,8 +193,8 @@ fn devices_that_fail(rt: HostRuntime) -> Result<(), Fail> {
     let script = b"mount empty 7 1000\nlisten\nflush\nflush\n";
     for (fails_at, full_at, text, fault) in FAILED {
         for most in [ALL, 1] {
-            let ended = ends_over(&rt, rt.alloc(), script, most, fails_at, full_at, text)?;
-            assert_eq!(rt; ended, (Err(fault), true));
+            let ended = ends_over(&rt, rt.alloc(), script, most, *fails_at, *full_at, text)?;
+            assert_eq!(rt; ended, (Err(*fault), true));
         }
     }
     Ok(())

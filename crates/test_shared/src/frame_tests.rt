@@ -14,18 +14,7 @@ use std::process::Abort;
 use std::sync::Wait;
 use std::sync::ledger::{Blank, Ledger};
 use std::test::Fail;
-use test_kit::joined;
-
-/// Three times the number 1.
-const Q: [u8; 24] = [
-    0, 0, 0, 0, 0, 0, 0, 1, 0, 0, 0, 0, 0, 0, 0, 1, 0, 0, 0, 0, 0, 0, 0, 1,
-];
-
-/// The first row of generation 7, with the empty commit as its root.
-const P: [u8; 36] = [
-    0, 0, 0, 0, 0, 0, 0, 7, 0, 0, 0, 0, 0, 0, 0, 1, 0, 0, 0, 0, 0, 0, 0, 0, 0, 0, 0, 0, 0, 0, 0, 0,
-    0, 0, 0, 0,
-];
+use test_kit::{PLACE_BYTES as P, QUERY_BYTES as Q, joined};
 
 /// A fetch of `a`.
 fn fetch(alloc: Global) -> Result<Vec<u8>, Fail> {

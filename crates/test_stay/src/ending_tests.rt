@@ -36,7 +36,7 @@ fn outcome<R: Threads + Wait + Clock + Net<Listener = TcpListener, Stream = TcpS
 }
 
 /// A script, how it ends, and whether it gets to `listen`.
-const CASES: [(&str, Result<(), ProgramFault>, bool); 7] = [
+const CASES: &[(&str, Result<(), ProgramFault>, bool)] = &[
     ("", Err(ProgramFault::BadLine(1)), false),
     ("listen\n", Err(ProgramFault::BadLine(1)), false),
     ("\n# no mount\n", Err(ProgramFault::BadLine(3)), false),
@@ -61,7 +61,7 @@ const CASES: [(&str, Result<(), ProgramFault>, bool); 7] = [
 #[test]
 fn scripts_end(rt: HostRuntime) -> Result<(), Fail> {
     let alloc = rt.alloc();
-    for (script, wanted, listens) in &CASES {
+    for (script, wanted, listens) in CASES {
         let port = free_port(&rt)?;
         let mut sink = Sink::new(alloc);
         let source = Source::new(script.as_bytes());

@@ -6,15 +6,7 @@ use eden_objects::CommitFault;
 use eden_treediff::{diff, diff_admitted};
 use std::alloc::Global;
 use std::test::Fail;
-use test_kit::{Objects, spaced};
-
-/// The filter of a pattern, or of none where the text is empty.
-fn filter_of(alloc: Global, pattern: &str) -> Result<Filter, Fail> {
-    if pattern.is_empty() {
-        return Ok(Filter::all(alloc));
-    }
-    Ok(Filter::parse(alloc, &[pattern.as_bytes()])?)
-}
+use test_kit::{Objects, filter_of, spaced};
 
 /// The paths that two commits differ on, or those that a pattern admits if there is one.
 fn differing(

@@ -50,7 +50,7 @@ fn import_parts<N: Naming + Drop>(
 /// The blobs of a store in which an id has twenty copies of one letter: the payloads of `a`, `b` and `c`.
 type Blobs<'a> = [Option<&'a [u8]>; 3];
 
-fn blob<N: Naming + Drop>(store: &Store<N>, id: Id) -> Option<&[u8]> {
+pub(crate) fn blob<N: Naming + Drop>(store: &Store<N>, id: Id) -> Option<&[u8]> {
     store.blob(id)
 }
 
@@ -85,7 +85,7 @@ const ONE_BLOB: Blobs<'static> = [Some(b"ab"), None, None];
 const TWO_BLOBS: Blobs<'static> = [Some(b"ab"), Some(b"b"), None];
 
 /// Imports into one store, one after another: the objects, the first one that is refused, and the blobs then.
-const IMPORTS: [(&[Part], Option<Bad>, Blobs<'static>); 11] = [
+const IMPORTS: &[(&[Part], Option<Bad>, Blobs<'static>)] = &[
     (&[], None, NO_BLOB),
     (&[AB, AC], Some((1, PutFault::IdTaken)), NO_BLOB),
     // The first fault is told.
@@ -107,7 +107,7 @@ const IMPORTS: [(&[Part], Option<Bad>, Blobs<'static>); 11] = [
 #[test]
 fn import_refusals(rt: HostRuntime) -> Result<(), Fail> {
     let mut store = Store::new(rt.alloc(), FirstByte);
-    for (parts, bad, held) in &IMPORTS {
+    for (parts, bad, held) in IMPORTS {
         assert!(rt; import_parts(&mut store, parts)? == *bad, "{parts:?}");
         assert!(rt; blobs(&store) == *held, "{parts:?}");
     }
@@ -157,7 +157,7 @@ const IDS: &[(u8, &str)] = &[
     (b's', "862425d64e2c4c77cd19109249b680588db47326"),
 ];
 
-fn id_of(text: &str) -> Result<Id, Fail> {
+pub(crate) fn id_of(text: &str) -> Result<Id, Fail> {
     Ok(Id::from_hex(text.as_bytes())?)
 }
 

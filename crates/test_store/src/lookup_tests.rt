@@ -1,5 +1,6 @@
 //! The files of a commit: listed, looked up, counted, and those below a directory.
 
+use crate::import_tests::{blob, id_of};
 use eden_globs::Filter;
 use eden_ids::{GitNaming, Id, Kind, Path};
 use eden_objects::{CommitFault, NoCommit, Store};
@@ -123,14 +124,6 @@ fn found(
     at: &str,
 ) -> Result<Result<Option<(Kind, Id)>, NoCommit>, Fail> {
     Ok(store.lookup(commit, &path(alloc, at)?))
-}
-
-fn id_of(text: &str) -> Result<Id, Fail> {
-    Ok(Id::from_hex(text.as_bytes())?)
-}
-
-fn blob(store: &Store<GitNaming>, id: Id) -> Option<&[u8]> {
-    store.blob(id)
 }
 
 /// Directories and what is none: no file stands there.

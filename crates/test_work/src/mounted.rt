@@ -36,6 +36,12 @@ impl Mounted {
         Ok(Mounted { store, work })
     }
 
+    /// Objects, and a working copy over their commit `c`.
+    pub(crate) fn over_first(alloc: Global, objects: Objects) -> Result<Mounted, Fail> {
+        let root = objects.id("c");
+        Mounted::over(alloc, objects.store, root)
+    }
+
     fn write(&mut self, at: &Path, text: &str) -> Option<ChangeFault> {
         let bytes = text.as_bytes();
         self.work.write(&self.store, at, Kind::Plain, bytes).err()

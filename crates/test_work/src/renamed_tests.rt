@@ -168,16 +168,10 @@ const RENAMES: &[Step<'static>] = &[
     ),
 ];
 
-/// Objects, and a working copy over their commit `c`.
-fn over_first(alloc: Global, objects: Objects) -> Result<Mounted, Fail> {
-    let root = objects.id("c");
-    Mounted::over(alloc, objects.store, root)
-}
-
 #[test]
 fn renamed_directories_keep_their_files(rt: HostRuntime) -> Result<(), Fail> {
     let alloc = rt.alloc();
-    let mut mounted = over_first(alloc, Objects::of(alloc, COMMITS)?)?;
+    let mut mounted = Mounted::over_first(alloc, Objects::of(alloc, COMMITS)?)?;
     assert_eq!(rt; first_wrong(alloc, &mut mounted, RENAMES)?, None);
     Ok(())
 }
@@ -188,7 +182,7 @@ fn another_commit_below_renamed_directories(rt: HostRuntime) -> Result<(), Fail>
     let alloc = rt.alloc();
     let objects = Objects::of(alloc, COMMITS)?;
     let (first, second) = (objects.id("c"), objects.id("k"));
-    let mut mounted = over_first(alloc, objects)?;
+    let mut mounted = Mounted::over_first(alloc, objects)?;
     assert_eq!(rt; mounted.change(alloc, "renamedir d b")?, None);
     mounted.reroot(second)?;
     let steps: [Step<'static>; 3] = [
@@ -252,7 +246,7 @@ fn checkouts_over_renamed_directories(rt: HostRuntime) -> Result<(), Fail> {
     for (mode, told, files) in CHECKOUTS {
         let objects = Objects::of(alloc, COMMITS)?;
         let second = objects.id("k");
-        let mut mounted = over_first(alloc, objects)?;
+        let mut mounted = Mounted::over_first(alloc, objects)?;
         assert_eq!(rt; mounted.change(alloc, "renamedir d b")?, None);
         let text = mounted.checkout(alloc, second, *mode)?;
         assert!(rt; text.as_slice() == told.as_bytes(), "{files}");
@@ -346,7 +340,7 @@ fn renamed_directories_with_deep_paths(rt: HostRuntime) -> Result<(), Fail> {
     objects.put(alloc, "tree d 40000 n r 100644 x 1")?;
     objects.put(alloc, "tree t 40000 d d")?;
     objects.put(alloc, "commit c t")?;
-    let mut mounted = over_first(alloc, objects)?;
+    let mut mounted = Mounted::over_first(alloc, objects)?;
     let names = "n/".repeat(alloc, 60)?;
     let wrong = first_wrong_below(alloc, &mut mounted, names.as_str(), DEEP)?;
     assert_eq!(rt; wrong, None);
@@ -364,7 +358,7 @@ fn renamed_directories_with_long_paths(rt: HostRuntime) -> Result<(), Fail> {
     objects.put(alloc, outer.as_str())?;
     objects.put(alloc, "tree t 40000 d d")?;
     objects.put(alloc, "commit c t")?;
-    let mut mounted = over_first(alloc, objects)?;
+    let mut mounted = Mounted::over_first(alloc, objects)?;
     let names = spelled(alloc, "*/*/*/*/", name.as_str())?;
     let wrong = first_wrong_below(alloc, &mut mounted, names.as_str(), LONG)?;
     assert_eq!(rt; wrong, None);

@@ -197,12 +197,6 @@ const OVER_COMMITS: &[(&str, &str, &[Step], &str, &str)] = &[
     ),
 ];
 
-/// A working copy over the commit `c`.
-fn over_commit(alloc: Global, objects: Objects) -> Result<Mounted, Fail> {
-    let root = objects.id("c");
-    Mounted::over(alloc, objects.store, root)
-}
-
 /// A copy of a working copy is over the same commit.
 fn root_of(work: &WorkCopy) -> Result<Id, Fail> {
     Ok(work.copy()?.root())
@@ -214,7 +208,7 @@ fn changes_over_commits(rt: HostRuntime) -> Result<(), Fail> {
     for (name, script, steps, path, text) in OVER_COMMITS {
         let objects = Objects::of(alloc, script)?;
         let root = objects.id("c");
-        let mut mounted = over_commit(alloc, objects)?;
+        let mut mounted = Mounted::over_first(alloc, objects)?;
         let wrong = first_wrong(alloc, &mut mounted, steps)?;
         assert!(rt; wrong.is_none(), "{name}: {wrong:?}");
         let reads = mounted.reads(alloc, path, Kind::Plain, text)?;
@@ -279,7 +273,7 @@ fn reroot_and_revert(rt: HostRuntime) -> Result<(), Fail> {
     let alloc = rt.alloc();
     let objects = Objects::of(alloc, KINDS)?;
     let exec = objects.id("d");
-    let mut mounted = over_commit(alloc, objects)?;
+    let mut mounted = Mounted::over_first(alloc, objects)?;
     assert_eq!(rt; mounted.reroot(Id([1; 20])), Err(CommitFault::NoCommit));
     mounted.reroot(exec)?;
     assert!(rt; mounted.reads(alloc, "f", Kind::Plain, "1")?);
