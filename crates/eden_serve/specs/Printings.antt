@@ -1,19 +1,26 @@
 -- What a program that serves writes.
-use Rattle.std.specs.Prelude.{ℕ, List, ◌++◌, codes, decimal, Option}
+use Rattle.std.specs.Prelude.{ℕ, List, ◌++◌, codes, decimal, Option, Err}
 use Rattle.std.specs.Io.KnownBytes.{Appends}
+use Rattle.eden_edend.specs.Openings.{EndsOpening}
 use Rattle.eden_stream.specs.Ends.{EndsAtBadLine}
+use Rattle.eden_stream.specs.declared.lines.RunFault.{RunFault}
 
 -- the line that tells where connections are taken
 abbrev pub listening_text : ℕ → List ℕ
 listening_text port = codes "listening " ++ decimal port ++ codes "\n"
 
--- The input's lines before `listen`, which no script has, were run as a script, and what they print was written; and behind it where
--- connections are taken.
+-- The lines before `listen` have ended with this fault, and have opened nothing.
+abbrev pub OpensNothing : (List (List ℕ) → Option (List ℕ)) → Option (List ℕ) → Option (List ℕ) → Option (List ℕ) → RunFault → Type 0
+OpensNothing script input w0 w1 fault = (left : Option (List ℕ)) × EndsOpening script input left w0 w1 (Err fault)
+
+-- The input's lines before `listen`, which no script has, were run as a script, and what they print was written.
+abbrev pub TellsOpening : (List (List ℕ) → Option (List ℕ)) → Option (List ℕ) → Option (List ℕ) → Option (List ℕ) → Type 0
+TellsOpening script input w0 w1 = (line : ℕ) × (left : Option (List ℕ)) × EndsAtBadLine script input left w0 w1 line
+
+-- And behind that, where connections are taken.
 pub record TellsPort (script : List (List ℕ) → Option (List ℕ)) (port : ℕ) (input w0 w1 : Option (List ℕ)) : Type 0 where
-  pub line : ℕ
-  pub left : Option (List ℕ)
   pub printed : Option (List ℕ)
-  pub opened : EndsAtBadLine script input left w0 printed line
+  pub opened : TellsOpening script input w0 printed
   pub told : Appends printed w1 (listening_text port)
 
 -- And behind that, that the audit agrees.

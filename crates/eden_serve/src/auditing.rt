@@ -1,8 +1,9 @@
 //! What is found in the end, and how it is told.
 
-ghost use Rattle.std.specs.Prelude.{◌≡◌, IfOk, Ok, OnOk, codes};
+ghost use Rattle.std.specs.Prelude.{◌≡◌, ◌⊎◌, IfErr, IfOk, Ok, OnOk, codes};
 ghost use Rattle.std.specs.String.{string_bytes};
 ghost use Rattle.std.specs.Io.KnownBytes.{Appends};
+ghost use Rattle.eden_logs.specs.declared.fault.AuditFault.{AuditFault};
 ghost use Rattle.eden_serve.specs.Servings.{Agrees};
 
 use crate::writing::Behind;
@@ -49,6 +50,8 @@ pub(crate) fn tell_audit<O: Write>(
 ) -> Result<(), ProgramFault>
     ensures found { OnOk result (audit ≡ Ok tt) }
     ensures told { OnOk result (Appends (O.contents output.old) (O.contents output.new) (codes "audit ok\n")) }
+    ensures causes { IfErr result (λ fault.
+        (fault ≡ ProgramFault.Write) ⊎ (fault ≡ ProgramFault.NoMemory) ⊎ ((cause : AuditFault) × (fault ≡ ProgramFault.Refused cause))) }
 {
     if let Err(AuditFault::NoMemory) = audit {
         return Err(ProgramFault::NoMemory);

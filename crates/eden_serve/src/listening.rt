@@ -1,10 +1,10 @@
 //! What comes before the first connection: the script up to `listen`, and the port.
 
-ghost use Rattle.std.specs.Prelude.{◌≡◌, IfErr, IfOk, OnOk};
+ghost use Rattle.std.specs.Prelude.{◌≡◌, ◌⊎◌, ℕ, IfErr, IfOk, IsErrOf, OnOk};
 ghost use Rattle.std.specs.Io.KnownBytes.{Appends};
 ghost use Rattle.eden_script.specs.ScriptText.{script_text};
 ghost use Rattle.eden_script.specs.Sessions.{session_over};
-ghost use Rattle.eden_serve.specs.Printings.{TellsPort, listening_text};
+ghost use Rattle.eden_serve.specs.Printings.{OpensNothing, TellsOpening, TellsPort, listening_text};
 ghost use Rattle.eden_serve.specs.Servings.{program_fault};
 
 use eden_command::ProgramFault;
@@ -54,7 +54,8 @@ fn port_text(alloc: Global, port: u16) -> Result<Vec<u8>, AllocError>
 
 /// Writes that connections are taken on this port, at once: `Write` comes where the output fails, and `NoMemory` where a growth was refused.
 fn tell_port<O: Write>(alloc: Global, output: &mut O, port: u16) -> Result<(), ProgramFault>
-    ensures { OnOk result (Appends (O.contents output.old) (O.contents output.new) (listening_text port)) }
+    ensures told { OnOk result (Appends (O.contents output.old) (O.contents output.new) (listening_text port)) }
+    ensures causes { IfErr result (λ fault. (fault ≡ ProgramFault.Write) ⊎ (fault ≡ ProgramFault.NoMemory)) }
 {
     let Ok(text) = port_text(alloc, port) else {
         return Err(ProgramFault::NoMemory);
@@ -96,7 +97,15 @@ pub fn listen<R: Net<Listener = TcpListener, Stream = TcpStream>, I: Read + Drop
     writer: &mut W,
     port: u16,
 ) -> Result<Listening<I>, ProgramFault>
-    ensures { OnOk result (TellsPort (script_text (session_over objects.store objects.labels)) port (I.remaining input) (W.contents writer.old) (W.contents writer.new)) }
+    ensures told { OnOk result (TellsPort (script_text (session_over objects.store objects.labels)) port (I.remaining input) (W.contents writer.old) (W.contents writer.new)) }
+    ensures bad_line { (number : ℕ) → IsErrOf result (ProgramFault.BadLine number)
+        → OpensNothing (script_text (session_over objects.store objects.labels)) (I.remaining input) (W.contents writer.old) (W.contents writer.new) (RunFault.BadLine number) }
+    ensures read { IsErrOf result ProgramFault.Read
+        → OpensNothing (script_text (session_over objects.store objects.labels)) (I.remaining input) (W.contents writer.old) (W.contents writer.new) RunFault.Read }
+    ensures turns_spent { IsErrOf result ProgramFault.TurnsSpent
+        → OpensNothing (script_text (session_over objects.store objects.labels)) (I.remaining input) (W.contents writer.old) (W.contents writer.new) RunFault.TurnsSpent }
+    ensures no_port { IsErrOf result ProgramFault.NoConnection
+        → TellsOpening (script_text (session_over objects.store objects.labels)) (I.remaining input) (W.contents writer.old) (W.contents writer.new) }
 {
     let Ok(mut input) = LineInput::new(alloc, input) else {
         return Err(ProgramFault::NoMemory);

@@ -1,10 +1,10 @@
 //! The program: a script, a port, and the connections.
 
-ghost use Rattle.std.specs.Prelude.{◌≡◌, [], IfOk, IsOk, OnOk, codes};
-ghost use Rattle.std.specs.Io.KnownBytes.{Appends};
+ghost use Rattle.std.specs.Prelude.{◌≡◌, ◌≢◌, ◌⊎◌, ℕ, [], IfErr, IfOk, IsErrOf, IsOk, OnOk, codes};
+ghost use Rattle.std.specs.Io.KnownBytes.{Appends, Keeps};
 ghost use Rattle.eden_script.specs.ScriptText.{script_text};
 ghost use Rattle.eden_script.specs.Sessions.{first_session, session_over};
-ghost use Rattle.eden_serve.specs.Printings.{TellsAudit};
+ghost use Rattle.eden_serve.specs.Printings.{OpensNothing, TellsAudit, TellsOpening, TellsPort};
 
 use crate::auditing::{judge, tell_audit};
 use crate::listening::{Listening, listen, program_fault};
@@ -16,7 +16,7 @@ use eden_command::ProgramFault;
 use eden_edend::{LineInput, Objects, Opened};
 use eden_ids::{GitNaming, NoMemory};
 use eden_shared::{Desk, Shared};
-use eden_stream::CountedWrite;
+use eden_stream::{CountedWrite, RunFault};
 use std::alloc::Global;
 use std::io::{Read, Write};
 use std::marker::Brand;
@@ -27,7 +27,8 @@ use std::thread::Threads;
 
 /// A mount that stores its history from now on.
 fn store_history(alloc: Global, mount: Mount<GitNaming>) -> Result<Audited<GitNaming>, ProgramFault>
-    ensures { IfOk result (λ audited. audited.entries ≡ []) }
+    ensures stored { IfOk result (λ audited. audited.entries ≡ []) }
+    ensures cause { IfErr result (λ fault. fault ≡ ProgramFault.NoMemory) }
 {
     match Audited::new(alloc, mount) {
         Ok(audited) => Ok(audited),
@@ -40,7 +41,9 @@ fn open_desk<L: Ledger>(
     rt: &impl Wait,
     alloc: Global,
     shared: &Behind<L>,
-) -> Result<Desk<L>, ProgramFault> {
+) -> Result<Desk<L>, ProgramFault>
+    ensures { IfErr result (λ fault. fault ≡ ProgramFault.NoConnection) }
+{
     match shared.pass(rt) {
         Ok(pass) => Ok(Desk::new(alloc, pass)),
         Err(_) => Err(ProgramFault::NoConnection),
@@ -53,7 +56,9 @@ fn open_desks<L: Ledger>(
     alloc: Global,
     shared: &Behind<L>,
     count: u64,
-) -> Result<Vec<Desk<L>>, ProgramFault> {
+) -> Result<Vec<Desk<L>>, ProgramFault>
+    ensures { IfErr result (λ fault. (fault ≡ ProgramFault.NoConnection) ⊎ (fault ≡ ProgramFault.NoMemory)) }
+{
     let mut desks = Vec::new(alloc);
     for _ in 0..count {
         let desk = open_desk(rt, alloc, shared)?;
@@ -74,6 +79,11 @@ fn close<L: Ledger, O: Write>(
     requires { L.parts ≡ 256 }
     ensures ran { OnOk result (IsOk ended.ran) }
     ensures told { OnOk result (Appends (O.contents output.old) (O.contents output.new) (codes "audit ok\n")) }
+    ensures bad_line { (number : ℕ) → IsErrOf result (ProgramFault.BadLine number)
+        → Appends (O.contents output.old) (O.contents output.new) (codes "audit ok\n") }
+    ensures read { IsErrOf result ProgramFault.Read → Appends (O.contents output.old) (O.contents output.new) (codes "audit ok\n") }
+    ensures turns_spent { IsErrOf result ProgramFault.TurnsSpent → Appends (O.contents output.old) (O.contents output.new) (codes "audit ok\n") }
+    ensures bound { IfErr result (λ fault. fault ≢ ProgramFault.NoConnection) }
 {
     let Ended { passes, logs, ran } = ended;
     let audit = judge(alloc, shared, passes, logs.as_slice());
@@ -98,7 +108,12 @@ fn serve_behind<L: Ledger + Send + Sync, R: Threads + Wait + Sync, I: Read + Sen
     requires name { blank.name ≡ L.name }
     requires parts { blank.parts ≡ L.parts }
     requires whole { blank.parts ≡ 256 }
-    ensures { OnOk result (Appends (O.contents output.old) (O.contents output.new) (codes "audit ok\n")) }
+    ensures told { OnOk result (Appends (O.contents output.old) (O.contents output.new) (codes "audit ok\n")) }
+    ensures bad_line { (number : ℕ) → IsErrOf result (ProgramFault.BadLine number)
+        → Appends (O.contents output.old) (O.contents output.new) (codes "audit ok\n") }
+    ensures read { IsErrOf result ProgramFault.Read → Appends (O.contents output.old) (O.contents output.new) (codes "audit ok\n") }
+    ensures turns_spent { IsErrOf result ProgramFault.TurnsSpent → Appends (O.contents output.old) (O.contents output.new) (codes "audit ok\n") }
+    ensures no_connection { IsErrOf result ProgramFault.NoConnection → Keeps (O.contents output.old) (O.contents output.new) }
 {
     let Opened {
         line,
@@ -146,7 +161,12 @@ pub fn serve_listener<R: Threads + Wait + Sync, I: Read + Send + Drop, O: Write>
     listener: &TcpListener,
     connections: u64,
 ) -> Result<(), ProgramFault>
-    ensures { OnOk result (Appends (O.contents output.old) (O.contents output.new) (codes "audit ok\n")) }
+    ensures told { OnOk result (Appends (O.contents output.old) (O.contents output.new) (codes "audit ok\n")) }
+    ensures bad_line { (number : ℕ) → IsErrOf result (ProgramFault.BadLine number)
+        → Appends (O.contents output.old) (O.contents output.new) (codes "audit ok\n") }
+    ensures read { IsErrOf result ProgramFault.Read → Appends (O.contents output.old) (O.contents output.new) (codes "audit ok\n") }
+    ensures turns_spent { IsErrOf result ProgramFault.TurnsSpent → Appends (O.contents output.old) (O.contents output.new) (codes "audit ok\n") }
+    ensures no_connection { IsErrOf result ProgramFault.NoConnection → Keeps (O.contents output.old) (O.contents output.new) }
 {
     serve_behind::<Brand, R, I, O>(
         rt,
@@ -178,7 +198,19 @@ pub fn serve_over<
     port: u16,
     connections: u64,
 ) -> Result<(), ProgramFault>
-    ensures { OnOk result (TellsAudit (script_text (session_over objects.store objects.labels)) port (I.remaining input) (W.contents output.old) (W.contents output.new)) }
+    ensures told { OnOk result (TellsAudit (script_text (session_over objects.store objects.labels)) port (I.remaining input) (W.contents output.old) (W.contents output.new)) }
+    ensures bad_line { (number : ℕ) → IsErrOf result (ProgramFault.BadLine number)
+        → OpensNothing (script_text (session_over objects.store objects.labels)) (I.remaining input) (W.contents output.old) (W.contents output.new) (RunFault.BadLine number)
+        ⊎ TellsAudit (script_text (session_over objects.store objects.labels)) port (I.remaining input) (W.contents output.old) (W.contents output.new) }
+    ensures read { IsErrOf result ProgramFault.Read
+        → OpensNothing (script_text (session_over objects.store objects.labels)) (I.remaining input) (W.contents output.old) (W.contents output.new) RunFault.Read
+        ⊎ TellsAudit (script_text (session_over objects.store objects.labels)) port (I.remaining input) (W.contents output.old) (W.contents output.new) }
+    ensures turns_spent { IsErrOf result ProgramFault.TurnsSpent
+        → OpensNothing (script_text (session_over objects.store objects.labels)) (I.remaining input) (W.contents output.old) (W.contents output.new) RunFault.TurnsSpent
+        ⊎ TellsAudit (script_text (session_over objects.store objects.labels)) port (I.remaining input) (W.contents output.old) (W.contents output.new) }
+    ensures no_connection { IsErrOf result ProgramFault.NoConnection
+        → TellsOpening (script_text (session_over objects.store objects.labels)) (I.remaining input) (W.contents output.old) (W.contents output.new)
+        ⊎ TellsPort (script_text (session_over objects.store objects.labels)) port (I.remaining input) (W.contents output.old) (W.contents output.new) }
 {
     let Listening {
         opened,
@@ -212,7 +244,19 @@ pub fn serve_program<
     port: u16,
     connections: u64,
 ) -> Result<(), ProgramFault>
-    ensures { OnOk result (TellsAudit (script_text first_session) port (I.remaining input) (W.contents output.old) (W.contents output.new)) }
+    ensures told { OnOk result (TellsAudit (script_text first_session) port (I.remaining input) (W.contents output.old) (W.contents output.new)) }
+    ensures bad_line { (number : ℕ) → IsErrOf result (ProgramFault.BadLine number)
+        → OpensNothing (script_text first_session) (I.remaining input) (W.contents output.old) (W.contents output.new) (RunFault.BadLine number)
+        ⊎ TellsAudit (script_text first_session) port (I.remaining input) (W.contents output.old) (W.contents output.new) }
+    ensures read { IsErrOf result ProgramFault.Read
+        → OpensNothing (script_text first_session) (I.remaining input) (W.contents output.old) (W.contents output.new) RunFault.Read
+        ⊎ TellsAudit (script_text first_session) port (I.remaining input) (W.contents output.old) (W.contents output.new) }
+    ensures turns_spent { IsErrOf result ProgramFault.TurnsSpent
+        → OpensNothing (script_text first_session) (I.remaining input) (W.contents output.old) (W.contents output.new) RunFault.TurnsSpent
+        ⊎ TellsAudit (script_text first_session) port (I.remaining input) (W.contents output.old) (W.contents output.new) }
+    ensures no_connection { IsErrOf result ProgramFault.NoConnection
+        → TellsOpening (script_text first_session) (I.remaining input) (W.contents output.old) (W.contents output.new)
+        ⊎ TellsPort (script_text first_session) port (I.remaining input) (W.contents output.old) (W.contents output.new) }
 {
     serve_over(
         rt,

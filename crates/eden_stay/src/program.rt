@@ -105,7 +105,19 @@ pub fn stay_program<
     port: u16,
     threads: u64,
 ) -> Result<(), ProgramFault>
-    ensures { OnOk result (TellsPort (script_text (session_over objects.store objects.labels)) port (I.remaining input) (W.contents writer.old) (W.contents writer.new)) }
+    ensures told { OnOk result (TellsPort (script_text (session_over objects.store objects.labels)) port (I.remaining input) (W.contents writer.old) (W.contents writer.new)) }
+    ensures bad_line { (number : ℕ) → IsErrOf result (ProgramFault.BadLine number)
+        → OpensNothing (script_text (session_over objects.store objects.labels)) (I.remaining input) (W.contents writer.old) (W.contents writer.new) (RunFault.BadLine number)
+        ⊎ TellsPort (script_text (session_over objects.store objects.labels)) port (I.remaining input) (W.contents writer.old) (W.contents writer.new) }
+    ensures read { IsErrOf result ProgramFault.Read
+        → OpensNothing (script_text (session_over objects.store objects.labels)) (I.remaining input) (W.contents writer.old) (W.contents writer.new) RunFault.Read
+        ⊎ TellsPort (script_text (session_over objects.store objects.labels)) port (I.remaining input) (W.contents writer.old) (W.contents writer.new) }
+    ensures turns_spent { IsErrOf result ProgramFault.TurnsSpent
+        → OpensNothing (script_text (session_over objects.store objects.labels)) (I.remaining input) (W.contents writer.old) (W.contents writer.new) RunFault.TurnsSpent
+        ⊎ TellsPort (script_text (session_over objects.store objects.labels)) port (I.remaining input) (W.contents writer.old) (W.contents writer.new) }
+    ensures no_connection { IsErrOf result ProgramFault.NoConnection
+        → TellsOpening (script_text (session_over objects.store objects.labels)) (I.remaining input) (W.contents writer.old) (W.contents writer.new)
+        ⊎ TellsPort (script_text (session_over objects.store objects.labels)) port (I.remaining input) (W.contents writer.old) (W.contents writer.new) }
 {
     let Listening {
         opened,
