@@ -21,7 +21,7 @@
 //! ```
 #![tactic(auto)]
 
-pub use crate::program::{stay_listener, stay_program};
+pub use crate::program::stay_program;
 pub use crate::stopping::Stoppable;
 pub use eden_command::ProgramFault;
 

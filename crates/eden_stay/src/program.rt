@@ -45,21 +45,8 @@ fn run_threads<R: Threads + Wait + Clock + Net + Sync, I: Read + Drop>(
     )
 }
 
-/// Serves what a script has opened to the connections that a listener accepts, in so many threads, each of which accepts the next connection when
-/// its last one has ended. Meanwhile it makes the changes of the input's lines behind `listen`, as `eden_edend::run_changes` does.
-///
-/// A connection ends when its peer ends it, with a fault, or behind 1,000,000 reads. That ends no other. Where not all of the threads can be
-/// made, there are fewer.
-///
-/// Once the input has ended, or a line has a fault, no connection is accepted any more, and those that are open end within 200 ms or so, whatever
-/// their peers do: what is not read or not written by then is lost. Then this ends too.
-///
-/// # Errors
-///
-/// - `BadLine`, `Read` and `TurnsSpent`, where the lines have ended so. The number is counted from the first line of the script.
-/// - `NoMemory`, where a growth was refused to the lines. That one was refused to a connection ends this connection alone.
-/// - `NoConnection`, where no thread could be made, or the system can't tell the listener's address: no line behind `listen` is read.
-pub fn stay_listener<R: Threads + Wait + Clock + Net + Sync, I: Read + Drop>(
+/// Serves what a script has opened to the connections that a listener accepts, while the input's lines behind `listen` change it.
+fn stay_listener<R: Threads + Wait + Clock + Net + Sync, I: Read + Drop>(
     rt: &R,
     alloc: Global,
     opened: Opened,
@@ -82,16 +69,25 @@ pub fn stay_listener<R: Threads + Wait + Clock + Net + Sync, I: Read + Drop>(
 }
 
 /// Runs a script, which begins with some objects and with labels that are bound to some of them, up to its first line that is `listen`, and then
-/// serves its mount as `stay_listener` does, on a port of 127.0.0.1.
+/// serves its mount to the connections that come to a port of 127.0.0.1, in so many threads, each of which accepts the next connection when its
+/// last one has ended. Meanwhile it makes the changes of the input's lines behind `listen`, as `eden_edend::run_changes` does.
 ///
 /// What the lines before `listen` print is written, and then `listening` and the port, once connections are taken there. Nothing else is written.
+///
+/// A connection ends when its peer ends it, with a fault, or behind 1,000,000 reads. That ends no other. Where not all of the threads can be
+/// made, there are fewer.
+///
+/// Once the input has ended, or a line has a fault, no connection is accepted any more, and those that are open end within 200 ms or so, whatever
+/// their peers do: what is not read or not written by then is lost. Then this ends too.
 ///
 /// # Errors
 ///
 /// - `BadLine`, with the number of the first line that can't be read, of `listen` where there is no mount, or of the line behind the last, where
 ///   the script ends before `listen`: no port is bound. Or with that of a line behind `listen` that changes no mount.
-/// - `NoConnection`, where the port can't be bound, or as `stay_listener` says.
-/// - `Read`, `Write`, `TurnsSpent` and `NoMemory` as those of `eden_edend::run`, of the lines before `listen`; and as `stay_listener` says.
+/// - `NoConnection`, where the port can't be bound, the system can't tell where it listens, or no thread could be made: no line behind `listen`
+///   is read.
+/// - `Read`, `Write`, `TurnsSpent` and `NoMemory` as those of `eden_edend::run`, of the lines before `listen`; and `Read`, `TurnsSpent` and
+///   `NoMemory`, where the lines behind it have ended so. A growth that was refused to a connection ends this connection alone.
 pub fn stay_program<
     R: Threads + Wait + Clock + Net<Listener = TcpListener, Stream = TcpStream> + Sync,
     I: Read + Drop,
