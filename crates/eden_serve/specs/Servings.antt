@@ -1,5 +1,5 @@
 -- How a program that serves ends, and what it notes.
-use Rattle.std.specs.Prelude.{◌≡◌, ℕ, List, [], ◌∷◌, ◌++◌, length}
+use Rattle.std.specs.Prelude.{◌≡◌, Bool, true, false, ℕ, List, [], ◌∷◌, ◌++◌, length}
 use Rattle.eden_accumulate.specs.Mounts.{StandsFor}
 use Rattle.eden_audit.specs.Audits.{Stored}
 use Rattle.eden_command.specs.declared.fault.ProgramFault.{ProgramFault}
@@ -25,6 +25,18 @@ program_fault ran.Read = faults.Read
 program_fault ran.Write = faults.Write
 program_fault ran.TurnsSpent = faults.TurnsSpent
 program_fault ran.NoMemory = faults.NoMemory
+
+-- why a program ends that serves what a script opened, and makes no audit: no fault of an audit or of a mirror
+abbrev pub stops_unaudited : ProgramFault → Bool
+stops_unaudited (faults.Refused cause) = false
+stops_unaudited faults.Unplaced = false
+stops_unaudited faults.Differ = false
+stops_unaudited fault = true
+
+-- why one ends that makes an audit
+abbrev pub stops_serving : ProgramFault → Bool
+stops_serving (faults.Refused cause) = true
+stops_serving fault = stops_unaudited fault
 
 -- A desk made a change, and noted it with the answer.
 pub record NotesChange (before : DeskView) (change : Change) (after : DeskView) : Type 0 where

@@ -1,11 +1,11 @@
 //! What comes before the first connection: the script up to `listen`, and the port.
 
-ghost use Rattle.std.specs.Prelude.{◌≡◌, ◌⊎◌, ℕ, IfErr, IfOk, IsErrOf, OnOk};
+ghost use Rattle.std.specs.Prelude.{◌≡◌, ◌⊎◌, true, ℕ, IfErr, IfOk, IsErrOf, OnOk};
 ghost use Rattle.std.specs.Io.KnownBytes.{Appends};
 ghost use Rattle.eden_script.specs.ScriptText.{script_text};
 ghost use Rattle.eden_script.specs.Sessions.{session_over};
 ghost use Rattle.eden_serve.specs.Printings.{OpensNothing, TellsOpening, TellsPort, listening_text};
-ghost use Rattle.eden_serve.specs.Servings.{program_fault};
+ghost use Rattle.eden_serve.specs.Servings.{program_fault, stops_unaudited};
 
 use eden_command::ProgramFault;
 use eden_edend::{LineInput, Objects, Opened, run_to_listen};
@@ -17,7 +17,8 @@ use std::net::{Ipv4Addr, Net, TcpListener, TcpStream};
 
 /// Why a program ends whose lines have ended so.
 pub fn program_fault(fault: RunFault) -> ProgramFault
-    ensures { result ≡ program_fault fault }
+    ensures told { result ≡ program_fault fault }
+    ensures cause { stops_unaudited result ≡ true }
 {
     match fault {
         RunFault::BadLine(number) => ProgramFault::BadLine(number),
@@ -106,6 +107,7 @@ pub fn listen<R: Net<Listener = TcpListener, Stream = TcpStream>, I: Read + Drop
         → OpensNothing (script_text (session_over objects.store objects.labels)) (I.remaining input) (W.contents writer.old) (W.contents writer.new) RunFault.TurnsSpent }
     ensures no_port { IsErrOf result ProgramFault.NoConnection
         → TellsOpening (script_text (session_over objects.store objects.labels)) (I.remaining input) (W.contents writer.old) (W.contents writer.new) }
+    ensures causes { IfErr result (λ fault. stops_unaudited fault ≡ true) }
 {
     let Ok(mut input) = LineInput::new(alloc, input) else {
         return Err(ProgramFault::NoMemory);

@@ -1,10 +1,11 @@
 //! The program: a script, a port, and the connections.
 
-ghost use Rattle.std.specs.Prelude.{◌≡◌, ◌≢◌, ◌⊎◌, ℕ, [], IfErr, IfOk, IsErrOf, IsOk, OnOk, codes};
+ghost use Rattle.std.specs.Prelude.{◌≡◌, ◌≢◌, ◌⊎◌, true, ℕ, [], IfErr, IfOk, IsErrOf, IsOk, OnOk, codes};
 ghost use Rattle.std.specs.Io.KnownBytes.{Appends, Keeps};
 ghost use Rattle.eden_script.specs.ScriptText.{script_text};
 ghost use Rattle.eden_script.specs.Sessions.{first_session, session_over};
 ghost use Rattle.eden_serve.specs.Printings.{OpensNothing, TellsAudit, TellsOpening, TellsPort};
+ghost use Rattle.eden_serve.specs.Servings.{stops_serving};
 
 use crate::auditing::{judge, tell_audit};
 use crate::listening::{Listening, listen, program_fault};
@@ -84,6 +85,7 @@ fn close<L: Ledger, O: Write>(
     ensures read { IsErrOf result ProgramFault.Read → Appends (O.contents output.old) (O.contents output.new) (codes "audit ok\n") }
     ensures turns_spent { IsErrOf result ProgramFault.TurnsSpent → Appends (O.contents output.old) (O.contents output.new) (codes "audit ok\n") }
     ensures bound { IfErr result (λ fault. fault ≢ ProgramFault.NoConnection) }
+    ensures causes { IfErr result (λ fault. stops_serving fault ≡ true) }
 {
     let Ended { passes, logs, ran } = ended;
     let audit = judge(alloc, shared, passes, logs.as_slice());
@@ -114,6 +116,7 @@ fn serve_behind<L: Ledger + Send + Sync, R: Threads + Wait + Sync, I: Read + Sen
     ensures read { IsErrOf result ProgramFault.Read → Appends (O.contents output.old) (O.contents output.new) (codes "audit ok\n") }
     ensures turns_spent { IsErrOf result ProgramFault.TurnsSpent → Appends (O.contents output.old) (O.contents output.new) (codes "audit ok\n") }
     ensures no_connection { IsErrOf result ProgramFault.NoConnection → Keeps (O.contents output.old) (O.contents output.new) }
+    ensures causes { IfErr result (λ fault. stops_serving fault ≡ true) }
 {
     let Opened {
         line,
@@ -167,6 +170,7 @@ pub fn serve_listener<R: Threads + Wait + Sync, I: Read + Send + Drop, O: Write>
     ensures read { IsErrOf result ProgramFault.Read → Appends (O.contents output.old) (O.contents output.new) (codes "audit ok\n") }
     ensures turns_spent { IsErrOf result ProgramFault.TurnsSpent → Appends (O.contents output.old) (O.contents output.new) (codes "audit ok\n") }
     ensures no_connection { IsErrOf result ProgramFault.NoConnection → Keeps (O.contents output.old) (O.contents output.new) }
+    ensures causes { IfErr result (λ fault. stops_serving fault ≡ true) }
 {
     serve_behind::<Brand, R, I, O>(
         rt,
@@ -211,6 +215,7 @@ pub fn serve_over<
     ensures no_connection { IsErrOf result ProgramFault.NoConnection
         → TellsOpening (script_text (session_over objects.store objects.labels)) (I.remaining input) (W.contents output.old) (W.contents output.new)
         ⊎ TellsPort (script_text (session_over objects.store objects.labels)) port (I.remaining input) (W.contents output.old) (W.contents output.new) }
+    ensures causes { IfErr result (λ fault. stops_serving fault ≡ true) }
 {
     let Listening {
         opened,
@@ -257,6 +262,7 @@ pub fn serve_program<
     ensures no_connection { IsErrOf result ProgramFault.NoConnection
         → TellsOpening (script_text first_session) (I.remaining input) (W.contents output.old) (W.contents output.new)
         ⊎ TellsPort (script_text first_session) port (I.remaining input) (W.contents output.old) (W.contents output.new) }
+    ensures causes { IfErr result (λ fault. stops_serving fault ≡ true) }
 {
     serve_over(
         rt,

@@ -1,12 +1,11 @@
 //! The lines behind `listen`, which change what stays.
 
-use eden_command::ProgramFault;
 use eden_edend::{Changer, Labels, LineInput, run_changes};
 use eden_history::Change;
 use eden_ids::{Naming, NoMemory};
 use eden_query::Served;
 use eden_resident::Resident;
-use eden_serve::program_fault;
+use eden_stream::RunFault;
 use std::alloc::Global;
 use std::io::Read;
 use std::sync::Wait;
@@ -39,22 +38,19 @@ pub(crate) struct Lines<I: Read + Drop> {
 }
 
 impl<I: Read + Drop> Lines<I> {
-    /// Makes the changes of the lines, to the end of the input or the first fault.
+    /// Makes the changes of the lines, to the end of the input or the first fault. Gives the number of the last line.
     pub(crate) fn run<N: Naming + Drop, T: Served<N>, R: Wait>(
         self,
         rt: &R,
         alloc: Global,
         resident: &Resident<N, T>,
-    ) -> Result<(), ProgramFault> {
+    ) -> Result<u64, RunFault> {
         let Lines {
             mut input,
             labels,
             from,
         } = self;
         let mut writer = Writer { rt, resident };
-        match run_changes(alloc, &mut input, &labels, from, &mut writer) {
-            Ok(_) => Ok(()),
-            Err(fault) => Err(program_fault(fault)),
-        }
+        run_changes(alloc, &mut input, &labels, from, &mut writer)
     }
 }

@@ -1,16 +1,17 @@
 //! The program: a script up to `listen`, the threads that serve what it mounted, and the lines behind.
 
-ghost use Rattle.std.specs.Prelude.{OnOk};
+ghost use Rattle.std.specs.Prelude.{◌≡◌, ◌⊎◌, true, ℕ, IfErr, IsErrOf, OnOk};
 ghost use Rattle.eden_script.specs.ScriptText.{script_text};
 ghost use Rattle.eden_script.specs.Sessions.{session_over};
-ghost use Rattle.eden_serve.specs.Printings.{TellsPort};
+ghost use Rattle.eden_serve.specs.Printings.{OpensNothing, TellsOpening, TellsPort};
+ghost use Rattle.eden_serve.specs.Servings.{stops_unaudited};
 
 use crate::lines::Lines;
 use crate::station::Station;
 use eden_command::ProgramFault;
 use eden_edend::{LineInput, Objects, Opened};
-use eden_serve::{Listening, listen};
-use eden_stream::CountedWrite;
+use eden_serve::{Listening, listen, program_fault};
+use eden_stream::{CountedWrite, RunFault};
 use std::alloc::Global;
 use std::io::Read;
 use std::net::{Net, TcpListener, TcpStream};
@@ -19,28 +20,29 @@ use std::thread;
 use std::thread::Threads;
 use std::time::Clock;
 
-/// Serves connections in so many threads, or in as many as can be made, while the lines run. Ends once all of them have ended.
+/// Serves connections in so many threads, or in as many as can be made, while the lines run. Ends once all of them have ended, and tells how the
+/// lines have ended; or nothing, where no thread could be made: then no line is read.
 fn run_threads<R: Threads + Wait + Clock + Net + Sync, I: Read + Drop>(
     rt: &R,
     alloc: Global,
     station: &Station,
     lines: Lines<I>,
     threads: u64,
-) -> Result<(), ProgramFault> {
+) -> Option<Result<u64, RunFault>> {
     thread::scope(
         thread::scope_env(),
         rt,
-        move |scope| -> Result<(), ProgramFault> {
+        move |scope| -> Option<Result<u64, RunFault>> {
             let mut serves = false;
             for _ in 0..threads {
                 serves |= scope.spawn(move || station.accept_all(rt, alloc)).is_ok();
             }
             if !serves {
-                return Err(ProgramFault::NoConnection);
+                return None;
             }
             let ended = lines.run(rt, alloc, &station.resident);
             station.close(rt, threads);
-            ended
+            Some(ended)
         },
     )
 }
@@ -53,7 +55,9 @@ fn stay_listener<R: Threads + Wait + Clock + Net + Sync, I: Read + Drop>(
     input: LineInput<I>,
     listener: TcpListener,
     threads: u64,
-) -> Result<(), ProgramFault> {
+) -> Result<(), ProgramFault>
+    ensures { IfErr result (λ fault. stops_unaudited fault ≡ true) }
+{
     let Opened {
         line,
         mount,
@@ -65,7 +69,11 @@ fn stay_listener<R: Threads + Wait + Clock + Net + Sync, I: Read + Drop>(
         labels,
         from: line,
     };
-    run_threads(rt, alloc, &station, lines, threads)
+    match run_threads(rt, alloc, &station, lines, threads) {
+        Some(Ok(_)) => Ok(()),
+        Some(Err(fault)) => Err(program_fault(fault)),
+        None => Err(ProgramFault::NoConnection),
+    }
 }
 
 /// Runs a script, which begins with some objects and with labels that are bound to some of them, up to its first line that is `listen`, and then
@@ -114,6 +122,7 @@ pub fn stay_program<
     ensures no_connection { IsErrOf result ProgramFault.NoConnection
         → TellsOpening (script_text (session_over objects.store objects.labels)) (I.remaining input) (W.contents writer.old) (W.contents writer.new)
         ⊎ TellsPort (script_text (session_over objects.store objects.labels)) port (I.remaining input) (W.contents writer.old) (W.contents writer.new) }
+    ensures causes { IfErr result (λ fault. stops_unaudited fault ≡ true) }
 {
     let Listening {
         opened,

@@ -1,5 +1,7 @@
 //! A mount that stays, and where connections to it are accepted.
 
+ghost use Rattle.std.specs.Prelude.{◌≡◌, IfErr};
+
 use crate::stopping::Stoppable;
 use eden_accumulate::Mount;
 use eden_command::ProgramFault;
@@ -33,7 +35,9 @@ impl Station {
     pub(crate) fn new(
         mount: Mount<GitNaming>,
         listener: TcpListener,
-    ) -> Result<Station, ProgramFault> {
+    ) -> Result<Station, ProgramFault>
+        ensures { IfErr result (λ fault. fault ≡ ProgramFault.NoConnection) }
+    {
         let Ok(address) = listener.local_addr() else {
             return Err(ProgramFault::NoConnection);
         };
