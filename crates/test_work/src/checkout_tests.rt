@@ -22,12 +22,15 @@ const EACH_RULE: &str =
 /// What is changed over the first of these.
 const CHANGES: &str = "write b w;write d w;write m w;write u w;write e y;remove k;remove q";
 
-/// Objects, the commit that is held, what is changed over it, and then checkouts: `c` or `d`, a mode, what is told, and the files.
+/// A checkout: `c` or `d`, a mode, what is told, and the files.
+type Checkout = (&'static str, Mode, &'static str, &'static str);
+
+/// Objects, the commit that is held, what is changed over it, and then checkouts.
 type Case = (
     &'static str,
     &'static str,
     &'static str,
-    &'static [(&'static str, Mode, &'static str, &'static str)],
+    &'static [Checkout],
 );
 
 const CASES: &[Case] = &[
@@ -88,6 +91,14 @@ fn objects_of(alloc: Global, levels: u32, script: &str) -> Result<Objects, Fail>
     Ok(objects)
 }
 
+/// Makes changes, refused ones among them.
+fn change_all(alloc: Global, made: &mut Mounted, changes: &str) -> Result<(), Fail> {
+    for change in changes.split(';') {
+        let _ = made.change(alloc, change)?;
+    }
+    Ok(())
+}
+
 /// A working copy over these objects, over which changes were made, refused ones among them; and its commits `c` and `d`.
 fn changed_over(
     alloc: Global,
@@ -98,9 +109,7 @@ fn changed_over(
     let ids = [objects.id("c"), objects.id("d")];
     let root = objects.id(root);
     let mut made = Mounted::over(alloc, objects.store, root)?;
-    for change in changes.split(';') {
-        let _ = made.change(alloc, change)?;
-    }
+    change_all(alloc, &mut made, changes)?;
     Ok((made, ids))
 }
 
@@ -109,6 +118,16 @@ fn first_wrong(alloc: Global, levels: u32, case: &Case) -> Result<Option<usize>,
     let (script, root, changes, checkouts) = case;
     let objects = objects_of(alloc, levels, script)?;
     let (mut made, ids) = changed_over(alloc, objects, root, changes)?;
+    first_other(alloc, &mut made, ids, checkouts)
+}
+
+/// The first of these checkouts that tells something else, or leaves other files, from 0.
+fn first_other(
+    alloc: Global,
+    made: &mut Mounted,
+    ids: [Id; 2],
+    checkouts: &[Checkout],
+) -> Result<Option<usize>, Fail> {
     for (place, (label, mode, told, files)) in checkouts.iter().enumerate() {
         let commit = if *label == "c" { ids[0] } else { ids[1] };
         let text = made.checkout(alloc, commit, *mode)?;
@@ -149,15 +168,21 @@ fn fault_of(alloc: Global, made: &Mounted, commit: Id, mode: Mode) -> Option<Com
     plan(alloc, &made.store, &made.work, commit, mode).err()
 }
 
+/// Whether a commit that the store does not have is refused in each mode.
+fn refuses_a_stranger(alloc: Global, made: &Mounted) -> bool {
+    for mode in [Mode::Normal, Mode::Dry, Mode::Force] {
+        if fault_of(alloc, made, Id([1; 20]), mode) != Some(CommitFault::NoCommit) {
+            return false;
+        }
+    }
+    true
+}
+
 #[test]
 fn no_commit(rt: HostRuntime) -> Result<(), Fail> {
     let alloc = rt.alloc();
     let objects = Objects::of(alloc, "blob x x;tree t 100644 a x;commit c t")?;
-    let commit = objects.id("c");
-    let made = Mounted::over(alloc, objects.store, commit)?;
-    for mode in [Mode::Normal, Mode::Dry, Mode::Force] {
-        let fault = fault_of(alloc, &made, Id([1; 20]), mode);
-        assert_eq!(rt; fault, Some(CommitFault::NoCommit));
-    }
+    let made = Mounted::over_first(alloc, objects)?;
+    assert!(rt; refuses_a_stranger(alloc, &made));
     Ok(())
 }

@@ -3,6 +3,7 @@
 
 use crate::mounted::Mounted;
 use eden_history::{ChangeFault, Mode};
+use eden_ids::Id;
 use std::alloc::Global;
 use std::test::Fail;
 use test_kit::Objects;
@@ -240,6 +241,20 @@ const CHECKOUTS: &[(Mode, &str, &str)] = &[
     ),
 ];
 
+/// What is told of a checkout of this commit once a directory is renamed, and the files that it leaves.
+fn rename_and_check_out(
+    alloc: Global,
+    mounted: &mut Mounted,
+    commit: Id,
+    mode: Mode,
+) -> Result<(Vec<u8>, Vec<u8>), Fail> {
+    if mounted.change(alloc, "renamedir d b")?.is_some() {
+        return Err(Fail::new("a directory is not renamed"));
+    }
+    let text = mounted.checkout(alloc, commit, mode)?;
+    Ok((text, mounted.held(alloc)?))
+}
+
 #[test]
 fn checkouts_over_renamed_directories(rt: HostRuntime) -> Result<(), Fail> {
     let alloc = rt.alloc();
@@ -247,10 +262,8 @@ fn checkouts_over_renamed_directories(rt: HostRuntime) -> Result<(), Fail> {
         let objects = Objects::of(alloc, COMMITS)?;
         let second = objects.id("k");
         let mut mounted = Mounted::over_first(alloc, objects)?;
-        assert_eq!(rt; mounted.change(alloc, "renamedir d b")?, None);
-        let text = mounted.checkout(alloc, second, *mode)?;
+        let (text, held) = rename_and_check_out(alloc, &mut mounted, second, *mode)?;
         assert!(rt; text.as_slice() == told.as_bytes(), "{files}");
-        let held = mounted.held(alloc)?;
         assert!(rt; held.as_slice() == files.as_bytes(), "{files}");
     }
     Ok(())

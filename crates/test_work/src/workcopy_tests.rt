@@ -180,7 +180,15 @@ const OF_DIRECTORIES: &[Step] = &[
 ];
 
 /// What it is called, a commit `c`, changes over it, and a file that stands then, with what it holds.
-const OVER_COMMITS: &[(&str, &str, &[Step], &str, &str)] = &[
+type OverCommit = (
+    &'static str,
+    &'static str,
+    &'static [Step],
+    &'static str,
+    &'static str,
+);
+
+const OVER_COMMITS: &[OverCommit] = &[
     (
         "changes_over_a_commit",
         "blob b 1;tree d 100644 x b;tree t 100644 a b 100644 a.b b 40000 d d;commit c t",
@@ -202,17 +210,35 @@ fn root_of(work: &WorkCopy) -> Result<Id, Fail> {
     Ok(work.copy()?.root())
 }
 
+/// The first change that goes otherwise than its case says, or the file that is read otherwise behind all of them, or over another root.
+fn first_wrong_over(
+    alloc: Global,
+    mounted: &mut Mounted,
+    root: Id,
+    case: &OverCommit,
+) -> Result<Option<&'static str>, Fail> {
+    let (_, _, steps, path, text) = case;
+    let wrong = first_wrong(alloc, mounted, steps)?;
+    if wrong.is_some() {
+        return Ok(wrong);
+    }
+    let reads = mounted.reads(alloc, path, Kind::Plain, text)?;
+    let stays = root_of(&mounted.work)? == root;
+    Ok(if reads && stays { None } else { Some(*path) })
+}
+
+/// What goes otherwise than a case says, over its own commit, if anything does.
+fn wrong_of(alloc: Global, case: &OverCommit) -> Result<Option<&'static str>, Fail> {
+    let objects = Objects::of(alloc, case.1)?;
+    let root = objects.id("c");
+    let mut mounted = Mounted::over_first(alloc, objects)?;
+    first_wrong_over(alloc, &mut mounted, root, case)
+}
+
 #[test]
 fn changes_over_commits(rt: HostRuntime) -> Result<(), Fail> {
-    let alloc = rt.alloc();
-    for (name, script, steps, path, text) in OVER_COMMITS {
-        let objects = Objects::of(alloc, script)?;
-        let root = objects.id("c");
-        let mut mounted = Mounted::over_first(alloc, objects)?;
-        let wrong = first_wrong(alloc, &mut mounted, steps)?;
-        assert!(rt; wrong.is_none(), "{name}: {wrong:?}");
-        let reads = mounted.reads(alloc, path, Kind::Plain, text)?;
-        assert!(rt; reads && root_of(&mounted.work)? == root, "{name}");
+    for case in OVER_COMMITS {
+        assert_eq!(rt; wrong_of(rt.alloc(), case)?, None, "{}", case.0);
     }
     Ok(())
 }
@@ -385,6 +411,29 @@ const WOVEN: &[(&str, &str)] = &[
     ("d/*", "d/x d/y "),
 ];
 
+/// Takes `a` away, and puts files at `b` and `d/y`.
+fn touch(alloc: Global, work: &mut WorkCopy) -> Result<(), Fail> {
+    set(alloc, work, "a", None)?;
+    for at in ["b", "d/y"] {
+        set(alloc, work, at, Some(plain(alloc, "2")?))?;
+    }
+    Ok(())
+}
+
+/// The first pattern of the table that admits other paths.
+fn first_wrong_woven(
+    alloc: Global,
+    store: &Store<GitNaming>,
+    work: &WorkCopy,
+) -> Result<Option<&'static str>, Fail> {
+    for (pattern, wanted) in WOVEN {
+        if woven_text(alloc, store, work, pattern)?.as_slice() != wanted.as_bytes() {
+            return Ok(Some(*pattern));
+        }
+    }
+    Ok(None)
+}
+
 // The commit has `a`, `a.b` and `d/x`; over it `a` is gone, and `b` and `d/y` are there.
 #[test]
 fn touched_paths_lie_over_a_commit(rt: HostRuntime) -> Result<(), Fail> {
@@ -392,13 +441,7 @@ fn touched_paths_lie_over_a_commit(rt: HostRuntime) -> Result<(), Fail> {
     let script = "blob b 1;tree d 100644 x b;tree t 100644 a b 100644 a.b b 40000 d d;commit c t";
     let objects = Objects::of(alloc, script)?;
     let mut work = work_over(alloc, &objects.store, objects.id("c"))?;
-    set(alloc, &mut work, "a", None)?;
-    for at in ["b", "d/y"] {
-        set(alloc, &mut work, at, Some(plain(alloc, "2")?))?;
-    }
-    for (pattern, wanted) in WOVEN {
-        let text = woven_text(alloc, &objects.store, &work, pattern)?;
-        assert!(rt; text.as_slice() == wanted.as_bytes(), "{pattern}");
-    }
+    touch(alloc, &mut work)?;
+    assert_eq!(rt; first_wrong_woven(alloc, &objects.store, &work)?, None);
     Ok(())
 }
