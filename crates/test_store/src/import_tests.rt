@@ -85,7 +85,7 @@ const ONE_BLOB: Blobs<'static> = [Some(b"ab"), None, None];
 const TWO_BLOBS: Blobs<'static> = [Some(b"ab"), Some(b"b"), None];
 
 /// Imports into one store, one after another: the objects, the first one that is refused, and the blobs then.
-const IMPORTS: &[(&[Part], Option<Bad>, Blobs<'static>)] = &[
+const IMPORTS: [(&[Part], Option<Bad>, Blobs<'static>); 11] = [
     (&[], None, NO_BLOB),
     (&[AB, AC], Some((1, PutFault::IdTaken)), NO_BLOB),
     // The first fault is told.
@@ -107,7 +107,7 @@ const IMPORTS: &[(&[Part], Option<Bad>, Blobs<'static>)] = &[
 #[test]
 fn import_refusals(rt: HostRuntime) -> Result<(), Fail> {
     let mut store = Store::new(rt.alloc(), FirstByte);
-    for (parts, bad, held) in IMPORTS {
+    for (parts, bad, held) in &IMPORTS {
         assert!(rt; import_parts(&mut store, parts)? == *bad, "{parts:?}");
         assert!(rt; blobs(&store) == *held, "{parts:?}");
     }

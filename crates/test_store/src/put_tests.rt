@@ -344,7 +344,7 @@ fn deep_trees(rt: HostRuntime) -> Result<(), Fail> {
 }
 
 /// How long a file's name is, and why the tree above three more is refused, as `d`, `Z` and `Y`.
-const LENGTHS: &[(usize, [Option<PutFault>; 3])] = &[
+const LENGTHS: [(usize, [Option<PutFault>; 3]); 2] = [
     (255, [Some(PutFault::PathTooLong); 3]),
     (254, [None, Some(PutFault::ZeroId), Some(PutFault::IdTaken)]),
 ];
@@ -362,7 +362,7 @@ fn long_store(alloc: Global, length: usize) -> Result<(Store<Marked>, Id), Fail>
 #[test]
 fn long_paths(rt: HostRuntime) -> Result<(), Fail> {
     let alloc = rt.alloc();
-    for (length, answers) in LENGTHS {
+    for (length, answers) in &LENGTHS {
         let (mut store, top) = long_store(alloc, *length)?;
         for (name, answer) in ["d", "Z", "Y"].iter().zip(answers) {
             let fault = fault_of(alloc, &mut store, name.as_bytes(), top)?;
