@@ -1,12 +1,15 @@
 #!/usr/bin/env python3
-"""Runs mirrors of railburnet.py beside `edend serve` on generated changes, and compares them with what `edend run` lists and reads.
+"""Runs mirrors of railburnet.py beside `edend serve` on generated changes, and compares them with
+what `edend run` lists and reads.
 
     EDEND=PROGRAM clients/tests/compare.py [--rounds N] [--seeds N]
 
-Of each seed 100 rounds of up to twelve lines go to `edend serve`: writes, removals, renames of files and of directories, checkouts, resets,
-flushes and remounts, some of which are refused. After each round a mirror of all files, one with patterns, and each seventh time one that has
-fallen behind, go on until they are placed at the position that `edend run` prints after the same lines, and have to hold just the files that its
-`list` and `read` print there. In the end `edend serve` has to print `audit ok`. Status 1 at the first difference.
+Of each seed 100 rounds of up to twelve lines go to `edend serve`: writes, removals, renames of
+files and of directories, checkouts, resets, flushes and remounts, some of which are refused.
+After each round a mirror of all files, one with patterns, and each seventh time one that has
+fallen behind, go on until they are placed at the position that `edend run` prints after the same
+lines, and have to hold just the files that its `list` and `read` print there. In the end `edend
+serve` has to print `audit ok`. Status 1 at the first difference.
 """
 import argparse
 import os
@@ -30,7 +33,11 @@ tree u 40000 d s 100755 a x 40000 e s 100644 z x
 commit one t
 commit two u
 """
-KINDS = {b"plain": railburnet.Kind.PLAIN, b"exec": railburnet.Kind.EXEC, b"link": railburnet.Kind.LINK}
+KINDS = {
+    b"plain": railburnet.Kind.PLAIN,
+    b"exec": railburnet.Kind.EXEC,
+    b"link": railburnet.Kind.LINK,
+}
 ESCAPES = {b"\\\\": b"\\", b"\\n": b"\n", b"\\s": b" ", b"\\e": b""}
 
 
@@ -55,14 +62,29 @@ def generated(seed, rounds):
         nonlocal generation
         how = chance.random()
         if how < 0.55:
-            text = chance.choice([b"\\e", b"hi", b"more\\stext\\n", b"%d" % chance.randrange(1000), b"\x00\xff" * chance.randrange(1, 5000)])
-            return b"write %s %s %s" % (path(), chance.choice([b"plain", b"plain", b"exec", b"link"]), text)
+            text = chance.choice(
+                [
+                    b"\\e",
+                    b"hi",
+                    b"more\\stext\\n",
+                    b"%d" % chance.randrange(1000),
+                    b"\x00\xff" * chance.randrange(1, 5000),
+                ]
+            )
+            return b"write %s %s %s" % (
+                path(),
+                chance.choice([b"plain", b"plain", b"exec", b"link"]),
+                text,
+            )
         if how < 0.65:
             return b"remove " + path()
         if how < 0.85:
             return b"%s %s %s" % (chance.choice([b"rename", b"renamedir"]), path(), path())
         if how < 0.92:
-            return b"checkout %s %s" % (chance.choice([b"one", b"two", b"empty"]), chance.choice([b"normal", b"force", b"dry"]))
+            return b"checkout %s %s" % (
+                chance.choice([b"one", b"two", b"empty"]),
+                chance.choice([b"normal", b"force", b"dry"]),
+            )
         if how < 0.95:
             return b"reset " + chance.choice([b"one", b"two", b"empty"])
         if how < 0.98:
@@ -77,7 +99,9 @@ class Printed:
     """What `edend run` printed, line by line."""
 
     def __init__(self, edend, lines):
-        done = subprocess.run([edend, "run"], input=b"\n".join(lines) + b"\n", stdout=subprocess.PIPE, check=True)
+        done = subprocess.run(
+            [edend, "run"], input=b"\n".join(lines) + b"\n", stdout=subprocess.PIPE, check=True
+        )
         self._lines = iter(done.stdout.split(b"\n"))
 
     def line(self):
@@ -98,7 +122,8 @@ class Printed:
 
 
 def expected(edend, head, rounds):
-    """After each round the generation and number, the files, and those that the patterns admit, as `edend run` prints them."""
+    """After each round the generation and number, the files, and those that the patterns admit,
+    as `edend run` prints them."""
     asked = [b"position", b"list", b"list " + b" ".join(PATTERNS)]
     first = Printed(edend, head + [line for lines in rounds for line in lines + asked])
     listed = []
@@ -109,7 +134,15 @@ def expected(edend, head, rounds):
             first.change(line)
         _, generation, number, _ = first.line().split()
         listed.append(((int(generation), int(number)), first.paths(), first.paths()))
-    second = Printed(edend, head + [line for lines, (_, paths, _) in zip(rounds, listed) for line in lines + [b"read " + path for path in paths]])
+    second = Printed(
+        edend,
+        head
+        + [
+            line
+            for lines, (_, paths, _) in zip(rounds, listed)
+            for line in lines + [b"read " + path for path in paths]
+        ],
+    )
     for _ in head:
         second.line()
     for lines, (place, paths, admitted) in zip(rounds, listed):
@@ -124,7 +157,10 @@ def go_on(client, mirror, place):
     end = time.monotonic() + 30
     for count in range(1, 1_000_000):
         client.round(mirror)
-        if mirror.position is not None and (mirror.position.generation, mirror.position.sequence) == place:
+        if (
+            mirror.position is not None
+            and (mirror.position.generation, mirror.position.sequence) == place
+        ):
             return count
         if time.monotonic() > end:
             raise Differs(f"not placed at {place}, but {mirror.position}")
@@ -137,7 +173,11 @@ def compare(edend, seed, count):
     rounds = generated(seed, count)
     told = list(expected(edend, head, rounds))
     port = free_port()
-    server = subprocess.Popen([edend, "serve", "--port", str(port), "--connections", "3"], stdin=subprocess.PIPE, stdout=subprocess.PIPE)
+    server = subprocess.Popen(
+        [edend, "serve", "--port", str(port), "--connections", "3"],
+        stdin=subprocess.PIPE,
+        stdout=subprocess.PIPE,
+    )
     server.stdin.write(b"\n".join(head + [b"listen", b""]))
     server.stdin.flush()
     while server.stdout.readline() != b"listening %d\n" % port:
@@ -155,18 +195,23 @@ def compare(edend, seed, count):
             made += go_on(clients[which], mirrors[which], place)
             files += len(wanted)
             if mirrors[which].files != wanted:
-                raise Differs(f"seed {seed}, round {turn}, mirror {which}: {sorted(mirrors[which].files)} and not {sorted(wanted)}")
+                raise Differs(
+                    f"seed {seed}, round {turn}, mirror {which}: {sorted(mirrors[which].files)} "
+                    f"and not {sorted(wanted)}"
+                )
     for client in clients:
         client.close()
     server.stdin.close()
     ended = server.stdout.read()
-    if server.wait(30) != 0 or ended != b"audit ok\n":
+    if server.wait(120) != 0 or ended != b"audit ok\n":
         raise Differs(f"seed {seed}: serve printed {ended!r} and ended with {server.returncode}")
     return made, files
 
 
 def main():
-    parser = argparse.ArgumentParser(description=__doc__, formatter_class=argparse.RawDescriptionHelpFormatter)
+    parser = argparse.ArgumentParser(
+        description=__doc__, formatter_class=argparse.RawDescriptionHelpFormatter
+    )
     parser.add_argument("--rounds", type=int, default=100)
     parser.add_argument("--seeds", type=int, default=5)
     options = parser.parse_args()
@@ -181,8 +226,11 @@ def main():
     except Differs as difference:
         print(f"compare.py: {difference}", file=sys.stderr)
         return 1
-    print(f"{options.seeds} seeds of {options.rounds} rounds: {made:,} rounds of mirrors are equal to what edend lists and reads, "
-          f"{files:,} files; audit ok")
+    print(
+        f"{options.seeds} seeds of {options.rounds} rounds: {made:,} rounds of mirrors are equal "
+        f"to what edend lists and reads, "
+        f"{files:,} files; audit ok"
+    )
     return 0
 
 

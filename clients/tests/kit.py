@@ -14,7 +14,8 @@ import unittest
 HERE = os.path.dirname(os.path.realpath(__file__))
 CLIENTS = os.path.dirname(HERE)
 sys.path.insert(0, os.path.join(CLIENTS, "python"))
-# A shell that runs the tests in the background has them ignore interrupts, and what they start would ignore them too.
+# A shell that runs the tests in the background has them ignore interrupts, and what they start
+# would ignore them too.
 signal.signal(signal.SIGINT, signal.default_int_handler)
 
 
@@ -24,13 +25,13 @@ def free_port():
         return server.getsockname()[1]
 
 
-def client(name):
-    """The command line of one of the programs."""
-    return [sys.executable, os.path.join(CLIENTS, name)]
+def client(*words):
+    """The command `railburnet` with these words, as a command line."""
+    return [sys.executable, os.path.join(CLIENTS, "railburnet"), *words]
 
 
-def wait_until(true, seconds=20.0):
-    """Waits until something holds, and says whether it does."""
+def wait_until(true, seconds=120.0):
+    """Waits until something holds, and returns whether it does. A busy machine takes long."""
     end = time.monotonic() + seconds
     while not true():
         if time.monotonic() > end:
@@ -45,7 +46,9 @@ def change(top, seed, count):
     names = ["a", "b", "c d", "\n", "é"]
 
     def path():
-        return os.path.join(top, *(chance.choice(names) for _ in range(chance.choice((1, 2, 2, 3)))))
+        return os.path.join(
+            top, *(chance.choice(names) for _ in range(chance.choice((1, 2, 2, 3))))
+        )
 
     for _ in range(count):
         with contextlib.suppress(OSError):
@@ -80,6 +83,9 @@ class InFolder(unittest.TestCase):
         self.folder = tempfile.mkdtemp(prefix="railburnet-")
         os.chmod(self.folder, 0o755)
         self._started = []
+        # What is kept of directories for good is the test's own.
+        self._state = os.environ.get("RAILBURNET_STATE")
+        os.environ["RAILBURNET_STATE"] = self.path("state")
 
     def tearDown(self):
         for process in self._started:
@@ -88,6 +94,9 @@ class InFolder(unittest.TestCase):
                     stream.close()
             process.kill()
             process.wait()
+        del os.environ["RAILBURNET_STATE"]
+        if self._state is not None:
+            os.environ["RAILBURNET_STATE"] = self._state
         shutil.rmtree(self.folder, ignore_errors=True)
 
     def path(self, *names):
@@ -107,10 +116,24 @@ class InFolder(unittest.TestCase):
             return file.read()
 
     def server(self, script, port=None, objects=None, source=None):
-        """`edend serve` as EDEND names it, or the stand-in, behind a script up to `listen`; its port, and where more lines go."""
+        """`edend serve` as EDEND names it, or the stand-in, behind a script up to `listen`; its
+        port, and where more lines go."""
         port = port or free_port()
-        program = [os.environ["EDEND"]] if os.environ.get("EDEND") else [sys.executable, os.path.join(HERE, "stand_in.py")]
-        words = [*program, "serve", "--port", str(port), "--connections", "8", "--stay", *(["--objects", objects] if objects else [])]
+        program = (
+            [os.environ["EDEND"]]
+            if os.environ.get("EDEND")
+            else [sys.executable, os.path.join(HERE, "stand_in.py")]
+        )
+        words = [
+            *program,
+            "serve",
+            "--port",
+            str(port),
+            "--connections",
+            "8",
+            "--stay",
+            *(["--objects", objects] if objects else []),
+        ]
         server = self.started(words, stdin=source or subprocess.PIPE, stdout=subprocess.PIPE)
         if source is None:
             server.stdin.write(script + b"listen\n")

@@ -1,5 +1,5 @@
-"""feed: the lines that it prints make of a mount what the directory holds, whatever happens there."""
-import io
+"""feed: the lines that it prints make of a mount what the directory holds, whatever happens
+there."""
 import os
 import shutil
 import signal
@@ -7,20 +7,26 @@ import stat
 import subprocess
 import sys
 import threading
+import time
 import unittest
 
-from kit import InFolder, change, client, wait_until
-from stand_in import Refusal, World, read_commits, words_of
+from kit import CLIENTS, InFolder, change, client, wait_until
+from stand_in import Refusal, World, words_of
+
+from railburnet.frames import OWN_PATHS
 
 
 class Fed(InFolder):
-    """A feeder of the folder `w`, and a mount that does what its lines say; a line that the mount refuses fails the test."""
+    """A feeder of the folder `w`, and a mount that does what its lines say; a line that the
+    mount refuses fails the test."""
 
     def feed(self, *options, commits=None, words=None, **how):
         """Starts a feeder."""
         self.commits = commits or {b"empty": (bytes(20), {})}
         self.world, self.lines_of, self.fault = None, [], None
-        self.feeder = self.started([*(words or client("feed")), *options, self.path("w")], stdout=subprocess.PIPE, **how)
+        self.feeder = self.started(
+            [*(words or client("feed")), *options, self.path("w")], stdout=subprocess.PIPE, **how
+        )
         self.reader = threading.Thread(target=self.take, daemon=True)
         self.reader.start()
 
@@ -52,35 +58,65 @@ class Fed(InFolder):
         for folder, folders, names in os.walk(os.fsencode(self.path("w"))):
             if b".git" in folders:
                 folders.remove(b".git")
-            for name in names + [name for name in folders if os.path.islink(os.path.join(folder, name))]:
+            for name in names + [
+                name for name in folders if os.path.islink(os.path.join(folder, name))
+            ]:
                 full = os.path.join(folder, name)
                 status = os.lstat(full)
                 if stat.S_ISLNK(status.st_mode):
-                    files[os.path.relpath(full, os.fsencode(self.path("w")))] = (3, os.readlink(full))
+                    files[os.path.relpath(full, os.fsencode(self.path("w")))] = (
+                        3,
+                        os.readlink(full),
+                    )
                 elif stat.S_ISREG(status.st_mode) and status.st_size <= most:
                     with open(full, "rb") as file:
-                        files[os.path.relpath(full, os.fsencode(self.path("w")))] = (2 if status.st_mode & 0o100 else 1, file.read())
+                        files[os.path.relpath(full, os.fsencode(self.path("w")))] = (
+                            2 if status.st_mode & 0o100 else 1,
+                            file.read(),
+                        )
         return files
+
+    def held(self):
+        """The files of the mount, without those that feed keeps there for itself."""
+        return {
+            path: file
+            for path, file in list(self.world.files.items())
+            if not path.startswith(OWN_PATHS + b"/")
+        }
 
     def equal(self):
         """Waits until the mount holds what the directory does."""
+
         def holds():
             self.assertIsNone(self.fault)
-            return self.world is not None and dict(self.world.files) == self.directory()
+            return self.world is not None and self.held() == self.directory()
 
         if not wait_until(holds):
-            held, there = dict(self.world.files), self.directory()
-            self.fail({path: (held.get(path), there.get(path)) for path in {*held, *there} if held.get(path) != there.get(path)})
+            held, there = self.held(), self.directory()
+            unequal = {
+                path: (held.get(path), there.get(path))
+                for path in {*held, *there}
+                if held.get(path) != there.get(path)
+            }
+            self.fail(f"{unequal!r:.1000}; {self.since(-10)!r:.1000}")
 
     def settled(self):
         """Waits until the feeder follows, and all that it prints was read."""
-        self.assertTrue(wait_until(lambda: b"following" in self.text("stderr")), self.text("stderr"))
+        self.assertTrue(
+            wait_until(lambda: b"following" in self.text("stderr")), self.text("stderr")
+        )
         self.equal()
 
     def follows(self, *names):
-        """Waits until the feeder follows, and the mount holds just these files: what it printed may be read later than what it told."""
-        self.assertTrue(wait_until(lambda: b"following" in self.text("stderr")), self.text("stderr"))
-        self.assertTrue(wait_until(lambda: self.world is not None and set(self.world.files) == {*names}), self.lines_of)
+        """Waits until the feeder follows, and the mount holds just these files: what it printed
+        may be read later than what it told."""
+        self.assertTrue(
+            wait_until(lambda: b"following" in self.text("stderr")), self.text("stderr")
+        )
+        self.assertTrue(
+            wait_until(lambda: self.world is not None and set(self.world.files) == {*names}),
+            self.lines_of,
+        )
 
     def write(self, name, text):
         path = os.path.join(os.fsencode(self.path("w")), name)
@@ -105,7 +141,18 @@ class Following(Fed):
         os.mkdir(self.path("w"))
 
     def test_names(self):
-        for name in (b"with space", b"line\nfeed", b"\xff\xfe", b"back\\slash", b"cr\r", b"-rf", b"d\n/\\n/\xc3\xa9", b".h", b"\x01", b"x" * 255):
+        for name in (
+            b"with space",
+            b"line\nfeed",
+            b"\xff\xfe",
+            b"back\\slash",
+            b"cr\r",
+            b"-rf",
+            b"d\n/\\n/\xc3\xa9",
+            b".h",
+            b"\x01",
+            b"x" * 255,
+        ):
             self.write(name, name + b"\n\r")
             self.write(name + b"2" if len(name) < 255 else b"y", b"\r")
         os.symlink("/etc/passwd\r", self.path("w", "link"))
@@ -114,6 +161,25 @@ class Following(Fed):
         os.rename(self.path("w", "with space"), self.path("w", "an other"))
         self.equal()
         self.assertIn(b"rename with\\sspace an\\sother\n", self.lines_of)
+
+    def test_repository_below(self):
+        """A directory becomes a repository of its own, and none again: each is told once."""
+        for name in (b"a", b"sub/x"):
+            self.write(name, b"1")
+        self.feed("--empty")
+        self.settled()
+        told = b"write sub/.git plain \\e\n"
+        for made in (True, False):
+            count = len(self.lines_of)
+            (os.mkdir if made else os.rmdir)(self.path("w", "sub", ".git"))
+            both = [told, b"remove sub/.git\n"]
+            wait_until(lambda: len(self.lines_of) >= count + len(both))
+            self.assertEqual(self.lines_of[count:], both)
+        count = len(self.lines_of)
+        os.makedirs(self.path("w", "new", ".git"))
+        self.assertTrue(wait_until(lambda: b"remove new/.git\n" in self.lines_of[count:]))
+        self.equal()
+        self.assertEqual(set(self.world.files), {b"a", b"sub/x"})
 
     def test_renames(self):
         for name in (b"a", b"d/x", b"d/e/y", b"d/z"):
@@ -152,11 +218,15 @@ class Following(Fed):
         self.settled()
         self.move(("d", "m"), ("m", "empty"), ("other", "d"))
         self.equal()
-        self.assertEqual(self.since(self.count), [b"renamedir d m", b"renamedir m empty", b"renamedir other d"])
+        self.assertEqual(
+            self.since(self.count), [b"renamedir d m", b"renamedir m empty", b"renamedir other d"]
+        )
         # There and back, below another one, and out of a directory that moved just before.
         self.move(("d", "m"), ("m", "d"), ("d", "empty/e/d"))
         self.equal()
-        self.assertEqual(self.since(self.count), [b"renamedir d m", b"renamedir m d", b"renamedir d empty/e/d"])
+        self.assertEqual(
+            self.since(self.count), [b"renamedir d m", b"renamedir m d", b"renamedir d empty/e/d"]
+        )
         self.move(("empty", "m"), ("m/e", "e"))
         self.equal()
         self.assertEqual(self.since(self.count)[0], b"renamedir empty m")
@@ -165,11 +235,14 @@ class Following(Fed):
         self.move(("m", "n"))
         self.write(b"n/new", b"new")
         self.equal()
-        self.assertEqual([self.since(self.count)[0], *sorted(self.since(self.count)[1:])],
-                         [b"renamedir m n", b"write n/new plain new", b"write n/x plain other\\stext"])
+        self.assertEqual(
+            [self.since(self.count)[0], *sorted(self.since(self.count)[1:])],
+            [b"renamedir m n", b"write n/new plain new", b"write n/x plain other\\stext"],
+        )
 
     def test_directories_that_move_otherwise(self):
-        """Out of what is followed and into it, to a name that is left out, in the place of files, and where paths get too long."""
+        """Out of what is followed and into it, to a name that is left out, in the place of
+        files, and where paths get too long."""
         deep = b"/".join([b"deep"] + [b"n"] * 62)
         for name in (b"d/x", b"d/y", b"other/x", deep):
             self.write(name, b"text of " + name[:9])
@@ -196,7 +269,10 @@ class Following(Fed):
         self.move(("d", "f"))
         self.equal()
         self.move(("deep", "a/b/c"))
-        self.assertTrue(wait_until(lambda: self.since(self.count) == [b"remove " + deep]), self.since(self.count))
+        self.assertTrue(
+            wait_until(lambda: self.since(self.count) == [b"remove " + deep]),
+            self.since(self.count),
+        )
         self.assertIn(b"64 names", self.text("stderr"))
         self.assertIsNone(self.fault)
 
@@ -206,15 +282,26 @@ class Following(Fed):
         self.feed("--empty")
         self.follows(b"d/x")
         self.move(("d", "m"))
-        self.assertTrue(wait_until(lambda: self.world is not None and set(self.world.files) == {b"m/x"}), self.since(self.count))
-        self.assertTrue(wait_until(lambda: self.since(self.count)[-1] == b"remove m/large"), self.since(self.count))
-        self.assertEqual([line for line in self.since(self.count) if not line.startswith(b"write")],
-                         [b"remove d/large", b"renamedir d m", b"remove m/large"])
+        self.assertTrue(
+            wait_until(lambda: self.world is not None and set(self.world.files) == {b"m/x"}),
+            self.since(self.count),
+        )
+        self.assertTrue(
+            wait_until(lambda: self.since(self.count)[-1] == b"remove m/large"),
+            self.since(self.count),
+        )
+        self.assertEqual(
+            [line for line in self.since(self.count) if not line.startswith(b"write")],
+            [b"remove d/large", b"renamedir d m", b"remove m/large"],
+        )
         self.assertIn(b"m/large: 70,000 bytes", self.text("stderr"))
         # No file of it is in the mount.
         self.move(("e", "n"))
         self.assertTrue(wait_until(lambda: b"n/large: 70,000 bytes" in self.text("stderr")))
-        self.assertTrue(wait_until(lambda: self.since(self.count)[-1:] == [b"remove n/large"]), self.since(self.count))
+        self.assertTrue(
+            wait_until(lambda: self.since(self.count)[-1:] == [b"remove n/large"]),
+            self.since(self.count),
+        )
         self.assertNotIn(b"renamedir e n", self.since(self.count))
         self.assertIsNone(self.fault)
 
@@ -225,9 +312,14 @@ class Following(Fed):
         self.settled()
         count = len(self.lines_of)
         os.utime(self.path("w", "a"))
-        self.assertTrue(wait_until(lambda: self.since(count) == [b"write a plain 1"]), self.since(count))
+        self.assertTrue(
+            wait_until(lambda: self.since(count) == [b"write a plain 1"]), self.since(count)
+        )
         os.chmod(self.path("w", "a"), 0o755)
-        self.assertTrue(wait_until(lambda: self.since(count) == [b"write a plain 1", b"write a exec 1"]), self.since(count))
+        self.assertTrue(
+            wait_until(lambda: self.since(count) == [b"write a plain 1", b"write a exec 1"]),
+            self.since(count),
+        )
 
     def test_larger_than_a_line(self):
         self.write(b"large", b"x" * 70_000)
@@ -241,10 +333,19 @@ class Following(Fed):
             self.assertEqual(self.text("stderr").count(b"feed: " + name + b": "), 1)
         # Each change of it is one of its path.
         large, moved = self.path("w", "large"), self.path("w", "l")
-        for happens in (lambda: os.utime(large), lambda: os.rename(large, moved), lambda: self.write(b"l", b"y" * 80_000)):
+        for happens in (
+            lambda: os.utime(large),
+            lambda: os.rename(large, moved),
+            lambda: self.write(b"l", b"y" * 80_000),
+        ):
             number = self.world.number
             happens()
-            self.assertTrue(wait_until(lambda: self.world.number > number and {b"large", b"l"} & self.world.since(number).keys()))
+            self.assertTrue(
+                wait_until(
+                    lambda: self.world.number > number
+                    and {b"large", b"l"} & self.world.since(number).keys()
+                )
+            )
         self.write(b"l", b"small")
         self.assertTrue(wait_until(lambda: self.world.files.get(b"l") == (1, b"small")))
         self.write(b"l", b"z" * 80_000)
@@ -255,7 +356,8 @@ class Following(Fed):
         self.assertIsNone(self.fault)
 
     def test_lost_notices(self):
-        """More notices than the system keeps, while the feeder is stopped: it looks at everything again."""
+        """More notices than the system keeps, while the feeder is stopped: it looks at
+        everything again."""
         for n in range(10):
             os.mkdir(self.path("w", f"d{n}"))
         self.feed("--empty")
@@ -282,6 +384,143 @@ class Following(Fed):
         self.equal()
         self.assertIsNone(self.feeder.poll())
 
+    def test_files_of_several_links(self):
+        """A notice comes for one name of a file, and its bytes are those of all."""
+        for name in (b"a/one", b"a/other", b"b/x"):
+            self.write(name, b"text of " + name)
+        os.link(self.path("w", "a", "one"), self.path("w", "b", "two"))
+        self.feed("--empty")
+        self.settled()
+        with open(self.path("w", "b", "two"), "ab") as file:
+            file.write(b", and more")
+        self.equal()
+        # Links that come later, in a directory that moves.
+        os.link(self.path("w", "a", "other"), self.path("w", "b", "later"))
+        self.equal()
+        os.rename(self.path("w", "b"), self.path("w", "c"))
+        self.equal()
+        for name in ("c/later", "a/other", "c/two"):
+            with open(self.path("w", name), "ab") as file:
+                file.write(b"; by " + name.encode())
+            self.equal()
+        os.chmod(self.path("w", "a", "one"), 0o755)
+        self.equal()
+        # A link in a directory that is new, and so is looked at as a whole.
+        os.mkdir(self.path("w", "new"))
+        os.link(self.path("w", "a", "one"), self.path("w", "new", "link"))
+        with open(self.path("w", "new", "link"), "ab") as file:
+            file.write(b"; by the new one")
+        self.equal()
+        # A name that is written, and gone with its directory before feed looks.
+        self.feeder.send_signal(signal.SIGSTOP)
+        with open(self.path("w", "new", "link"), "wb") as file:
+            file.write(b"by a name that is gone")
+        shutil.rmtree(self.path("w", "new"))
+        self.feeder.send_signal(signal.SIGCONT)
+        self.equal()
+
+    def test_copies_are_left_out(self):
+        """What `railburnet follow --into` keeps below the directory would be fed to itself."""
+        os.makedirs(self.path("w", "copy", ".railburnet"))
+        os.makedirs(self.path("w", ".railburnet"))
+        for name in (b"copy/f", b"copy/d/f", b".railburnet/made", b"f"):
+            self.write(name, b"1")
+        self.feed("--empty")
+        self.follows(b"f")
+        self.assertIn(b"copy: a copy that `railburnet follow --into` keeps", self.text("stderr"))
+        # A directory becomes one while it is followed, and is none any more.
+        self.write(b"d/e/f", b"2")
+        self.assertTrue(wait_until(lambda: b"d/e/f" in self.world.files))
+        os.mkdir(self.path("w", "d", ".railburnet"))
+        self.follows(b"f")
+        self.write(b"d/g", b"3")
+        self.write(b"g", b"4")
+        self.follows(b"f", b"g")
+        os.rmdir(self.path("w", "d", ".railburnet"))
+        self.follows(b"f", b"g", b"d/e/f", b"d/g")
+        self.assertIsNone(self.fault)
+
+    def test_a_moved_directory_file_by_file(self):
+        for name in (b"d/x", b"d/e/y"):
+            self.write(name, b"text of " + name)
+        self.feed("--empty", "--each-file")
+        self.settled()
+        self.move(("d", "m"))
+        self.equal()
+        self.assertEqual(sorted(self.since(self.count)), [b"rename d/e/y m/e/y", b"rename d/x m/x"])
+
+    def test_what_is_left_out_is_no_flood(self):
+        for n in range(300):
+            self.write(b"f%d" % n, b"x" * 70_000)
+        self.feed("--empty")
+        self.follows()
+        said = self.text("stderr").splitlines()
+        self.assertEqual(len([line for line in said if b"70,000 bytes" in line]), 20)
+        self.assertIn(
+            b"feed: and 280 more like these in a minute; 300 paths are left out now", said
+        )
+
+    def test_what_differs_comes_before_listen(self):
+        self.write(b"a", b"1")
+        self.feed("--empty")
+        self.settled()
+        self.write(b"b", b"2")
+        self.equal()
+        self.assertEqual(self.since(1), [b"write a plain 1", b"listen", b"write b plain 2"])
+
+    def test_what_differs_comes_after_listen(self):
+        self.write(b"a", b"1")
+        self.feed("--empty", "--listen-first")
+        self.settled()
+        self.assertEqual(self.since(1), [b"listen", b"write a plain 1"])
+
+    def test_generations(self):
+        """None comes twice for a directory, whatever the clock says."""
+
+        def generation(*options):
+            done = subprocess.run(
+                [*client("feed"), "--empty", "--once", *options, self.path("w")],
+                stdout=subprocess.PIPE,
+                stderr=subprocess.PIPE,
+                check=False,
+            )
+            return (
+                int(done.stdout.split()[2])
+                if done.returncode == 0
+                else (done.returncode, done.stderr.decode())
+            )
+
+        before = time.time_ns()
+        first = generation()
+        self.assertGreaterEqual(first, before)
+        self.assertGreater(generation(), first)
+        # An hour ahead, as before the clock was set back.
+        later = time.time_ns() + 3600 * 10**9
+        self.assertEqual(generation("--generation", str(later)), later)
+        self.assertEqual(generation(), later + 1)
+        for used in (7, later):
+            status, said = generation("--generation", str(used))
+            self.assertEqual(status, 1)
+            self.assertIn(f"generation {used} isn't above", said)
+        for wrong in ("-1", "x", "", "1.5", str(2**64)):
+            status, said = generation("--generation=" + wrong)
+            self.assertEqual(status, 2)
+            self.assertIn("is no number from 0 to 18446744073709551615", said)
+
+    def test_no_room_for_what_is_printed(self):
+        self.write(b"a", b"1")
+        with open("/dev/full", "wb") as full:
+            done = subprocess.run(
+                [*client("feed"), "--empty", "--once", self.path("w")],
+                stdout=full,
+                stderr=subprocess.PIPE,
+                check=False,
+            )
+        self.assertEqual(
+            (done.returncode, done.stderr),
+            (1, b"feed: can't write what it prints: No space left on device\n"),
+        )
+
     def test_what_is_no_file(self):
         os.mkfifo(self.path("w", "pipe"))
         self.write(b"a", b"1")
@@ -299,15 +538,19 @@ class Following(Fed):
             self.write(name, b"1")
         # Nothing is forbidden to root, and not each python3 that root has is there for others.
         if os.geteuid() == 0:
-            shutil.copy(client("feed")[1], self.path("feed"))
-            self.feed("--empty", words=["/usr/bin/python3", self.path("feed")], user=65_534)
+            shutil.copytree(os.path.join(CLIENTS, "python"), self.path("python"))
+            words = ["/usr/bin/python3", "-m", "railburnet", "feed"]
+            self.feed("--empty", words=words, user=65_534, env={"PYTHONPATH": self.path("python")})
         else:
             self.feed("--empty")
         self.settled()
         os.chmod(self.path("w", "a"), 0o000)
         os.chmod(self.path("w", "d"), 0o000)
         self.assertTrue(wait_until(lambda: not self.world.files), self.world.files)
-        self.assertTrue(wait_until(lambda: self.text("stderr").count(b"Permission denied") >= 2), self.text("stderr"))
+        self.assertTrue(
+            wait_until(lambda: self.text("stderr").count(b"Permission denied") >= 2),
+            self.text("stderr"),
+        )
         os.chmod(self.path("w", "a"), 0o644)
         os.chmod(self.path("w", "d"), 0o755)
         self.equal()
@@ -333,26 +576,34 @@ class Following(Fed):
     def test_too_few_watches(self):
         """The system can't watch a fourth directory: everything is looked at again and again."""
         program = """
-import errno, importlib.machinery, importlib.util, sys
-loader = importlib.machinery.SourceFileLoader("feed", sys.argv.pop(1))
-feed = importlib.util.module_from_spec(importlib.util.spec_from_loader("feed", loader))
-sys.modules["feed"] = feed
-loader.exec_module(feed)
+import sys
+sys.path.insert(0, sys.argv.pop(1))
+from railburnet import feed
 add = feed.Inotify.add
 def few(self, folder, path):
     if len(self.paths) >= 3:
         raise feed.NoNotices("no watch left")
     return add(self, folder, path)
 feed.Inotify.add = few
-sys.exit(feed.main())
+sys.exit(feed.main(sys.argv[1:]))
 """
         for name in (b"a/x", b"b/x"):
             self.write(name, b"1")
-        self.feed("--empty", "--every", "0.1", words=[sys.executable, "-B", "-c", program, client("feed")[1]])
+        self.feed(
+            "--empty",
+            "--every",
+            "0.1",
+            words=[sys.executable, "-B", "-c", program, os.path.join(CLIENTS, "python")],
+        )
         self.settled()
         self.write(b"c/d/e", b"2")
         self.equal()
-        self.assertTrue(wait_until(lambda: b"no watch left; looking at everything every 0.1 seconds" in self.text("stderr")))
+        self.assertTrue(
+            wait_until(
+                lambda: b"no watch left; looking at everything every 0.1 seconds"
+                in self.text("stderr")
+            )
+        )
         self.write(b"c/d/f", b"3")
         self.equal()
 
@@ -360,20 +611,20 @@ sys.exit(feed.main())
         feeder = self.started([*client("feed"), "--empty", self.path("w")], stdout=subprocess.PIPE)
         self.assertTrue(wait_until(lambda: b"following" in self.text("stderr")))
         feeder.stdout.close()
-        self.assertEqual(feeder.wait(10), 0)
+        self.assertEqual(feeder.wait(120), 0)
 
     def test_interrupted(self):
         self.feed("--empty")
         self.settled()
         self.feeder.send_signal(signal.SIGINT)
-        self.assertEqual(self.feeder.wait(10), 130)
+        self.assertEqual(self.feeder.wait(120), 130)
         self.assertNotIn(b"Traceback", self.text("stderr"))
 
     def test_the_directory_goes(self):
         self.feed("--empty")
         self.settled()
         shutil.rmtree(self.path("w"))
-        self.assertEqual(self.feeder.wait(10), 1)
+        self.assertEqual(self.feeder.wait(120), 1)
         self.assertNotIn(b"remove", b"".join(self.lines_of))
 
     def test_many_changes(self):
@@ -389,97 +640,6 @@ sys.exit(feed.main())
         for seed in range(15):
             change(self.path("w"), seed, 60)
             self.equal()
-
-
-@unittest.skipUnless(shutil.which("git"), "no git here")
-class OfARepository(Fed):
-    def git(self, *words):
-        done = subprocess.run(["git", "-C", self.path("w"), "-c", "user.name=a", "-c", "user.email=a@a", *words], stdout=subprocess.PIPE, check=True)
-        return done.stdout.decode().strip()
-
-    def setUp(self):
-        super().setUp()
-        os.mkdir(self.path("w"))
-        self.git("init", "-q")
-        for n in range(200):
-            self.write(b"d%d/f%d" % (n % 10, n), b"%d\n" % n)
-        self.write(b"large", b"x" * 100_000)
-        self.git("add", "-A")
-        self.git("commit", "-q", "-m", "one")
-        self.first = self.git("rev-parse", "HEAD")
-        for n in range(0, 200, 3):
-            self.write(b"d%d/f%d" % (n % 10, n), b"changed\n")
-        shutil.rmtree(self.path("w", "d5"))
-        self.write(b"d5", b"a file")
-        self.write(b"large", b"y" * 100_000)
-        self.git("add", "-A")
-        self.git("commit", "-q", "-m", "two")
-        self.second = self.git("rev-parse", "HEAD")
-        self.git("checkout", "-q", self.first)
-
-    def commit(self, id):
-        """A commit's files, as a mount holds them."""
-        files = {}
-        for line in self.git("ls-tree", "-r", id).splitlines():
-            head, path = line.split("\t")
-            blob = subprocess.run(["git", "-C", self.path("w"), "cat-file", "blob", head.split()[2]], stdout=subprocess.PIPE, check=True).stdout
-            files[path.encode()] = ({"100644": 1, "100755": 2, "120000": 3}[head.split()[0]], blob)
-        return id[:32].encode(), (bytes.fromhex(id), files)
-
-    def directory(self, most=10**6):
-        return super().directory(most)
-
-    def test_nothing_differs(self):
-        self.feed("--once", commits=dict([self.commit(self.first)]))
-        self.assertEqual(self.feeder.wait(20), 0)
-        self.reader.join()
-        self.assertEqual(len(self.lines_of), 1)
-        self.assertRegex(self.lines_of[0], rb"^mount %s [0-9]+ 100000000\n$" % self.first[:32].encode())
-
-    def test_a_checkout_by_files(self):
-        self.write(b"untracked", b"1")
-        os.unlink(self.path("w", "d1", "f1"))
-        self.feed(commits=dict([self.commit(self.first)]))
-        self.settled()
-        self.git("checkout", "-q", "-f", self.second)
-        self.assertTrue(wait_until(lambda: b"large" not in self.world.files))
-        self.assertTrue(wait_until(lambda: {**self.world.files, b"large": (1, b"y" * 100_000)} == self.directory()))
-        self.assertEqual({line.split()[0] for line in self.lines_of[2:]}, {b"write", b"remove"})
-
-    def test_a_checkout_by_its_commit(self):
-        self.write(b"untracked", b"1")
-        self.write(b"d2/f2", b"edited")
-        self.feed("--also", self.second, commits=dict([self.commit(self.first), self.commit(self.second)]))
-        self.settled()
-        count = len(self.lines_of)
-        self.git("checkout", "-q", self.second)
-        self.equal()
-        self.assertEqual(self.since(count)[0], b"checkout %s force" % self.second[:32].encode())
-        self.assertLessEqual(len(self.since(count)), 2)
-        self.git("checkout", "-q", self.first)
-        self.equal()
-
-    def test_a_commit_written_anew(self):
-        """A commit with a submodule and a file above the limit of a mount, as git-objects writes it anew."""
-        with open(self.path("w", "huge"), "wb") as file:
-            file.truncate(9_000_000)
-        self.git("add", "-A")
-        self.git("update-index", "--add", "--cacheinfo", f"160000,{self.first},module")
-        self.git("commit", "-q", "-m", "odd")
-        odd = self.git("rev-parse", "HEAD")
-        done = subprocess.run([*client("git-objects"), "--leave-out", self.path("w"), odd], stdout=subprocess.PIPE, stderr=subprocess.PIPE, check=True)
-        new = done.stderr.decode().split(f"{odd} is written anew as ")[1][:40]
-        commits = read_commits(io.BytesIO(done.stdout))
-        self.feed("--once", "--commit", f"HEAD={new}", commits=commits)
-        self.assertEqual(self.feeder.wait(20), 0)
-        self.reader.join()
-        self.assertEqual([line.split()[:2] for line in self.lines_of], [[b"mount", new[:32].encode()], [b"write", b"huge"], [b"remove", b"huge"]])
-        self.assertEqual({**self.world.files, b"huge": (1, bytes(9_000_000))}, self.directory(10**7))
-
-    def test_a_deeper_directory(self):
-        done = subprocess.run([*client("feed"), self.path("w", "d1")], stderr=subprocess.PIPE, stdout=subprocess.PIPE, check=False)
-        self.assertEqual((done.returncode, done.stdout), (1, b""))
-        self.assertIn(b"isn't the top of a checkout", done.stderr)
 
 
 if __name__ == "__main__":

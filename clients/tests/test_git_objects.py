@@ -1,4 +1,5 @@
-"""git-objects: what it prints is what git does, each object once and behind those that it names; and what a mount has no kind for is told."""
+"""git-objects: what it prints is what git does, each object once and behind those that it names;
+and what a mount has no kind for is told."""
 import hashlib
 import io
 import os
@@ -11,12 +12,16 @@ from stand_in import read_commits
 
 
 def objects_of(text):
-    """The objects of a file: of each its id, its kind and what it names. Fails where one has another id than its bytes."""
+    """The objects of a file: of each its id, its kind and what it names. Fails where one has
+    another id than its bytes."""
     file, found = io.BytesIO(text), []
     while head := file.readline():
         id, kind, size = head.decode().split()
         payload = file.read(int(size))
-        assert file.read(1) == b"\n" and hashlib.sha1(f"{kind} {size}\0".encode() + payload).hexdigest() == id
+        assert (
+            file.read(1) == b"\n"
+            and hashlib.sha1(f"{kind} {size}\0".encode() + payload).hexdigest() == id
+        )
         found.append((id, kind, named(kind, payload)))
     return found
 
@@ -36,13 +41,23 @@ def named(kind, payload):
 class Objects(InFolder):
     def git(self, *words, text=None):
         words = ["git", "-C", self.path("r"), "-c", "user.name=a", "-c", "user.email=a@a", *words]
-        return subprocess.run(words, input=text, stdout=subprocess.PIPE, check=True).stdout.decode("utf-8", "replace").strip()
+        return (
+            subprocess.run(words, input=text, stdout=subprocess.PIPE, check=True)
+            .stdout.decode("utf-8", "replace")
+            .strip()
+        )
 
     def setUp(self):
         super().setUp()
         os.makedirs(self.path("r", "d", "e f"))
         self.git("init", "-q")
-        for name, text in (("a", b"1"), ("d/b", b"1"), ("d/e f/\n", b"2"), ("d/\udcff", b"3"), ("empty", b"")):
+        for name, text in (
+            ("a", b"1"),
+            ("d/b", b"1"),
+            ("d/e f/\n", b"2"),
+            ("d/\udcff", b"3"),
+            ("empty", b""),
+        ):
             with open(self.path("r", name), "wb") as file:
                 file.write(text)
         os.symlink("a", self.path("r", "link"))
@@ -56,7 +71,12 @@ class Objects(InFolder):
 
     def printed(self, *words, status=0):
         """What the program prints and tells."""
-        done = subprocess.run([*client("git-objects"), *words], stdout=subprocess.PIPE, stderr=subprocess.PIPE, check=False)
+        done = subprocess.run(
+            [*client("objects"), *words],
+            stdout=subprocess.PIPE,
+            stderr=subprocess.PIPE,
+            check=False,
+        )
         told = done.stderr.decode()
         self.assertEqual(done.returncode, status, told)
         return done.stdout, told
@@ -72,10 +92,15 @@ class Objects(InFolder):
             self.assertTrue(seen.issuperset(names))
             self.assertNotIn(id, seen)
             seen.add(id)
-        by_git = {line.split()[0] for line in self.git("rev-list", "--objects", "--all").splitlines()}
+        by_git = {
+            line.split()[0] for line in self.git("rev-list", "--objects", "--all").splitlines()
+        }
         self.assertEqual(seen, by_git)
         self.assertIn(f"{len(objects)} objects", told)
-        self.assertEqual(set(read_commits(io.BytesIO(text))), {b"empty", second[:32].encode(), self.git("rev-parse", "HEAD~1")[:32].encode()})
+        self.assertEqual(
+            set(read_commits(io.BytesIO(text))),
+            {b"empty", second[:32].encode(), self.git("rev-parse", "HEAD~1")[:32].encode()},
+        )
 
     def test_what_a_mount_has_no_kind_for(self):
         os.mkdir(self.path("r", "sub"))
@@ -86,13 +111,26 @@ class Objects(InFolder):
         with open(self.path("r", "fits"), "wb") as file:
             file.truncate(8_388_608)
         self.git("add", "-A")
-        self.git("update-index", "--add", "--cacheinfo", f"160000,{self.git('rev-parse', 'HEAD')},sub/module")
+        self.git(
+            "update-index",
+            "--add",
+            "--cacheinfo",
+            f"160000,{self.git('rev-parse', 'HEAD')},sub/module",
+        )
         self.git("commit", "-q", "-m", "odd")
-        tree = self.git("mktree", text=self.git("ls-tree", "HEAD").replace("100755 blob", "100664 blob").encode() + b"\n")
+        tree = self.git(
+            "mktree",
+            text=self.git("ls-tree", "HEAD").replace("100755 blob", "100664 blob").encode() + b"\n",
+        )
         odd = self.git("commit-tree", tree, "-m", "odd")
         text, told = self.printed(self.path("r"), odd, status=1)
         self.assertEqual(text, b"")
-        for word in ("sub/module: a submodule", "a: a file of mode 100664", "large: a file of 8,388,609 bytes", "--leave-out"):
+        for word in (
+            "sub/module: a submodule",
+            "a: a file of mode 100664",
+            "large: a file of 8,388,609 bytes",
+            "--leave-out",
+        ):
             self.assertIn(word, told)
         text, told = self.printed("--leave-out", self.path("r"), "HEAD~1", odd)
         objects_of(text)
@@ -100,14 +138,18 @@ class Objects(InFolder):
         new = told.split(f"{odd} is written anew as ")[1][:32].encode()
         before = commits[self.git("rev-parse", "HEAD~1")[:32].encode()][1]
         self.assertEqual(before[b"a"], (2, b"1"))
-        self.assertEqual(commits[new][1], {**before, b"a": (1, b"1"), b"fits": (1, bytes(8_388_608))})
+        self.assertEqual(
+            commits[new][1], {**before, b"a": (1, b"1"), b"fits": (1, bytes(8_388_608))}
+        )
 
     def test_nothing_left(self):
         id = self.git("rev-parse", "HEAD")
         tree = self.git("mktree", "--missing", text=f"160000 commit {id}\tmodule\n".encode())
         odd = self.git("commit-tree", tree, "-m", "odd")
         text, told = self.printed("--leave-out", self.path("r"), odd)
-        self.assertEqual(read_commits(io.BytesIO(text))[told.split("written anew as ")[1][:32].encode()][1], {})
+        self.assertEqual(
+            read_commits(io.BytesIO(text))[told.split("written anew as ")[1][:32].encode()][1], {}
+        )
 
     def test_too_deep(self):
         tree = self.git("mktree", text=b"")
@@ -117,13 +159,17 @@ class Objects(InFolder):
             tree = self.git("mktree", text=f"040000 tree {tree}\td\n".encode())
             if depth in (64, 65):
                 commit = self.git("commit-tree", tree, "-m", "deep")
-                _, told = self.printed("--leave-out", self.path("r"), commit, status=0 if depth == 64 else 1)
+                _, told = self.printed(
+                    "--leave-out", self.path("r"), commit, status=0 if depth == 64 else 1
+                )
         self.assertIn("65 names below it", told)
 
     def test_faults(self):
         self.assertIn("nothing is no commit", self.printed(self.path("r"), "nothing", status=1)[1])
         self.assertIn("not a git repository", self.printed(self.folder, "HEAD", status=1)[1])
-        self.assertIn("--output is no commit", self.printed(self.path("r"), "--", "--output", status=1)[1])
+        self.assertIn(
+            "--output is no commit", self.printed(self.path("r"), "--", "--output", status=1)[1]
+        )
         self.printed(self.path("r"), status=2)
 
 

@@ -1,5 +1,7 @@
-"""Frames, paths, patterns and mirrors of railburnet.py, by docs/formats.md."""
+"""Frames, paths, patterns and mirrors of the library, by docs/formats.md."""
+import collections
 import os
+import random
 import re
 import socket
 import struct
@@ -9,8 +11,29 @@ import unittest
 from kit import CLIENTS, InFolder
 
 import railburnet
-from railburnet import (Basis, BasisIs, Below, Cause, ChangesAre, ContentIs, Fetch, File, FrameFault, Kind, ListIs, Mark, Mirror, Outcome, Poll,
-                        Position, Query, Refused)
+import slow_frames
+import stand_in
+from railburnet import frames
+from railburnet import (
+    Basis,
+    BasisIs,
+    Below,
+    Cause,
+    ChangesAre,
+    ContentIs,
+    Fetch,
+    File,
+    FrameFault,
+    Kind,
+    ListIs,
+    Mark,
+    Mirror,
+    Outcome,
+    Poll,
+    Position,
+    Query,
+    Refused,
+)
 
 ONE = Query(1, 1, 1)
 
@@ -21,9 +44,12 @@ def known_frames():
         text = file.read().split("## Known frames")[1].split("## Faults")[0]
     frames = []
     for line in text.splitlines():
-        if not re.match(r" {4}.*[0-9a-f]{8}", line):
+        # A frame goes on in lines that are indented further.
+        if not re.match(r" {4}(?:[A-Z].*[0-9a-f]{8}| {12}[0-9a-f])", line):
             continue
-        name, digits = re.fullmatch(r" {4}([A-Z]\w*(?: of [ad])?)? *((?:[0-9a-f]{2}| )+)", line).groups()
+        name, digits = re.fullmatch(
+            r" {4}([A-Z]\w*(?: of [ad])?)? *((?:[0-9a-f]{2}| )+)", line
+        ).groups()
         if name:
             frames.append([name, ""])
         frames[-1][1] += digits.replace(" ", "")
@@ -34,10 +60,21 @@ class Frames(unittest.TestCase):
     def test_known_frames(self):
         first, second, third, fourth = (Position(7, number) for number in (1, 2, 3, 4))
         wanted = [
-            Basis(ONE), BasisIs(ONE, first, []), Poll(ONE, first), ChangesAre(ONE, first, [], []), Fetch(ONE, b"a"),
-            ContentIs(ONE, first, b"a", None), Below(ONE, b"d"), ListIs(ONE, first, b"d", []), Refused(ONE, Cause.AHEAD, 1),
-            Basis(ONE, (b"a*",)), BasisIs(ONE, second, [b"a"]), ChangesAre(ONE, second, [(Mark.CREATED, b"a")], []),
-            ContentIs(ONE, second, b"a", File(Kind.PLAIN, b"hi")), Below(ONE, b"d", (b"d/*",)), ListIs(ONE, third, b"d", [b"d/x"]),
+            Basis(ONE),
+            BasisIs(ONE, first, []),
+            Poll(ONE, first),
+            ChangesAre(ONE, first, [], []),
+            Fetch(ONE, b"a"),
+            ContentIs(ONE, first, b"a", None),
+            Below(ONE, b"d"),
+            ListIs(ONE, first, b"d", []),
+            Refused(ONE, Cause.AHEAD, 1),
+            Basis(ONE, (b"a*",)),
+            BasisIs(ONE, second, [b"a"]),
+            ChangesAre(ONE, second, [(Mark.CREATED, b"a")], []),
+            ContentIs(ONE, second, b"a", File(Kind.PLAIN, b"hi")),
+            Below(ONE, b"d", (b"d/*",)),
+            ListIs(ONE, third, b"d", [b"d/x"]),
             ChangesAre(ONE, fourth, [], [b"d", b"e"]),
         ]
         frames = known_frames()
@@ -103,12 +140,153 @@ class Frames(unittest.TestCase):
                 railburnet.decode_reply(body)
             self.assertEqual(str(raised.exception), fault, body)
 
+    def test_read_as_field_by_field(self):
+        """Frames of all kinds, and what becomes of them when some of their bytes change: the
+        reply or the fault of the slow reading."""
+        chance = random.Random(7)
+        names = [
+            b"a",
+            b"a.b",
+            b".",
+            b"..",
+            b"...",
+            b"x" * 255,
+            b"x" * 256,
+            b"",
+            b"\0",
+            b"\n",
+            b"\xff",
+            b"/",
+            b"a/b",
+            b"a/../b",
+            b"a//b",
+            b"/a",
+            b"a/",
+            b".a",
+            b"..a",
+            b"/".join([b"d"] * 64),
+            b"/".join([b"d"] * 65),
+            b"y" * 1024,
+            b"y/" * 511 + b"yy",
+            b"y" * 1025,
+            b"d/x",
+            b"d/y",
+            b"d",
+            b".",
+        ]
+
+        def listed(marked):
+            paths = chance.sample(names, chance.randrange(5))
+            if chance.random() < 0.8:
+                paths.sort()
+            spelled = [
+                (bytes([chance.choice((1, 2, 3, 4, 4, 0, 5))]) if marked else b"")
+                + struct.pack(">H", len(path))
+                + path
+                for path in paths
+            ]
+            return struct.pack(">I", len(paths) + (chance.random() < 0.1)) + b"".join(spelled)
+
+        told = collections.Counter()
+        for turn in range(20_000):
+            tag = chance.choice((0x81, 0x82, 0x82, 0x85))
+            body = bytearray(bytes([2, tag]) + bytes(24 + 36))
+            if tag == 0x85:
+                body += struct.pack(">H", 1) + b"d"
+            body += listed(tag == 0x82) + (listed(False) if tag == 0x82 else b"")
+            if turn % 2:
+                for _ in range(chance.randrange(1, 4)):
+                    body[chance.randrange(len(body))] = chance.choice(
+                        (0, 1, 2, 4, 46, 47, chance.randrange(256))
+                    )
+            if chance.random() < 0.2:
+                del body[chance.randrange(len(body)) :]
+            if chance.random() < 0.1:
+                body += b"\0"
+            came, wanted = (
+                self.read(decode, bytes(body))
+                for decode in (railburnet.decode_reply, slow_frames.decode_reply)
+            )
+            self.assertEqual(came, wanted, bytes(body))
+            told[wanted if isinstance(wanted, str) else type(wanted).__name__] += 1
+        # Each of them was met often.
+        self.assertGreater(
+            min(
+                told[name]
+                for name in ("BadField", "CutShort", "Trailing", "BasisIs", "ChangesAre", "ListIs")
+            ),
+            50,
+            told,
+        )
+
+    @staticmethod
+    def read(decode, body):
+        try:
+            return decode(body)
+        except FrameFault as fault:
+            return str(fault)
+
+    def test_patterns_admit(self):
+        """By the table of docs/formats.md, and beside the stand-in's way."""
+        for pattern, path, wanted in (
+            (b"**/x", b"x", True),
+            (b"**/x", b"a/x", True),
+            (b"**/x", b"a/b/x", True),
+            (b"a/**", b"a", True),
+            (b"a/**", b"a/b/c", True),
+            (b"*", b"x", True),
+            (b"*", b".h", True),
+            (b"*", b"a/x", False),
+            (b"?", b"ab", False),
+            (rb"\*", b"*", True),
+            (rb"\*", b"x", False),
+            (b"a*b*c", b"a1b2c", True),
+            (b"a*b*c", b"a1c2b", False),
+            (b"*a", b"aaa", True),
+            (b"**", b"a/b", True),
+            (b"**/**", b"a", True),
+            (b"a/**/b", b"a/b", True),
+            (b"a/**/b", b"a/x/y/b", True),
+            (b"a/**/b", b"a/x/y/c", False),
+            (b"**a", b"a", True),
+            (b"?*", b"\n", True),
+        ):
+            self.assertEqual(frames.admits([pattern], path), wanted, (pattern, path))
+        self.assertTrue(frames.admits([], b"a") and frames.admits([b"x", b"a"], b"a"))
+        chance = random.Random(5)
+        for _ in range(3000):
+            pattern = b"/".join(
+                chance.choice((b"**", b"*", b"a", b"a*", b"?b", b"*a*b", b"b"))
+                for _ in range(chance.randrange(1, 5))
+            )
+            path = b"/".join(
+                bytes(chance.choice(b"ab") for _ in range(chance.randrange(1, 4)))
+                for _ in range(chance.randrange(1, 5))
+            )
+            self.assertEqual(
+                frames.admits([pattern], path),
+                stand_in.admits(pattern.split(b"/"), path.split(b"/")),
+                (pattern, path),
+            )
+        # Nothing grows beyond the product of the lengths.
+        self.assertFalse(
+            frames.admits([b"/".join([b"**", b"a"] * 60)], b"/".join([b"a"] * 63) + b"/b")
+        )
+        self.assertFalse(frames.admits([b"*a" * 100 + b"b"], b"a" * 255))
+
     def test_streams(self):
         frames = b"".join(frame for _, frame in known_frames())
         bodies = [frame[4:] for _, frame in known_frames()]
         for step in (1, 3, 50, len(frames)):
             reader = railburnet.FrameReader()
-            self.assertEqual([body for at in range(0, len(frames), step) for body in reader.feed(frames[at : at + step])], bodies)
+            self.assertEqual(
+                [
+                    body
+                    for at in range(0, len(frames), step)
+                    for body in reader.feed(frames[at : at + step])
+                ],
+                bodies,
+            )
         with self.assertRaisesRegex(FrameFault, "TooLarge"):
             list(railburnet.FrameReader().feed(b"\x01\0\0\1"))
         reader = railburnet.FrameReader()
@@ -117,15 +295,37 @@ class Frames(unittest.TestCase):
 
     def test_paths(self):
         for path, fault in (
-            (b"a", None), (b"a/b c/\xff\n", None), (b"x" * 255, None), (b"/".join([b"a"] * 64), None), (b"...", None),
-            (b"", "Empty"), (b"a" * 1025, "TooLong"), (b"x" * 256, "BadComponent"), (b"/a", "BadComponent"), (b"a/", "BadComponent"),
-            (b"a//b", "BadComponent"), (b"a/../b", "BadComponent"), (b".", "BadComponent"), (b"a\0", "BadComponent"),
+            (b"a", None),
+            (b"a/b c/\xff\n", None),
+            (b"x" * 255, None),
+            (b"/".join([b"a"] * 64), None),
+            (b"...", None),
+            (b"", "Empty"),
+            (b"a" * 1025, "TooLong"),
+            (b"x" * 256, "BadComponent"),
+            (b"/a", "BadComponent"),
+            (b"a/", "BadComponent"),
+            (b"a//b", "BadComponent"),
+            (b"a/../b", "BadComponent"),
+            (b".", "BadComponent"),
+            (b"a\0", "BadComponent"),
             (b"/".join([b"a"] * 65), "TooDeep"),
         ):
             self.assertEqual(railburnet.path_fault(path), fault, path)
 
     def test_patterns(self):
-        for pattern in (b"a", b"**", b"**/x", b"a/**/*.c", b"?", rb"a\[b", rb"\\", b"]}", b"\xff\n", b".h*"):
+        for pattern in (
+            b"a",
+            b"**",
+            b"**/x",
+            b"a/**/*.c",
+            b"?",
+            rb"a\[b",
+            rb"\\",
+            b"]}",
+            b"\xff\n",
+            b".h*",
+        ):
             self.assertIsNone(railburnet.patterns_fault([pattern]), pattern)
         for pattern in (b"", b"/a", b"a//b", b"a/", b"a\\", b"a\\/b", b"a[", b"{a", b"a" * 257):
             self.assertIsNotNone(railburnet.patterns_fault([pattern]), pattern)
@@ -152,7 +352,9 @@ class Mirrors(unittest.TestCase):
         self.assertIs(mirror.deliver(BasisIs(query, Position(7, 5), [b"a"])), Outcome.TAKEN)
         self.assertEqual(mirror.outstanding(), [Fetch(query, b"a")])
         self.assertIsNone(mirror.position)
-        self.assertIs(mirror.deliver(ContentIs(query, Position(7, 6), b"a", self.HI)), Outcome.PLACED)
+        self.assertIs(
+            mirror.deliver(ContentIs(query, Position(7, 6), b"a", self.HI)), Outcome.PLACED
+        )
         return mirror
 
     def test_a_round(self):
@@ -161,9 +363,13 @@ class Mirrors(unittest.TestCase):
         mirror.begin()
         query = Query(9, 3, 2)
         self.assertEqual(mirror.outstanding(), [Poll(query, Position(7, 5))])
-        mirror.deliver(ChangesAre(query, Position(7, 9), [(Mark.REMOVED, b"a"), (Mark.CREATED, b"b")], []))
+        mirror.deliver(
+            ChangesAre(query, Position(7, 9), [(Mark.REMOVED, b"a"), (Mark.CREATED, b"b")], [])
+        )
         self.assertEqual(mirror.outstanding(), [Fetch(query, b"a"), Fetch(query, b"b")])
-        self.assertIs(mirror.deliver(ContentIs(query, Position(7, 9), b"b", self.YO)), Outcome.TAKEN)
+        self.assertIs(
+            mirror.deliver(ContentIs(query, Position(7, 9), b"b", self.YO)), Outcome.TAKEN
+        )
         self.assertEqual(mirror.position, Position(7, 5))
         self.assertIs(mirror.deliver(ContentIs(query, Position(7, 9), b"a", None)), Outcome.PLACED)
         self.assertEqual((mirror.position, dict(mirror.files)), (Position(7, 9), {b"b": self.YO}))
@@ -172,60 +378,103 @@ class Mirrors(unittest.TestCase):
     def test_no_path(self):
         mirror = self.placed()
         mirror.begin()
-        self.assertIs(mirror.deliver(ChangesAre(Query(9, 3, 2), Position(7, 8), [], [])), Outcome.PLACED)
+        self.assertIs(
+            mirror.deliver(ChangesAre(Query(9, 3, 2), Position(7, 8), [], [])), Outcome.PLACED
+        )
         self.assertEqual(mirror.position, Position(7, 8))
 
     def moved(self):
-        """The mirror at 7 5 with `d/x` and `d/y` instead, which has been told that `d` and `e` were moved between, and that `z` changed."""
+        """The mirror at 7 5 with `d/x` and `d/y` instead, which has been told that `d` and `e`
+        were moved between, and that `z` changed."""
         mirror = Mirror(mirror=9, life=3)
         mirror.begin()
         mirror.deliver(BasisIs(Query(9, 3, 1), Position(7, 5), [b"d.x", b"d/x", b"d/y"]))
         for path in (b"d.x", b"d/x", b"d/y"):
             mirror.deliver(ContentIs(Query(9, 3, 1), Position(7, 5), path, self.HI))
         mirror.begin()
-        self.assertIs(mirror.deliver(ChangesAre(Query(9, 3, 2), Position(7, 7), [(Mark.CREATED, b"z")], [b"d", b"e"])), Outcome.TAKEN)
+        self.assertIs(
+            mirror.deliver(
+                ChangesAre(Query(9, 3, 2), Position(7, 7), [(Mark.CREATED, b"z")], [b"d", b"e"])
+            ),
+            Outcome.TAKEN,
+        )
         return mirror
 
     def test_prefixes(self):
         mirror, query = self.moved(), Query(9, 3, 2)
-        self.assertEqual(mirror.outstanding(), [Below(query, b"d"), Below(query, b"e"), Fetch(query, b"z")])
+        self.assertEqual(
+            mirror.outstanding(), [Below(query, b"d"), Below(query, b"e"), Fetch(query, b"z")]
+        )
         self.assertIs(mirror.deliver(ListIs(query, Position(7, 7), b"d", [])), Outcome.TAKEN)
         self.assertEqual(dict(mirror.files), {b"d.x": self.HI})
-        self.assertIs(mirror.deliver(ContentIs(query, Position(7, 7), b"z", self.YO)), Outcome.TAKEN)
-        self.assertEqual((mirror.position, mirror.outstanding()), (Position(7, 5), [Below(query, b"e")]))
-        self.assertIs(mirror.deliver(ListIs(query, Position(7, 8), b"e", [b"e/x", b"e/y"])), Outcome.TAKEN)
-        self.assertEqual((mirror.outstanding(), mirror.awaited), ([Fetch(query, b"e/x"), Fetch(query, b"e/y")], 2))
-        self.assertIs(mirror.deliver(ContentIs(query, Position(7, 7), b"e/x", self.HI)), Outcome.TAKEN)
-        self.assertIs(mirror.deliver(ContentIs(query, Position(7, 8), b"e/y", None)), Outcome.PLACED)
-        self.assertEqual((mirror.position, dict(mirror.files)), (Position(7, 7), {b"d.x": self.HI, b"z": self.YO, b"e/x": self.HI}))
+        self.assertIs(
+            mirror.deliver(ContentIs(query, Position(7, 7), b"z", self.YO)), Outcome.TAKEN
+        )
+        self.assertEqual(
+            (mirror.position, mirror.outstanding()), (Position(7, 5), [Below(query, b"e")])
+        )
+        self.assertIs(
+            mirror.deliver(ListIs(query, Position(7, 8), b"e", [b"e/x", b"e/y"])), Outcome.TAKEN
+        )
+        self.assertEqual(
+            (mirror.outstanding(), mirror.awaited),
+            ([Fetch(query, b"e/x"), Fetch(query, b"e/y")], 2),
+        )
+        self.assertIs(
+            mirror.deliver(ContentIs(query, Position(7, 7), b"e/x", self.HI)), Outcome.TAKEN
+        )
+        self.assertIs(
+            mirror.deliver(ContentIs(query, Position(7, 8), b"e/y", None)), Outcome.PLACED
+        )
+        self.assertEqual(
+            (mirror.position, dict(mirror.files)),
+            (Position(7, 7), {b"d.x": self.HI, b"z": self.YO, b"e/x": self.HI}),
+        )
         self.assertEqual(mirror.outstanding(), [])
 
     def test_what_is_listed_again(self):
-        """A path below a prefix whose content has come, and one that is awaited already; the round ends with a list."""
+        """A path below a prefix whose content has come, and one that is awaited already; the
+        round ends with a list."""
         mirror, query = self.moved(), Query(9, 3, 2)
         self.assertIs(mirror.deliver(ContentIs(query, Position(7, 7), b"z", None)), Outcome.TAKEN)
         self.assertIs(mirror.deliver(ListIs(query, Position(7, 7), b"d", [b"d/y"])), Outcome.TAKEN)
         self.assertEqual(dict(mirror.files), {b"d.x": self.HI, b"d/y": self.HI})
-        self.assertIs(mirror.deliver(ContentIs(query, Position(7, 7), b"d/y", self.YO)), Outcome.TAKEN)
+        self.assertIs(
+            mirror.deliver(ContentIs(query, Position(7, 7), b"d/y", self.YO)), Outcome.TAKEN
+        )
         self.assertIs(mirror.deliver(ListIs(query, Position(7, 7), b"e", [])), Outcome.PLACED)
-        self.assertEqual((mirror.position, dict(mirror.files)), (Position(7, 7), {b"d.x": self.HI, b"d/y": self.YO}))
+        self.assertEqual(
+            (mirror.position, dict(mirror.files)),
+            (Position(7, 7), {b"d.x": self.HI, b"d/y": self.YO}),
+        )
 
     def test_lists_that_are_ignored(self):
         mirror, query = self.moved(), Query(9, 3, 2)
-        for reply in (ListIs(query, Position(7, 6), b"d", []), ListIs(query, Position(8, 9), b"d", []), ListIs(query, Position(7, 7), b"d.x", []),
-                      ListIs(Query(9, 3, 1), Position(7, 7), b"d", []), Refused(query, Cause.STALE, 8),
-                      Refused(Query(9, 3, 1), Cause.TOO_LARGE, 0)):
+        for reply in (
+            ListIs(query, Position(7, 6), b"d", []),
+            ListIs(query, Position(8, 9), b"d", []),
+            ListIs(query, Position(7, 7), b"d.x", []),
+            ListIs(Query(9, 3, 1), Position(7, 7), b"d", []),
+            Refused(query, Cause.STALE, 8),
+            Refused(Query(9, 3, 1), Cause.TOO_LARGE, 0),
+        ):
             self.assertIs(mirror.deliver(reply), Outcome.IGNORED, reply)
         self.assertIs(mirror.deliver(ListIs(query, Position(7, 7), b"d", [])), Outcome.TAKEN)
-        self.assertIs(mirror.deliver(ListIs(query, Position(7, 7), b"d", [b"d/x"])), Outcome.IGNORED)
+        self.assertIs(
+            mirror.deliver(ListIs(query, Position(7, 7), b"d", [b"d/x"])), Outcome.IGNORED
+        )
         self.assertEqual(dict(mirror.files), {b"d.x": self.HI})
 
     def test_a_list_that_is_too_large(self):
         mirror, query = self.moved(), Query(9, 3, 2)
         self.assertIs(mirror.deliver(Refused(query, Cause.TOO_LARGE, 0)), Outcome.ENDED)
-        self.assertEqual((mirror.position, mirror.outstanding(), len(mirror.files)), (Position(7, 5), [], 3))
+        self.assertEqual(
+            (mirror.position, mirror.outstanding(), len(mirror.files)), (Position(7, 5), [], 3)
+        )
         self.assertIs(mirror.deliver(ListIs(query, Position(7, 7), b"d", [])), Outcome.IGNORED)
-        self.assertIs(mirror.deliver(ContentIs(query, Position(7, 7), b"z", self.YO)), Outcome.IGNORED)
+        self.assertIs(
+            mirror.deliver(ContentIs(query, Position(7, 7), b"z", self.YO)), Outcome.IGNORED
+        )
         mirror = self.moved()
         mirror.deliver(ListIs(query, Position(7, 7), b"d", []))
         mirror.deliver(ListIs(query, Position(7, 7), b"e", []))
@@ -237,18 +486,31 @@ class Mirrors(unittest.TestCase):
         mirror.begin()
         query = Query(9, 3, 2)
         changes = ChangesAre(query, Position(7, 8), [(Mark.CHANGED, b"a")], [])
-        early = [BasisIs(query, Position(7, 8), [b"z"]), ContentIs(query, Position(7, 8), b"a", self.YO), Refused(Query(9, 3, 1), Cause.STALE, 8),
-                 ChangesAre(Query(9, 2, 2), Position(7, 8), [], []), ChangesAre(Query(8, 3, 2), Position(7, 8), [], [])]
-        late = [changes, Refused(query, Cause.STALE, 8), Refused(query, Cause.TOO_LARGE, 0), ContentIs(query, Position(7, 7), b"a", self.YO),
-                ContentIs(query, Position(8, 9), b"a", self.YO), ContentIs(query, Position(7, 8), b"b", self.YO),
-                ContentIs(Query(9, 3, 1), Position(7, 8), b"a", self.YO)]
+        early = [
+            BasisIs(query, Position(7, 8), [b"z"]),
+            ContentIs(query, Position(7, 8), b"a", self.YO),
+            Refused(Query(9, 3, 1), Cause.STALE, 8),
+            ChangesAre(Query(9, 2, 2), Position(7, 8), [], []),
+            ChangesAre(Query(8, 3, 2), Position(7, 8), [], []),
+        ]
+        late = [
+            changes,
+            Refused(query, Cause.STALE, 8),
+            Refused(query, Cause.TOO_LARGE, 0),
+            ContentIs(query, Position(7, 7), b"a", self.YO),
+            ContentIs(query, Position(8, 9), b"a", self.YO),
+            ContentIs(query, Position(7, 8), b"b", self.YO),
+            ContentIs(Query(9, 3, 1), Position(7, 8), b"a", self.YO),
+        ]
         for reply in early:
             self.assertIs(mirror.deliver(reply), Outcome.IGNORED, reply)
         self.assertIs(mirror.deliver(changes), Outcome.TAKEN)
         for reply in late:
             self.assertIs(mirror.deliver(reply), Outcome.IGNORED, reply)
         self.assertEqual((mirror.position, dict(mirror.files)), (Position(7, 5), {b"a": self.HI}))
-        self.assertIs(mirror.deliver(ContentIs(query, Position(7, 8), b"a", self.YO)), Outcome.PLACED)
+        self.assertIs(
+            mirror.deliver(ContentIs(query, Position(7, 8), b"a", self.YO)), Outcome.PLACED
+        )
         self.assertIs(mirror.deliver(ContentIs(query, Position(7, 8), b"a", None)), Outcome.IGNORED)
         self.assertEqual(dict(mirror.files), {b"a": self.YO})
 
@@ -257,10 +519,15 @@ class Mirrors(unittest.TestCase):
             mirror = self.placed()
             mirror.begin()
             self.assertIs(mirror.deliver(Refused(Query(9, 3, 2), cause, 4)), Outcome.UNPLACED)
-            self.assertEqual((mirror.position, dict(mirror.files), mirror.outstanding()), (None, {b"a": self.HI}, []))
+            self.assertEqual(
+                (mirror.position, dict(mirror.files), mirror.outstanding()),
+                (None, {b"a": self.HI}, []),
+            )
             mirror.begin()
             self.assertEqual(mirror.outstanding(), [Basis(Query(9, 3, 3))])
-            self.assertIs(mirror.deliver(BasisIs(Query(9, 3, 3), Position(8, 1), [])), Outcome.PLACED)
+            self.assertIs(
+                mirror.deliver(BasisIs(Query(9, 3, 3), Position(8, 1), [])), Outcome.PLACED
+            )
             self.assertEqual(dict(mirror.files), {})
         mirror = self.placed()
         mirror.begin()
@@ -270,7 +537,11 @@ class Mirrors(unittest.TestCase):
     def test_a_round_given_up(self):
         mirror = self.placed()
         mirror.begin()
-        mirror.deliver(ChangesAre(Query(9, 3, 2), Position(7, 8), [(Mark.CHANGED, b"a"), (Mark.CREATED, b"b")], []))
+        mirror.deliver(
+            ChangesAre(
+                Query(9, 3, 2), Position(7, 8), [(Mark.CHANGED, b"a"), (Mark.CREATED, b"b")], []
+            )
+        )
         mirror.deliver(ContentIs(Query(9, 3, 2), Position(7, 8), b"b", self.YO))
         mirror.begin()
         self.assertEqual(mirror.outstanding(), [Poll(Query(9, 3, 3), Position(7, 5))])
@@ -281,6 +552,7 @@ class Connections(InFolder):
     def test_no_deadlock(self):
         """30,000 requests ahead of a service that reads only where it can write."""
         with socket.create_server(("127.0.0.1", 0)) as listener:
+
             def serve():
                 peer, _ = listener.accept()
                 with peer, peer.makefile("rb") as requests:
@@ -289,7 +561,14 @@ class Connections(InFolder):
                         if not head:
                             return
                         body = requests.read(int.from_bytes(head, "big"))
-                        reply = b"\x02\x83" + body[2:26] + bytes(36) + body[26:] + b"\x01\0\0\4\0" + bytes(1024)
+                        reply = (
+                            b"\x02\x83"
+                            + body[2:26]
+                            + bytes(36)
+                            + body[26:]
+                            + b"\x01\0\0\4\0"
+                            + bytes(1024)
+                        )
                         peer.sendall(struct.pack(">I", len(reply)) + reply)
 
             thread = threading.Thread(target=serve)
@@ -301,7 +580,8 @@ class Connections(InFolder):
         self.assertEqual([reply.path for reply in replies], [b"%d" % n for n in range(30_000)])
 
     def test_lost_connections(self):
-        """A service that ends each connection after some replies, within a frame: the mirror is placed all the same."""
+        """A service that ends each connection after some replies, within a frame: the mirror is
+        placed all the same."""
         port, server = self.server(b"mount empty 7 1000000\n")
         self.lines(server, *(b"write f%d plain %d" % (n, n) for n in range(40)))
         with socket.create_server(("127.0.0.1", 0)) as listener:
@@ -311,11 +591,14 @@ class Connections(InFolder):
             while mirror.position is None or mirror.position.sequence < 41:
                 client.round(mirror)
             client.close()
-        self.assertEqual(dict(mirror.files), {b"f%d" % n: File(Kind.PLAIN, b"%d" % n) for n in range(40)})
+        self.assertEqual(
+            dict(mirror.files), {b"f%d" % n: File(Kind.PLAIN, b"%d" % n) for n in range(40)}
+        )
 
     @staticmethod
     def cutting(listener, port):
-        """Hands on each connection, but ends it after 500 bytes of replies, then after 1,000, and so on."""
+        """Hands on each connection, but ends it after 500 bytes of replies, then after 1,000,
+        and so on."""
         allowed = 500
         while True:
             try:
@@ -325,7 +608,9 @@ class Connections(InFolder):
             with peer, socket.create_connection(("127.0.0.1", port)) as service:
                 left = allowed
                 allowed += 500
-                threading.Thread(target=Connections.hand_on, args=(peer, service), daemon=True).start()
+                threading.Thread(
+                    target=Connections.hand_on, args=(peer, service), daemon=True
+                ).start()
                 while left > 0:
                     data = service.recv(min(left, 4096))
                     if not data:
@@ -345,7 +630,11 @@ class Connections(InFolder):
     def test_a_moved_directory(self):
         port, server = self.server(b"mount empty 7 1000000\n")
         self.lines(server, b"write d/x.c plain 1", b"write d/y.h plain 2", b"write d.c plain 3")
-        client, mirrors = railburnet.Client(port), [Mirror(), Mirror([b"e/**"]), Mirror([b"**/*.c"])]
+        client, mirrors = railburnet.Client(port), [
+            Mirror(),
+            Mirror([b"e/**"]),
+            Mirror([b"**/*.c"]),
+        ]
         changes = railburnet.Changes(client, [b"**/*.c"])
         while client.position().sequence < 4:
             pass
@@ -360,13 +649,17 @@ class Connections(InFolder):
         self.assertEqual(client.below(b"e").paths, [b"e/x.c", b"e/y.h"])
         self.assertEqual(client.below(b"e", [b"**/*.c"]).paths, [b"e/x.c"])
         self.assertEqual(client.below(b"z").paths, [])
-        self.assertEqual(changes.next(), [(None, b"d/x.c"), (Mark.CREATED, b"d/z.c"), (None, b"e/x.c")])
+        self.assertEqual(
+            changes.next(), [(None, b"d/x.c"), (Mark.CREATED, b"d/z.c"), (None, b"e/x.c")]
+        )
         self.assertEqual(changes.next(), [])
         for mirror in mirrors:
             self.assertIs(client.round(mirror), Outcome.PLACED)
             self.assertEqual(mirror.position.sequence, 7)
         one, three, four, five = (File(Kind.PLAIN, text) for text in (b"1", b"3", b"4", b"5"))
-        self.assertEqual(dict(mirrors[0].files), {b"d.c": three, b"d/z.c": five, b"e/x.c": one, b"e/y.h": four})
+        self.assertEqual(
+            dict(mirrors[0].files), {b"d.c": three, b"d/z.c": five, b"e/x.c": one, b"e/y.h": four}
+        )
         self.assertEqual(dict(mirrors[1].files), {b"e/x.c": one, b"e/y.h": four})
         self.assertEqual(dict(mirrors[2].files), {b"d.c": three, b"d/z.c": five, b"e/x.c": one})
         client.close()
@@ -401,15 +694,29 @@ class Connections(InFolder):
     def test_questions(self):
         port, server = self.server(b"mount empty 7 1000000\n")
         client = railburnet.Client(port)
-        self.lines(server, b"write d/a plain 1", b"write d/b exec 2", b"write c link d/a", b"rename d/a d/x\\sy")
+        self.lines(
+            server,
+            b"write d/a plain 1",
+            b"write d/b exec 2",
+            b"write c link d/a",
+            b"rename d/a d/x\\sy",
+        )
         while client.position().sequence < 5:
             pass
         self.assertEqual(client.basis([b"d/*"]).paths, [b"d/b", b"d/x y"])
-        marked = [(Mark.CREATED, b"c"), (Mark.REMOVED, b"d/a"), (Mark.CREATED, b"d/b"), (Mark.CREATED, b"d/x y")]
+        marked = [
+            (Mark.CREATED, b"c"),
+            (Mark.REMOVED, b"d/a"),
+            (Mark.CREATED, b"d/b"),
+            (Mark.CREATED, b"d/x y"),
+        ]
         self.assertEqual(client.since(Position(7, 2)).marked, marked)
         self.assertEqual(client.fetch(b"d/b").file, File(Kind.EXEC, b"2"))
         self.assertIsNone(client.fetch(b"d/a").file)
-        for position, refused in ((Position(6, 1), (Cause.STALE, 7)), (Position(7, 6), (Cause.AHEAD, 5))):
+        for position, refused in (
+            (Position(6, 1), (Cause.STALE, 7)),
+            (Position(7, 6), (Cause.AHEAD, 5)),
+        ):
             with self.assertRaises(railburnet.PositionRefused) as raised:
                 client.since(position)
             self.assertEqual((raised.exception.reply.cause, raised.exception.reply.value), refused)
@@ -418,7 +725,9 @@ class Connections(InFolder):
             pass
         with self.assertRaises(railburnet.PositionRefused) as raised:
             client.since(Position(7, 5))
-        self.assertEqual((raised.exception.reply.cause, raised.exception.reply.value), (Cause.TRUNCATED, 6))
+        self.assertEqual(
+            (raised.exception.reply.cause, raised.exception.reply.value), (Cause.TRUNCATED, 6)
+        )
         client.close()
 
 

@@ -1,4 +1,5 @@
-"""watch: the command runs once for what changed, with its paths, never beside itself; and what feed, edend serve and a mirror do together."""
+"""watch: the command runs once for what changed, with its paths, never beside itself; and what
+feed, edend serve and a mirror do together."""
 import contextlib
 import os
 import signal
@@ -27,14 +28,25 @@ class Watching(InFolder):
     def watch(self, port, *words, before=(), **more):
         environment = {**os.environ, "LOG": self.path("log"), **more}
         at = words.index("--") if "--" in words else len(words)
-        words = [*client("watch"), "--port", str(port), *words[:at], "--", self.path("command"), *words[at + 1 :]]
+        words = [
+            *client("watch"),
+            "--port",
+            str(port),
+            *words[:at],
+            "--",
+            self.path("command"),
+            *words[at + 1 :],
+        ]
         process = self.started([*before, *words], env=environment, start_new_session=True)
         self.assertTrue(wait_until(lambda: b"watching" in self.text("stderr")), self.text("stderr"))
         return process
 
     def runs(self, count):
         """Waits for so many whole runs: of each its times and paths."""
-        self.assertTrue(wait_until(lambda: self.text("log").count(b"ended ") >= count), self.text("log") + self.text("stderr"))
+        self.assertTrue(
+            wait_until(lambda: self.text("log").count(b"ended ") >= count),
+            self.text("log") + self.text("stderr"),
+        )
         runs = []
         for text in self.text("log").split(b"begun ")[1:]:
             begun, _, rest = text.partition(b"\n")
@@ -46,18 +58,28 @@ class Watching(InFolder):
     def test_changes(self):
         port, server = self.server(b"mount empty 7 1000000\nwrite d/old plain 1\n")
         self.watch(port, "d/**", "--", "word")
-        self.lines(server, b"write d/a plain 1", b"write other plain 1", b"write d/b\\sc plain 2", b"remove d/old")
+        self.lines(
+            server,
+            b"write d/a plain 1",
+            b"write other plain 1",
+            b"write d/b\\sc plain 2",
+            b"remove d/old",
+        )
         self.assertEqual(self.runs(1)[0][2], [b"word", b"d/a", b"d/b c", b"d/old"])
         self.lines(server, b"rename d/a d/z")
         self.assertEqual(self.runs(2)[1][2], [b"word", b"d/a", b"d/z"])
         self.assertIn(b"watch: 2 paths changed: d/a, d/z; running ", self.text("stderr"))
 
     def test_a_moved_directory(self):
-        port, server = self.server(b"mount empty 7 1000000\nwrite d/x.c plain 1\nwrite d/x.h plain 1\n")
+        port, server = self.server(
+            b"mount empty 7 1000000\nwrite d/x.c plain 1\nwrite d/x.h plain 1\n"
+        )
         self.watch(port, "**/*.c")
         self.lines(server, b"write d/y.c plain 2", b"renamedir d e")
         moved = {b"d/x.c", b"d/y.c", b"e/x.c", b"e/y.c"}
-        self.assertTrue(wait_until(lambda: moved == {path for run in self.runs(1) for path in run[2]}))
+        self.assertTrue(
+            wait_until(lambda: moved == {path for run in self.runs(1) for path in run[2]})
+        )
 
     def test_never_two_at_once(self):
         port, server = self.server(b"mount empty 7 1000000\n")
@@ -65,14 +87,21 @@ class Watching(InFolder):
         for n in range(12):
             self.lines(server, b"write f%d plain 1" % n)
             wait_until(lambda: False, 0.1)
-        self.assertTrue(wait_until(lambda: {b"f%d" % n for n in range(12)} == {path for run in self.runs(1) for path in run[2]}))
+        self.assertTrue(
+            wait_until(
+                lambda: {b"f%d" % n for n in range(12)}
+                == {path for run in self.runs(1) for path in run[2]}
+            )
+        )
         runs = self.runs(2)
         self.assertLess(len(runs), 12)
         for before, after in zip(runs, runs[1:]):
             self.assertLess(before[1], after[0])
 
     def test_a_refused_position(self):
-        port, server = self.server(b"mount empty 7 1000000\nwrite kept plain 1\nwrite gone plain 1\n")
+        port, server = self.server(
+            b"mount empty 7 1000000\nwrite kept plain 1\nwrite gone plain 1\n"
+        )
         self.watch(port, "*")
         self.lines(server, b"remove gone", b"write new plain 1", b"remount 8")
         self.assertEqual(self.runs(1)[0][2], [b"gone", b"kept", b"new"])
@@ -98,7 +127,9 @@ class Watching(InFolder):
     def test_many_paths(self):
         port, server = self.server(b"mount empty 7 1000000\n")
         # The smaller the stack, the fewer bytes a command line may have.
-        self.watch(port, "**", "--settle", "1", before=["bash", "-c", 'ulimit -s 512; exec "$@"', "-"])
+        self.watch(
+            port, "**", "--settle", "1", before=["bash", "-c", 'ulimit -s 512; exec "$@"', "-"]
+        )
         paths = [b"d/%0100d" % n for n in range(1500)]
         self.lines(server, *(b"write %s plain 1" % path for path in paths))
         self.assertTrue(wait_until(lambda: b"runs after" in self.text("stderr")))
@@ -108,7 +139,12 @@ class Watching(InFolder):
         port, server = self.server(b"mount empty 7 1000000\n")
         self.watch(port, "--null", "**", STDIN="1")
         self.lines(server, *(b"write f%04d plain 1" % n for n in range(1000)))
-        self.assertTrue(wait_until(lambda: {b"f%04d" % n for n in range(1000)} == {path for run in self.runs(1) for path in run[2]}))
+        self.assertTrue(
+            wait_until(
+                lambda: {b"f%04d" % n for n in range(1000)}
+                == {path for run in self.runs(1) for path in run[2]}
+            )
+        )
 
     def test_interrupted(self):
         port, server = self.server(b"mount empty 7 1000000\n")
@@ -116,30 +152,37 @@ class Watching(InFolder):
         self.lines(server, b"write a plain 1")
         self.assertTrue(wait_until(lambda: b"begun" in self.text("log")))
         watch.send_signal(signal.SIGINT)
-        self.assertEqual(watch.wait(10), 130)
+        self.assertEqual(watch.wait(120), 130)
         # It has waited for the command.
         self.assertIn(b"ended", self.text("log"))
         self.assertNotIn(b"Traceback", self.text("stderr"))
 
     def test_a_command_that_is_not_there(self):
         port, server = self.server(b"mount empty 7 1000000\n")
-        watch = self.started([*client("watch"), "--port", str(port), "--once", "**", "--", self.path("nothing")])
+        watch = self.started(
+            [*client("watch"), "--port", str(port), "--once", "**", "--", self.path("nothing")]
+        )
         self.assertTrue(wait_until(lambda: b"watching" in self.text("stderr")))
         self.lines(server, b"write a plain 1")
-        self.assertEqual(watch.wait(10), 0)
+        self.assertEqual(watch.wait(120), 0)
         self.assertIn(b"nothing: No such file or directory", self.text("stderr"))
         self.assertIn(b"status 127", self.text("stderr"))
 
     def test_command_lines(self):
-        for words, told in (
-            (["--port", "1", "a[", "--", "true"], b"no pattern"),
-            (["--port", "1", "a"], b"a command is needed"),
-            (["a", "--", "true"], b"--port is needed"),
-            (["--port", "0", "a", "--", "true"], b"--port"),
+        for words, told, status in (
+            (["--port", "1", "a[", "--", "true"], b"no pattern", 2),
+            (["--port", "1", "a"], b"a command is needed", 2),
+            (["a", "--", "true"], b"`railburnet up` begins one, and --port names another", 3),
+            (["--port", "0", "a", "--", "true"], b"--port", 2),
+            (["--port", "1", "--", "true"], b"required: PATTERN", 2),
         ):
-            environment = {name: text for name, text in os.environ.items() if name != "RAILBURNET_PORT"}
-            done = subprocess.run([*client("watch"), *words], stderr=subprocess.PIPE, env=environment, check=False)
-            self.assertEqual(done.returncode, 2)
+            environment = {
+                name: text for name, text in os.environ.items() if name != "RAILBURNET_PORT"
+            }
+            done = subprocess.run(
+                [*client("watch"), *words], stderr=subprocess.PIPE, env=environment, check=False
+            )
+            self.assertEqual(done.returncode, status)
             self.assertIn(told, done.stderr)
 
 
@@ -155,7 +198,7 @@ class Together(InFolder):
         feeder = self.started([*client("feed"), "--empty", self.path("w")], stdout=subprocess.PIPE)
         port, _ = self.server(b"", source=feeder.stdout)
         words = ["--port", str(port), "follow", "--every", "0.02", "--into", self.path("m")]
-        self.started([*client("python/railburnet.py"), *words], stdout=subprocess.DEVNULL)
+        self.started([*client(), *words], stdout=subprocess.DEVNULL)
 
     def held(self, name):
         """The files below a directory, with their modes and what they hold."""
@@ -173,6 +216,7 @@ class Together(InFolder):
 
     def equal(self):
         """Waits until the mirror holds what the directory does."""
+
         def holds():
             # The mirror may be at work in between.
             with contextlib.suppress(FileNotFoundError, NotADirectoryError):

@@ -1,15 +1,8 @@
-#!/usr/bin/env python3
-"""Prints the objects of commits as `git cat-file --batch` does, each once and behind those that it names, for `edend serve --objects FILE`.
-
-A mount has no kind for a submodule, a file of mode 100664, an object above 8,388,608 bytes, a name above 255 bytes, and a path above 1,024 bytes
-or 64 names. Such a thing is told with its path, and nothing is printed. With --leave-out the commits are written anew without it (a file of mode
-100664 gets mode 100644, as git checks it out), and their new ids are told. The repository stays as it is.
-"""
+"""Writes the objects of commits as `git cat-file --batch` does, each once and after those that
+it names, for `edend serve --objects FILE`."""
 from __future__ import annotations
 
-import argparse
 import hashlib
-import os
 import subprocess
 import sys
 import tempfile
@@ -20,7 +13,6 @@ from typing import IO, Dict, Iterator, List, NamedTuple, Optional, Sequence, Set
 MOST_BYTES = 8_388_608
 TREE, SUBMODULE, SHARED = b"40000", b"160000", b"100664"
 FILES = (b"100644", b"100755", b"120000")
-TOLD = 20
 
 
 class Failure(Exception):
@@ -51,17 +43,31 @@ class Repository:
         form = self._said("rev-parse", "--show-object-format")
         if form != "sha1":
             raise Failure(f"{folder} names its objects by {form}, and a mount by sha1")
-        reader = subprocess.Popen([*self._git, "cat-file", "--batch"], stdin=subprocess.PIPE, stdout=subprocess.PIPE)
+        reader = subprocess.Popen(
+            [*self._git, "cat-file", "--batch"], stdin=subprocess.PIPE, stdout=subprocess.PIPE
+        )
         assert reader.stdin is not None and reader.stdout is not None
-        self._asked, self._answered = reader.stdin, reader.stdout
+        self._reader, self._asked, self._answered = reader, reader.stdin, reader.stdout
+
+    def __enter__(self) -> Repository:
+        return self
+
+    def __exit__(self, *_: object) -> None:
+        self._asked.close()
+        self._answered.close()
+        self._reader.wait()
 
     def _said(self, *words: str) -> str:
         try:
-            done = subprocess.run([*self._git, *words], stdout=subprocess.PIPE, stderr=subprocess.PIPE, check=False)
+            done = subprocess.run(
+                [*self._git, *words], stdout=subprocess.PIPE, stderr=subprocess.PIPE, check=False
+            )
         except FileNotFoundError:
             raise Failure("needs the command git, which is not here") from None
         if done.returncode:
-            raise Failure(done.stderr.decode("utf-8", "replace").strip() or f"git {' '.join(words)} failed")
+            raise Failure(
+                done.stderr.decode("utf-8", "replace").strip() or f"git {' '.join(words)} failed"
+            )
         return done.stdout.decode().strip()
 
     def commit(self, name: str) -> str:
@@ -93,11 +99,14 @@ class Repository:
 
     @contextmanager
     def _batch(self, ids: Sequence[str], how: str) -> Iterator[IO[bytes]]:
-        """What git prints of objects. Their ids stand in a file, so that no two pipes wait for each other."""
+        """What git prints of objects. Their ids stand in a file, so that no two pipes wait for
+        each other."""
         with tempfile.TemporaryFile() as listed:
             listed.writelines(id.encode() + b"\n" for id in ids)
             listed.seek(0)
-            with subprocess.Popen([*self._git, "cat-file", how, "--buffer"], stdin=listed, stdout=subprocess.PIPE) as process:
+            with subprocess.Popen(
+                [*self._git, "cat-file", how, "--buffer"], stdin=listed, stdout=subprocess.PIPE
+            ) as process:
                 assert process.stdout is not None
                 yield process.stdout
 
@@ -146,7 +155,9 @@ class Walk:
         payload = self._repository.payload(id)
         entries = entries_of(payload)
         if len(payload) > MOST_BYTES:
-            self.faults.append(Fault(path, f"a directory whose tree has {len(payload):,} bytes", False))
+            self.faults.append(
+                Fault(path, f"a directory whose tree has {len(payload):,} bytes", False)
+            )
         for entry in entries:
             self._entry(entry, path + entry.name, level)
         self.trees[id], self.payloads[id] = entries, payload
@@ -162,17 +173,31 @@ class Walk:
             self.faults.append(Fault(path, "a submodule, mode 160000"))
         else:
             if entry.mode not in FILES:
-                self.faults.append(Fault(path, f"a file of mode {entry.mode.decode()}", entry.mode == SHARED))
+                self.faults.append(
+                    Fault(path, f"a file of mode {entry.mode.decode()}", entry.mode == SHARED)
+                )
             self.blobs.setdefault(entry.id, path)
 
     def _limits(self, id: str, path: bytes) -> None:
-        """How deep a tree is and how long its longest path; and whether it is the lowest that is too deep or too long."""
-        below = [(self._reach.get(e.id, (0, 0)) if e.mode == TREE else (0, -1), e.name) for e in self.trees[id]]
+        """How deep a tree is and how long its longest path; and whether it is the lowest that is
+        too deep or too long."""
+        below = [
+            (self._reach.get(e.id, (0, 0)) if e.mode == TREE else (0, -1), e.name)
+            for e in self.trees[id]
+        ]
         depth = 1 + max((reach[0] for reach, _ in below), default=0)
         length = max((reach[1] + 1 + len(name) for reach, name in below), default=0)
         self._reach[id] = depth, length
-        if (depth > 64 or length > 1024) and not any(reach[0] > 64 or reach[1] > 1024 for reach, _ in below):
-            self.faults.append(Fault(path, f"a directory with a path of {length:,} bytes or {depth} names below it", False))
+        if (depth > 64 or length > 1024) and not any(
+            reach[0] > 64 or reach[1] > 1024 for reach, _ in below
+        ):
+            self.faults.append(
+                Fault(
+                    path,
+                    f"a directory with a path of {length:,} bytes or {depth} names below it",
+                    False,
+                )
+            )
 
     def check_sizes(self) -> None:
         """Finds the contents above the limit."""
@@ -196,7 +221,9 @@ class Anew:
     def _add(self, id: str, entries: List[Entry], payload: bytes) -> None:
         kept = [new for new in map(self._kept, entries) if new is not None]
         if kept != entries:
-            payload = b"".join(b"%s %s\0%s" % (mode, name, bytes.fromhex(below)) for mode, name, below in kept)
+            payload = b"".join(
+                b"%s %s\0%s" % (mode, name, bytes.fromhex(below)) for mode, name, below in kept
+            )
         new = hashlib.sha1(b"tree %d\0" % len(payload) + payload).hexdigest()
         empty = bool(entries) and not kept
         self.ids[id] = None if empty else new
@@ -222,42 +249,115 @@ class Anew:
 
 
 class Progress:
-    """How far it is: on a terminal a line that is written over, ten times a second at most; and messages."""
+    """How far it is: on a terminal a line that is written over, ten times a second at most; and
+    messages."""
 
-    def __init__(self) -> None:
-        self._live = sys.stderr.isatty()
+    def __init__(self, live: bool) -> None:
+        self._live = live
         self._next = 0.0
 
     def turn(self, text: str) -> None:
         """A step of work is done."""
         if self._live and time.monotonic() >= self._next:
-            print(f"\r\033[Kgit-objects: {text}", end="", file=sys.stderr, flush=True)
+            print(f"\r\033[Kobjects: {text}", end="", file=sys.stderr, flush=True)
             self._next = time.monotonic() + 0.1
 
     def say(self, text: str) -> None:
         """Something that stays to be read."""
-        print(f"{chr(13)}{chr(27)}[K" if self._live else "", f"git-objects: {text}", sep="", file=sys.stderr, flush=True)
+        print(
+            f"{chr(13)}{chr(27)}[K" if self._live else "",
+            f"objects: {text}",
+            sep="",
+            file=sys.stderr,
+            flush=True,
+        )
 
 
 def shown(path: bytes) -> str:
     """A path for people."""
-    return "".join(c if c.isprintable() else ascii(c)[1:-1] for c in path.decode("utf-8", "backslashreplace")) or "the top directory"
+    return (
+        "".join(
+            c if c.isprintable() else ascii(c)[1:-1]
+            for c in path.decode("utf-8", "backslashreplace")
+        )
+        or "the top directory"
+    )
 
 
-def tell_faults(faults: List[Fault], progress: Progress, word: str) -> None:
-    for fault in faults[:TOLD]:
-        progress.say(f"{word}{shown(fault.path)}: {fault.why}")
-    if len(faults) > TOLD:
-        progress.say(f"and {len(faults) - TOLD:,} more")
+class Written(NamedTuple):
+    """What became of commits: of each the id under which it was written, and what was left out,
+    with paths and reasons."""
+
+    ids: Dict[str, str]
+    faults: List[Tuple[str, str]]
+    number: int
+    size: int
 
 
-def print_all(walk: Walk, anew: Anew, repository: Repository, commits: Dict[str, bytes], progress: Progress) -> None:
-    """Prints blobs, then trees, then commits."""
-    out, written, done = sys.stdout.buffer, 0, 0
+class Stuck(Failure):
+    """Commits hold what a mount can't, and nothing was written."""
+
+    def __init__(self, faults: List[Tuple[str, str]], leave_out: bool) -> None:
+        super().__init__(
+            "a mount has no kind for that"
+            + ("" if leave_out else "; --leave-out writes the commits anew without it")
+        )
+        self.faults = faults
+
+
+def write(
+    folder: str,
+    names: Sequence[str],
+    out: IO[bytes],
+    leave_out: bool,
+    progress: Optional[Progress] = None,
+) -> Written:
+    """Writes the objects of commits of a repository: blobs, then trees, then commits."""
+    progress = progress or Progress(live=False)
+    with Repository(folder) as repository:
+        ids = list(dict.fromkeys(repository.commit(name) for name in names))
+        payloads = {id: repository.payload(id) for id in ids}
+        walk = Walk(repository, progress)
+        for payload in payloads.values():
+            walk.add(payload[5:45].decode())
+        walk.check_sizes()
+        stuck = [fault for fault in walk.faults if not (fault.can_go and leave_out)]
+        if stuck:
+            raise Stuck(_shown_faults(stuck), leave_out)
+        anew = Anew(walk)
+        commits = {
+            id: anew.commit(payload, payload[5:45].decode()) for id, payload in payloads.items()
+        }
+        count, size = _write_all(walk, anew, repository, dict(commits.values()), out, progress)
+    return Written(
+        {id: new for id, (new, _) in commits.items()}, _shown_faults(walk.faults), count, size
+    )
+
+
+def _shown_faults(faults: List[Fault]) -> List[Tuple[str, str]]:
+    return [(shown(fault.path), fault.why) for fault in faults]
+
+
+def _write_all(
+    walk: Walk,
+    anew: Anew,
+    repository: Repository,
+    commits: Dict[str, bytes],
+    out: IO[bytes],
+    progress: Progress,
+) -> Tuple[int, int]:
+    """Writes all objects, and returns their number and that of the bytes."""
+    written = done = 0
     blobs = [id for id in walk.blobs if id not in walk.large]
     count = len(blobs) + len(anew.trees) + len(commits)
-    made = ((b"%s tree %d\n" % (id.encode(), len(payload)), payload) for id, payload in anew.trees.items())
-    last = ((b"%s commit %d\n" % (id.encode(), len(payload)), payload) for id, payload in commits.items())
+    made = (
+        (b"%s tree %d\n" % (id.encode(), len(payload)), payload)
+        for id, payload in anew.trees.items()
+    )
+    last = (
+        (b"%s commit %d\n" % (id.encode(), len(payload)), payload)
+        for id, payload in commits.items()
+    )
     for objects in (repository.objects(blobs), made, last):
         for head, payload in objects:
             out.write(head)
@@ -267,52 +367,4 @@ def print_all(walk: Walk, anew: Anew, repository: Repository, commits: Dict[str,
             done += 1
             progress.turn(f"{done:,} of {count:,} objects, {written / 1e6:,.1f} MB")
     out.flush()
-    progress.say(f"{count:,} objects, {written / 1e6:,.1f} MB")
-
-
-def run(options: argparse.Namespace, progress: Progress) -> None:
-    repository = Repository(options.repository)
-    ids = list(dict.fromkeys(repository.commit(name) for name in options.commits))
-    payloads = {id: repository.payload(id) for id in ids}
-    walk = Walk(repository, progress)
-    for payload in payloads.values():
-        walk.add(payload[5:45].decode())
-    walk.check_sizes()
-    stuck = [fault for fault in walk.faults if not (fault.can_go and options.leave_out)]
-    if stuck:
-        tell_faults(stuck, progress, "")
-        raise Failure("a mount has no kind for that" + ("" if options.leave_out else "; --leave-out writes the commits anew without it"))
-    tell_faults(walk.faults, progress, "left out: ")
-    anew = Anew(walk)
-    commits: Dict[str, bytes] = {}
-    for id, payload in payloads.items():
-        new, text = anew.commit(payload, payload[5:45].decode())
-        commits[new] = text
-        if new != id:
-            progress.say(f"{id} is written anew as {new}")
-    print_all(walk, anew, repository, commits, progress)
-
-
-def main() -> int:
-    parser = argparse.ArgumentParser(prog="git-objects", description=__doc__, formatter_class=argparse.RawDescriptionHelpFormatter,
-                                     epilog="Status: 0 done; 1 something that a mount has no kind for, or a fault of git; 2 the command line.")
-    parser.add_argument("--leave-out", action="store_true", help="write the commits anew without what a mount has no kind for")
-    parser.add_argument("repository", metavar="REPOSITORY", help="a repository's folder")
-    parser.add_argument("commits", metavar="COMMIT", nargs="+", help="a commit, by any name that git knows")
-    options = parser.parse_args()
-    progress = Progress()
-    try:
-        run(options, progress)
-    except Failure as failure:
-        progress.say(str(failure))
-        return 1
-    except BrokenPipeError:
-        os.dup2(os.open(os.devnull, os.O_WRONLY), sys.stdout.fileno())
-        return 1
-    except KeyboardInterrupt:
-        return 130
-    return 0
-
-
-if __name__ == "__main__":
-    sys.exit(main())
+    return count, written

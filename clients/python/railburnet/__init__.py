@@ -1,0 +1,147 @@
+"""A client of a Railburnet mount: what changed since a position, which files there are, and a
+mirror.
+
+It speaks frames of version 2 (docs/formats.md) over TCP, and needs Python 3.9 and nothing else.
+Paths, patterns and contents are bytes.
+
+    client = Client(port=7777)
+    basis = client.basis([b"src/**"])  # the files, and the position of that answer
+    changes = client.since(basis.position, [b"src/**"])  # or PositionRefused: begin again
+    client.below(b"src", [b"src/**"])                     # the files below one of changes.prefixes
+    files = FileMap()
+    mirror = Mirror([b"src/**"], files=files)
+    while client.round(mirror) is not Outcome.PLACED:     # rounds until the mirror has a position
+        pass
+    files[b"src/main.c"].content
+
+The same is a program: `railburnet --help`, or `python3 -m railburnet --help`.
+"""
+from __future__ import annotations
+
+import importlib
+from typing import TYPE_CHECKING, Any
+
+if TYPE_CHECKING:
+    from .client import Changes, Client, Connection
+    from .folder import Folder
+    from .frames import (
+        Basis,
+        BasisIs,
+        Below,
+        Cause,
+        ChangesAre,
+        ConnectionLost,
+        ContentIs,
+        Fetch,
+        File,
+        FrameFault,
+        FrameReader,
+        Kind,
+        ListIs,
+        Mark,
+        Poll,
+        Position,
+        PositionRefused,
+        Query,
+        Refused,
+        Reply,
+        Request,
+        TooLarge,
+        as_word,
+        decode_reply,
+        encode_request,
+        lies_below,
+        path_fault,
+        patterns_fault,
+        shown,
+    )
+    from .mirror import FileMap, Files, Mirror, Outcome
+
+__version__ = "0.1.0"
+
+_HOMES = {
+    "client": ("Changes", "Client", "Connection"),
+    "folder": ("Folder",),
+    "frames": (
+        "Basis",
+        "BasisIs",
+        "Below",
+        "Cause",
+        "ChangesAre",
+        "ConnectionLost",
+        "ContentIs",
+        "Fetch",
+        "File",
+        "FrameFault",
+        "FrameReader",
+        "Kind",
+        "ListIs",
+        "Mark",
+        "Poll",
+        "Position",
+        "PositionRefused",
+        "Query",
+        "Refused",
+        "Reply",
+        "Request",
+        "TooLarge",
+        "as_word",
+        "decode_reply",
+        "encode_request",
+        "lies_below",
+        "path_fault",
+        "patterns_fault",
+        "shown",
+    ),
+    "mirror": ("FileMap", "Files", "Mirror", "Outcome"),
+}
+"""Of each module what is had from here; it is loaded when it is asked for first, so that the
+command begins fast."""
+
+__all__ = [
+    "Basis",
+    "BasisIs",
+    "Below",
+    "Cause",
+    "Changes",
+    "ChangesAre",
+    "Client",
+    "Connection",
+    "ConnectionLost",
+    "ContentIs",
+    "Fetch",
+    "File",
+    "FileMap",
+    "Files",
+    "Folder",
+    "FrameFault",
+    "FrameReader",
+    "Kind",
+    "ListIs",
+    "Mark",
+    "Mirror",
+    "Outcome",
+    "Poll",
+    "Position",
+    "PositionRefused",
+    "Query",
+    "Refused",
+    "Reply",
+    "Request",
+    "TooLarge",
+    "as_word",
+    "decode_reply",
+    "encode_request",
+    "lies_below",
+    "path_fault",
+    "patterns_fault",
+    "shown",
+]
+
+
+def __getattr__(name: str) -> Any:
+    for module, names in _HOMES.items():
+        if name in names:
+            globals()[name] = getattr(importlib.import_module(f".{module}", __name__), name)
+            return globals()[name]
+    raise AttributeError(f"module {__name__!r} has no attribute {name!r}")

@@ -1,0 +1,362 @@
+"""Connections to a mount, and the questions that a client asks over them."""
+from __future__ import annotations
+
+import errno
+import os
+import selectors
+import socket
+import time
+from typing import Callable, Dict, Iterable, Iterator, List, Optional, Tuple, Union
+
+from . import control as controls
+from .frames import (
+    MOST_NUMBER,
+    Basis,
+    BasisIs,
+    Below,
+    Cause,
+    ChangesAre,
+    ConnectionLost,
+    ContentIs,
+    Fetch,
+    FrameFault,
+    FrameReader,
+    ListIs,
+    Mark,
+    Poll,
+    Position,
+    PositionRefused,
+    Query,
+    Refused,
+    Reply,
+    Request,
+    TooLarge,
+    decode_reply,
+    drop_own,
+    encode_request,
+    lies_below,
+)
+from .mirror import Mirror, Outcome
+
+
+SILENT = 5.0
+"""After how many seconds without an answer somebody is told."""
+
+
+class Connection:
+    """One connection to a mount. `silent` is called whenever nothing came for some seconds."""
+
+    def __init__(
+        self,
+        port: int,
+        host: str = "127.0.0.1",
+        timeout: float = 30.0,
+        silent: Callable[[], None] = lambda: None,
+    ) -> None:
+        self._timeout, self._silent = timeout, silent
+        try:
+            self._socket = socket.create_connection((host, port), timeout)
+        except OSError as error:
+            raise ConnectionLost(
+                error.errno, f"no connection to {host} port {port}: {error.strerror or error}"
+            ) from None
+        self._socket.setsockopt(socket.IPPROTO_TCP, socket.TCP_NODELAY, 1)
+        self._socket.setblocking(False)
+        self._selector = selectors.DefaultSelector()
+        self._selector.register(self._socket, selectors.EVENT_READ)
+        self._reader = FrameReader()
+
+    def close(self) -> None:
+        """Ends the connection."""
+        self._selector.close()
+        self._socket.close()
+
+    def ask_all(self, requests: Iterable[Request]) -> Iterator[Reply]:
+        """The replies to requests, in their order, as they come.
+
+        Requests are sent ahead while replies are read, so two full buffers can't wait for each
+        other. Who doesn't take all replies has to close the connection. ConnectionLost where it
+        ends or is silent for too long, FrameFault where a reply can't be read.
+        """
+        source, unsent, waiting, more = iter(requests), bytearray(), 0, True
+        while True:
+            while more and len(unsent) < 65_536:
+                request = next(source, None)
+                if request is None:
+                    more = False
+                else:
+                    unsent += encode_request(request)
+                    waiting += 1
+            if waiting == 0:
+                return
+            del unsent[: self._send(unsent)]
+            for body in self._received(bool(unsent)):
+                waiting -= 1
+                yield decode_reply(body)
+
+    def _send(self, data: bytearray) -> int:
+        """Sends what can be sent at once."""
+        try:
+            return self._socket.send(data) if data else 0
+        except BlockingIOError:
+            return 0
+        except OSError as error:
+            raise ConnectionLost(error.errno, f"the connection broke: {error.strerror}") from None
+
+    def _received(self, unsent: bool) -> Iterator[bytes]:
+        """Waits until something can be read, or sent where there is something to send, and gives
+        the bodies that came."""
+        self._selector.modify(
+            self._socket, selectors.EVENT_READ | (selectors.EVENT_WRITE if unsent else 0)
+        )
+        events = self._selector.select(min(self._timeout, SILENT))
+        if not events and self._timeout > SILENT:
+            self._silent()
+            events = self._selector.select(self._timeout - SILENT)
+        if not events:
+            raise ConnectionLost(errno.ETIMEDOUT, f"no reply within {self._timeout:g} seconds")
+        if not events[0][1] & selectors.EVENT_READ:
+            return
+        try:
+            data = self._socket.recv(1 << 18)
+        except OSError as error:
+            raise ConnectionLost(error.errno, f"the connection broke: {error.strerror}") from None
+        if not data:
+            raise ConnectionLost(errno.ECONNRESET, "the mount ended the connection")
+        yield from self._reader.feed(data)
+
+
+class Client:
+    """Questions to a mount, over a connection that is made when it is needed, and anew where it was
+    lost.
+
+    At most `connections` are made for one question or one round; then ConnectionLost is raised.
+    The port may be a function, which is asked before each connection. The files that feed keeps
+    for itself below `.git/.railburnet` are in no list. `waits` is given a message, once until an
+    answer comes, when the mount is silent.
+    """
+
+    def __init__(
+        self,
+        port: Union[int, Callable[[], int]],
+        host: str = "127.0.0.1",
+        timeout: float = 30.0,
+        connections: int = 16,
+        waits: Optional[Callable[[str], None]] = None,
+    ) -> None:
+        self._port = port
+        self._host, self._timeout = host, timeout
+        self._waits, self._waiting = waits, False
+        self._generation = 0
+        self._most = connections
+        self._connection: Optional[Connection] = None
+        self._mirror = int.from_bytes(os.urandom(8), "big")
+        self._life = time.time_ns()
+        self._number = 0
+        self._fault: Exception = ConnectionLost("no connection was made")
+
+    def close(self) -> None:
+        """Ends the connection, if there is one."""
+        if self._connection is not None:
+            self._connection.close()
+            self._connection = None
+
+    def __enter__(self) -> Client:
+        return self
+
+    def __exit__(self, *_: object) -> None:
+        self.close()
+
+    def position(self) -> Position:
+        """Returns where the mount is now. Its root is not the mount's, but twenty bytes 00: nothing
+        is asked that would report it.
+
+        A poll since the greatest number is refused with the present one, or else with the
+        present generation, which is then polled.
+        """
+        while True:
+            reply = self._ask(Poll(self._query(), Position(self._generation, MOST_NUMBER)))
+            if isinstance(reply, ChangesAre):
+                return Position(reply.position.generation, reply.position.sequence)
+            assert isinstance(reply, Refused)
+            if reply.cause is Cause.AHEAD:
+                return Position(self._generation, reply.value)
+            if reply.cause is not Cause.STALE:
+                raise PositionRefused(reply)
+            self._generation = reply.value
+
+    def sync(self, control: str, timeout: float = 60.0) -> Position:
+        """Returns a position at which the mount has all that was on disk before the call. The root
+        is that of `position`.
+
+        It asks the feed at its control socket, and waits for the mount. ControlFault if the feed
+        doesn't answer, or the mount doesn't come to it.
+        """
+        end = time.monotonic() + timeout
+        wanted = controls.sync(control, timeout)
+        for turn in range(1_000_000_000):
+            position = self.position()
+            if position.generation == wanted[0] and position.sequence >= wanted[1]:
+                return position
+            if time.monotonic() > end:
+                raise controls.ControlFault(
+                    f"the mount is at {position.generation} {position.sequence}, and not at "
+                    f"{wanted[0]} {wanted[1]} "
+                    f"after {timeout:g} seconds"
+                )
+            if position.generation != wanted[0]:
+                # One of the two began again.
+                wanted = controls.sync(control, timeout)
+            time.sleep(min(0.0005 * turn, 0.02))
+        raise AssertionError("a loop that ends with the time")
+
+    def basis(self, patterns: Iterable[bytes] = ()) -> BasisIs:
+        """The paths of all files that the patterns admit. TooLarge where they don't fit into a
+        frame."""
+        reply = self._ask(Basis(self._query(), tuple(patterns)))
+        if isinstance(reply, Refused):
+            raise TooLarge()
+        assert isinstance(reply, BasisIs)
+        drop_own(reply.paths)
+        return reply
+
+    def since(self, position: Position, patterns: Iterable[bytes] = ()) -> ChangesAre:
+        """What changed since a position. PositionRefused where that can't be told, TooLarge
+        where it doesn't fit into a frame."""
+        reply = self._ask(Poll(self._query(), position, tuple(patterns)))
+        if isinstance(reply, Refused):
+            raise TooLarge() if reply.cause is Cause.TOO_LARGE else PositionRefused(reply)
+        assert isinstance(reply, ChangesAre)
+        drop_own([path for _, path in reply.marked], reply.marked)
+        return reply
+
+    def fetch(self, path: bytes) -> ContentIs:
+        """What stands at a path."""
+        reply = self._ask(Fetch(self._query(), path))
+        assert isinstance(reply, ContentIs) and reply.path == path
+        return reply
+
+    def below(self, prefix: bytes, patterns: Iterable[bytes] = ()) -> ListIs:
+        """The paths of the files below a directory that the patterns admit. TooLarge where they
+        don't fit into a frame."""
+        reply = self._ask(Below(self._query(), prefix, tuple(patterns)))
+        if isinstance(reply, Refused):
+            raise TooLarge()
+        assert isinstance(reply, ListIs) and reply.prefix == prefix
+        drop_own(reply.paths)
+        return reply
+
+    def round(self, mirror: Mirror) -> Outcome:
+        """One round of a mirror. IGNORED where no reply counted any more, since the mount was
+        begun anew meanwhile: begin another."""
+        mirror.begin()
+        for _ in self._connections():
+            outcome = self._deliveries(mirror)
+            while outcome is Outcome.TAKEN:
+                outcome = self._deliveries(mirror)
+            if outcome is not None:
+                return outcome
+        raise AssertionError("connections end by an exception")
+
+    def _deliveries(self, mirror: Mirror) -> Optional[Outcome]:
+        """Sends what is outstanding and delivers the replies: the last outcome that isn't
+        IGNORED, or None where the connection was lost."""
+        last = Outcome.IGNORED
+        try:
+            for reply in self._connected().ask_all(mirror.outstanding()):
+                self._waiting = False
+                outcome = mirror.deliver(reply)
+                last = last if outcome is Outcome.IGNORED else outcome
+        except (ConnectionLost, FrameFault) as fault:
+            self._lost(fault)
+            return None
+        return last
+
+    def _ask(self, request: Request) -> Reply:
+        for _ in self._connections():
+            try:
+                for reply in self._connected().ask_all([request]):
+                    if reply.query == request.query:
+                        self._waiting = False
+                        return reply
+                    raise FrameFault("a reply to another question")
+            except (ConnectionLost, FrameFault) as fault:
+                self._lost(fault)
+        raise AssertionError("connections end by an exception")
+
+    def _query(self) -> Query:
+        self._number += 1
+        return Query(self._mirror, self._life, self._number)
+
+    def _connections(self) -> Iterator[int]:
+        """A turn for each connection that may be made; then the last fault is raised."""
+        for turn in range(self._most):
+            if turn:
+                time.sleep(min(0.01 * turn, 0.1))
+            yield turn
+        raise self._fault
+
+    def _connected(self) -> Connection:
+        if self._connection is None:
+            self._connection = self._connect()
+        return self._connection
+
+    def _connect(self) -> Connection:
+        port = self._port() if callable(self._port) else self._port
+        return Connection(port, self._host, self._timeout, lambda: self._silent(port))
+
+    def _silent(self, port: int) -> None:
+        if self._waits is not None and not self._waiting:
+            self._waiting = True
+            self._waits(
+                f"connected to port {port}, no answer for {SILENT:g} s: are all connections taken?"
+            )
+
+    def _lost(self, fault: Exception) -> None:
+        self._fault = fault
+        self.close()
+
+
+class Changes:
+    """Which paths changed, poll by poll; no contents."""
+
+    def __init__(self, client: Client, patterns: Iterable[bytes] = ()) -> None:
+        self._client, self._patterns = client, tuple(patterns)
+        self._known: Dict[bytes, None] = {}
+        self.position: Optional[Position] = None
+        self.refused: Optional[str] = None
+
+    def next(self) -> List[Tuple[Optional[Mark], bytes]]:
+        """What changed since the last call; the first call gives all files that there are, without
+        marks.
+
+        Where files were moved from one directory to another, every path below these that there
+        was or is may have changed, and is given without a mark unless it has one. Where the
+        mount can't tell what changed, so is every path; `refused` says why until the next call.
+        """
+        self.refused = None
+        if self.position is not None:
+            try:
+                reply = self._client.since(self.position, self._patterns)
+                below = [path for prefix in reply.prefixes for path in self._below(prefix)]
+            except (PositionRefused, TooLarge) as refusal:
+                self.refused, self.position = str(refusal) or "TOO_LARGE", None
+            else:
+                self.position = reply.position
+                marks: Dict[bytes, Optional[Mark]] = {
+                    **dict.fromkeys(below),
+                    **{path: mark for mark, path in reply.marked},
+                }
+                self._known.update(dict.fromkeys(marks))
+                return [(marks[path], path) for path in sorted(marks)]
+        basis = self._client.basis(self._patterns)
+        self.position = basis.position
+        before, self._known = self._known, dict.fromkeys(basis.paths)
+        return [(None, path) for path in sorted({*before, *basis.paths})]
+
+    def _below(self, prefix: bytes) -> List[bytes]:
+        """The paths below a directory that there were or are."""
+        return [
+            *(path for path in self._known if lies_below(path, prefix)),
+            *self._client.below(prefix, self._patterns).paths,
+        ]

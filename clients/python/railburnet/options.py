@@ -1,0 +1,196 @@
+"""Options that several subcommands have, and the client that they name."""
+from __future__ import annotations
+
+import argparse
+import errno
+import os
+from typing import Callable, List, Optional, Union
+
+from . import state
+from .client import Client
+from .frames import MOST_NUMBER, ConnectionLost, patterns_fault
+from .output import say
+from .state import Mount
+
+
+class UsageFault(Exception):
+    """Why a command line can't be carried out, as a message."""
+
+
+def number_of(word: str) -> int:
+    """Reads a number of 64 bits."""
+    if not (word.isascii() and word.isdigit()) or int(word) > MOST_NUMBER:
+        raise argparse.ArgumentTypeError(f"{word!r} is not a number from 0 to {MOST_NUMBER}")
+    return int(word)
+
+
+def port_of(word: str) -> int:
+    """Reads a port."""
+    if not (word.isascii() and word.isdigit()) or not 0 < int(word) < 65_536:
+        raise argparse.ArgumentTypeError(f"{word!r} is not a port from 1 to 65535")
+    return int(word)
+
+
+def seconds_of(word: str) -> float:
+    """Reads a time in seconds."""
+    try:
+        seconds = float(word)
+    except ValueError:
+        seconds = -1.0
+    if not 0 <= seconds < 1e9:
+        raise argparse.ArgumentTypeError(f"{word!r} is not a number of seconds")
+    return seconds
+
+
+def pattern_of(word: str) -> bytes:
+    """Reads a pattern; `./src/**` is `src/**`, and `.` is all."""
+    pattern = os.fsencode(word)
+    while pattern.startswith(b"./"):
+        pattern = pattern[2:].lstrip(b"/")
+    return pattern if pattern not in (b".", b"") or word == "" else b"**"
+
+
+def add_mount(parser: argparse.ArgumentParser) -> None:
+    """Adds the options that say where the mount is."""
+    parser.add_argument(
+        "--port",
+        type=port_of,
+        default=None,
+        help="the port that edend serves (or the variable RAILBURNET_PORT)",
+    )
+    parser.add_argument(
+        "--host", default="127.0.0.1", help="the machine that edend runs on; 127.0.0.1 by default"
+    )
+    add_root(parser)
+
+
+def add_root(parser: argparse.ArgumentParser) -> None:
+    """Adds the option that names a directory whose mount is meant."""
+    parser.add_argument(
+        "-C",
+        "--root",
+        metavar="DIR",
+        help="the directory whose mount is meant, or one below it; by default the directory one is "
+        "in",
+    )
+
+
+def add_directory(parser: argparse.ArgumentParser, text: str) -> None:
+    """Adds a directory, as a word or as the option that other subcommands have."""
+    parser.add_argument("-C", "--root", metavar="DIR", help="the same as DIR")
+    parser.add_argument("directory", metavar="DIR", nargs="?", help=text)
+
+
+def directory_of(options: argparse.Namespace) -> Optional[str]:
+    """Returns the directory that a command line names, if it names one."""
+    if options.directory is not None and options.root is not None:
+        raise UsageFault("DIR and --root both name a directory; give one of them")
+    named: Optional[str] = options.root if options.directory is None else options.directory
+    return named
+
+
+def add_null(parser: argparse.ArgumentParser) -> None:
+    """Adds the option that prints paths alone."""
+    parser.add_argument(
+        "-0",
+        "--null",
+        action="store_true",
+        help="print paths alone, as they are, each with a NUL after it",
+    )
+
+
+def add_patterns(parser: argparse.ArgumentParser, needed: bool = False) -> None:
+    """Adds the patterns of wanted paths."""
+    if needed:
+        parser.add_argument(
+            "patterns",
+            metavar="PATTERN",
+            nargs="+",
+            type=pattern_of,
+            help="a pattern of paths, from the mount's root on",
+        )
+    else:
+        parser.add_argument(
+            "patterns",
+            metavar="PATTERN",
+            nargs="*",
+            type=pattern_of,
+            default=[],
+            help="a pattern of wanted paths, from the mount's root on; all paths by default",
+        )
+
+
+def check_patterns(patterns: List[bytes]) -> None:
+    """Raises UsageFault for patterns that are no filter."""
+    fault = patterns_fault(patterns)
+    if fault:
+        raise UsageFault(fault)
+
+
+class Target:
+    """The mount that a command line names: a port, or a directory whose mount the state folder
+    notes."""
+
+    def __init__(self, options: argparse.Namespace) -> None:
+        if options.port is not None and options.root is not None:
+            raise UsageFault("--port and --root both name a mount; give one of them")
+        self.host: str = options.host
+        self._folder = os.fsencode(options.root or ".")
+        self._port: Optional[int] = options.port
+        named = os.environ.get("RAILBURNET_PORT")
+        if named and options.port is None and options.root is None:
+            try:
+                self._port = port_of(named)
+            except argparse.ArgumentTypeError as error:
+                raise UsageFault(f"RAILBURNET_PORT: {error}") from None
+
+    def mount(self) -> Optional[Mount]:
+        """Returns the mount as the state folder of this machine notes it; None if it notes none."""
+        if self._port is None:
+            return state.find_above(self._folder)
+        if self.host not in ("127.0.0.1", "localhost"):
+            return None
+        return next(
+            (mount for mount in state.all_noted() if mount.port == self._port and mount.lives), None
+        )
+
+    def port(self) -> int:
+        """Returns the mount's port now; a mount that ended and began again may have another."""
+        if self._port is not None:
+            return self._port
+        mount = state.find_above(self._folder)
+        if mount is None:
+            raise ConnectionLost(errno.ENOTCONN, self._missing())
+        return mount.port
+
+    def root(self) -> Optional[bytes]:
+        """Returns the mount's root, if it is named by its directory; with a port it is not asked
+        for."""
+        mount = None if self._port is not None else state.find_above(self._folder)
+        return None if mount is None else mount.root
+
+    def needed(self) -> Mount:
+        """Returns the mount that the state folder notes. ConnectionLost if it notes none."""
+        mount = self.mount()
+        if mount is None:
+            raise ConnectionLost(errno.ENOTCONN, self._missing())
+        return mount
+
+    def client(self) -> Client:
+        """Returns a client of the mount, which says once that it has to wait."""
+        where: Union[int, Callable[[], int]] = self._port if self._port is not None else self.port
+        self.port()
+        return Client(where, self.host, waits=say)
+
+    def _missing(self) -> str:
+        if self._port is not None:
+            return f"no mount of this machine is at port {self._port}"
+        dead = next(state.noted_above(self._folder), None)
+        if dead is not None:
+            path = os.fsdecode(dead.root)
+            return f"the mount of {path} has ended; `railburnet up` there begins it again"
+        path = os.fsdecode(os.path.realpath(self._folder))
+        return (
+            f"no mount of {path} or of a directory above it; `railburnet up` begins one, "
+            "and --port names another"
+        )
