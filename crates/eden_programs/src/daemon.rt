@@ -1,76 +1,23 @@
-//! The program `edend`: what it does with its command line, its statuses, and what it tells when it can't go on.
+//! The program `edend`: what it does with its command line, its statuses, and what it prints if it can't go on.
 
-ghost use Rattle.std.specs.Prelude.{◌≤◌, IfErr};
+ghost use Rattle.std.specs.Prelude.{◌≡◌, ◌≤◌};
 
-use crate::daemon_words::{NAME, Service, Task, read_words};
-use eden_batch::{ObjectsFault, read_objects};
-use eden_command::{ProgramFault, end_unrun, fail};
+use crate::daemon_words::{NAME, Service, Setting, Task, read_words};
+use crate::objects::{Shelf, first_objects};
+use crate::script::Script;
+use crate::told::tell;
+use eden_command::{ProgramFault, end_unrun};
 use eden_edend::{Objects, run_over};
 use eden_serve::{program_fault, serve_over};
 use eden_stay::stay_program;
 use eden_stream::Counted;
-use std::alloc::Global;
+use std::alloc::{AllocError, Global};
 use std::io;
-use std::io::{Read, Write};
-use std::net::{Net, TcpListener, TcpStream};
+use std::io::{ErrorKind, Read, Write};
+use std::net::{Ipv4Addr, Net, TcpListener, TcpStream};
 use std::sync::Wait;
 use std::thread::Threads;
 use std::time::Clock;
-
-/// Where the files are that a command line names.
-pub trait Shelf {
-    /// A file that is open.
-    type File: Read + Drop;
-
-    /// Opens the file of this name, to be read.
-    fn open(&self, name: &str) -> io::Result<Self::File>;
-}
-
-/// Puts the objects of a file, and binds each commit to its own label; or tells why that can't be done, and gives the status that the program
-/// ends with.
-fn read_first<F: Read + Drop, E: Write>(
-    alloc: Global,
-    file: F,
-    errors: &mut E,
-) -> Result<Objects, u8>
-    ensures { IfErr result (λ status. status ≤ 3) }
-{
-    let mut objects = Objects::new(alloc);
-    match read_objects(alloc, &mut Counted::new(file), &mut objects.store) {
-        Ok(ids) => match objects.name_commits(ids.as_slice()) {
-            Ok(()) => Ok(objects),
-            Err(_) => Err(fail(errors, NAME, "NoMemory")),
-        },
-        Err(fault) => {
-            let _ = write!(errors, "edend: {fault}\n");
-            match fault {
-                ObjectsFault::Object { .. } => Err(1),
-                _ => Err(3),
-            }
-        }
-    }
-}
-
-/// The objects that the script begins with: those of the file that the command line names, or none.
-fn first_objects<S: Shelf, E: Write>(
-    alloc: Global,
-    shelf: &S,
-    name: Option<&str>,
-    errors: &mut E,
-) -> Result<Objects, u8>
-    ensures { IfErr result (λ status. status ≤ 3) }
-{
-    let Some(name) = name else {
-        return Ok(Objects::new(alloc));
-    };
-    match shelf.open(name) {
-        Ok(file) => read_first(alloc, file, errors),
-        Err(error) => {
-            let _ = write!(errors, "edend: {name}: {error}\n");
-            Err(3)
-        }
-    }
-}
 
 /// Runs the script over these objects.
 fn run_script<I: Read + Drop, O: Write>(
@@ -100,26 +47,125 @@ fn work<
     input: I,
     output: &mut O,
 ) -> Result<(), ProgramFault> {
-    match service {
-        None => run_script(alloc, objects, input, output),
-        Some(
-            Service {
-                port,
-                connections,
-                stays,
-            },
-        ) => {
-            let mut writer = Counted::new(output);
-            if stays {
-                stay_program(rt, alloc, objects, input, &mut writer, port, connections)
-            } else {
-                serve_over(rt, alloc, objects, input, &mut writer, port, connections)
-            }
+    let Some(
+        Service {
+            port,
+            connections,
+            stays,
+            ..
+        },
+    ) = service
+    else {
+        return run_script(alloc, objects, input, output);
+    };
+    let mut writer = Counted::new(output);
+    if stays {
+        stay_program(rt, alloc, objects, input, &mut writer, port, connections)
+    } else {
+        serve_over(rt, alloc, objects, input, &mut writer, port, connections)
+    }
+}
+
+/// Returns the port of a service if it can't be listened at now, and why.
+fn busy_port<R: Net<Listener = TcpListener, Stream = TcpStream>>(
+    rt: &R,
+    service: Option<Service>,
+) -> Option<(u16, io::Error)> {
+    let Service { port, .. } = service?;
+    match TcpListener::bind(rt, (Ipv4Addr::LOCALHOST, port)) {
+        Ok(_) => None,
+        Err(error) => Some((port, error)),
+    }
+}
+
+/// Whether another program has the port.
+fn is_in_use(port: Option<(u16, io::Error)>) -> bool {
+    matches!(port, Some((_, error)) if error.kind() == ErrorKind::AddrInUse)
+}
+
+/// Returns why the port can't be listened at, if that is known.
+fn port_reason(
+    alloc: Global,
+    port: Option<(u16, io::Error)>,
+) -> Result<Option<String>, AllocError> {
+    match port {
+        Some((port, error)) => Ok(Some(format!(in alloc; "port {port}: {error}")?)),
+        None => Ok(None),
+    }
+}
+
+/// Returns why a fault of the program came.
+fn explain<I>(
+    alloc: Global,
+    fault: &ProgramFault,
+    script: &mut Script<I>,
+    setting: Setting,
+    port: Option<(u16, io::Error)>,
+) -> Result<Option<String>, AllocError> {
+    let why = match fault {
+        ProgramFault::BadLine(number) => return Ok(script.explain(*number, setting)),
+        ProgramFault::Read => match script.failed {
+            Some(error) => format!(in alloc; "the script: {error}")?,
+            None => return Ok(None),
+        },
+        ProgramFault::Write => format!(in alloc; "standard output can't be written")?,
+        ProgramFault::TurnsSpent => {
+            format!(in alloc; "1,000,000 reads did not reach the end of the script")?
+        }
+        ProgramFault::NoConnection => return port_reason(alloc, port),
+        _ => return Ok(None),
+    };
+    Ok(Some(why))
+}
+
+/// Prints where the script has ended, if the command line asks for it, and returns the status of a program that ends well.
+fn end_well<I, E: Write>(errors: &mut E, service: Option<Service>, script: &mut Script<I>) -> u8
+    ensures { result ≡ 0 }
+{
+    if matches!(
+        service,
+        Some(Service {
+            is_verbose: true,
+            ..
+        })
+    ) {
+        let (count, is_whole) = script.finish();
+        let end = if is_whole { "after" } else { "within" };
+        let _ = write!(errors, "{NAME}: the script has ended {end} line {count}\n");
+    }
+    0
+}
+
+/// Does what a command line asks for, once its objects are put and its port was looked at.
+fn serve_or_run<
+    R: Threads + Wait + Clock + Net<Listener = TcpListener, Stream = TcpStream> + Sync,
+    I: Read + Send + Drop,
+    O: Write,
+    E: Write,
+>(
+    rt: &R,
+    alloc: Global,
+    service: Option<Service>,
+    setting: Setting,
+    objects: Objects,
+    input: I,
+    output: &mut O,
+    errors: &mut E,
+    port: Option<(u16, io::Error)>,
+) -> u8
+    ensures { result ≤ 4 }
+{
+    let mut script = Script::new(alloc, input);
+    match work(rt, alloc, service, objects, &mut script, output) {
+        Ok(()) => end_well(errors, service, &mut script),
+        Err(fault) => {
+            let why = explain(alloc, &fault, &mut script, setting, port);
+            tell(errors, NAME, &fault, why)
         }
     }
 }
 
-/// Runs `edend` with the words of a command line, of which the first is its name, and gives the status that it ends with.
+/// Runs `edend` with the words of a command line, of which the first is its name, and returns the status that it ends with.
 ///
 /// `run` runs a script from the input and writes what it prints to the output, as `eden_edend::run` does. `serve` serves the mount of a script
 /// over TCP, as `eden_serve::serve_program` does, or with `--stay` as `eden_stay::stay_program`. With `--objects FILE` both first put the objects
@@ -127,15 +173,15 @@ fn work<
 /// name and version to the output.
 ///
 /// - 0: the script was run, or served, or the version was written.
-/// - 1: a line of the script can't be read, and `line N: BadLine` tells which; or an object can't be put, and `edend: object N: ` tells which,
-///   with the cause's name. No line of the script is read then.
+/// - 1: a line of the script can't be read: `line N: BadLine: ` and why. Or an object can't be put: `edend: object N: `, the fault's name, and
+///   why. No line of the script is read then.
 /// - 2: the command line is refused, or asks for help: what `clap` says.
-/// - 3: reading, writing or memory failed, the reads were spent, or the port can't be listened at: `edend: ` and `Read`, `Write`, `NoMemory`,
-///   `TurnsSpent` or `NoConnection`, with `object N: ` before it where the objects were being read; or the file of objects can't be opened, and
-///   `edend: FILE: ` tells what the system says.
+/// - 3: reading, writing or memory failed, the reads were spent, or the port can't be listened at: `edend: `, `Read`, `Write`, `NoMemory`,
+///   `TurnsSpent` or `NoConnection`, and why, with `object N: ` before it if the objects were being read. A port that is in use is found before
+///   the objects are read. Or the file of objects can't be opened: `edend: FILE: ` and what the system says.
 /// - 4: the audit of what was served names a fault, which the output tells.
 ///
-/// What is told goes to `errors`; that it can't be told changes no status.
+/// With `serve --verbose` it prints where the script has ended. All this goes to `errors`; that it can't be printed changes no status.
 pub fn edend<
     R: Threads + Wait + Clock + Net<Listener = TcpListener, Stream = TcpStream> + Sync,
     S: Shelf,
@@ -153,18 +199,22 @@ pub fn edend<
 ) -> u8
     ensures { result ≤ 4 }
 {
-    let Task { objects, service } = match read_words(alloc, words) {
+    let task = match read_words(alloc, words) {
         Ok(task) => task,
-        Err(error) => {
-            return end_unrun(output, errors, NAME, &error);
-        }
+        Err(error) => return end_unrun(output, errors, NAME, &error),
     };
+    let setting = task.setting();
+    let Task { objects, service } = task;
+    let port = busy_port(rt, service);
+    if is_in_use(port) {
+        let fault = ProgramFault::NoConnection;
+        return tell(errors, NAME, &fault, port_reason(alloc, port));
+    }
     let objects = match first_objects(alloc, shelf, objects, errors) {
         Ok(objects) => objects,
         Err(status) => return status,
     };
-    match work(rt, alloc, service, objects, input, output) {
-        Ok(()) => 0,
-        Err(fault) => fault.tell(errors, NAME),
-    }
+    serve_or_run(
+        rt, alloc, service, setting, objects, input, output, errors, port,
+    )
 }

@@ -9,33 +9,40 @@ use std::alloc::Global;
 pub(crate) const NAME: &str = "edend";
 
 /// What `edend run` is for, and the lines of its script.
-const ABOUT_RUN: &str = "Runs a script: edend run < FILE
+const ABOUT_RUN: &str = "Runs a script from standard input: edend run < FILE
 
-A line each, of words parted by single spaces (docs/script.md has the tables):
+Each line is one of these, its words separated by single spaces (docs/script.md):
   blob L TEXT | tree L [MODE NAME LABEL].. | commit L TREE | id L
   mount L GENERATION LIMIT
-  write PATH KIND TEXT | remove PATH | rename OLD NEW | reset L
-  checkout L MODE | flush | remount GENERATION
-  position | list [PATTERN].. | dirty | read PATH | since GENERATION SEQUENCE";
+  write PATH KIND TEXT | remove PATH | rename OLD NEW | renamedir OLD NEW
+  checkout L MODE | reset L | flush | remount GENERATION
+  position | list [PATTERN].. | dirty | read PATH
+  since GENERATION SEQUENCE
+KIND is plain, exec or link; the MODE of a checkout is normal, force or dry.
+L, LABEL and TREE are labels: 1 to 32 of a to z and 0 to 9.
+In a word \\\\ is a backslash, \\n a line feed, \\s a space, and \\e nothing.";
 
 /// What `edend serve` is for.
-const ABOUT_SERVE: &str =
-    "Serves a mount over TCP, on 127.0.0.1 alone: edend serve --port P --connections N < FILE
+const ABOUT_SERVE: &str = "Serves a mount over TCP, on 127.0.0.1 alone:
+  edend serve --port P --connections N < FILE
 
-Runs a script up to a line `listen`, and prints `listening P`. From then on the lines
-  write PATH KIND TEXT | remove PATH | rename OLD NEW | reset L
-  checkout L MODE | flush | remount GENERATION
-change the mount, and print nothing, while each connection is served in a thread of its own.
-Once N connections and the script have ended, it audits what every caller was told against the
+Runs the script up to the line `listen` as `edend run` does: lines blob, tree,
+commit and id, then mount, and others. Then it prints `listening P`, and serves
+each connection in a thread of its own. Meanwhile these lines change the mount,
+and print nothing:
+  write PATH KIND TEXT | remove PATH | rename OLD NEW | renamedir OLD NEW
+  checkout L MODE | reset L | flush | remount GENERATION
+
+When N connections and the script have ended, it audits the replies against the
 history of the mount, and prints `audit ok`, or `audit` and what is wrong.
 
-With --stay it goes on: N connections at a time are served, each by the next thread that is free,
-until the script ends. It keeps no history then and prints no audit, so it takes no more memory
-however many calls come.";
+With --stay it serves N connections at a time until the script ends. It keeps no
+history and prints no audit, so its memory does not grow with the calls.";
 
 /// What `--objects` is for.
-const ABOUT_OBJECTS: &str =
-    "Objects to put first, as `git cat-file --batch` prints them, those before others that name them; a commit is bound to the label of the first 32 digits of its id";
+const ABOUT_OBJECTS: &str = "Put these objects first, as `git cat-file --batch` prints them.
+An object comes after those that it names. The label of a
+commit is the first 32 digits of its id.";
 
 /// How a mount is served.
 #[derive(Clone, Copy)]
@@ -46,6 +53,20 @@ pub(crate) struct Service {
     pub(crate) connections: u64,
     /// Whether it takes connections until its input ends.
     pub(crate) stays: bool,
+    /// Whether it prints where its script has ended.
+    pub(crate) is_verbose: bool,
+}
+
+/// What reads a script.
+#[derive(Clone, Copy)]
+pub(crate) enum Setting {
+    /// `edend run`.
+    Run,
+    /// `edend serve`.
+    Serve {
+        /// Whether it was given a file of objects.
+        has_objects: bool,
+    },
 }
 
 /// What the words of a command line ask for.
@@ -55,6 +76,18 @@ pub(crate) struct Task<'a> {
     pub(crate) objects: Option<&'a str>,
     /// How to serve, or none where a script is to be run alone.
     pub(crate) service: Option<Service>,
+}
+
+impl<'a> Task<'a> {
+    /// What reads the script.
+    pub(crate) fn setting(&self) -> Setting {
+        if self.service.is_none() {
+            return Setting::Run;
+        }
+        Setting::Serve {
+            has_objects: self.objects.is_some(),
+        }
+    }
 }
 
 /// The option for a file of objects.
@@ -68,24 +101,36 @@ fn objects_option<'a>(alloc: Global) -> Arg<'a> {
 
 /// `edend serve` with its options.
 fn serve_command<'a>(alloc: Global) -> Result<Command<'a>, Error> {
-    let port = number_option(alloc, "port", "P", 1, 65_535, "The port to listen at");
+    let port = number_option(
+        alloc,
+        "port",
+        "P",
+        1,
+        65_535,
+        "The port to listen at, 1 to 65535",
+    );
     let connections = number_option(
         alloc,
         "connections",
         "N",
         1,
         64,
-        "How many connections are served before it ends, or at a time with --stay",
+        "How many connections to serve, 1 to 64; with --stay, at a time",
     );
     let stay = Arg::new(alloc, "stay")
         .long("stay")
-        .help("Take connections until the script ends, keep no history, and print no audit")
+        .help("Serve connections until the script ends, without a history")
+        .action(ArgAction::SetTrue);
+    let verbose = Arg::new(alloc, "verbose")
+        .long("verbose")
+        .help("Print on standard error where the script has ended")
         .action(ArgAction::SetTrue);
     let command = Command::new(alloc, "serve")
         .about(ABOUT_SERVE)
         .arg(port)?
         .arg(connections)?
         .arg(stay)?
+        .arg(verbose)?
         .arg(objects_option(alloc))?;
     Ok(command)
 }
@@ -96,6 +141,7 @@ fn service_of(command: &mut Command<'_>, serve: &ArgMatches<'_>) -> Result<Servi
         port: small_of(command, serve, "port")?,
         connections: number_of(command, serve, "connections")?,
         stays: serve.get_flag("stay"),
+        is_verbose: serve.get_flag("verbose"),
     })
 }
 
@@ -106,7 +152,7 @@ pub(crate) fn read_words<'a>(alloc: Global, words: &'a [String]) -> Result<Task<
         .arg(objects_option(alloc))?;
     let mut command = Command::new(alloc, NAME)
         .version(VERSION)
-        .about("A mount whose changes are journaled, driven by a script")
+        .about("Runs a script of changes to a mount, and serves the mount over TCP")
         .subcommand_required(true)
         .subcommand(run)?
         .subcommand(serve_command(alloc)?)?;

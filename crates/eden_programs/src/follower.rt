@@ -1,13 +1,16 @@
-//! The program `follow`: what it does with its command line, its statuses, and what it tells when it can't go on.
+//! The program `follow`: what it does with its command line, its statuses, and what it prints if it can't go on.
 
 ghost use Rattle.std.specs.Prelude.{◌≤◌};
 
+use crate::explained::explain_patterns;
 use crate::follower_words::{NAME, Task, Wanted, read_words};
+use crate::reason::Excerpt;
+use crate::told::tell;
 use eden_command::{ProgramFault, end_unrun, fail};
 use eden_connect::{Progress, Quiet, Shown, connect_program};
 use eden_demo::demo;
 use eden_globs::{Filter, FilterFault};
-use std::alloc::Global;
+use std::alloc::{AllocError, Global};
 use std::io::Write;
 use std::net::{Net, TcpStream};
 use std::sync::Wait;
@@ -55,7 +58,35 @@ fn keep<R: Net<Stream = TcpStream>, O: Write, P: Progress>(
     )
 }
 
-/// Keeps a mirror, as the command line says, and gives the status that the program ends with.
+/// Prints why patterns are refused, with the first that is not a pattern.
+fn tell_pattern<E: Write>(errors: &mut E, fault: FilterFault, patterns: &[&str]) {
+    let why = explain_patterns(fault);
+    let refused = match fault {
+        FilterFault::BadPattern(place) => patterns.get(place),
+        _ => None,
+    };
+    let _ = match refused {
+        Some(pattern) => {
+            let pattern = Excerpt(pattern.as_bytes());
+            write!(errors, "{NAME}: {fault}: `{pattern}`: {why}\n")
+        }
+        None => write!(errors, "{NAME}: {fault}: {why}\n"),
+    };
+}
+
+/// Returns why a fault came.
+fn explain(alloc: Global, fault: &ProgramFault, port: u16) -> Result<Option<String>, AllocError> {
+    let why = match fault {
+        ProgramFault::NoConnection => {
+            format!(in alloc; "nothing serves a mount at port {port} of 127.0.0.1")?
+        }
+        ProgramFault::Write => format!(in alloc; "standard output can't be written")?,
+        _ => return Ok(None),
+    };
+    Ok(Some(why))
+}
+
+/// Keeps a mirror, as the command line says, and returns the status that the program ends with.
 fn connect<R: Net<Stream = TcpStream> + Clock, O: Write, E: Write>(
     rt: &R,
     alloc: Global,
@@ -70,7 +101,7 @@ fn connect<R: Net<Stream = TcpStream> + Clock, O: Write, E: Write>(
         Ok(filter) => filter,
         Err(FilterFault::NoMemory) => return fail(errors, NAME, "NoMemory"),
         Err(fault) => {
-            let _ = write!(errors, "{NAME}: {fault}\n");
+            tell_pattern(errors, fault, wanted.patterns.as_slice());
             return 2;
         }
     };
@@ -83,11 +114,14 @@ fn connect<R: Net<Stream = TcpStream> + Clock, O: Write, E: Write>(
     };
     match ended {
         Ok(()) => 0,
-        Err(fault) => fault.tell(errors, NAME),
+        Err(fault) => {
+            let why = explain(alloc, &fault, wanted.port);
+            tell(errors, NAME, &fault, why)
+        }
     }
 }
 
-/// Runs the demonstration, and gives the status that the program ends with.
+/// Runs the demonstration, and returns the status that the program ends with.
 fn run_demo<R: Threads + Wait + Clock + Sync, O: Write, E: Write>(
     rt: &R,
     alloc: Global,
@@ -102,19 +136,19 @@ fn run_demo<R: Threads + Wait + Clock + Sync, O: Write, E: Write>(
     }
 }
 
-/// Runs `follow` with the words of a command line, of which the first is its name, and gives the status that it ends with.
+/// Runs `follow` with the words of a command line, of which the first is its name, and returns the status that it ends with.
 ///
 /// `demo` runs the demonstration, as `eden_demo::demo` does. `connect` keeps a mirror of a mount that is served over TCP, as
-/// `eden_connect::connect_program` does; where somebody looks at a screen, it shows there how many of the contents have come. `--version` writes
-/// name and version to the output.
+/// `eden_connect::connect_program` does; on a terminal it shows how many of the contents have come. `--version` writes name and version to the
+/// output.
 ///
 /// - 0: the demonstration ended well, the mirror is placed, or the version was written.
-/// - 1: the mirror is placed nowhere, which the output tells.
-/// - 2: the command line is refused, or asks for help: what `clap` says; or a pattern is refused: `follow: ` and the fault.
-/// - 3: writing or memory failed, or no connection was had: `follow: ` and `Write`, `NoMemory` or `NoConnection`.
-/// - 4: the audit refused the logs, or the followers differ, which the output tells.
+/// - 1: the mirror is placed nowhere, as the output says.
+/// - 2: the command line is refused, or asks for help: what `clap` says; or a pattern is refused: `follow: `, the fault, and why.
+/// - 3: writing or memory failed, or there was no connection: `follow: `, `Write`, `NoMemory` or `NoConnection`, and why.
+/// - 4: the audit refused the logs, or the followers differ, as the output says.
 ///
-/// What is told goes to `errors`; that it can't be told changes no status.
+/// All this goes to `errors`; that it can't be printed changes no status.
 pub fn follow<R: Threads + Wait + Clock + Net<Stream = TcpStream> + Sync, O: Write, E: Write>(
     rt: &R,
     alloc: Global,

@@ -10,15 +10,17 @@ pub(crate) const NAME: &str = "follow";
 
 /// What `follow demo` is for.
 const ABOUT_DEMO: &str =
-    "Has two writers change a mount while two followers keep mirrors of it, and audits what they did";
+    "Runs two writers that change a mount and two followers that keep mirrors of
+it, and audits what they did";
 
 /// What `follow connect` is for.
-const ABOUT_CONNECT: &str =
-    "Keeps a mirror of a mount that `edend serve` serves on 127.0.0.1, and tells what it holds
+const ABOUT_CONNECT: &str = "Keeps a mirror of a mount that `edend serve` serves on 127.0.0.1
 
-Prints where it is placed, as `placed GENERATION SEQUENCE ROOT`, or `unplaced`; then `files N`
-and a line `KIND LENGTH PATH` for each file. A PATTERN is a path in which `*` stands for any part
-of a name, and `**` for any directories; with none, all files are wanted.";
+It makes N rounds, and prints the mirror: `placed GENERATION SEQUENCE ROOT` or
+`unplaced`, `files N`, and a line `KIND LENGTH PATH` for each file.
+
+A PATTERN is a path in which `*` matches any part of a name, and `**` any
+directories. Without a pattern the mirror has all files.";
 
 /// What `follow connect` is to do.
 #[derive(Drop)]
@@ -46,15 +48,29 @@ pub(crate) enum Task<'a> {
 
 /// `follow connect` with its options.
 fn connect_command<'a>(alloc: Global) -> Result<Command<'a>, Error> {
-    let port = number_option(alloc, "port", "P", 1, 65_535, "The port of the mount");
-    let mirror = number_option(alloc, "mirror", "M", 0, u64::MAX, "The mirror's number");
+    let port = number_option(
+        alloc,
+        "port",
+        "P",
+        1,
+        65_535,
+        "The port of the daemon, 1 to 65535",
+    );
+    let mirror = number_option(
+        alloc,
+        "mirror",
+        "M",
+        0,
+        u64::MAX,
+        "The number of the mirror",
+    );
     let life = number_option(
         alloc,
         "life",
         "L",
         0,
         u64::MAX,
-        "The mirror's life: one that it never had before",
+        "The life of the mirror: a number that it never had before",
     );
     let rounds = number_option(
         alloc,
@@ -62,11 +78,11 @@ fn connect_command<'a>(alloc: Global) -> Result<Command<'a>, Error> {
         "N",
         1,
         1_000,
-        "How often it asks what has changed",
+        "How often to ask what has changed, 1 to 1000",
     );
     let patterns = Arg::new(alloc, "pattern")
         .value_name("PATTERN")
-        .help("What paths the mirror wants")
+        .help("The paths that the mirror has")
         .num_args(0..)
         .action(ArgAction::Append);
     let command = Command::new(alloc, "connect")

@@ -15,11 +15,18 @@
 //! ```
 #![tactic(auto)]
 
-pub use crate::daemon::{Shelf, edend};
+pub use crate::daemon::edend;
 pub use crate::follower::{Screen, follow};
+pub use crate::objects::Shelf;
 
 mod daemon;
 mod daemon_words;
+mod devices;
+mod explained;
 mod follower;
 mod follower_words;
+mod objects;
 mod options;
+mod reason;
+mod script;
+mod told;

@@ -4,7 +4,7 @@ use eden_programs::{Shelf, edend};
 use std::alloc::Global;
 use std::io;
 use std::io::ErrorKind;
-use std::net::{Net, TcpListener, TcpStream};
+use std::net::{Ipv4Addr, Net, TcpListener, TcpStream};
 use std::sync::Wait;
 use std::test::Fail;
 use std::thread::Threads;
@@ -90,7 +90,15 @@ const ROWS: &[Row] = &[
     ("edend run", "", ALL, ALL, 0, "", ""),
     ("edend --version", "x", 0, ALL, 0, "edend 0.1.0\n", ""),
     ("edend -V", "x", 0, ALL, 0, "edend 0.1.0\n", ""),
-    ("edend run", "x\n", ALL, ALL, 1, "", "line 1: BadLine\n"),
+    (
+        "edend run",
+        "x\n",
+        ALL,
+        ALL,
+        1,
+        "",
+        "line 1: BadLine: no line begins with `x`\n",
+    ),
     (
         "edend run",
         "mount empty 7 1000\n\nx",
@@ -98,7 +106,7 @@ const ROWS: &[Row] = &[
         ALL,
         1,
         "at 7 1 empty\n",
-        "line 3: BadLine\n",
+        "line 3: BadLine: no line begins with `x`\n",
     ),
     ("edend", ONE, ALL, ALL, 2, "", "error: "),
     ("edend rnu", ONE, ALL, ALL, 2, "", "error: "),
@@ -110,11 +118,27 @@ const ROWS: &[Row] = &[
         ALL,
         2,
         "",
-        "A mount whose changes",
+        "Runs a script of changes",
     ),
-    ("edend run --help", ONE, ALL, ALL, 2, "", "Runs a script"),
-    ("edend run", ONE, 0, ALL, 3, "", "edend: Read\n"),
-    ("edend run", ONE, ALL, 4, 3, "at 7", "edend: Write\n"),
+    (
+        "edend run --help",
+        ONE,
+        ALL,
+        ALL,
+        2,
+        "",
+        "Runs a script from",
+    ),
+    ("edend run", ONE, 0, ALL, 3, "", "edend: Read: the script: "),
+    (
+        "edend run",
+        ONE,
+        ALL,
+        4,
+        3,
+        "at 7",
+        "edend: Write: standard output can't be written\n",
+    ),
     ("edend --version", "", ALL, 0, 3, "", "edend: Write\n"),
     (
         "edend --version",
@@ -188,7 +212,7 @@ const ROWS: &[Row] = &[
         ALL,
         1,
         "at 7 1 empty\n",
-        "line 2: BadLine\n",
+        "line 2: BadLine: the script has ended without a line `listen`\n",
     ),
     (
         "edend serve --port 1 --connections 64 --stay",
@@ -197,7 +221,7 @@ const ROWS: &[Row] = &[
         ALL,
         1,
         "",
-        "line 1: BadLine\n",
+        "line 1: BadLine: nothing is mounted; a line `mount L GENERATION LIMIT` comes before `listen`\n",
     ),
     (
         "edend serve --port 1 --connections 1",
@@ -206,7 +230,7 @@ const ROWS: &[Row] = &[
         ALL,
         3,
         "",
-        "edend: Read\n",
+        "edend: Read: the script: ",
     ),
 ];
 
@@ -222,10 +246,10 @@ fn is_as_told<R: Threads + Wait + Clock + Net<Listener = TcpListener, Stream = T
         fails_at: ALL,
     };
     let (ended, output, errors) = ran(rt, alloc, words, &file, script, fails_at, full_at)?;
-    let is_told = if status == 2 {
-        errors.starts_with(told.as_bytes())
-    } else {
+    let is_told = if told.ends_with('\n') || told.is_empty() {
         errors.as_slice() == told.as_bytes()
+    } else {
+        errors.starts_with(told.as_bytes())
     };
     Ok(ended == status && output.as_slice() == text.as_bytes() && is_told)
 }
@@ -305,7 +329,7 @@ const OBJECTS_ROWS: &[ObjectsRow] = &[
         ONE,
         1,
         "",
-        "edend: object 1: BadHeader\n",
+        "edend: object 1: BadHeader: expected an id, ",
     ),
     (
         "edend run --objects batch",
@@ -314,7 +338,7 @@ const OBJECTS_ROWS: &[ObjectsRow] = &[
         ONE,
         1,
         "",
-        "edend: object 1: MissingChild\n",
+        "edend: object 1: MissingChild: tree c49897f29f9819a0ab6850d7e22443508a1a29d5 names blob 45b983be36b73c0788dc9cbcb76cbb80fc7bb057, which was not put before it\n",
     ),
     (
         "edend run --objects batch",
@@ -323,7 +347,7 @@ const OBJECTS_ROWS: &[ObjectsRow] = &[
         ONE,
         1,
         "",
-        "edend: object 1: OtherId\n",
+        "edend: object 1: OtherId: the bytes are not those of the object that the header names\n",
     ),
     (
         "edend run --objects batch",
@@ -332,7 +356,7 @@ const OBJECTS_ROWS: &[ObjectsRow] = &[
         ONE,
         1,
         "",
-        "edend: object 1: CutShort\n",
+        "edend: object 1: CutShort: the file ends within the object\n",
     ),
     (
         "edend run --objects batch",
@@ -341,7 +365,7 @@ const OBJECTS_ROWS: &[ObjectsRow] = &[
         ONE,
         1,
         "",
-        "edend: object 1: TooLarge\n",
+        "edend: object 1: TooLarge: the object has more than 8,388,608 bytes\n",
     ),
     (
         "edend run --objects batch",
@@ -350,7 +374,7 @@ const OBJECTS_ROWS: &[ObjectsRow] = &[
         ONE,
         3,
         "",
-        "edend: object 2: Read\n",
+        "edend: object 2: Read: batch: ",
     ),
     (
         "edend run --objects none",
@@ -395,6 +419,240 @@ fn statuses_of_objects(rt: HostRuntime) -> Result<(), Fail> {
     for row in OBJECTS_ROWS {
         let (words, told) = (row.0, row.6);
         assert!(rt; puts_as_told(&rt, rt.alloc(), row)?, "{words}: {told}");
+    }
+    Ok(())
+}
+
+/// The words of a call, a script with a line that can't be read, and what is told of it.
+const BAD_LINES: &[(&str, &str, &str)] = &[
+    (
+        "edend run",
+        "mount empty 7 1000\nwrite a plane x\n",
+        "line 2: BadLine: KIND must be plain, exec or link, not `plane`\n",
+    ),
+    (
+        "edend run",
+        "#\r\nmount empty 7  1000\r\n",
+        "line 2: BadLine: two spaces in a row; a word of no bytes is written \\e\n",
+    ),
+    (
+        "edend run",
+        "position\nflush\r",
+        "line 2: BadLine: the line ends with a carriage return and no line feed\n",
+    ),
+    (
+        "edend run",
+        "listen\n",
+        "line 1: BadLine: only `edend serve` reads `listen`\n",
+    ),
+    (
+        "edend serve --port PORT --connections 1",
+        "",
+        "line 1: BadLine: the script is empty; `edend serve` wants a mount and a line `listen`\n",
+    ),
+    (
+        "edend serve --port PORT --connections 1 --stay",
+        "mount 38bc 7 1000\nlisten\n",
+        "line 2: BadLine: nothing is mounted; line 1 was refused, as no commit is called 38bc: is --objects missing?\n",
+    ),
+    (
+        "edend serve --port PORT --connections 1 --stay --objects batch",
+        "mount 38bc 7 1000\nlisten\n",
+        "line 2: BadLine: nothing is mounted; line 1 was refused, as no commit is called 38bc\n",
+    ),
+    (
+        "edend serve --port PORT --connections 1 --stay",
+        "mount empty 7 1000\nlisten\nflush\nlisten\n",
+        "line 4: BadLine: line 2 is the one `listen` that a script has\n",
+    ),
+    (
+        "edend serve --port PORT --connections 1 --stay",
+        "mount empty 7 1000\nlisten\nposition\n",
+        "line 3: BadLine: after `listen` only write, remove, rename, renamedir, checkout, reset, flush and remount are read\n",
+    ),
+];
+
+/// A script of which lines are refused after `listen`, and whose last line lacks its end.
+const REFUSED: &str = "mount empty 7 1000\nlisten\nremove zz\n#\nflush";
+
+/// The words of a call, and what is told of that script.
+const ENDINGS: &[(&str, &str)] = &[
+    ("edend serve --port PORT --connections 1 --stay", ""),
+    (
+        "edend serve --port PORT --connections 1 --stay --verbose",
+        "edend: the script has ended within line 5\n",
+    ),
+];
+
+/// A port that nobody listens at.
+fn free_port<R: Net<Listener = TcpListener, Stream = TcpStream>>(rt: &R) -> Result<u16, Fail> {
+    let listener = TcpListener::bind(rt, (Ipv4Addr::LOCALHOST, 0))?;
+    Ok(listener.local_addr()?.port())
+}
+
+/// What `edend` tells of a script, where the words have the port for `PORT`, beside objects.
+fn told_at<R: Threads + Wait + Clock + Net<Listener = TcpListener, Stream = TcpStream> + Sync>(
+    rt: &R,
+    alloc: Global,
+    words: &str,
+    script: &str,
+    port: u16,
+) -> Result<(u8, Vec<u8>), Fail> {
+    let (front, behind) = words.split_once("PORT").unwrap_or((words, ""));
+    let words = if front == words {
+        String::from_str(alloc, words)?
+    } else {
+        format!(in alloc; "{front}{port}{behind}")?
+    };
+    let file = OneFile {
+        bytes: BATCH,
+        fails_at: ALL,
+    };
+    let (status, _, errors) = ran(rt, alloc, words.as_str(), &file, script, ALL, ALL)?;
+    Ok((status, errors))
+}
+
+#[test]
+fn bad_lines(rt: HostRuntime) -> Result<(), Fail> {
+    for (words, script, why) in BAD_LINES {
+        let port = free_port(&rt)?;
+        let (status, told) = told_at(&rt, rt.alloc(), words, script, port)?;
+        assert_eq!(rt; status, 1, "{script}");
+        assert!(rt; told.as_slice() == why.as_bytes(), "{script}");
+    }
+    Ok(())
+}
+
+#[test]
+fn ended_scripts(rt: HostRuntime) -> Result<(), Fail> {
+    for (words, why) in ENDINGS {
+        let port = free_port(&rt)?;
+        let (status, told) = told_at(&rt, rt.alloc(), words, REFUSED, port)?;
+        assert_eq!(rt; status, 0, "{words}");
+        assert!(rt; told.as_slice() == why.as_bytes(), "{words}");
+    }
+    Ok(())
+}
+
+// The script and the objects could not be read either.
+#[test]
+fn port_in_use(rt: HostRuntime) -> Result<(), Fail> {
+    let listener = TcpListener::bind(&rt, (Ipv4Addr::LOCALHOST, 0))?;
+    let port = listener.local_addr()?.port();
+    let words = "edend serve --port PORT --connections 1 --objects none";
+    let (status, told) = told_at(&rt, rt.alloc(), words, "x\n", port)?;
+    assert_eq!(rt; status, 3);
+    let wanted = format!(in rt.alloc();
+        "edend: NoConnection: port {port}: Address already in use (os error 98)\n"
+    )?;
+    assert!(rt; told.as_slice() == wanted.as_bytes());
+    Ok(())
+}
+
+/// A line of more bytes than a line may have.
+#[test]
+fn long_line(rt: HostRuntime) -> Result<(), Fail> {
+    let alloc = rt.alloc();
+    let mut script = String::from_str(alloc, "# two lines\nwrite a plain ")?;
+    for _ in 0..65_523 {
+        script.push('x')?;
+    }
+    let (status, told) = told_at(&rt, alloc, "edend run", script.as_str(), 1)?;
+    assert_eq!(rt; status, 1);
+    assert!(rt;
+        told.as_slice() == b"line 2: BadLine: the line has more than 65,536 bytes\n".as_slice()
+    );
+    Ok(())
+}
+
+/// Lines that can't be read, and why.
+const REASONS: &[(&str, &str)] = &[
+    (" flush", "the line begins with a space"),
+    (
+        "flush ",
+        "the line ends with a space; a word of no bytes is written \\e",
+    ),
+    (
+        "write a  hi",
+        "two spaces in a row; a word of no bytes is written \\e",
+    ),
+    (
+        "remove C:\\dir",
+        "a backslash in `C:\\dir` begins no escape; the escapes are \\\\, \\n, \\s and \\e",
+    ),
+    (
+        "remove  C:\\",
+        "a backslash in `C:\\` begins no escape; the escapes are \\\\, \\n, \\s and \\e",
+    ),
+    ("wirte a plain hi", "no line begins with `wirte`"),
+    ("\\e", "no line begins with `\\e`"),
+    ("a\tb\x1b", "no line begins with `a?b?`"),
+    (
+        "write a plain",
+        "expected `write PATH KIND TEXT`, and the line has 3 words",
+    ),
+    (
+        "write a plain hi you",
+        "expected `write PATH KIND TEXT`, and the line has 5 words",
+    ),
+    (
+        "rename a",
+        "expected `rename OLD NEW`, and the line has 2 words",
+    ),
+    ("flush a", "expected `flush`, and the line has 2 words"),
+    (
+        "tree t 100644 a",
+        "expected `tree L [MODE NAME LABEL]..`, and the line has 4 words",
+    ),
+    (
+        "tree",
+        "expected `tree L [MODE NAME LABEL]..`, and the line has 1 word",
+    ),
+    (
+        "write a plane hi",
+        "KIND must be plain, exec or link, not `plane`",
+    ),
+    (
+        "checkout c soft",
+        "MODE must be normal, force or dry, not `soft`",
+    ),
+    (
+        "mount empty 07 1000",
+        "GENERATION must be a decimal number from 0 to 18446744073709551615 with no sign and no leading zero, not `07`",
+    ),
+    (
+        "mount empty 7 18446744073709551616",
+        "LIMIT must be a decimal number from 0 to 18446744073709551615 with no sign and no leading zero, not `18446744073709551616`",
+    ),
+    (
+        "since 7 -1",
+        "SEQUENCE must be a decimal number from 0 to 18446744073709551615 with no sign and no leading zero, not `-1`",
+    ),
+    (
+        "reset HEAD",
+        "L must be a label, 1 to 32 of a to z and 0 to 9, not `HEAD`",
+    ),
+    (
+        "tree t 100644 a x 100644 b Y",
+        "LABEL must be a label, 1 to 32 of a to z and 0 to 9, not `Y`",
+    ),
+    (
+        "blob empty x",
+        "L must be a label, 1 to 32 of a to z and 0 to 9, other than `empty`, not `empty`",
+    ),
+    (
+        "abcdefghijklmnopqrstuvwxyzabcdefghijklmnopqrstuvwxyzabcdefghijklmnopqrstuvwxyz x",
+        "no line begins with `abcdefghijklmnopqrstuvwxyzabcdefghijklmnopqrstuvwxyzabcdefgh..`",
+    ),
+];
+
+#[test]
+fn reasons(rt: HostRuntime) -> Result<(), Fail> {
+    let alloc = rt.alloc();
+    for (line, why) in REASONS {
+        let (_, told) = told_at(&rt, alloc, "edend run", line, 1)?;
+        let wanted = format!(in alloc; "line 1: BadLine: {why}\n")?;
+        assert!(rt; told.as_slice() == wanted.as_bytes(), "{line}");
     }
     Ok(())
 }

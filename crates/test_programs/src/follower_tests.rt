@@ -42,7 +42,7 @@ const ROWS: &[Row] = &[
         ALL,
         2,
         "",
-        "follow: BadPattern 1\n",
+        "follow: BadPattern 1: `[b]`: a pattern is empty, has an empty component, a `[` or `{` without a `\\`, or a `\\` before nothing or `/`\n",
     ),
     (
         "follow connect --help",
@@ -57,7 +57,7 @@ const ROWS: &[Row] = &[
         ALL,
         3,
         "",
-        "follow: NoConnection\n",
+        "follow: NoConnection: nothing serves a mount at port 1 of 127.0.0.1\n",
     ),
 ];
 
