@@ -21,7 +21,7 @@ use std::sync::atomic::{AtomicBool, Ordering};
 use std::thread;
 use std::thread::Threads;
 use std::time::{Clock, Instant};
-use test_sockets::{Feed, ask, connect, free_port};
+use test_serve::{Feed, ask, connect, free_port};
 
 /// How many files a poll tells.
 const CHANGED: [u64; 4] = [0, 100, 1_000, 10_000];

@@ -15,7 +15,7 @@ use std::sync::ledger::{Blank, Ledger};
 use std::test::Fail;
 use std::thread::Threads;
 use std::time::Clock;
-use test_sockets::free_port;
+use test_serve::free_port;
 
 #[test]
 fn examples(rt: HostRuntime) -> Result<(), Fail> {
@@ -60,7 +60,7 @@ fn examples(rt: HostRuntime) -> Result<(), Fail> {
     eden_world_example(&rt, alloc)?;
     test_kit_example(&rt, alloc)?;
     test_devices_example(&rt, alloc)?;
-    test_sockets_example(&rt, alloc)?;
+    test_serve_example(&rt, alloc)?;
     following(&rt, alloc)
 }
 
@@ -694,10 +694,10 @@ fn test_devices_example(rt: &impl Abort, alloc: Global) -> Result<(), Fail> {
     Ok(())
 }
 
-fn test_sockets_example<R: Abort + Clock>(rt: &R, alloc: Global) -> Result<(), Fail> {
+fn test_serve_example<R: Abort + Clock>(rt: &R, alloc: Global) -> Result<(), Fail> {
     use std::io::Read;
     use std::sync::atomic::AtomicBool;
-    use test_sockets::Feed;
+    use test_serve::Feed;
 
     let ended = AtomicBool::new(true);
     let mut text = Vec::new(alloc);

@@ -21,11 +21,6 @@ const IDS: &[(Id, [u32; 5])] = &[
     ),
 ];
 
-/// The words of an id.
-fn words_of(id: Id) -> [u32; 5] {
-    [id.word(0), id.word(1), id.word(2), id.word(3), id.word(4)]
-}
-
 /// The words at a row of a column, if the column reaches it.
 fn words_at(column: &IdColumn, row: usize) -> Option<[u32; 5]> {
     Some([
@@ -49,25 +44,21 @@ fn lengths(column: &IdColumn) -> (usize, [usize; 5]) {
     (column.len(), words)
 }
 
-/// The id at a row of a column.
-fn id_at(column: &IdColumn, row: usize) -> Option<Id> {
-    column.get(row)
-}
-
 #[test]
 fn columns_give_back_their_ids_and_words(rt: HostRuntime) -> Result<(), Fail> {
     let mut column = IdColumn::new(rt.alloc());
     assert!(rt; lengths(&column) == (0, [0; 5]));
-    assert!(rt; id_at(&column, 0).is_none());
+    assert!(rt; column.get(0).is_none());
     for (id, _) in IDS {
         column.push(*id)?;
     }
     assert!(rt; lengths(&column) == (2, [2; 5]));
     for (row, (id, words)) in IDS.iter().enumerate() {
-        assert!(rt; id_at(&column, row) == Some(*id));
-        assert!(rt; words_of(*id) == *words);
+        assert!(rt; column.get(row) == Some(*id));
+        let own = [id.word(0), id.word(1), id.word(2), id.word(3), id.word(4)];
+        assert!(rt; own == *words);
         assert!(rt; words_at(&column, row) == Some(*words));
     }
-    assert!(rt; id_at(&column, 2).is_none() && id_at(&column, usize::MAX).is_none());
+    assert!(rt; column.get(2).is_none() && column.get(usize::MAX).is_none());
     Ok(())
 }

@@ -6,17 +6,9 @@ use std::alloc::Global;
 use std::test::Fail;
 use test_kit::path;
 
-fn fault_of(alloc: Global, patterns: &[&[u8]]) -> Option<FilterFault> {
-    Filter::parse(alloc, patterns).err()
-}
-
 fn is_admitted(alloc: Global, pattern: &[u8], path: &[u8]) -> Result<bool, Fail> {
     let filter = Filter::parse(alloc, &[pattern])?;
     Ok(filter.admits(&Path::parse(alloc, path)?))
-}
-
-fn is_entered(alloc: Global, patterns: &[&[u8]], directory: &[u8]) -> Result<bool, Fail> {
-    Ok(Filter::parse(alloc, patterns)?.admits_below(directory))
 }
 
 #[test]
@@ -118,7 +110,7 @@ const DIRECTORIES: &[(&[&[u8]], &[u8], bool)] = &[
 #[test]
 fn directories(rt: HostRuntime) -> Result<(), Fail> {
     for (row, (patterns, directory, wanted)) in DIRECTORIES.iter().enumerate() {
-        let entered = is_entered(rt.alloc(), patterns, directory)?;
+        let entered = Filter::parse(rt.alloc(), patterns)?.admits_below(directory);
         assert!(rt; entered == *wanted, "row {row}");
     }
     Ok(())
@@ -168,7 +160,12 @@ fn fronts_of_files(rt: HostRuntime) -> Result<(), Fail> {
 }
 
 /// Some bytes so many times over, and last others.
-fn repeated(alloc: Global, part: &[u8], times: usize, last: &[u8]) -> Result<Vec<u8>, Fail> {
+pub(crate) fn repeated(
+    alloc: Global,
+    part: &[u8],
+    times: usize,
+    last: &[u8],
+) -> Result<Vec<u8>, Fail> {
     let mut bytes = Vec::new(alloc);
     for _ in 0..times {
         bytes.extend_from_slice(part)?;
@@ -215,6 +212,7 @@ const REFUSALS: &[(&[&[u8]], Option<FilterFault>)] = &[
 #[test]
 fn refusals(rt: HostRuntime) {
     for (row, (patterns, fault)) in REFUSALS.iter().enumerate() {
-        assert!(rt; fault_of(rt.alloc(), patterns) == *fault, "row {row}");
+        let filter = Filter::parse(rt.alloc(), patterns);
+        assert!(rt; filter.err() == *fault, "row {row}");
     }
 }

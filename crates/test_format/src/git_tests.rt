@@ -66,11 +66,6 @@ fn are_rows(rows: &Rows<'_>, count: usize) -> bool {
     alike && entry_at(rows, count).is_none()
 }
 
-/// How many rows and how many ids there are, and the kinds of the rows.
-fn counts<'a>(rows: &Rows<'a>) -> (usize, usize, &'a [u8]) {
-    (rows.len(), rows.ids().len(), rows.kinds())
-}
-
 // Behind them are bytes that are no entry, or none.
 #[test]
 fn entries_one_by_one_and_by_rows(rt: HostRuntime) -> Result<(), Fail> {
@@ -84,8 +79,8 @@ fn entries_one_by_one_and_by_rows(rt: HostRuntime) -> Result<(), Fail> {
         let columns = Columns::of(alloc, payload)?;
         let rows = Rows::new(payload, &columns);
         assert!(rt; are_rows(&rows, *count));
-        let (len, ids, kinds) = counts(&rows);
-        assert!(rt; (len, ids) == (*count, *count) && kinds.starts_with([2, 0].as_slice()));
+        assert!(rt; (rows.len(), rows.ids().len()) == (*count, *count));
+        assert!(rt; rows.kinds().starts_with([2, 0].as_slice()));
     }
     Ok(())
 }
@@ -132,10 +127,6 @@ fn names_of_two_trees(rt: HostRuntime) -> Result<(), Fail> {
     Ok(())
 }
 
-fn fault_of(payload: &[u8]) -> Option<EntryFault> {
-    read_entry(payload).err()
-}
-
 /// Bytes that are no entry, and why.
 const FAULTS: &[(&str, EntryFault)] = &[
     ("100755", EntryFault::CutShort),
@@ -153,10 +144,14 @@ fn entries_that_cannot_be_read(rt: HostRuntime) -> Result<(), Fail> {
     let payload = first_entries(rt.alloc(), 2)?;
     for length in [0, 5, 10, 11, 30] {
         let cut = &payload[..length.min(payload.len())];
-        assert!(rt; fault_of(cut) == Some(EntryFault::CutShort), "at {length}");
+        assert!(rt;
+            read_entry(cut).err() == Some(EntryFault::CutShort),
+            "at {length}"
+        );
     }
     for (text, fault) in FAULTS {
-        assert!(rt; fault_of(text.as_bytes()) == Some(*fault), "at {text}");
+        let fault_of = read_entry(text.as_bytes()).err();
+        assert!(rt; fault_of == Some(*fault), "at {text}");
     }
     Ok(())
 }

@@ -7,30 +7,26 @@ use std::test::Fail;
 /// The digits of the empty blob's id.
 const EMPTY_BLOB: &[u8] = b"e69de29bb2d1d6434b8b29ae775ad8c2e48c5391";
 
-fn read(text: &[u8]) -> Result<Id, HexFault> {
-    Id::from_hex(text)
-}
-
 #[test]
 fn first_digits_and_lengths_of_an_ids_text(rt: HostRuntime) {
     let mut bytes = [0; 20];
     bytes[0] = 0xe6;
     bytes[19] = 0x0f;
     let text = b"e60000000000000000000000000000000000000f";
-    assert!(rt; read(text.as_slice()) == Ok(Id(bytes)));
+    assert!(rt; Id::from_hex(text.as_slice()) == Ok(Id(bytes)));
     assert!(rt; Id(bytes).to_hex() == *text);
-    assert!(rt; read([b'0'; 40].as_slice()) == Ok(Id::ZERO));
+    assert!(rt; Id::from_hex([b'0'; 40].as_slice()) == Ok(Id::ZERO));
     let long = [b'0'; 81];
     for length in 0..82usize {
         if length != 40 {
             assert!(rt;
-                read(&long[..length]) == Err(HexFault::WrongLength),
+                Id::from_hex(&long[..length]) == Err(HexFault::WrongLength),
                 "at {length}"
             );
         }
     }
     // The length is looked at before the digits.
-    assert!(rt; read(b"G".as_slice()) == Err(HexFault::WrongLength));
+    assert!(rt; Id::from_hex(b"G".as_slice()) == Err(HexFault::WrongLength));
 }
 
 /// The digits that an id's text may have.

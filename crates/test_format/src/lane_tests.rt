@@ -32,14 +32,13 @@ fn column_of(alloc: Global, count: usize, row: usize, byte: usize) -> Result<IdC
     Ok(column)
 }
 
-fn is_same_at(a: &IdColumn, b: &IdColumn, row: usize) -> bool {
-    a.get(row) == b.get(row)
-}
-
 /// The rows at which two columns differ, one by one.
 fn rows_one_by_one(alloc: Global, a: &IdColumn, b: &IdColumn) -> Result<Vec<usize>, Fail> {
     let rows = 0..a.len();
-    Ok(rows.filter(|row| !is_same_at(a, b, *row)).collect(alloc)?)
+    Ok(
+        rows.filter(|row| a.get(*row) != b.get(*row))
+            .collect(alloc)?,
+    )
 }
 
 /// The rows at which two columns of one length differ.
@@ -54,11 +53,6 @@ fn differing(alloc: Global, a: &IdColumn, b: &IdColumn) -> Result<Vec<usize>, Fa
     Ok(rows)
 }
 
-/// The first row of a column that has an id.
-fn found(column: &IdColumn, id: Id) -> Option<usize> {
-    find_row(column, id)
-}
-
 /// Whether two columns are told to differ at one row alone, at which the second one has an id that the first one lacks.
 fn differ_at(
     alloc: Global,
@@ -70,8 +64,8 @@ fn differ_at(
     let rows = differing(alloc, first, second)?;
     Ok(
         rows.as_slice() == [row].as_slice()
-            && found(second, id) == Some(row)
-            && found(first, id).is_none(),
+            && find_row(second, id) == Some(row)
+            && find_row(first, id).is_none(),
     )
 }
 
@@ -96,7 +90,7 @@ fn kernel_lengths(rt: HostRuntime) -> Result<(), Fail> {
     let alloc = rt.alloc();
     let none = IdColumn::new(alloc);
     assert!(rt; differing(alloc, &none, &none)?.is_empty());
-    assert!(rt; found(&none, id_of(0)).is_none());
+    assert!(rt; find_row(&none, id_of(0)).is_none());
     for count in &[1, 3, 4, 5, 7, 8, 9] {
         assert!(rt; last_differs(alloc, *count)?, "{count} rows");
     }
@@ -174,8 +168,8 @@ fn two_ids(alloc: Global, first: usize) -> Result<IdColumn, Fail> {
 fn the_first_of_equal_ids_is_found(rt: HostRuntime) -> Result<(), Fail> {
     for first in 0..30 {
         let column = two_ids(rt.alloc(), first)?;
-        assert!(rt; found(&column, id_of(2)) == Some(first));
-        assert!(rt; found(&column, id_of(3)).is_none());
+        assert!(rt; find_row(&column, id_of(2)) == Some(first));
+        assert!(rt; find_row(&column, id_of(3)).is_none());
     }
     Ok(())
 }

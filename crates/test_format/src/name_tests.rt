@@ -9,17 +9,12 @@ use std::alloc::Global;
 use std::fmt::Display;
 use std::test::Fail;
 
-/// The line of a refusal, as text.
-fn refused(alloc: Global, cause: Refusal) -> Result<String, Fail> {
-    let mut text = Vec::new(alloc);
-    push_refusal(&mut text, cause)?;
-    Ok(String::from_utf8(text)?)
-}
-
 /// Whether a refusal's line shows what a fault displays.
 fn is_displayed<F: Display>(alloc: Global, fault: &F, cause: Refusal) -> Result<bool, Fail> {
     let shown = format!(in alloc; "refused {fault}\n")?;
-    Ok(shown == refused(alloc, cause)?)
+    let mut text = Vec::new(alloc);
+    push_refusal(&mut text, cause)?;
+    Ok(shown.as_bytes() == text.as_slice())
 }
 
 const OF_CHANGES: &[ChangeFault] = &[

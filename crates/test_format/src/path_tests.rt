@@ -1,28 +1,10 @@
 //! Paths and what is refused as one, files' contents, and tables of paths.
 
+use crate::filter_tests::repeated;
 use eden_ids::{Content, Id, Kind, Path, PathFault, PathTable, Sequence, push_where};
 use std::alloc::Global;
 use std::test::Fail;
 use test_kit::{path, plain, spaced};
-
-/// `count` components `a`.
-fn deep(alloc: Global, count: usize) -> Result<Vec<u8>, Fail> {
-    let mut bytes = Vec::new(alloc);
-    for i in 0..count {
-        if i > 0 {
-            bytes.push(b'/')?;
-        }
-        bytes.push(b'a')?;
-    }
-    Ok(bytes)
-}
-
-fn fault_of(alloc: Global, bytes: &[u8]) -> Option<PathFault> {
-    match Path::parse(alloc, bytes) {
-        Ok(_) => None,
-        Err(fault) => Some(fault),
-    }
-}
 
 /// Bytes that are no path, and why.
 const REFUSALS: &[(&[u8], PathFault)] = &[
@@ -43,10 +25,12 @@ const REFUSALS: &[(&[u8], PathFault)] = &[
 fn path_refusals(rt: HostRuntime) -> Result<(), Fail> {
     let alloc = rt.alloc();
     for (row, (bytes, fault)) in REFUSALS.iter().enumerate() {
-        assert!(rt; fault_of(alloc, bytes) == Some(*fault), "row {row}");
+        let path = Path::parse(alloc, bytes);
+        assert!(rt; path.err() == Some(*fault), "row {row}");
     }
-    let deepest = deep(alloc, 65)?;
-    assert!(rt; fault_of(alloc, deepest.as_slice()) == Some(PathFault::TooDeep));
+    let deepest = repeated(alloc, b"a/", 64, b"a")?;
+    let path = Path::parse(alloc, deepest.as_slice());
+    assert!(rt; path.err() == Some(PathFault::TooDeep));
     Ok(())
 }
 
@@ -65,7 +49,7 @@ fn paths_keep_their_bytes(rt: HostRuntime) -> Result<(), Fail> {
     for bytes in PATHS {
         assert!(rt; is_kept(alloc, bytes)?, "{bytes:?}");
     }
-    let deepest = deep(alloc, 64)?;
+    let deepest = repeated(alloc, b"a/", 63, b"a")?;
     assert!(rt; is_kept(alloc, deepest.as_slice())?);
     Ok(())
 }
@@ -93,12 +77,6 @@ fn paths_of_vectors_and_of_two_parts(rt: HostRuntime) -> Result<(), Fail> {
     Ok(())
 }
 
-/// Whether a path stands below another one, and whether they clash.
-fn below_and_clash(alloc: Global, first: &str, second: &str) -> Result<(bool, bool), Fail> {
-    let (first, second) = (path(alloc, first)?, path(alloc, second)?);
-    Ok((first.is_below(&second), first.clashes(&second)))
-}
-
 /// Two paths, whether the first stands below the second, and whether they clash.
 const PAIRS: &[(&str, &str, bool, bool)] = &[
     ("a/b", "a", true, true),
@@ -111,9 +89,10 @@ const PAIRS: &[(&str, &str, bool, bool)] = &[
 
 #[test]
 fn clashing_paths(rt: HostRuntime) -> Result<(), Fail> {
-    for (first, second, below, clash) in PAIRS {
-        let told = below_and_clash(rt.alloc(), first, second)?;
-        assert!(rt; told == (*below, *clash), "{first} and {second}");
+    for (name, other, below, clash) in PAIRS {
+        let (first, second) = (path(rt.alloc(), name)?, path(rt.alloc(), other)?);
+        assert!(rt; first.is_below(&second) == *below, "{name} and {other}");
+        assert!(rt; first.clashes(&second) == *clash, "{name} and {other}");
     }
     Ok(())
 }

@@ -1,10 +1,7 @@
 //! What a stored history keeps of a stream of frames that was served.
 
-use crate::audit_tests::{Asks, Entry, Log, Notes, audited, verdict};
-use crate::calls::{hold, served};
-use crate::messages::{
-    Asked, EMPTY, Told, frame_of_reply, frame_of_request, position, reply_of, request_of,
-};
+use crate::audit_tests::{Asks, Entry, Log, Notes, audited, take_all, verdict};
+use crate::calls::{Held, hold, served};
 use eden_audit::{AuditFault, Audited, Settled};
 use eden_globs::Filter;
 use eden_history::Mark;
@@ -12,6 +9,9 @@ use eden_ids::{GitNaming, Kind};
 use eden_query::{answer, append_reply};
 use std::alloc::Global;
 use std::test::Fail;
+use test_wire::{
+    Asked, EMPTY, Told, frame_of_reply, frame_of_request, position, reply_of, request_of,
+};
 
 /// What changed since the mount and since the write, and the file: the number of a question, what it asks, and what is right.
 const QUESTIONS: &[(u64, Asked, Told)] = &[
@@ -52,46 +52,34 @@ const STREAM: &[Entry] = &[
     (4, Asks::Question(3, FETCH), Notes::Replied(3, 2, FILE)),
 ];
 
-/// Adds the frame of a question to these.
-fn add_request(alloc: Global, number: u64, asked: Asked, frames: &mut Vec<u8>) -> Result<(), Fail> {
-    let request = request_of(alloc, number, asked)?;
-    frames.extend_from_slice(frame_of_request(alloc, &request)?.as_slice())?;
-    Ok(())
-}
-
-/// Adds the frame of the right reply to a question to these.
-fn add_reply(alloc: Global, number: u64, told: Told, frames: &mut Vec<u8>) -> Result<(), Fail> {
-    let reply = reply_of(alloc, number, position(2, EMPTY), told)?;
-    frames.extend_from_slice(frame_of_reply(alloc, &reply)?.as_slice())?;
-    Ok(())
-}
-
-/// The frames of the questions.
+/// Returns the frames of the questions.
 fn requests(alloc: Global) -> Result<Vec<u8>, Fail> {
     let mut frames = Vec::new(alloc);
     for (number, asked, _) in QUESTIONS {
-        add_request(alloc, *number, *asked, &mut frames)?;
+        let request = request_of(alloc, *number, *asked)?;
+        frames.extend_from_slice(frame_of_request(alloc, &request)?.as_slice())?;
     }
     Ok(frames)
 }
 
-/// The frames of the right replies.
+/// Returns the frames of the right replies.
 fn replies(alloc: Global) -> Result<Vec<u8>, Fail> {
     let mut frames = Vec::new(alloc);
     for (number, _, told) in QUESTIONS {
-        add_reply(alloc, *number, *told, &mut frames)?;
+        let reply = reply_of(alloc, *number, position(2, EMPTY), *told)?;
+        frames.extend_from_slice(frame_of_reply(alloc, &reply)?.as_slice())?;
     }
     Ok(frames)
 }
 
-/// Whether a mount serves the questions by the right replies.
+/// Returns whether a mount serves the questions by the right replies.
 fn is_served(alloc: Global, audited: &mut Audited<GitNaming>) -> Result<bool, Fail> {
     let (requests, replies) = (requests(alloc)?, replies(alloc)?);
     let (text, ended) = served(alloc, requests.as_slice(), audited);
     Ok(ended == Ok(3) && text == replies)
 }
 
-/// The caller, the ticket and the outcome of each entry of the stored history.
+/// Returns the caller, the ticket and the outcome of each entry of the stored history.
 fn kept(alloc: Global, audited: &Audited<GitNaming>) -> Result<Vec<(u64, u64, Settled)>, Fail> {
     let mut kept = Vec::new(alloc);
     for entry in audited.entries() {
@@ -100,18 +88,35 @@ fn kept(alloc: Global, audited: &Audited<GitNaming>) -> Result<Vec<(u64, u64, Se
     Ok(kept)
 }
 
-#[test]
-fn frames_are_asked_as_caller_0(rt: HostRuntime) -> Result<(), Fail> {
-    let alloc = rt.alloc();
-    let mut audited = audited(alloc, WRITTEN)?;
-    assert!(rt; is_served(alloc, &mut audited)?);
+/// Returns whether the frames are stored as caller 0's, and an audit accepts them as its calls and as no other caller's.
+fn are_of_caller_0(alloc: Global, audited: &mut Audited<GitNaming>) -> Result<bool, Fail> {
+    take_all(alloc, audited, WRITTEN)?;
     let at = Settled::At(position(2, EMPTY));
     let wanted = [(2, 1, at), (0, 2, at), (0, 3, at), (0, 4, at)];
-    assert!(rt; kept(alloc, &audited)?.as_slice() == wanted.as_slice());
-    for (caller, said) in [(0, Ok(())), (1, Err(AuditFault::UnknownCall))] {
-        let told = verdict(alloc, &mut audited, &[WRITER, (caller, STREAM)])?;
-        assert!(rt; told == said, "caller {caller}");
+    if !is_served(alloc, audited)? || kept(alloc, audited)?.as_slice() != wanted.as_slice() {
+        return Ok(false);
     }
+    let own = verdict(alloc, audited, &[WRITER, (0, STREAM)])?;
+    let others = verdict(alloc, audited, &[WRITER, (1, STREAM)])?;
+    Ok(own == Ok(()) && others == Err(AuditFault::UnknownCall))
+}
+
+/// The same in a mount of the empty commit.
+fn frames_are_of_caller_0(alloc: Global) -> Result<bool, Fail> {
+    let mut audited = audited(alloc)?;
+    are_of_caller_0(alloc, &mut audited)
+}
+
+#[test]
+fn frames_are_asked_as_caller_0(rt: HostRuntime) -> Result<(), Fail> {
+    assert!(rt; frames_are_of_caller_0(rt.alloc())?);
+    Ok(())
+}
+
+/// Adds the reply's frame for what was held.
+fn add_answer(alloc: Global, held: &Held, text: &mut Vec<u8>) -> Result<(), Fail> {
+    let reply = answer(alloc, &held.0, &held.1, &Filter::all(alloc))?;
+    append_reply(text, &reply)?;
     Ok(())
 }
 
@@ -123,20 +128,28 @@ fn append(
     asked: Asked,
     text: &mut Vec<u8>,
 ) -> Result<(), Fail> {
-    let (raw, store) = hold(alloc, audited, number, asked)?;
-    let reply = answer(alloc, &raw, &store, &Filter::all(alloc))?;
-    append_reply(text, &reply)?;
-    Ok(())
+    let held = hold(alloc, audited, number, asked)?;
+    add_answer(alloc, &held, text)
+}
+
+/// Returns whether the frames of the right replies are appended to a text.
+fn are_appended(alloc: Global, audited: &mut Audited<GitNaming>) -> Result<bool, Fail> {
+    take_all(alloc, audited, WRITTEN)?;
+    let mut text = Vec::new(alloc);
+    for (number, asked, _) in QUESTIONS {
+        append(alloc, audited, *number, *asked, &mut text)?;
+    }
+    Ok(text == replies(alloc)?)
+}
+
+/// The same in a mount of the empty commit.
+fn replies_are_appended(alloc: Global) -> Result<bool, Fail> {
+    let mut audited = audited(alloc)?;
+    are_appended(alloc, &mut audited)
 }
 
 #[test]
 fn replies_are_appended_to_a_text(rt: HostRuntime) -> Result<(), Fail> {
-    let alloc = rt.alloc();
-    let mut audited = audited(alloc, WRITTEN)?;
-    let mut text = Vec::new(alloc);
-    for (number, asked, _) in QUESTIONS {
-        append(alloc, &mut audited, *number, *asked, &mut text)?;
-    }
-    assert!(rt; text == replies(alloc)?);
+    assert!(rt; replies_are_appended(rt.alloc())?);
     Ok(())
 }

@@ -1,7 +1,6 @@
 //! Logs that a test writes, beside a mount that was asked for two files.
 
 use crate::calls::opened;
-use crate::messages::{Asked, EMPTY, Told, position, reply_of, request_of};
 use eden_audit::{AuditFault, Audited, CallLog, LogEntry, audit};
 use eden_history::{Change, ChangeFault, Mark};
 use eden_ids::{GitNaming, Sequence};
@@ -11,6 +10,7 @@ use eden_query::Served;
 use std::alloc::Global;
 use std::test::Fail;
 use test_kit::write;
+use test_wire::{Asked, EMPTY, Told, position, reply_of, request_of};
 
 /// What a caller asks of the mount.
 #[derive(Clone, Copy)]
@@ -112,16 +112,26 @@ fn take(audited: &mut Audited<GitNaming>, caller: u64, call: &Call) -> Result<()
     Ok(())
 }
 
-/// A mount of the empty commit of which these callers have asked this.
-pub(crate) fn audited(alloc: Global, calls: &[(u64, Asks)]) -> Result<Audited<GitNaming>, Fail> {
-    let mut audited = Audited::new(alloc, opened(alloc)?)?;
+/// Makes the calls of these callers.
+pub(crate) fn take_all(
+    alloc: Global,
+    audited: &mut Audited<GitNaming>,
+    calls: &[(u64, Asks)],
+) -> Result<(), Fail> {
     for (caller, asks) in calls {
-        take(&mut audited, *caller, &call_of(alloc, *asks)?)?;
+        let call = call_of(alloc, *asks)?;
+        take(audited, *caller, &call)?;
     }
-    Ok(audited)
+    Ok(())
 }
 
-/// What an audit of these logs says.
+/// Returns a mount of the empty commit that was asked nothing yet.
+pub(crate) fn audited(alloc: Global) -> Result<Audited<GitNaming>, Fail> {
+    let mount = opened(alloc)?;
+    Ok(Audited::new(alloc, mount)?)
+}
+
+/// Returns what an audit of these logs says.
 pub(crate) fn verdict(
     alloc: Global,
     audited: &mut Audited<GitNaming>,
@@ -131,14 +141,25 @@ pub(crate) fn verdict(
     Ok(audit(alloc, audited, logs.as_slice()))
 }
 
-/// What an audit says where these callers have asked this, and that was noted.
+/// Returns what an audit says once these callers have asked this, and that was noted.
+fn verdict_after(
+    alloc: Global,
+    audited: &mut Audited<GitNaming>,
+    calls: &[(u64, Asks)],
+    noted: &[Log<'_>],
+) -> Result<Result<(), AuditFault>, Fail> {
+    take_all(alloc, audited, calls)?;
+    verdict(alloc, audited, noted)
+}
+
+/// The same in a mount of the empty commit.
 fn said(
     alloc: Global,
     calls: &[(u64, Asks)],
     noted: &[Log<'_>],
 ) -> Result<Result<(), AuditFault>, Fail> {
-    let mut audited = audited(alloc, calls)?;
-    verdict(alloc, &mut audited, noted)
+    let mut audited = audited(alloc)?;
+    verdict_after(alloc, &mut audited, calls, noted)
 }
 
 /// What was asked by whom, what was noted, and what the audit says.
@@ -235,20 +256,6 @@ fn reply_of_another_state(rt: HostRuntime) -> Result<(), Fail> {
     for (number, (calls, noted, wanted)) in REPLIES.iter().enumerate() {
         assert!(rt; said(rt.alloc(), calls, noted)? == *wanted, "row {number}");
     }
-    Ok(())
-}
-
-#[test]
-fn copies_say_the_same(rt: HostRuntime) -> Result<(), Fail> {
-    let call = call_of(rt.alloc(), Asks::Write("a"))?;
-    let copy = call.copy()?;
-    if let Call::Change(Change::Write { path, .. }) = &copy {
-        assert_eq!(rt; path.as_bytes(), b"a".as_slice());
-    } else {
-        assert!(rt; false, "another call");
-    }
-    let answer = Answer::At(position(2, EMPTY));
-    assert!(rt; answer.copy()? == answer);
     Ok(())
 }
 

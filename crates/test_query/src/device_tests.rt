@@ -44,15 +44,14 @@ fn add_ahead(alloc: Global, frames: &mut Exchange, polls: usize) -> Result<(), F
     Ok(())
 }
 
-/// A poll that is refused, and a frame of each kind.
-fn five_frames(alloc: Global) -> Result<Exchange, Fail> {
-    let mut frames = Exchange::new(alloc);
-    add_ahead(alloc, &mut frames, 1)?;
+/// Adds a poll that is refused, and a frame of each kind.
+fn add_five(alloc: Global, frames: &mut Exchange) -> Result<(), Fail> {
+    add_ahead(alloc, frames, 1)?;
     for (frame, reply) in KNOWN {
         let (frame, reply) = (joined(alloc, frame)?, joined(alloc, reply)?);
         frames.add(&[frame.as_slice()], reply.as_slice())?;
     }
-    Ok(frames)
+    Ok(())
 }
 
 /// Whether all of these frames are served.
@@ -75,39 +74,57 @@ fn served(
     Ok(serve(alloc, &mut reader, &mut writer, &mut mount))
 }
 
-#[test]
-fn devices_that_fail_at_each_byte(rt: HostRuntime) -> Result<(), Fail> {
-    let alloc = rt.alloc();
-    let frames = five_frames(alloc)?;
-    let (stream, text) = (frames.stream.len(), frames.text.len());
-    assert!(rt; frames.count() == 5 && are_served(alloc, &frames)?);
+/// Returns what goes wrong first, and at which byte: all the frames are served, or a reader or a writer fails at each of its bytes.
+fn first_wrong(
+    alloc: Global,
+    frames: &mut Exchange,
+) -> Result<Option<(&'static str, usize)>, Fail> {
+    add_five(alloc, frames)?;
+    if frames.count() != 5 || !are_served(alloc, frames)? {
+        return Ok(Some(("all", 0)));
+    }
     for most in [usize::MAX, 1, 3] {
-        for place in 0..=stream {
-            let right = is_served_before(alloc, &frames, place, most)?;
-            assert!(rt; right, "read to {place}");
+        for place in 0..=frames.stream.len() {
+            if !is_served_before(alloc, frames, place, most)? {
+                return Ok(Some(("read to", place)));
+            }
         }
-        for place in 0..text {
-            let right = is_written_to(alloc, &frames, place, most)?;
-            assert!(rt; right, "write to {place}");
+        for place in 0..frames.text.len() {
+            if !is_written_to(alloc, frames, place, most)? {
+                return Ok(Some(("write to", place)));
+            }
         }
     }
+    Ok(None)
+}
+
+#[test]
+fn devices_that_fail_at_each_byte(rt: HostRuntime) -> Result<(), Fail> {
+    let mut frames = Exchange::new(rt.alloc());
+    assert_eq!(rt; first_wrong(rt.alloc(), &mut frames)?, None);
     Ok(())
 }
 
 /// Where a reader fails in a stream of polls that are refused, and how many of the 39 bytes of each reply are written.
 const BROKEN: &[(usize, usize)] = &[(20, 0), (67, 39), (87, 39), (134, 78)];
 
+/// Returns the first place of the table that leaves other replies, or 10 where a writer that fails there does.
+fn first_wrong_break(alloc: Global, frames: &mut Exchange) -> Result<Option<usize>, Fail> {
+    add_ahead(alloc, frames, 2)?;
+    for (fails_at, written) in BROKEN {
+        let is_right = is_served_before(alloc, frames, *fails_at, usize::MAX)?;
+        if !is_right || frames.text_before(*fails_at).len() != *written {
+            return Ok(Some(*fails_at));
+        }
+    }
+    let is_right = is_written_to(alloc, frames, 10, usize::MAX)?;
+    Ok(if is_right { None } else { Some(10) })
+}
+
 // Within the first frame, at its end, within the second, and at the end of that.
 #[test]
 fn polls_that_break_off(rt: HostRuntime) -> Result<(), Fail> {
-    let alloc = rt.alloc();
-    let mut frames = Exchange::new(alloc);
-    add_ahead(alloc, &mut frames, 2)?;
-    for (fails_at, written) in BROKEN {
-        assert_eq!(rt; frames.text_before(*fails_at).len(), *written);
-        let right = is_served_before(alloc, &frames, *fails_at, usize::MAX)?;
-        assert!(rt; right, "{fails_at} bytes");
-    }
-    assert!(rt; is_written_to(alloc, &frames, 10, usize::MAX)?);
+    let mut frames = Exchange::new(rt.alloc());
+    assert_eq!(rt; first_wrong_break(rt.alloc(), &mut frames)?, None);
     Ok(())
 }

@@ -1,7 +1,6 @@
 //! What was held for a request is answered over the objects that came with it, whatever is imported and changed meanwhile.
 
-use crate::calls::{Held, answered, hold};
-use crate::messages::{Asked, Told, position, reply_of};
+use crate::calls::{Held, add_held, answered, mounted};
 use eden_accumulate::Mount;
 use eden_history::{Answer, Change, Mark, Mode};
 use eden_ids::{GitNaming, Id, Kind};
@@ -10,6 +9,7 @@ use eden_query::Raw;
 use std::alloc::Global;
 use std::test::Fail;
 use test_kit::{Objects, remove, write};
+use test_wire::{Asked, Told, position, reply_of};
 
 /// Two commits; the second one has another file `a`, and a file `d`.
 const BEFORE: &str =
@@ -26,14 +26,11 @@ fn change(mount: &mut Mount<GitNaming>, change: Change) -> Result<(), Fail> {
     }
 }
 
-/// A mount that went from the first commit to the second, in which `f` was written then.
-fn mounted(alloc: Global, objects: &mut Objects) -> Result<Mount<GitNaming>, Fail> {
-    let (first, commit) = (objects.id("c"), objects.id("e"));
-    let mut mount = Mount::mount(alloc, objects.store.share()?, first, 7, 1000)?;
+/// Goes from the first commit to the second, and writes `f` then.
+fn go_to(alloc: Global, mount: &mut Mount<GitNaming>, commit: Id) -> Result<(), Fail> {
     let mode = Mode::Normal;
-    change(&mut mount, Change::Checkout { commit, mode })?;
-    change(&mut mount, write(alloc, "f", "1")?)?;
-    Ok(mount)
+    change(mount, Change::Checkout { commit, mode })?;
+    change(mount, write(alloc, "f", "1")?)
 }
 
 /// The files of that mount, what changed since it was mounted at the first commit, and a file.
@@ -64,20 +61,7 @@ fn go_over(alloc: Global, mount: &mut Mount<GitNaming>, objects: &mut Objects) -
     Ok(commit)
 }
 
-/// What a mount holds for each of these requests.
-fn held(
-    alloc: Global,
-    mount: &mut Mount<GitNaming>,
-    asked: &[(Asked, Told)],
-) -> Result<Vec<Held>, Fail> {
-    let mut all = Vec::new(alloc);
-    for (asked, _) in asked {
-        all.push(hold(alloc, mount, 1, *asked)?)?;
-    }
-    Ok(all)
-}
-
-/// Whether what was held is answered so over a store: at the third number, and over the second commit.
+/// Returns whether what was held is answered so over a store: at the third number, and over the second commit.
 fn is_answered(
     alloc: Global,
     raw: &Raw,
@@ -89,20 +73,52 @@ fn is_answered(
     Ok(answered(alloc, raw, store)? == wanted)
 }
 
+/// Returns whether all that was held is answered so, over the objects that came with it and over those of now, once another commit is
+/// imported and gone over to.
+fn stays(
+    alloc: Global,
+    mount: &mut Mount<GitNaming>,
+    objects: &mut Objects,
+    held: &[Held],
+    asked: &[(Asked, Told)],
+) -> Result<bool, Fail> {
+    let later = go_over(alloc, mount, objects)?;
+    let second = objects.id("e");
+    let mut right = mount.store().has_commit(later) && held.len() == asked.len();
+    for ((raw, store), (_, told)) in held.iter().zip(asked) {
+        right = right
+            && !store.has_commit(later)
+            && is_answered(alloc, raw, store, *told, second)?
+            && is_answered(alloc, raw, mount.store(), *told, second)?;
+    }
+    Ok(right)
+}
+
+/// Returns whether what a mount holds for each request, over the second commit, stays.
+fn holds(
+    alloc: Global,
+    mount: &mut Mount<GitNaming>,
+    objects: &mut Objects,
+    held: &mut Vec<Held>,
+) -> Result<bool, Fail> {
+    go_to(alloc, mount, objects.id("e"))?;
+    let asked = asked(objects.id("c"));
+    for (asked, _) in &asked {
+        add_held(alloc, mount, *asked, held)?;
+    }
+    stays(alloc, mount, objects, held.as_slice(), &asked)
+}
+
+/// The same of a mount of the first commit.
+fn mount_holds(alloc: Global, objects: &mut Objects) -> Result<bool, Fail> {
+    let mut mount = mounted(alloc, objects)?;
+    let mut held = Vec::new(alloc);
+    holds(alloc, &mut mount, objects, &mut held)
+}
+
 #[test]
 fn what_was_held_stays(rt: HostRuntime) -> Result<(), Fail> {
-    let alloc = rt.alloc();
-    let mut objects = Objects::of(alloc, BEFORE)?;
-    let (asked, second) = (asked(objects.id("c")), objects.id("e"));
-    let mut mount = mounted(alloc, &mut objects)?;
-    let held = held(alloc, &mut mount, &asked)?;
-    let later = go_over(alloc, &mut mount, &mut objects)?;
-    assert!(rt; mount.store().has_commit(later));
-    for ((raw, store), (_, told)) in held.iter().zip(&asked) {
-        assert!(rt; !store.has_commit(later));
-        assert!(rt; is_answered(alloc, raw, store, *told, second)?);
-        // And over the objects of now it is the same.
-        assert!(rt; is_answered(alloc, raw, mount.store(), *told, second)?);
-    }
+    let mut objects = Objects::of(rt.alloc(), BEFORE)?;
+    assert!(rt; mount_holds(rt.alloc(), &mut objects)?);
     Ok(())
 }

@@ -1,4 +1,5 @@
-//! Tests of messages as bytes, of serving them over devices that give and take all at once, little at a time, or fail, and of audits.
+//! Tests of serving: requests over a mount, by calls and by frames that devices give and take all at once, little at a time, or not at all; what
+//! was held for a request while the mount goes on; and audits of what was asked.
 //!
 //! A crate of its own, so that no crate that ships waits for them.
 #![tactic(auto)]
@@ -17,12 +18,6 @@ mod generated_tests;
 mod held_tests;
 #[cfg(test)]
 mod listed_tests;
-#[cfg(test)]
-mod message_tests;
-#[cfg(test)]
-mod messages;
-#[cfg(test)]
-mod reading_tests;
 #[cfg(test)]
 mod row_tests;
 #[cfg(test)]

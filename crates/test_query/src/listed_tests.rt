@@ -1,13 +1,13 @@
 //! Lists of what stands below directories of a commit that are renamed, held between the renames and answered after them.
 
-use crate::calls::{Held, answered, hold};
-use crate::messages::Asked;
+use crate::calls::{Held, add_held, answered, mounted};
 use eden_accumulate::Mount;
 use eden_ids::GitNaming;
 use eden_messages::Reply;
 use std::alloc::Global;
 use std::test::Fail;
 use test_kit::{Objects, path, spaced};
+use test_wire::Asked;
 
 /// A commit with the files `a`, `d/e/y` and `d/x`.
 const COMMIT: &str =
@@ -24,30 +24,21 @@ const RENAMES: &[Rename] = &[
     ("b", "f", "b", ""),
 ];
 
-/// A mount of that commit.
-fn mounted(alloc: Global) -> Result<Mount<GitNaming>, Fail> {
-    let mut objects = Objects::of(alloc, COMMIT)?;
-    let root = objects.id("c");
-    Ok(Mount::mount(alloc, objects.store.share()?, root, 7, 1000)?)
-}
-
-fn rename(alloc: Global, mount: &mut Mount<GitNaming>, old: &str, new: &str) -> Result<(), Fail> {
-    let _ = mount.rename_dir(&path(alloc, old)?, &path(alloc, new)?)?;
+/// Renames each directory, and adds what is held for a list of what is below a directory then.
+fn rename_all(
+    alloc: Global,
+    mount: &mut Mount<GitNaming>,
+    held: &mut Vec<Held>,
+) -> Result<(), Fail> {
+    for (old, new, top, _) in RENAMES {
+        let (old, new) = (path(alloc, old)?, path(alloc, new)?);
+        let _ = mount.rename_dir(&old, &new)?;
+        add_held(alloc, mount, Asked::List(top), held)?;
+    }
     Ok(())
 }
 
-/// What is held for a list of what stands below each directory, after its rename.
-fn held(alloc: Global) -> Result<Vec<Held>, Fail> {
-    let mut mount = mounted(alloc)?;
-    let mut held = Vec::new(alloc);
-    for (old, new, top, _) in RENAMES {
-        rename(alloc, &mut mount, old, new)?;
-        held.push(hold(alloc, &mut mount, 1, Asked::List(top))?)?;
-    }
-    Ok(held)
-}
-
-/// The paths of a list that was held, each with a space behind it.
+/// Returns the paths of a list that was held, each with a space after it.
 fn listed(alloc: Global, held: &Held) -> Result<Vec<u8>, Fail> {
     match answered(alloc, &held.0, &held.1)? {
         Reply::ListIs { paths, .. } => Ok(spaced(alloc, paths.as_slice())?),
@@ -55,12 +46,35 @@ fn listed(alloc: Global, held: &Held) -> Result<Vec<u8>, Fail> {
     }
 }
 
+/// Returns the paths of the first list that is not so when it is answered after all renames.
+fn first_wrong(
+    alloc: Global,
+    mount: &mut Mount<GitNaming>,
+    held: &mut Vec<Held>,
+) -> Result<Option<&'static str>, Fail> {
+    rename_all(alloc, mount, held)?;
+    for (held, (_, _, _, wanted)) in held.iter().zip(RENAMES) {
+        if listed(alloc, held)?.as_slice() != wanted.as_bytes() {
+            return Ok(Some(*wanted));
+        }
+    }
+    Ok(if held.len() == RENAMES.len() {
+        None
+    } else {
+        Some("one for each")
+    })
+}
+
+/// The same of a mount of that commit.
+fn first_wrong_list(alloc: Global, objects: &mut Objects) -> Result<Option<&'static str>, Fail> {
+    let mut mount = mounted(alloc, objects)?;
+    let mut held = Vec::new(alloc);
+    first_wrong(alloc, &mut mount, &mut held)
+}
+
 #[test]
 fn lists_below_renamed_directories(rt: HostRuntime) -> Result<(), Fail> {
-    let alloc = rt.alloc();
-    for (held, (_, _, _, wanted)) in held(alloc)?.iter().zip(RENAMES) {
-        let listed = listed(alloc, held)?;
-        assert!(rt; listed.as_slice() == wanted.as_bytes(), "{wanted}");
-    }
+    let mut objects = Objects::of(rt.alloc(), COMMIT)?;
+    assert_eq!(rt; first_wrong_list(rt.alloc(), &mut objects)?, None);
     Ok(())
 }

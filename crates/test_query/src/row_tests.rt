@@ -1,7 +1,6 @@
 //! The table of worked scripts, played over a mount that is asked by calls and by frames.
 
 use crate::calls::{opened, served};
-use crate::messages::{frame_of_request, read_reply};
 use eden_accumulate::Mount;
 use eden_history::{Answer, Change, ChangeFault, MountFault};
 use eden_ids::{GitNaming, Id};
@@ -11,6 +10,7 @@ use eden_query::reply_to;
 use std::alloc::Global;
 use std::test::Fail;
 use test_kit::{Played, first_wrong, write_too_large};
+use test_wire::{frame_of_request, read_reply};
 
 /// A mount that is asked everything twice: by a call, and by a frame.
 #[derive(Drop)]
@@ -60,12 +60,16 @@ fn worked_rows(rt: HostRuntime) -> Result<(), Fail> {
     Ok(())
 }
 
+/// Returns whether a mount refuses a file that is too large.
+fn refuses_too_large(alloc: Global, mount: &mut Mount<GitNaming>) -> Result<bool, Fail> {
+    let answer = mount.apply(&write_too_large(alloc)?)?;
+    Ok(answer == Answer::Refused(ChangeFault::TooLarge))
+}
+
 // No line of a script is long enough for this one.
 #[test]
 fn change_refusals(rt: HostRuntime) -> Result<(), Fail> {
-    let alloc = rt.alloc();
-    let mut mount = opened(alloc)?;
-    let answer = mount.apply(&write_too_large(alloc)?)?;
-    assert!(rt; answer == Answer::Refused(ChangeFault::TooLarge));
+    let mut mount = opened(rt.alloc())?;
+    assert!(rt; refuses_too_large(rt.alloc(), &mut mount)?);
     Ok(())
 }

@@ -191,20 +191,11 @@ fn is_framed(alloc: Global, frame: &[u8], reply: &[u8]) -> Result<bool, Fail> {
     )
 }
 
-/// So many copies of these bytes.
-fn repeated(alloc: Global, bytes: &[u8], copies: usize) -> Result<Vec<u8>, Fail> {
-    let mut all = Vec::new(alloc);
-    for _ in 0..copies {
-        all.extend_from_slice(bytes)?;
-    }
-    Ok(all)
-}
-
-/// Whether a frame that comes for ever, a byte a read, is answered so many times by the same reply, and then its reads are spent.
+/// Returns whether a frame that comes for ever, a byte a read, is answered by N times the same reply, and then its reads are spent.
 fn spends(alloc: Global, frame: &[u8], reply: &[u8], replies: usize) -> Result<bool, Fail> {
+    let wanted = reply.repeat(alloc, replies)?;
     let mut mount = opened(alloc)?;
     let (written, ended) = served(alloc, Endless::new(frame), &mut mount);
-    let wanted = repeated(alloc, reply, replies)?;
     Ok(ended == Err(ServeFault::TurnsSpent) && written == wanted)
 }
 
@@ -338,26 +329,28 @@ fn is_read_plainly(
     Ok(is_served(alloc, mount, frame.as_slice(), whole, text.as_slice(), end))
 }
 
-#[test]
-fn single_byte_changes(rt: HostRuntime) -> Result<(), Fail> {
-    let alloc = rt.alloc();
-    let mut mount = opened(alloc)?;
+/// Returns the first place of a poll, and the value there, that is answered otherwise.
+fn first_wrong(alloc: Global, mount: &mut Mount<GitNaming>) -> Result<Option<(usize, u8)>, Fail> {
     for (place, byte) in joined(alloc, POLL)?.iter().enumerate() {
         for value in &VALUES {
-            let right = value == byte || is_read_plainly(alloc, &mut mount, place, *value)?;
-            assert!(rt; right, "{value} at {place}");
+            if value != byte && !is_read_plainly(alloc, mount, place, *value)? {
+                return Ok(Some((place, *value)));
+            }
         }
     }
-    Ok(())
+    Ok(None)
 }
 
-/// A mount in generation 7 of the files `d/a` and `e`, which hold `hi`.
-fn two_files(alloc: Global) -> Result<Mount<GitNaming>, Fail> {
+/// The same of a mount of the empty commit.
+fn first_wrong_byte(alloc: Global) -> Result<Option<(usize, u8)>, Fail> {
     let mut mount = opened(alloc)?;
-    for at in [b"d/a".as_slice(), b"e".as_slice()] {
-        write(alloc, &mut mount, at, Kind::Exec, b"hi".as_slice())?;
-    }
-    Ok(mount)
+    first_wrong(alloc, &mut mount)
+}
+
+#[test]
+fn single_byte_changes(rt: HostRuntime) -> Result<(), Fail> {
+    assert_eq!(rt; first_wrong_byte(rt.alloc())?, None);
+    Ok(())
 }
 
 /// The pattern `d/**`, the path `d/a`, and its content.
@@ -448,24 +441,39 @@ const BELOW: &[&[u8]] = &[
     &[0, 1, b'e', 0, 0, 0, 0],
 ];
 
-/// Whether the mount of two files answers two frames, which come in pieces of so many bytes at the most, by two replies.
+/// Returns whether a mount of the files `d/a` and `e`, which hold `hi`, answers two frames, which come in pieces of N bytes at the most, by
+/// two replies.
 fn answers_two(
     alloc: Global,
+    mount: &mut Mount<GitNaming>,
     frames: &[&[u8]],
     replies: &[&[u8]],
     most: usize,
 ) -> Result<bool, Fail> {
-    let mut mount = two_files(alloc)?;
+    for at in [b"d/a".as_slice(), b"e".as_slice()] {
+        write(alloc, mount, at, Kind::Exec, b"hi".as_slice())?;
+    }
     let (frames, replies) = (joined(alloc, frames)?, joined(alloc, replies)?);
     let pieces = (most, usize::MAX);
     Ok(is_served(
         alloc,
-        &mut mount,
+        mount,
         frames.as_slice(),
         pieces,
         replies.as_slice(),
         Ok(2),
     ))
+}
+
+/// The same of a mount in generation 7.
+fn are_answered(
+    alloc: Global,
+    frames: &[&[u8]],
+    replies: &[&[u8]],
+    most: usize,
+) -> Result<bool, Fail> {
+    let mut mount = opened(alloc)?;
+    answers_two(alloc, &mut mount, frames, replies, most)
 }
 
 /// What it is called, two frames, their replies, and how many bytes come at once.
@@ -485,7 +493,7 @@ const TWO_FRAMES: &[TwoFrames] = &[
 #[test]
 fn frames_by_patterns(rt: HostRuntime) -> Result<(), Fail> {
     for (name, frames, replies, most) in TWO_FRAMES {
-        assert!(rt; answers_two(rt.alloc(), frames, replies, *most)?, "{name}");
+        assert!(rt; are_answered(rt.alloc(), frames, replies, *most)?, "{name}");
     }
     Ok(())
 }

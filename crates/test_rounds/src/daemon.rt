@@ -1,6 +1,6 @@
 //! What a mirror asks in the tests: a world, or a mount behind its frames; and a mirror beside it.
 
-use crate::wanted::{Said, position};
+use crate::wanted::{Said, position, query};
 use eden_accumulate::Mount;
 use eden_globs::Filter;
 use eden_history::Change;
@@ -87,6 +87,8 @@ pub(crate) enum Step {
     Comes(Said, Outcome),
     /// One question is outstanding. It is asked, this is the reply, and it comes, with this outcome.
     Goes(Said, Outcome),
+    /// In the round with this number, lists of these directories are outstanding, and then the contents of these paths.
+    Awaits(u64, &'static [&'static str], &'static [&'static str]),
     /// The mirror is placed at this generation and number, or nowhere, and these are its files.
     Holds(Option<(u64, u64)>, &'static [(&'static str, &'static str)]),
 }
@@ -157,6 +159,30 @@ impl<D: Daemon + Drop> Pair<D> {
         Err(Fail::new(format_args!("{said:?} has the outcome {outcome:?} in place of {wanted:?}")))
     }
 
+    /// In the round with this number, lists of these directories are outstanding, and then the contents of these paths.
+    fn awaits(&self, number: u64, prefixes: &[&str], paths: &[&str]) -> Result<(), Fail> {
+        let (alloc, query) = (self.alloc, query(number));
+        let mut wanted = Vec::new(alloc);
+        for name in prefixes {
+            wanted.push(Request::List {
+                query,
+                prefix: path(alloc, name)?,
+                filter: Filter::all(alloc),
+            })?;
+        }
+        for name in paths {
+            wanted.push(Request::Fetch {
+                query,
+                path: path(alloc, name)?,
+            })?;
+        }
+        let asked = self.mirror.outstanding()?;
+        if asked.as_slice() == wanted.as_slice() {
+            return Ok(());
+        }
+        Err(Fail::new(format_args!("{asked:?} in place of {wanted:?}")))
+    }
+
     /// The position at which the mirror is placed, and its files, are these.
     fn holds(&self, place: Option<(u64, u64)>, files: &[(&str, &str)]) -> Result<(), Fail> {
         let here = self.mirror.position();
@@ -197,6 +223,7 @@ impl<D: Daemon + Drop> Pair<D> {
                 self.asks(&[said])?;
                 self.comes(&said, outcome)
             }
+            Step::Awaits(number, prefixes, paths) => self.awaits(number, prefixes, paths),
             Step::Holds(place, files) => self.holds(place, files),
         }
     }

@@ -11,6 +11,7 @@ use eden_mirror::Mirror;
 use eden_objects::{PutFault, Store};
 use eden_query::{DecodeFault, decode_reply};
 use std::alloc::Global;
+use std::process::Abort;
 use std::test::Fail;
 use test_kit::path;
 
@@ -57,6 +58,21 @@ fn has_file(mirror: &Mirror, at: &Path, bytes: &[u8]) -> bool {
     here && read.kind == Kind::Plain && read.bytes.as_slice() == bytes
 }
 
+/// Checks that a mirror follows a mount to which these bytes are written.
+fn check_followed(
+    rt: &impl Abort,
+    pair: &mut Pair<Mount<GitNaming>>,
+    at: &Path,
+    bytes: &[u8],
+) -> Result<(), Fail> {
+    pair.goes(PLACED)?;
+    assert!(rt; takes(&mut pair.daemon, at, bytes));
+    pair.goes(TOLD)?;
+    assert!(rt; places(pair)?);
+    assert!(rt; has_file(&pair.mirror, at, bytes));
+    Ok(())
+}
+
 #[test]
 fn largest_content(rt: HostRuntime) -> Result<(), Fail> {
     let alloc = rt.alloc();
@@ -64,12 +80,7 @@ fn largest_content(rt: HostRuntime) -> Result<(), Fail> {
     let bytes = largest(alloc)?;
     assert_eq!(rt; bytes.len(), LARGEST);
     let mut pair = Pair::new(alloc, opened_mount(alloc)?);
-    pair.goes(PLACED)?;
-    assert!(rt; takes(&mut pair.daemon, &at, bytes.as_slice()));
-    pair.goes(TOLD)?;
-    assert!(rt; places(&mut pair)?);
-    assert!(rt; has_file(&pair.mirror, &at, bytes.as_slice()));
-    Ok(())
+    check_followed(&rt, &mut pair, &at, bytes.as_slice())
 }
 
 /// The body of a ContentIs with a plain file of these bytes at `p`, of which this is the count.
@@ -91,14 +102,15 @@ fn larger_content(rt: HostRuntime) -> Result<(), Fail> {
     let alloc = rt.alloc();
     let mut bytes = largest(alloc)?;
     bytes.push(b'x')?;
+    let body = body_of(alloc, 8_388_609, bytes.as_slice())?;
+    let fault = decode_reply(alloc, body.as_slice()).err();
+    assert_eq!(rt; fault, Some(DecodeFault::BadField));
+    let at = path(alloc, "p")?;
     let mut mount = opened_mount(alloc)?;
-    let written = mount.write(&path(alloc, "p")?, Kind::Plain, bytes.as_slice());
+    let written = mount.write(&at, Kind::Plain, bytes.as_slice());
     assert_eq!(rt; written, Err(ChangeFault::TooLarge));
     assert_eq!(rt; mount.position(), position(7, 1));
     let mut store = Store::new(alloc, GitNaming);
     assert_eq!(rt; store.put_blob(bytes.as_slice()), Err(PutFault::TooLarge));
-    let body = body_of(alloc, 8_388_609, bytes.as_slice())?;
-    let fault = decode_reply(alloc, body.as_slice()).err();
-    assert_eq!(rt; fault, Some(DecodeFault::BadField));
     Ok(())
 }

@@ -1,8 +1,8 @@
-//! Mirrors that follow a mount, in tests: beside the plain program's replies, and by frames over a mount.
-//!
-//! A crate of its own, so that no crate that ships stands on the plain program.
+//! Mirrors that follow a mount, in tests: beside the oracle's replies, and by frames over a mount; and the largest reply that a mount makes.
 #![tactic(auto)]
 
+#[cfg(test)]
+mod basis_tests;
 #[cfg(test)]
 mod daemon;
 #[cfg(test)]

@@ -1,65 +1,43 @@
 //! A mirror that is given a reply does what one does that is lent it.
 
-use crate::wanted::Said;
+use crate::wanted::{Said, basis, position, query, refused};
 use eden_globs::Filter;
-use eden_history::{Mark, Marked, Position};
-use eden_ids::{Content, Id, Sequence};
+use eden_history::{Mark, Marked};
+use eden_ids::{Content, Sequence};
 use eden_messages::{Cause, Outcome, Query, Reply};
 use eden_mirror::Mirror;
 use std::alloc::Global;
 use std::test::Fail;
 use test_kit::{path, plain};
 
-/// The first question of mirror 1.
-const QUERY: Query = Query {
-    mirror: 1,
-    life: 1,
-    number: 1,
-};
-
-/// Where the list is told, and each content.
-const TARGET: Position = Position {
-    generation: 7,
-    sequence: 2,
-    root: Id::ZERO,
-};
-
-/// The list of these paths.
-fn list(alloc: Global, texts: &[&str]) -> Result<Reply, Fail> {
-    let mut paths = Vec::new(alloc);
-    for text in texts {
-        paths.push(path(alloc, text)?)?;
-    }
-    Ok(Reply::BasisIs {
-        query: QUERY,
-        position: TARGET,
-        paths: Sequence::from_vec(paths),
-    })
+/// The list of these paths at 7/2, in reply to the first question of mirror 1.
+fn list(alloc: Global, names: &[&str]) -> Result<Reply, Fail> {
+    basis(alloc, query(1), position(7, 2), names)
 }
 
+/// The file at a path at 7/2, or that there is none.
 fn content(alloc: Global, query: Query, at: &str, file: Option<Content>) -> Result<Reply, Fail> {
     Ok(Reply::ContentIs {
         query,
-        position: TARGET,
+        position: position(7, 2),
         path: path(alloc, at)?,
         content: file,
     })
 }
 
-fn refused(cause: Cause) -> Reply {
-    Reply::Refused {
-        query: QUERY,
-        cause,
+/// Begins a round of a mirror, to which these replies come.
+fn take(mirror: &mut Mirror, came: &[Reply]) -> Result<(), Fail> {
+    mirror.begin()?;
+    for reply in came {
+        let _ = mirror.deliver(reply)?;
     }
+    Ok(())
 }
 
 /// The mirror 1 in its first round, to which these replies came.
 fn mirror_after(alloc: Global, came: &[Reply]) -> Result<Mirror, Fail> {
     let mut mirror = Mirror::new(alloc, 1, 1, Filter::all(alloc));
-    mirror.begin()?;
-    for reply in came {
-        let _ = mirror.deliver(reply)?;
-    }
+    take(&mut mirror, came)?;
     Ok(mirror)
 }
 
@@ -76,16 +54,6 @@ fn are_alike(lent: &Mirror, given: &Mirror, said: &str) -> Result<(), Fail> {
     Err(Fail::new(format_args!("{said}: what is held is not the same")))
 }
 
-/// What comes of a reply that is lent to a mirror.
-fn lend(mirror: &mut Mirror, reply: &Reply) -> Result<Outcome, Fail> {
-    Ok(mirror.deliver(reply)?)
-}
-
-/// What comes of a reply that is given to a mirror.
-fn give(mirror: &mut Mirror, reply: Reply) -> Result<Outcome, Fail> {
-    Ok(mirror.deliver_owned(reply)?)
-}
-
 /// A reply that is lent to the one mirror and given to the other, which are alike, has this outcome at both, and leaves them alike.
 fn comes_alike(
     alloc: Global,
@@ -95,7 +63,7 @@ fn comes_alike(
     wanted: Outcome,
 ) -> Result<(), Fail> {
     let said = format!(in alloc; "{reply:?}")?;
-    let outcomes = (lend(lent, &reply)?, give(given, reply)?);
+    let outcomes = (lent.deliver(&reply)?, given.deliver_owned(reply)?);
     if outcomes != (wanted, wanted) {
         return Err(Fail::new(format_args!("{said}: {outcomes:?}")));
     }
@@ -109,22 +77,15 @@ fn either_way(alloc: Global, came: &[Reply], reply: Reply, wanted: Outcome) -> R
     comes_alike(alloc, &mut lent, &mut given, reply, wanted)
 }
 
-/// The second question of mirror 1.
-const NEXT: Query = Query {
-    mirror: 1,
-    life: 1,
-    number: 2,
-};
-
-/// That files were moved from or to `d`, and that `p` alone has changed by itself.
+/// In reply to its second question: that files were moved from or to `d`, and that `p` alone has changed by itself.
 fn moved(alloc: Global) -> Result<Reply, Fail> {
     let marked = Marked {
         mark: Mark::Created,
         path: path(alloc, "p")?,
     };
     Ok(Reply::ChangesAre {
-        query: NEXT,
-        target: TARGET,
+        query: query(2),
+        target: position(7, 2),
         marked: Sequence::from_vec(vec![in alloc; marked]?),
         prefixes: Sequence::from_vec(vec![in alloc; path(alloc, "d")?]?),
     })
@@ -132,11 +93,21 @@ fn moved(alloc: Global) -> Result<Reply, Fail> {
 
 /// The mirror in its second round, which awaits a list of `d` and the content of `p`. It has the file `d/a`.
 fn told_mirror(alloc: Global) -> Result<Mirror, Fail> {
-    let file = content(alloc, QUERY, "d/a", Some(plain(alloc, "x")?))?;
-    let mut mirror = mirror_after(alloc, &[list(alloc, &["d/a"])?, file])?;
-    mirror.begin()?;
-    let _ = mirror.deliver(&moved(alloc)?)?;
+    let first = [
+        list(alloc, &["d/a"])?,
+        content(alloc, query(1), "d/a", Some(plain(alloc, "x")?))?,
+    ];
+    let second = [moved(alloc)?];
+    let mut mirror = mirror_after(alloc, first.as_slice())?;
+    take(&mut mirror, second.as_slice())?;
     Ok(mirror)
+}
+
+/// A reply that comes to that mirror has this outcome, lent or given.
+fn told_either_way(alloc: Global, reply: Reply, wanted: Outcome) -> Result<(), Fail> {
+    let mut lent = told_mirror(alloc)?;
+    let mut given = told_mirror(alloc)?;
+    comes_alike(alloc, &mut lent, &mut given, reply, wanted)
 }
 
 /// What comes to that mirror, and with which outcome.
@@ -157,9 +128,7 @@ const COMES: &[(Said, Outcome)] = &[
 fn given_lists_of_directories(rt: HostRuntime) -> Result<(), Fail> {
     let alloc = rt.alloc();
     for (said, wanted) in COMES {
-        let mut lent = told_mirror(alloc)?;
-        let mut given = told_mirror(alloc)?;
-        comes_alike(alloc, &mut lent, &mut given, said.reply(alloc)?, *wanted)?;
+        told_either_way(alloc, said.reply(alloc)?, *wanted)?;
     }
     Ok(())
 }
@@ -169,9 +138,11 @@ fn given_lists_and_refusals(rt: HostRuntime) -> Result<(), Fail> {
     let alloc = rt.alloc();
     either_way(alloc, &[], list(alloc, &["p", "q"])?, Outcome::Taken)?;
     either_way(alloc, &[], list(alloc, &[])?, Outcome::Placed)?;
-    either_way(alloc, &[], refused(Cause::TooLarge), Outcome::Ended)?;
-    either_way(alloc, &[], refused(Cause::Stale(8)), Outcome::Unplaced)?;
-    let early = content(alloc, QUERY, "p", None)?;
+    let too_large = refused(query(1), Cause::TooLarge);
+    either_way(alloc, &[], too_large, Outcome::Ended)?;
+    let stale = refused(query(1), Cause::Stale(8));
+    either_way(alloc, &[], stale, Outcome::Unplaced)?;
+    let early = content(alloc, query(1), "p", None)?;
     either_way(alloc, &[], early, Outcome::Ignored)
 }
 
@@ -187,7 +158,7 @@ fn told_content(alloc: Global, life: u64, at: &str, text: Option<&str>) -> Resul
         Some(text) => Some(plain(alloc, text)?),
         None => None,
     };
-    content(alloc, Query { life, ..QUERY }, at, file)
+    content(alloc, Query { life, ..query(1) }, at, file)
 }
 
 /// The life, the path and the text of a content that comes where that of `p` is awaited in the first life.
@@ -206,7 +177,8 @@ fn given_contents(rt: HostRuntime) -> Result<(), Fail> {
         behind(alloc, &["p"], reply, *wanted)?;
     }
     behind(alloc, &["p"], list(alloc, &["p"])?, Outcome::Ignored)?;
-    behind(alloc, &["p"], refused(Cause::TooLarge), Outcome::Ignored)?;
+    let too_large = refused(query(1), Cause::TooLarge);
+    behind(alloc, &["p"], too_large, Outcome::Ignored)?;
     let first = told_content(alloc, 1, "q", Some("x"))?;
     behind(alloc, &["p", "q"], first, Outcome::Taken)
 }

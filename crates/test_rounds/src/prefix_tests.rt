@@ -1,14 +1,12 @@
 //! Rounds that await what stands below directories, by replies made by hand.
 
 use crate::daemon::{Pair, Step, opened_world};
-use crate::wanted::{Said, query};
-use eden_globs::Filter;
+use crate::wanted::Said;
 use eden_ids::GitNaming;
-use eden_messages::{Cause, Outcome, Request};
+use eden_messages::{Cause, Outcome};
 use eden_world::World;
 use std::alloc::Global;
 use std::test::Fail;
-use test_kit::path;
 
 /// A mirror is placed at 7/3, and has some files below `d`, one beside it, and none below `e`.
 const PLACED: &[Step] = &[
@@ -42,45 +40,19 @@ fn told(alloc: Global) -> Result<Pair<World<GitNaming>>, Fail> {
     Ok(pair)
 }
 
-/// Whether these lists are outstanding in the second round, and then these contents.
-fn is_outstanding(
-    pair: &Pair<World<GitNaming>>,
-    prefixes: &[&str],
-    paths: &[&str],
-) -> Result<bool, Fail> {
-    let (alloc, query) = (pair.alloc, query(2));
-    let mut wanted = Vec::new(alloc);
-    for name in prefixes {
-        wanted.push(Request::List {
-            query,
-            prefix: path(alloc, name)?,
-            filter: Filter::all(alloc),
-        })?;
-    }
-    for name in paths {
-        wanted.push(Request::Fetch {
-            query,
-            path: path(alloc, name)?,
-        })?;
-    }
-    Ok(pair.mirror.outstanding()?.as_slice() == wanted.as_slice())
-}
-
 #[test]
 fn lists_in_a_round(rt: HostRuntime) -> Result<(), Fail> {
     let mut pair = told(rt.alloc())?;
-    assert!(rt; is_outstanding(&pair, &["d", "e"], &[])?);
     pair.goes(&[
+        Step::Awaits(2, &["d", "e"], &[]),
         Step::Comes(Said::Listed(2, (7, 4), "d", &[]), Outcome::Taken),
         Step::Holds(Some((7, 3)), &[("d.x", "0")]),
-    ])?;
-    assert!(rt; is_outstanding(&pair, &["e"], &[])?);
-    pair.goes(&[Step::Comes(
-        Said::Listed(2, (7, 5), "e", &["e/x", "e/y"]),
-        Outcome::Taken,
-    )])?;
-    assert!(rt; is_outstanding(&pair, &[], &["e/x", "e/y"])?);
-    pair.goes(&[
+        Step::Awaits(2, &["e"], &[]),
+        Step::Comes(
+            Said::Listed(2, (7, 5), "e", &["e/x", "e/y"]),
+            Outcome::Taken,
+        ),
+        Step::Awaits(2, &[], &["e/x", "e/y"]),
         Step::Comes(Said::Content(2, (7, 4), "e/x", "1"), Outcome::Taken),
         Step::Comes(Said::Content(2, (7, 5), "e/y", "2"), Outcome::Placed),
         Step::Holds(Some((7, 4)), &[("d.x", "0"), ("e/x", "1"), ("e/y", "2")]),
@@ -94,9 +66,7 @@ fn listed_again(rt: HostRuntime) -> Result<(), Fail> {
     pair.goes(&[
         Step::Comes(Said::Listed(2, (7, 4), "d", &["d/y"]), Outcome::Taken),
         Step::Holds(Some((7, 3)), &[("d.x", "0"), ("d/y", "2")]),
-    ])?;
-    assert!(rt; is_outstanding(&pair, &["e"], &["d/y"])?);
-    pair.goes(&[
+        Step::Awaits(2, &["e"], &["d/y"]),
         Step::Comes(Said::Content(2, (7, 4), "d/y", "3"), Outcome::Taken),
         Step::Comes(Said::Content(2, (7, 4), "d/y", "4"), Outcome::Ignored),
         Step::Comes(Said::Listed(2, (7, 4), "e", &[]), Outcome::Placed),
@@ -117,11 +87,9 @@ fn a_directory_in_a_directory(rt: HostRuntime) -> Result<(), Fail> {
             Outcome::Taken,
         ),
         Step::Comes(Said::Content(2, (7, 4), "a/b/x", "1"), Outcome::Taken),
-    ])?;
-    assert!(rt; is_outstanding(&pair, &["a/b"], &["a/y"])?);
-    pair.goes(&[Step::Comes(Said::Listed(2, (7, 4), "a/b", &["a/b/x"]), Outcome::Taken)])?;
-    assert!(rt; is_outstanding(&pair, &[], &["a/y", "a/b/x"])?);
-    pair.goes(&[
+        Step::Awaits(2, &["a/b"], &["a/y"]),
+        Step::Comes(Said::Listed(2, (7, 4), "a/b", &["a/b/x"]), Outcome::Taken),
+        Step::Awaits(2, &[], &["a/y", "a/b/x"]),
         Step::Comes(Said::Content(2, (7, 4), "a/b/x", "2"), Outcome::Taken),
         Step::Comes(Said::Content(2, (7, 4), "a/y", "3"), Outcome::Placed),
         Step::Holds(Some((7, 4)), &[("a/b/x", "2"), ("a/y", "3"), ("d.x", "0")]),

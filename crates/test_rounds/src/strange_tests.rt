@@ -174,57 +174,53 @@ const LISTS: &[Strange] = &[
     ("a directory below", 1, 1, 3, 7, 2, "d/e"),
 ];
 
-/// Delivers strange contents to a mirror that awaits one.
-fn ignores_contents(pair: &mut Pair<World<GitNaming>>) -> Result<(), Fail> {
-    for (said, mirror, life, number, generation, sequence, at) in CONTENTS {
-        let query = asked_by(*mirror, *life, *number);
-        let here = position(*generation, *sequence);
-        let reply = content(pair.alloc, query, here, at, "strange")?;
-        ignores(pair, &reply, said)?;
-    }
-    Ok(())
-}
-
-/// Delivers what would have answered the question of such a mirror, which was answered before.
-fn ignores_answers(
-    pair: &mut Pair<World<GitNaming>>,
-    asked: Query,
-    kind: Kind,
-) -> Result<(), Fail> {
-    let reply = reply_of(pair.alloc, asked, kind)?;
-    ignores(pair, &reply, "an answer that comes again")
-}
-
 /// Then the content comes.
 const RIGHT: &[Step] = &[
     Step::Goes(Said::Content(2, (7, 2), "p", "x"), Outcome::Placed),
     Step::Holds(Some((7, 2)), &[("p", "x")]),
 ];
 
-#[test]
-fn strange_replies(rt: HostRuntime) -> Result<(), Fail> {
-    let (mut pair, asked) = mirror_in(rt.alloc(), Round::Gathering)?;
-    ignores_contents(&mut pair)?;
-    ignores_answers(&mut pair, asked, Kind::Changes)?;
-    ignores_answers(&mut pair, asked, Kind::TooLarge)?;
+/// Delivers strange contents to a mirror that awaits one, then what would have answered its question, which was answered before, and at
+/// last the right content.
+fn takes_right_content(pair: &mut Pair<World<GitNaming>>, asked: Query) -> Result<(), Fail> {
+    for (said, mirror, life, number, generation, sequence, at) in CONTENTS {
+        let query = asked_by(*mirror, *life, *number);
+        let here = position(*generation, *sequence);
+        let reply = content(pair.alloc, query, here, at, "strange")?;
+        ignores(pair, &reply, said)?;
+    }
+    for kind in [Kind::Changes, Kind::TooLarge] {
+        let reply = reply_of(pair.alloc, asked, kind)?;
+        ignores(pair, &reply, "an answer that comes again")?;
+    }
     pair.goes(RIGHT)
 }
 
 #[test]
-fn strange_lists(rt: HostRuntime) -> Result<(), Fail> {
-    let alloc = rt.alloc();
-    let (mut pair, _) = mirror_in(alloc, Round::Listing)?;
+fn strange_replies(rt: HostRuntime) -> Result<(), Fail> {
+    let (mut pair, asked) = mirror_in(rt.alloc(), Round::Gathering)?;
+    takes_right_content(&mut pair, asked)
+}
+
+/// Delivers strange lists to a mirror that awaits one, and at last the right one.
+fn takes_right_list(pair: &mut Pair<World<GitNaming>>) -> Result<(), Fail> {
     for (said, mirror, life, number, generation, sequence, at) in LISTS {
         let query = asked_by(*mirror, *life, *number);
         let here = position(*generation, *sequence);
-        let reply = listed(alloc, query, here, at, &[])?;
-        ignores(&mut pair, &reply, said)?;
+        let reply = listed(pair.alloc, query, here, at, &[])?;
+        ignores(pair, &reply, said)?;
     }
     pair.goes(&[
         Step::Comes(Said::Listed(3, (7, 3), "d", &[]), Outcome::Placed),
         Step::Comes(Said::Listed(3, (7, 3), "d", &[]), Outcome::Ignored),
         Step::Holds(Some((7, 2)), &[("p", "x")]),
     ])
+}
+
+#[test]
+fn strange_lists(rt: HostRuntime) -> Result<(), Fail> {
+    let (mut pair, _) = mirror_in(rt.alloc(), Round::Listing)?;
+    takes_right_list(&mut pair)
 }
 
 /// Whose question a reply answers: the mirror, its life, and whether the round is one to come.
@@ -275,14 +271,19 @@ fn outcome_of(kind: Kind) -> Outcome {
     }
 }
 
+/// Whether a reply of an awaited kind, to its own question, counts at a mirror.
+fn takes(pair: &mut Pair<World<GitNaming>>, own: Query, kind: Kind) -> Result<bool, Fail> {
+    let reply = reply_of(pair.alloc, own, kind)?;
+    Ok(pair.delivered(&reply)? == outcome_of(kind))
+}
+
 /// Whether a reply of a kind counts in such a round, as far as it is awaited there.
 fn counts(alloc: Global, round: Round, kind: Kind) -> Result<bool, Fail> {
     if !is_awaited(round, kind) {
         return Ok(true);
     }
     let (mut pair, own) = mirror_in(alloc, round)?;
-    let reply = reply_of(alloc, own, kind)?;
-    Ok(pair.delivered(&reply)? == outcome_of(kind))
+    takes(&mut pair, own, kind)
 }
 
 #[test]
@@ -295,17 +296,22 @@ fn awaited_replies_count(rt: HostRuntime) -> Result<(), Fail> {
     Ok(())
 }
 
+/// Delivers replies to the life before, before the first round of the new one and in it.
+fn ignores_old(pair: &mut Pair<World<GitNaming>>, old: Query) -> Result<(), Fail> {
+    for _ in 0..2 {
+        for kind in KINDS {
+            let reply = reply_of(pair.alloc, old, *kind)?;
+            ignores(pair, &reply, "a reply to the life before")?;
+        }
+        pair.begin()?;
+    }
+    Ok(())
+}
+
 #[test]
 fn begun_anew(rt: HostRuntime) -> Result<(), Fail> {
     let alloc = rt.alloc();
     let (mut pair, old) = mirror_in(alloc, Round::ChangesAsked)?;
     pair.mirror = Mirror::new(alloc, 1, 2, Filter::all(alloc));
-    for _ in 0..2 {
-        for kind in KINDS {
-            let reply = reply_of(alloc, old, *kind)?;
-            ignores(&mut pair, &reply, "a reply to the life before")?;
-        }
-        pair.begin()?;
-    }
-    Ok(())
+    ignores_old(&mut pair, old)
 }

@@ -1,48 +1,52 @@
-//! A client that asks for one file, and for what changed.
+//! A client that sends one frame and reads the reply.
 
-use eden_ids::{Content, Kind};
 use eden_messages::Reply;
+use eden_wire::decode_reply;
 use std::alloc::Global;
-use std::net::TcpStream;
-use std::test::Fail;
-use test_sockets::{QUERY, ask, fetch_frame, poll_frame, told_up_to};
+use std::io::{Read, Write};
+use std::net::{Ipv4Addr, Net, TcpListener, TcpStream};
+use std::time::{Clock, Duration};
+use std::{io, thread};
 
-/// What a client sends, and where the lines begin that change what it asks for.
-#[derive(Drop)]
-pub(crate) struct Frames {
-    /// Whether `w` changed since the mount.
-    pub(crate) poll: Vec<u8>,
-    /// What stands at `notes`.
-    pub(crate) notes: Vec<u8>,
-    /// The number of the last event before those of `w`.
-    pub(crate) begun: u64,
+/// For how many milliseconds at most somebody waits for a port to be listened at.
+const PATIENCE: u32 = 10_000;
+
+/// A listener on a port of this machine that nobody listened at.
+pub fn listen<R: Net<Listener = TcpListener, Stream = TcpStream>>(
+    rt: &R,
+) -> io::Result<TcpListener> {
+    TcpListener::bind(rt, (Ipv4Addr::LOCALHOST, 0))
 }
 
-pub(crate) fn make_frames(alloc: Global, begun: u64) -> Result<Frames, Fail> {
-    Ok(Frames {
-        poll: poll_frame(alloc)?,
-        notes: fetch_frame(alloc, "notes")?,
-        begun,
-    })
+/// A port of this machine that nobody listens at.
+pub fn free_port<R: Net<Listener = TcpListener, Stream = TcpStream>>(rt: &R) -> io::Result<u16> {
+    Ok(listen(rt)?.local_addr()?.port())
 }
 
-/// Whether a reply tells that `notes` is a plain file with this text.
-fn tells_notes(reply: &Reply, text: &[u8]) -> bool {
-    match reply {
-        Reply::ContentIs {
-            query,
-            content: Some(Content { kind, bytes }),
-            ..
-        } => *query == QUERY && *kind == Kind::Plain && bytes.as_slice() == text,
-        _ => false,
+/// A connection to a port of this machine, once somebody listens there, ten seconds from now at the most.
+pub fn connect<R: Net<Stream = TcpStream> + Clock>(rt: &R, port: u16) -> Option<TcpStream> {
+    for _ in 0..PATIENCE {
+        if let Ok(stream) = TcpStream::connect(rt, (Ipv4Addr::LOCALHOST, port)) {
+            let _ = stream.set_nodelay(true);
+            return Some(stream);
+        }
+        thread::sleep(rt, Duration::from_millis(1));
     }
+    None
 }
 
-/// Asks for `notes` and for the changes of `w`, and gives the number up to which they are told. None where a reply is not right.
-pub(crate) fn ask_both(alloc: Global, stream: &TcpStream, frames: &Frames) -> Option<u64> {
-    let notes = ask(alloc, stream, &frames.notes)?;
-    if !tells_notes(&notes, b"to do") {
-        return None;
-    }
-    told_up_to(&ask(alloc, stream, &frames.poll)?, frames.begun)
+/// Reads one reply. None where no whole frame comes, or where it is none of a reply.
+pub fn read_reply(alloc: Global, mut stream: &TcpStream) -> Option<Reply> {
+    let mut length = [0; 4];
+    stream.read_exact(&mut length).ok()?;
+    let length = u32::from_be_bytes(length) as usize;
+    let mut body = vec![in alloc; 0; length].ok()?;
+    stream.read_exact(&mut body).ok()?;
+    decode_reply(alloc, &body).ok()
+}
+
+/// Sends a frame, and reads the reply to it.
+pub fn ask(alloc: Global, mut stream: &TcpStream, frame: &[u8]) -> Option<Reply> {
+    stream.write_all(frame).ok()?;
+    read_reply(alloc, stream)
 }

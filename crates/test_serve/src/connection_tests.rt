@@ -1,7 +1,8 @@
 //! Connections that are open at once, and a writer meanwhile.
 
-use crate::client::{Frames, ask_both, make_frames};
-use crate::feed::{PRINTED, SCRIPT, SEQUENCE, serve};
+use crate::checking::{Frames, ask_both, make_frames};
+use crate::client::{connect, listen};
+use crate::serving::{PRINTED, SCRIPT, SEQUENCE, serve};
 use eden_edend::{LineInput, Objects, run_to_listen};
 use eden_serve::{ProgramFault, serve_listener};
 use eden_stream::Counted;
@@ -13,7 +14,6 @@ use std::test::Fail;
 use std::thread;
 use std::thread::Threads;
 use std::time::Clock;
-use test_sockets::{connect, listen};
 
 /// Opens so many connections.
 fn connect_all<R: Net<Stream = TcpStream> + Clock>(

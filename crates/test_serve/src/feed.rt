@@ -1,36 +1,66 @@
-//! A server whose lines go on for as long as its clients want.
+//! An input that goes on.
 
-use std::alloc::Global;
-use std::net::TcpListener;
-use std::sync::Wait;
-use std::sync::atomic::AtomicBool;
-use std::thread::Threads;
-use std::time::Clock;
-use test_sockets::{Feed, LINES, serve_feed};
+use std::io::Read;
+use std::sync::atomic::{AtomicBool, Ordering};
+use std::time::{Clock, Duration};
+use std::{io, thread};
 
-/// A script that mounts, and writes one small file.
-pub(crate) const SCRIPT: &[u8] = b"mount empty 7 1000000\nwrite notes plain to\\sdo\nlisten\n";
+/// How many milliseconds pass before the lines come again.
+const PAUSE: u64 = 2;
 
-/// What it prints.
-pub(crate) const PRINTED: &[u8] = b"at 7 1 empty\nat 7 2 empty\n";
+/// A script; behind it lines that come again and again, five hundred times a second, until a flag is set; and then the last lines.
+#[derive(Drop)]
+pub struct Feed<'a, R: Clock> {
+    rt: &'a R,
+    /// What comes next.
+    held: &'a [u8],
+    lines: &'a [u8],
+    last: Option<&'a [u8]>,
+    ended: &'a AtomicBool,
+}
 
-/// The number up to which it leads.
-pub(crate) const SEQUENCE: u64 = 2;
+impl<'a, R: Clock> Feed<'a, R> {
+    /// This script, behind it these lines until the flag is set, and then the last ones.
+    pub fn new(
+        rt: &'a R,
+        script: &'a [u8],
+        lines: &'a [u8],
+        last: &'a [u8],
+        ended: &'a AtomicBool,
+    ) -> Self {
+        Feed {
+            rt,
+            held: script,
+            lines,
+            last: Some(last),
+            ended,
+        }
+    }
 
-/// Serves what a script opens to so many connections, and writes `w` meanwhile until the flag is set. Says whether that ends well, and this is
-/// what is printed.
-pub(crate) fn serve<R: Threads + Wait + Clock + Sync>(
-    rt: &R,
-    alloc: Global,
-    script: &[u8],
-    printed: &[u8],
-    ended: &AtomicBool,
-    listener: &TcpListener,
-    connections: u64,
-) -> bool {
-    let feed = Feed::new(rt, script, LINES, b"".as_slice(), ended);
-    match serve_feed(rt, alloc, feed, listener, connections) {
-        Some(output) => output.as_slice() == printed,
-        None => false,
+    /// What comes next, where nothing is held: none where all has come.
+    fn next(&mut self) -> Option<&'a [u8]> {
+        if self.ended.load(Ordering::SeqCst) {
+            return self.last.take();
+        }
+        thread::sleep(self.rt, Duration::from_millis(PAUSE));
+        Some(self.lines)
+    }
+}
+
+impl<R: Clock> Read for Feed<'_, R> {
+    fn read(&mut self, buf: &mut [u8]) -> io::Result<usize> {
+        for _ in 0..u64::MAX {
+            if !self.held.is_empty() {
+                break;
+            }
+            match self.next() {
+                Some(lines) => self.held = lines,
+                None => return Ok(0),
+            }
+        }
+        let taken = self.held.len().min(buf.len());
+        buf[..taken].copy_from_slice(&self.held[..taken]);
+        self.held = &self.held[taken..];
+        Ok(taken)
     }
 }

@@ -1,7 +1,10 @@
 //! Peers that do not do what they should, and one that is served beside them.
 
-use crate::client::{Frames, ask_both, make_frames};
-use crate::feed::serve;
+use crate::asking::{BIG_SEQUENCE, big_script};
+use crate::checking::{Frames, ask_both, make_frames};
+use crate::client::{connect, listen, read_reply};
+use crate::hostile::{hostile_texts, send_all};
+use crate::serving::serve;
 use std::alloc::Global;
 use std::io::Write;
 use std::net::{Net, Shutdown, TcpListener, TcpStream};
@@ -11,9 +14,6 @@ use std::test::Fail;
 use std::thread;
 use std::thread::Threads;
 use std::time::Clock;
-use test_sockets::{
-    BIG_SEQUENCE, big_script, connect, hostile_texts, listen, read_reply, send_all,
-};
 
 /// What is printed by the script that writes two files.
 const PRINTED: &[u8] = b"at 7 1 empty\nat 7 2 empty\nat 7 3 empty\n";

@@ -1,7 +1,8 @@
 //! Scripts with their line `listen`: what is printed, and how the program ends.
 
-use crate::client::{Frames, ask_both, make_frames};
-use crate::feed::{PRINTED, SCRIPT, SEQUENCE};
+use crate::checking::{Frames, ask_both, make_frames};
+use crate::client::{connect, free_port, listen};
+use crate::serving::{PRINTED, SCRIPT, SEQUENCE};
 use eden_serve::{ProgramFault, serve_program};
 use eden_stream::Counted;
 use std::alloc::Global;
@@ -13,7 +14,6 @@ use std::thread;
 use std::thread::Threads;
 use std::time::Clock;
 use test_devices::{Endless, Sink, Source};
-use test_sockets::{connect, free_port, listen};
 
 /// How a program ends.
 type End = Result<(), ProgramFault>;

@@ -5,6 +5,7 @@ use eden_ids::{Id, Kind, Path};
 use eden_objects::CommitFault;
 use eden_treediff::{diff, diff_admitted};
 use std::alloc::Global;
+use std::process::Abort;
 use std::test::Fail;
 use test_kit::{Objects, filter_of, spaced};
 
@@ -56,15 +57,18 @@ const DIFFERENCES: &[(&str, &str, &str)] = &[
     ),
 ];
 
+/// Whether `c` and `d` differ on these paths, either way round.
+fn differ_on(alloc: Global, objects: &Objects, paths: &str) -> Result<bool, Fail> {
+    let there = told(alloc, objects, "", "c", "d")?;
+    let back = told(alloc, objects, "", "d", "c")?;
+    Ok(there.as_slice() == paths.as_bytes() && back == there)
+}
+
 #[test]
 fn known_differences(rt: HostRuntime) -> Result<(), Fail> {
-    let alloc = rt.alloc();
     for (name, script, paths) in DIFFERENCES {
-        let objects = Objects::of(alloc, script)?;
-        let there = told(alloc, &objects, "", "c", "d")?;
-        let back = told(alloc, &objects, "", "d", "c")?;
-        assert!(rt; there.as_slice() == paths.as_bytes(), "{name}");
-        assert!(rt; back == there, "{name}");
+        let objects = Objects::of(rt.alloc(), script)?;
+        assert!(rt; differ_on(rt.alloc(), &objects, paths)?, "{name}");
     }
     Ok(())
 }
@@ -97,17 +101,23 @@ const TOPS: &[&str] = &[
     "commit n t",
 ];
 
-/// Commits of a file `f`, which holds `x` or `y`, and of a directory `z` of forty levels, each with the level below under two names, so
-/// that what is lowest stands there two to the fortieth times: `p` one file, `m` the same one beside a directory without files, and `o`
-/// another one. And `n`, whose lowest directories are empty.
-fn wide_commits(alloc: Global) -> Result<Objects, Fail> {
-    let mut objects = Objects::of(alloc, LOWEST)?;
+/// Puts the levels and the commits.
+fn put_wide(alloc: Global, objects: &mut Objects) -> Result<(), Fail> {
     for line in LEVELS {
         objects.repeat(alloc, line, 40)?;
     }
     for line in TOPS {
         objects.put(alloc, line)?;
     }
+    Ok(())
+}
+
+/// Commits of a file `f`, which holds `x` or `y`, and of a directory `z` of forty levels, each with the level below under two names, so
+/// that what is lowest stands there two to the fortieth times: `p` one file, `m` the same one beside a directory without files, and `o`
+/// another one. And `n`, whose lowest directories are empty.
+fn wide_commits(alloc: Global) -> Result<Objects, Fail> {
+    let mut objects = Objects::of(alloc, LOWEST)?;
+    put_wide(alloc, &mut objects)?;
     Ok(objects)
 }
 
@@ -125,21 +135,25 @@ const WIDE: &[(&str, &str, &str, &str)] = &[
 const DOWN: &str =
     "z/b/b/b/b/b/b/b/b/b/b/b/b/b/b/b/b/b/b/b/b/b/b/b/b/b/b/b/b/b/b/b/b/b/b/b/b/b/b/b/b/a";
 
-#[test]
-fn shared_subtrees(rt: HostRuntime) -> Result<(), Fail> {
-    let alloc = rt.alloc();
-    let objects = wide_commits(alloc)?;
+/// Checks each row of the table, and one of the lowest files.
+fn check_wide(rt: &impl Abort, alloc: Global, objects: &Objects) -> Result<(), Fail> {
     assert!(rt; objects.id("px") != objects.id("mx"));
     for (pattern, first, second, paths) in WIDE {
-        let found = told(alloc, &objects, pattern, first, second)?;
+        let found = told(alloc, objects, pattern, first, second)?;
         assert!(rt;
             found.as_slice() == paths.as_bytes(),
             "{first} and {second}"
         );
     }
-    let found = told(alloc, &objects, DOWN, "px", "oy")?;
+    let found = told(alloc, objects, DOWN, "px", "oy")?;
     assert!(rt; found.strip_suffix(b" ".as_slice()) == Some(DOWN.as_bytes()));
     Ok(())
+}
+
+#[test]
+fn shared_subtrees(rt: HostRuntime) -> Result<(), Fail> {
+    let objects = wide_commits(rt.alloc())?;
+    check_wide(&rt, rt.alloc(), &objects)
 }
 
 /// A file of a listing.
@@ -154,14 +168,6 @@ fn has_path(rows: &[Row], row: &Row) -> bool {
     rows.iter().any(|other| other.0 == row.0)
 }
 
-fn has_row(rows: &[Row], row: &Row) -> bool {
-    rows.iter().any(|other| other == row)
-}
-
-fn is_admitted(filter: &Filter, row: &Row) -> bool {
-    filter.admits(&row.0)
-}
-
 /// The paths that a pattern admits of those of two listings on which they differ, one by one, each with a space behind it.
 fn plain_diff(
     alloc: Global,
@@ -172,12 +178,12 @@ fn plain_diff(
     let filter = filter_of(alloc, pattern)?;
     let mut paths = Vec::new(alloc);
     for row in first {
-        if is_admitted(&filter, row) && !has_row(second, row) {
+        if filter.admits(&row.0) && !second.contains(row) {
             paths.push(row.0.copy()?)?;
         }
     }
     for row in second {
-        if is_admitted(&filter, row) && !has_path(first, row) {
+        if filter.admits(&row.0) && !has_path(first, row) {
             paths.push(row.0.copy()?)?;
         }
     }
@@ -238,19 +244,15 @@ fn each_pair_of_a_family(rt: HostRuntime) -> Result<(), Fail> {
     Ok(())
 }
 
-fn fault_of(alloc: Global, objects: &Objects, first: &str, second: &str) -> Option<CommitFault> {
-    diff(alloc, &objects.store, objects.id(first), objects.id(second)).err()
-}
-
 #[test]
 fn no_commit(rt: HostRuntime) -> Result<(), Fail> {
     let alloc = rt.alloc();
     let objects = Objects::of(alloc, "blob b x;tree t 100644 f b;commit c t")?;
     for name in &["b", "t", "unknown"] {
         for (first, second) in [("c", *name), (*name, "c"), (*name, *name)] {
-            let fault = fault_of(alloc, &objects, first, second);
+            let found = diff(alloc, &objects.store, objects.id(first), objects.id(second));
             assert!(rt;
-                fault == Some(CommitFault::NoCommit),
+                found.err() == Some(CommitFault::NoCommit),
                 "{first} and {second}"
             );
         }

@@ -3,6 +3,7 @@
 use eden_ids::{GitNaming, Id, Kind};
 use eden_objects::{Entry, Store, next_entry};
 use std::alloc::Global;
+use std::process::Abort;
 use std::test::Fail;
 use test_kit::Objects;
 
@@ -36,10 +37,8 @@ fn wanted(alloc: Global, rows: &[Told<'_>]) -> Result<Vec<Entry>, Fail> {
     Ok(entries)
 }
 
-#[test]
-fn entries_in_their_order(rt: HostRuntime) -> Result<(), Fail> {
-    let alloc = rt.alloc();
-    let objects = Objects::of(alloc, TWO)?;
+/// Checks the entries of the tree `t`, one by one and as a list, and that other objects have none.
+fn check_entries(rt: &impl Abort, alloc: Global, objects: &Objects) -> Result<(), Fail> {
     let store = &objects.store;
     let (blob, empty) = (objects.id("x"), objects.id("e"));
     let rows = [
@@ -59,6 +58,12 @@ fn entries_in_their_order(rt: HostRuntime) -> Result<(), Fail> {
     assert!(rt; entries(store, blob)?.is_none());
     assert!(rt; tree(store, blob).is_none());
     Ok(())
+}
+
+#[test]
+fn entries_in_their_order(rt: HostRuntime) -> Result<(), Fail> {
+    let objects = Objects::of(rt.alloc(), TWO)?;
+    check_entries(&rt, rt.alloc(), &objects)
 }
 
 /// Of the rows of a tree: how many they are, the name at the second one, the ids at the first two, and all kinds.

@@ -1,10 +1,10 @@
 //! The files of a commit: listed, looked up, counted, and those below a directory.
 
-use crate::import_tests::{blob, id_of};
 use eden_globs::Filter;
 use eden_ids::{GitNaming, Id, Kind, Path};
 use eden_objects::{CommitFault, NoCommit, Store};
 use std::alloc::Global;
+use std::process::Abort;
 use std::test::Fail;
 use test_kit::{Objects, path};
 
@@ -98,11 +98,8 @@ const BELOW: &[(&str, &[&[u8]], &[Row])] = &[
     ("a", &[b"*"], &[]),
 ];
 
-// The ids are those that Git gives the same files.
-#[test]
-fn a_commit_lists_its_files(rt: HostRuntime) -> Result<(), Fail> {
-    let alloc = rt.alloc();
-    let objects = Objects::of(alloc, FILES)?;
+/// Checks the list of all files, and those below each directory of the table.
+fn check_lists(rt: &impl Abort, alloc: Global, objects: &Objects) -> Result<(), Fail> {
     let (store, commit) = (&objects.store, objects.id("c"));
     assert!(rt;
         commit.to_hex().as_slice() == b"121c0404102d0c4f3969bca6aa8e28f3be526767".as_slice()
@@ -114,6 +111,13 @@ fn a_commit_lists_its_files(rt: HostRuntime) -> Result<(), Fail> {
         assert!(rt; has_rows(below.as_slice(), rows), "at {top}");
     }
     Ok(())
+}
+
+// The ids are those that Git gives the same files.
+#[test]
+fn a_commit_lists_its_files(rt: HostRuntime) -> Result<(), Fail> {
+    let objects = Objects::of(rt.alloc(), FILES)?;
+    check_lists(&rt, rt.alloc(), &objects)
 }
 
 /// The file at a path of a commit, or none; and none where there is no commit.
@@ -129,10 +133,12 @@ fn found(
 /// Directories and what is none: no file stands there.
 const NO_FILE: &[&str] = &["a", "a-b/x", "a/y", "d/e", "d/e/f/g", "x", "z"];
 
-#[test]
-fn a_file_is_looked_up(rt: HostRuntime) -> Result<(), Fail> {
-    let alloc = rt.alloc();
-    let objects = Objects::of(alloc, FILES)?;
+fn id_of(text: &str) -> Result<Id, Fail> {
+    Ok(Id::from_hex(text.as_bytes())?)
+}
+
+/// Checks what is found at each path, and a blob beside what is none.
+fn check_files(rt: &impl Abort, alloc: Global, objects: &Objects) -> Result<(), Fail> {
     let (store, commit) = (&objects.store, objects.id("c"));
     for (path, kind, id) in &[A_B, A_X, A0, F] {
         let wanted = Some((*kind, id_of(id)?));
@@ -144,10 +150,16 @@ fn a_file_is_looked_up(rt: HostRuntime) -> Result<(), Fail> {
     for path in NO_FILE {
         assert!(rt; found(alloc, store, commit, path)? == Ok(None), "at {path}");
     }
-    assert!(rt; blob(store, id_of(A_X.2)?) == Some(b"two\n".as_slice()));
-    assert!(rt; blob(store, commit).is_none());
-    assert!(rt; blob(store, Id::ZERO).is_none());
+    assert!(rt; store.blob(id_of(A_X.2)?) == Some(b"two\n".as_slice()));
+    assert!(rt; store.blob(commit).is_none());
+    assert!(rt; store.blob(Id::ZERO).is_none());
     Ok(())
+}
+
+#[test]
+fn a_file_is_looked_up(rt: HostRuntime) -> Result<(), Fail> {
+    let objects = Objects::of(rt.alloc(), FILES)?;
+    check_files(&rt, rt.alloc(), &objects)
 }
 
 /// The file at a path of a commit, if the commit and the store tell the same: `None` where there is no such commit.
@@ -161,11 +173,6 @@ fn file_of<'a>(
         return Some(file);
     }
     None
-}
-
-/// What is told of the file at a path of what is no commit.
-fn file_without_commit(store: &Store<GitNaming>) -> Option<(Kind, &[u8])> {
-    store.commit_files(Id([7; 20])).file(b"a-b".as_slice())
 }
 
 /// How many files a commit has below a path, and whether that is one at least.
@@ -214,7 +221,8 @@ fn a_commit_that_is_held_tells_its_files(rt: HostRuntime) -> Result<(), Fail> {
     }
     assert!(rt; file_of(store, Id::ZERO, "a-b") == Some(None));
     assert!(rt; file_of(store, Id([7; 20]), "a-b").is_none());
-    assert!(rt; file_without_commit(store).is_none());
+    let stranger = store.commit_files(Id([7; 20]));
+    assert!(rt; stranger.file(b"a-b".as_slice()).is_none());
     Ok(())
 }
 
@@ -230,10 +238,8 @@ fn faults(
     Ok((all, below))
 }
 
-#[test]
-fn commits_are_told_from_other_objects(rt: HostRuntime) -> Result<(), Fail> {
-    let alloc = rt.alloc();
-    let objects = Objects::of(alloc, FILES)?;
+/// Checks that the empty commit has no files, and that a blob and an unknown object are no commits.
+fn check_commits(rt: &impl Abort, alloc: Global, objects: &Objects) -> Result<(), Fail> {
     let store = &objects.store;
     assert!(rt; has_commit(store, objects.id("c")));
     assert!(rt; has_commit(store, Id::ZERO));
@@ -247,6 +253,12 @@ fn commits_are_told_from_other_objects(rt: HostRuntime) -> Result<(), Fail> {
         assert!(rt; faults(alloc, store, id)? == (none, none));
     }
     Ok(())
+}
+
+#[test]
+fn commits_are_told_from_other_objects(rt: HostRuntime) -> Result<(), Fail> {
+    let objects = Objects::of(rt.alloc(), FILES)?;
+    check_commits(&rt, rt.alloc(), &objects)
 }
 
 // The other tree of a pair in which a file becomes a directory of the same name.
@@ -266,15 +278,20 @@ fn file_becomes_directory(rt: HostRuntime) -> Result<(), Fail> {
     Ok(())
 }
 
-/// A commit `c` of forty levels, each with two entries that name the level below: the lowest tree stands in it two to the 40 times, as
-/// a file `a` alone, or without any. And a commit `d` of the first of these trees below `d`, and of a file `x`.
-pub(crate) fn levels(alloc: Global, lowest: &str) -> Result<Objects, Fail> {
-    let mut objects = Objects::of(alloc, "blob x x")?;
+/// Puts the commits of `levels`.
+fn put_levels(alloc: Global, objects: &mut Objects, lowest: &str) -> Result<(), Fail> {
     objects.put(alloc, lowest)?;
     objects.repeat(alloc, "tree t 40000 a t 40000 b t", 40)?;
     objects.put(alloc, "commit c t")?;
     objects.put(alloc, "tree u 40000 d t 100644 x x")?;
-    objects.put(alloc, "commit d u")?;
+    objects.put(alloc, "commit d u")
+}
+
+/// A commit `c` of forty levels, each with two entries that name the level below: the lowest tree stands in it two to the 40 times, as
+/// a file `a` alone, or without any. And a commit `d` of the first of these trees below `d`, and of a file `x`.
+pub(crate) fn levels(alloc: Global, lowest: &str) -> Result<Objects, Fail> {
+    let mut objects = Objects::of(alloc, "blob x x")?;
+    put_levels(alloc, &mut objects, lowest)?;
     Ok(objects)
 }
 
@@ -302,12 +319,8 @@ fn is_repeated(listed: &[(Path, Kind, Id)], id: Id, count: usize) -> bool {
 /// A pattern, and how many files it admits of the commit of many levels and of `x`.
 const ADMITTED: &[(&str, usize)] = &[("x", 1), ("?", 1), ("d/x", 0), ("*/*/b/f", 0)];
 
-// 2 to the 40 files, of which none is listed; those below each of the two names are counted at once. And a directory that no pattern enters
-// is not read.
-#[test]
-fn shared_subtrees(rt: HostRuntime) -> Result<(), Fail> {
-    let alloc = rt.alloc();
-    let objects = levels(alloc, "tree t 100644 a x")?;
+/// Checks what is found, counted and listed of a commit of many levels.
+fn check_levels(rt: &impl Abort, alloc: Global, objects: &Objects) -> Result<(), Fail> {
     let (store, commit, x) = (&objects.store, objects.id("c"), objects.id("x"));
     assert!(rt; found(alloc, store, commit, DOWN)? == Ok(None));
     assert!(rt; found(alloc, store, commit, UP)? == Ok(Some((Kind::Plain, x))));
@@ -319,6 +332,14 @@ fn shared_subtrees(rt: HostRuntime) -> Result<(), Fail> {
         assert!(rt; is_repeated(listed.as_slice(), x, *wanted), "{pattern}");
     }
     Ok(())
+}
+
+// 2 to the 40 files, of which none is listed; those below each of the two names are counted at once. And a directory that no pattern enters
+// is not read.
+#[test]
+fn shared_subtrees(rt: HostRuntime) -> Result<(), Fail> {
+    let objects = levels(rt.alloc(), "tree t 100644 a x")?;
+    check_levels(&rt, rt.alloc(), &objects)
 }
 
 // 2 to the 40 empty directories: none of them is gone through for a file that isn't there.

@@ -9,6 +9,7 @@ use eden_globs::Filter;
 use eden_ids::{GitNaming, Id, Kind, NoMemory, Path};
 use eden_objects::{Commit, Nothing, Passes, Size, Store};
 use std::alloc::Global;
+use std::process::Abort;
 use std::test::Fail;
 use test_kit::{Objects, path};
 
@@ -110,13 +111,13 @@ fn first_wrong_level(
 #[test]
 fn a_file_that_is_not_passed_over(rt: HostRuntime) -> Result<(), Fail> {
     let alloc = rt.alloc();
-    let files = Objects::of(alloc, FILES)?;
-    assert_eq!(rt; first_wrong(alloc, &files, SEARCHED)?, None);
     assert_eq!(rt;
         first_wrong_level(alloc, "tree t 100644 a x", OF_MANY)?,
         None
     );
     assert_eq!(rt; first_wrong_level(alloc, "tree t", OF_NONE)?, None);
+    let files = Objects::of(alloc, FILES)?;
+    assert_eq!(rt; first_wrong(alloc, &files, SEARCHED)?, None);
     Ok(())
 }
 
@@ -214,15 +215,8 @@ fn listed_but(
     Ok(commit.list(&filter, &passed)?)
 }
 
-/// All files of a commit: nothing is passed over.
-fn listed_whole(alloc: Global, commit: &Commit<'_, GitNaming>) -> Result<Listed, Fail> {
-    Ok(commit.list(&Filter::all(alloc), &Nothing)?)
-}
-
-#[test]
-fn a_list_that_passes_over_some(rt: HostRuntime) -> Result<(), Fail> {
-    let alloc = rt.alloc();
-    let objects = Objects::of(alloc, FILES)?;
+/// Checks each row of both tables, and that all files are listed where nothing is passed over.
+fn check_lists(rt: &impl Abort, alloc: Global, objects: &Objects) -> Result<(), Fail> {
     let commit = objects.store.commit_files(objects.id("c"));
     for (places, file) in LISTED {
         assert!(rt;
@@ -236,6 +230,13 @@ fn a_list_that_passes_over_some(rt: HostRuntime) -> Result<(), Fail> {
         let listed = listed_but(alloc, &commit, pattern, passed)?;
         assert!(rt; has_rows(listed.as_slice(), rows), "{pattern} but {passed}");
     }
-    assert!(rt; listed_whole(alloc, &commit)?.len() == 4);
+    let whole = commit.list(&Filter::all(alloc), &Nothing)?;
+    assert!(rt; whole.len() == 4);
     Ok(())
+}
+
+#[test]
+fn a_list_that_passes_over_some(rt: HostRuntime) -> Result<(), Fail> {
+    let objects = Objects::of(rt.alloc(), FILES)?;
+    check_lists(&rt, rt.alloc(), &objects)
 }

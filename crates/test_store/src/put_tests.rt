@@ -5,6 +5,7 @@ ghost use Rattle.std.specs.Prelude.{◌≡◌, ◌||◌, nat_eq, slice_index};
 use eden_ids::{GitNaming, Id, Naming};
 use eden_objects::{PutFault, Store, Word};
 use std::alloc::Global;
+use std::process::Abort;
 use std::test::Fail;
 use test_kit::{FirstByte, Objects, commit_of, push_entry, tree_of};
 
@@ -38,8 +39,8 @@ fn colliding_naming(rt: HostRuntime) {
 #[test]
 fn too_large_comes_first(rt: HostRuntime) -> Result<(), Fail> {
     let alloc = rt.alloc();
-    let mut store = Store::new(alloc, FirstByte);
     let largest = vec![in alloc; b'a'; 8_388_608]?;
+    let mut store = Store::new(alloc, FirstByte);
     assert!(rt; put(&mut store, Word::Blob, largest.as_slice()) == Ok(Id([b'a'; 20])));
     for byte in [0, b'a'] {
         let larger = vec![in alloc; byte; 8_388_609]?;
@@ -106,33 +107,28 @@ fn first_whole(
     None
 }
 
-/// What is answered to a tree of these entries that lacks its last byte.
-fn put_cut(
-    alloc: Global,
-    objects: &mut Objects,
-    entries: &[Entry],
-) -> Result<Result<Id, PutFault>, Fail> {
-    let payload = entries_of(alloc, objects, entries)?;
-    let cut = &payload[..payload.len().saturating_sub(1)];
-    Ok(put(&mut objects.store, Word::Tree, cut))
-}
-
-#[test]
-fn trees_cut_short(rt: HostRuntime) -> Result<(), Fail> {
-    let alloc = rt.alloc();
-    let mut objects = Objects::of(alloc, SMALL)?;
-    let whole = entries_of(alloc, &objects, WHOLE)?;
+/// Checks that a tree is put whole, that no front of it is, and each row of the table.
+fn check_cut_trees(rt: &impl Abort, alloc: Global, objects: &mut Objects) -> Result<(), Fail> {
+    let whole = entries_of(alloc, objects, WHOLE)?;
     assert!(rt; whole.len() == 92);
     assert!(rt; put(&mut objects.store, Word::Tree, whole.as_slice()).is_ok());
     let wrong = first_whole(&mut objects.store, Word::Tree, whole.as_slice(), &[31, 64]);
     assert!(rt; wrong.is_none(), "at {wrong:?}");
     for (entries, fault) in CUT {
-        let answer = put_cut(alloc, &mut objects, entries)?;
+        let payload = entries_of(alloc, objects, entries)?;
+        let cut = &payload[..payload.len().saturating_sub(1)];
+        let answer = put(&mut objects.store, Word::Tree, cut);
         assert!(rt; answer == Err(*fault), "{entries:?}");
     }
     let mode = put(&mut objects.store, Word::Tree, b"160000 a".as_slice());
     assert!(rt; mode == Err(PutFault::BadMode));
     Ok(())
+}
+
+#[test]
+fn trees_cut_short(rt: HostRuntime) -> Result<(), Fail> {
+    let mut objects = Objects::of(rt.alloc(), SMALL)?;
+    check_cut_trees(&rt, rt.alloc(), &mut objects)
 }
 
 /// A place in a commit, and a byte that may not stand there.
@@ -155,28 +151,6 @@ const NAMED: &[(&str, PutFault)] = &[
     ("c", PutFault::WrongChildKind),
 ];
 
-/// What is answered to a commit with another byte at a place.
-fn put_with_byte(
-    alloc: Global,
-    store: &mut Store<GitNaming>,
-    commit: &[u8],
-    place: usize,
-    byte: u8,
-) -> Result<Result<Id, PutFault>, Fail> {
-    let payload = with_byte(commit, alloc, place, byte)?;
-    Ok(put(store, Word::Commit, payload.as_slice()))
-}
-
-/// What is answered to a commit of what a label names.
-fn put_commit(
-    alloc: Global,
-    objects: &mut Objects,
-    label: &str,
-) -> Result<Result<Id, PutFault>, Fail> {
-    let payload = commit_of(alloc, objects.id(label), "")?;
-    Ok(put(&mut objects.store, Word::Commit, payload.as_slice()))
-}
-
 /// The commit of the tree of that script, with text behind its first line, which has 46 bytes.
 fn whole_commit(alloc: Global, objects: &Objects) -> Result<Vec<u8>, Fail> {
     Ok(commit_of(alloc, objects.id("t"), "author a\n")?)
@@ -197,21 +171,26 @@ fn commits_cut_short(rt: HostRuntime) -> Result<(), Fail> {
     Ok(())
 }
 
-#[test]
-fn commit_refusals(rt: HostRuntime) -> Result<(), Fail> {
-    let alloc = rt.alloc();
-    let mut objects = Objects::of(alloc, SMALL)?;
-    let whole = whole_commit(alloc, &objects)?;
+/// Checks the commits with another byte at a place, and those of what is no tree.
+fn check_commits(rt: &impl Abort, alloc: Global, objects: &mut Objects) -> Result<(), Fail> {
+    let whole = whole_commit(alloc, objects)?;
     for (place, byte) in BYTES {
-        let store = &mut objects.store;
-        let answer = put_with_byte(alloc, store, whole.as_slice(), *place, *byte)?;
+        let payload = with_byte(whole.as_slice(), alloc, *place, *byte)?;
+        let answer = put(&mut objects.store, Word::Commit, payload.as_slice());
         assert!(rt; answer == Err(PutFault::BadCommit), "at {place}");
     }
     for (name, fault) in NAMED {
-        let answer = put_commit(alloc, &mut objects, name)?;
+        let payload = commit_of(alloc, objects.id(name), "")?;
+        let answer = put(&mut objects.store, Word::Commit, payload.as_slice());
         assert!(rt; answer == Err(*fault), "{name}");
     }
     Ok(())
+}
+
+#[test]
+fn commit_refusals(rt: HostRuntime) -> Result<(), Fail> {
+    let mut objects = Objects::of(rt.alloc(), SMALL)?;
+    check_commits(&rt, rt.alloc(), &mut objects)
 }
 
 /// Whether the byte stands where a directory's name begins, or behind a commit's first line.
@@ -251,15 +230,14 @@ fn only(alloc: Global, mode: &str, name: &[u8], id: Id) -> Result<Vec<u8>, Fail>
     Ok(payload)
 }
 
-/// A store with a blob, a tree of it, and the blob whose id has twenty bytes `Y`.
-fn marked_store(alloc: Global) -> Result<(Store<Marked>, Id, Id), Fail> {
-    let mut store = Store::new(alloc, Marked);
-    let blob = put(&mut store, Word::Blob, b"x".as_slice())?;
+/// Puts a blob, a tree of it, and the blob whose id has twenty bytes `Y`. Returns the ids of the first two.
+fn put_marked(alloc: Global, store: &mut Store<Marked>) -> Result<(Id, Id), Fail> {
+    let blob = put(store, Word::Blob, b"x".as_slice())?;
     let payload = only(alloc, "100644", b"x".as_slice(), blob)?;
-    let tree = put(&mut store, Word::Tree, payload.as_slice())?;
-    let taken = put(&mut store, Word::Blob, b"blob: Y".as_slice())?;
+    let tree = put(store, Word::Tree, payload.as_slice())?;
+    let taken = put(store, Word::Blob, b"blob: Y".as_slice())?;
     if taken == Id([b'Y'; 20]) {
-        return Ok((store, blob, tree));
+        return Ok((blob, tree));
     }
     Err(Fail::new("the mark is not seen"))
 }
@@ -300,45 +278,40 @@ fn fault_of(
     Ok(put_above(alloc, store, name, child)?.err())
 }
 
-/// Why no commit is put, with a mark behind its tree.
-fn fault_of_commit(
-    alloc: Global,
-    store: &mut Store<Marked>,
-    tree: Id,
-    mark: &str,
-) -> Result<Option<PutFault>, Fail> {
-    let payload = commit_of(alloc, tree, mark)?;
-    Ok(put(store, Word::Commit, payload.as_slice()).err())
-}
-
-/// Sixty-four levels of directories, each with this name.
-fn deepest(alloc: Global, name: &[u8]) -> Result<(Store<Marked>, Id), Fail> {
-    let (mut store, _, tree) = marked_store(alloc)?;
-    let deepest = nested(alloc, &mut store, tree, 63, name)?;
-    Ok((store, deepest))
-}
-
-/// The name of each level, and the names of one more above them. One is too long too: sixty-four levels reach 15 bytes for each component
-/// but the last.
+/// The name of each of sixty-four levels of directories, and the names of one more above them. One is too long too: the levels reach 15 bytes
+/// for each component but the last.
 const DEEP: &[(&[u8], &[&[u8]])] = &[
     (b"d", &[b"d", b"Z", b"Y"]),
     (b"ddddddddddddddd", &[&[b'd'; 255]]),
 ];
 
+/// Checks a row of the table.
+fn check_deep(
+    rt: &impl Abort,
+    alloc: Global,
+    store: &mut Store<Marked>,
+    level: &[u8],
+    names: &[&[u8]],
+) -> Result<(), Fail> {
+    let (_, tree) = put_marked(alloc, store)?;
+    let deepest = nested(alloc, store, tree, 63, level)?;
+    for name in names {
+        let fault = fault_of(alloc, store, name, deepest)?;
+        assert!(rt; fault == Some(PutFault::TooDeep), "{name:?}");
+    }
+    // A fault of an entry comes before the depth.
+    let entries = [("40000", "d", deepest), ("100644", "e", Id([1; 20]))];
+    let payload = tree_of(alloc, &entries)?;
+    let answer = put(store, Word::Tree, payload.as_slice());
+    assert!(rt; answer == Err(PutFault::MissingChild));
+    Ok(())
+}
+
 #[test]
 fn deep_trees(rt: HostRuntime) -> Result<(), Fail> {
-    let alloc = rt.alloc();
     for (level, names) in DEEP {
-        let (mut store, deepest) = deepest(alloc, level)?;
-        for name in *names {
-            let fault = fault_of(alloc, &mut store, name, deepest)?;
-            assert!(rt; fault == Some(PutFault::TooDeep), "{name:?}");
-        }
-        // A fault of an entry comes before the depth.
-        let entries = [("40000", "d", deepest), ("100644", "e", Id([1; 20]))];
-        let payload = tree_of(alloc, &entries)?;
-        let answer = put(&mut store, Word::Tree, payload.as_slice());
-        assert!(rt; answer == Err(PutFault::MissingChild));
+        let mut store = Store::new(rt.alloc(), Marked);
+        check_deep(&rt, rt.alloc(), &mut store, level, names)?;
     }
     Ok(())
 }
@@ -349,25 +322,36 @@ const LENGTHS: [(usize, [Option<PutFault>; 3]); 2] = [
     (254, [None, Some(PutFault::ZeroId), Some(PutFault::IdTaken)]),
 ];
 
-/// A store with three directories, one in another, each with a name of 255 bytes, above a file with a name of this length; and the top.
-fn long_store(alloc: Global, length: usize) -> Result<(Store<Marked>, Id), Fail> {
-    let (mut store, blob, _) = marked_store(alloc)?;
+/// Puts three directories, one in another, each with a name of 255 bytes, above a file with a name of this length. Returns the top.
+fn put_long(alloc: Global, store: &mut Store<Marked>, length: usize) -> Result<Id, Fail> {
+    let (blob, _) = put_marked(alloc, store)?;
     let name = vec![in alloc; b'f'; length]?;
     let payload = only(alloc, "100644", name.as_slice(), blob)?;
-    let file = put(&mut store, Word::Tree, payload.as_slice())?;
-    let top = nested(alloc, &mut store, file, 3, &[b'd'; 255])?;
-    Ok((store, top))
+    let file = put(store, Word::Tree, payload.as_slice())?;
+    nested(alloc, store, file, 3, &[b'd'; 255])
+}
+
+/// Checks a row of the table.
+fn check_long(
+    rt: &impl Abort,
+    alloc: Global,
+    store: &mut Store<Marked>,
+    length: usize,
+    answers: &[Option<PutFault>; 3],
+) -> Result<(), Fail> {
+    let top = put_long(alloc, store, length)?;
+    for (name, answer) in ["d", "Z", "Y"].iter().zip(answers) {
+        let fault = fault_of(alloc, store, name.as_bytes(), top)?;
+        assert!(rt; fault == *answer, "{name}");
+    }
+    Ok(())
 }
 
 #[test]
 fn long_paths(rt: HostRuntime) -> Result<(), Fail> {
-    let alloc = rt.alloc();
     for (length, answers) in &LENGTHS {
-        let (mut store, top) = long_store(alloc, *length)?;
-        for (name, answer) in ["d", "Z", "Y"].iter().zip(answers) {
-            let fault = fault_of(alloc, &mut store, name.as_bytes(), top)?;
-            assert!(rt; fault == *answer, "{name}");
-        }
+        let mut store = Store::new(rt.alloc(), Marked);
+        check_long(&rt, rt.alloc(), &mut store, *length, answers)?;
     }
     Ok(())
 }
@@ -379,29 +363,35 @@ fn fault_above(
     mark: &str,
     child: Id,
 ) -> Result<Option<PutFault>, Fail> {
-    let commit = fault_of_commit(alloc, store, child, mark)?;
+    let payload = commit_of(alloc, child, mark)?;
+    let commit = put(store, Word::Commit, payload.as_slice()).err();
     let tree = fault_of(alloc, store, mark.as_bytes(), child)?;
     Ok(if commit == tree { tree } else { None })
 }
 
-#[test]
-fn what_is_named_comes_before_the_id(rt: HostRuntime) -> Result<(), Fail> {
-    let alloc = rt.alloc();
-    let (mut store, blob, tree) = marked_store(alloc)?;
+/// Checks that a fault of what a tree or a commit names comes before one of its id.
+fn check_order(rt: &impl Abort, alloc: Global, store: &mut Store<Marked>) -> Result<(), Fail> {
+    let (blob, tree) = put_marked(alloc, store)?;
     for (mark, answer) in &[("Z", PutFault::ZeroId), ("Y", PutFault::IdTaken)] {
         for (child, fault) in [
             (Id([1; 20]), PutFault::MissingChild),
             (blob, PutFault::WrongChildKind),
             (tree, *answer),
         ] {
-            let told = fault_above(alloc, &mut store, mark, child)?;
+            let told = fault_above(alloc, store, mark, child)?;
             assert!(rt; told == Some(fault), "{mark}");
         }
         for (times, fault) in [(1, PutFault::CutShort), (46, PutFault::BadCommit)] {
             let payload = mark.repeat(alloc, times)?;
-            let answer = put(&mut store, Word::Commit, payload.as_bytes());
+            let answer = put(store, Word::Commit, payload.as_bytes());
             assert!(rt; answer == Err(fault), "{mark}");
         }
     }
     Ok(())
+}
+
+#[test]
+fn what_is_named_comes_before_the_id(rt: HostRuntime) -> Result<(), Fail> {
+    let mut store = Store::new(rt.alloc(), Marked);
+    check_order(&rt, rt.alloc(), &mut store)
 }

@@ -7,7 +7,6 @@ use eden_ids::Id;
 use eden_objects::CommitFault;
 use std::alloc::Global;
 use std::test::Fail;
-use test_kit::Objects;
 
 /// Paths in each other's places.
 const PATHS: &[&str] = &[
@@ -81,56 +80,18 @@ const CASES: &[Case] = &[
     ),
 ];
 
-/// Blobs, a tree `r` of a file `p` below so many levels of two directories each, and what a script puts over them.
-fn objects_of(alloc: Global, levels: u32, script: &str) -> Result<Objects, Fail> {
-    let mut objects = Objects::of(alloc, "blob x x;blob y y;tree r 100644 p y")?;
-    objects.repeat(alloc, "tree r 40000 r r 40000 s r", levels)?;
-    for line in script.split(';') {
-        objects.put(alloc, line)?;
-    }
-    Ok(objects)
-}
-
-/// Makes changes, refused ones among them.
-fn change_all(alloc: Global, made: &mut Mounted, changes: &str) -> Result<(), Fail> {
+/// Returns the first checkout, from 0, that reports or leaves what its row does not say, after changes of which some are refused.
+fn first_wrong(
+    alloc: Global,
+    made: &mut Mounted,
+    changes: &str,
+    checkouts: &[Checkout],
+) -> Result<Option<usize>, Fail> {
     for change in changes.split(';') {
         let _ = made.change(alloc, change)?;
     }
-    Ok(())
-}
-
-/// A working copy over these objects, over which changes were made, refused ones among them; and its commits `c` and `d`.
-fn changed_over(
-    alloc: Global,
-    objects: Objects,
-    root: &str,
-    changes: &str,
-) -> Result<(Mounted, [Id; 2]), Fail> {
-    let ids = [objects.id("c"), objects.id("d")];
-    let root = objects.id(root);
-    let mut made = Mounted::over(alloc, objects.store, root)?;
-    change_all(alloc, &mut made, changes)?;
-    Ok((made, ids))
-}
-
-/// The first checkout that doesn't tell what its case says, or leaves other files, from 0.
-fn first_wrong(alloc: Global, levels: u32, case: &Case) -> Result<Option<usize>, Fail> {
-    let (script, root, changes, checkouts) = case;
-    let objects = objects_of(alloc, levels, script)?;
-    let (mut made, ids) = changed_over(alloc, objects, root, changes)?;
-    first_other(alloc, &mut made, ids, checkouts)
-}
-
-/// The first of these checkouts that tells something else, or leaves other files, from 0.
-fn first_other(
-    alloc: Global,
-    made: &mut Mounted,
-    ids: [Id; 2],
-    checkouts: &[Checkout],
-) -> Result<Option<usize>, Fail> {
     for (place, (label, mode, told, files)) in checkouts.iter().enumerate() {
-        let commit = if *label == "c" { ids[0] } else { ids[1] };
-        let text = made.checkout(alloc, commit, *mode)?;
+        let text = made.checkout(alloc, label, *mode)?;
         let shown = made.shown(alloc, PATHS)?;
         if text.as_slice() != told.as_bytes() || shown.as_slice() != files.as_bytes() {
             return Ok(Some(place));
@@ -139,10 +100,19 @@ fn first_other(
     Ok(None)
 }
 
+/// Returns the first checkout of a case that is wrong, from 0. Its objects lie over a tree `r` of a file `p` below N levels of two directories.
+fn first_wrong_of(alloc: Global, levels: usize, case: &Case) -> Result<Option<usize>, Fail> {
+    let (script, root, changes, checkouts) = case;
+    let trees = "tree r 40000 r r 40000 s r;".repeat(alloc, levels)?;
+    let lines = format!(in alloc; "blob x x;blob y y;tree r 100644 p y;{trees}{script}")?;
+    let mut made = Mounted::over(alloc, lines.as_str(), root)?;
+    first_wrong(alloc, &mut made, changes, checkouts)
+}
+
 #[test]
 fn each_rule(rt: HostRuntime) -> Result<(), Fail> {
     for (place, case) in CASES.iter().enumerate() {
-        assert_eq!(rt; first_wrong(rt.alloc(), 0, case)?, None, "case {place}");
+        assert_eq!(rt; first_wrong_of(rt.alloc(), 0, case)?, None, "case {place}");
     }
     Ok(())
 }
@@ -159,19 +129,15 @@ fn wide_commits(rt: HostRuntime) -> Result<(), Fail> {
             ("c", Mode::Force, "| b u ", "a=x b=x u=w "),
         ],
     );
-    assert_eq!(rt; first_wrong(rt.alloc(), 40, &case)?, None);
+    assert_eq!(rt; first_wrong_of(rt.alloc(), 40, &case)?, None);
     Ok(())
 }
 
-/// Why there is no checkout.
-fn fault_of(alloc: Global, made: &Mounted, commit: Id, mode: Mode) -> Option<CommitFault> {
-    plan(alloc, &made.store, &made.work, commit, mode).err()
-}
-
-/// Whether a commit that the store does not have is refused in each mode.
+/// Returns whether a commit that the store does not have is refused in each mode.
 fn refuses_a_stranger(alloc: Global, made: &Mounted) -> bool {
     for mode in [Mode::Normal, Mode::Dry, Mode::Force] {
-        if fault_of(alloc, made, Id([1; 20]), mode) != Some(CommitFault::NoCommit) {
+        let refused = plan(alloc, &made.store, &made.work, Id([1; 20]), mode).err();
+        if refused != Some(CommitFault::NoCommit) {
             return false;
         }
     }
@@ -181,8 +147,7 @@ fn refuses_a_stranger(alloc: Global, made: &Mounted) -> bool {
 #[test]
 fn no_commit(rt: HostRuntime) -> Result<(), Fail> {
     let alloc = rt.alloc();
-    let objects = Objects::of(alloc, "blob x x;tree t 100644 a x;commit c t")?;
-    let made = Mounted::over_first(alloc, objects)?;
+    let made = Mounted::over(alloc, "blob x x;tree t 100644 a x;commit c t", "c")?;
     assert!(rt; refuses_a_stranger(alloc, &made));
     Ok(())
 }

@@ -16,4 +16,6 @@ mod range_tests;
 #[cfg(test)]
 mod renamed_tests;
 #[cfg(test)]
+mod steps;
+#[cfg(test)]
 mod workcopy_tests;

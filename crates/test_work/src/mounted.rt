@@ -6,10 +6,10 @@ ghost use Rattle.eden_workcopy.specs.Meanings.{FitsIn};
 use eden_checkout::plan;
 use eden_globs::Filter;
 use eden_history::{ChangeFault, Mode};
-use eden_ids::{GitNaming, Id, Kind, Path, Sequence};
+use eden_ids::{GitNaming, Id, Kind};
 use eden_objects::{CommitFault, Store};
 use eden_workcopy::WorkCopy;
-use std::alloc::Global;
+use std::alloc::{AllocError, Global};
 use std::test::Fail;
 use test_kit::{Objects, path, spaced};
 
@@ -18,159 +18,140 @@ use test_kit::{Objects, path, spaced};
 pub(crate) struct Mounted {
     pub(crate) store: Store<GitNaming>,
     pub(crate) work: WorkCopy,
+    /// The commit that the working copy was put over last.
+    pub(crate) root: Id,
+    /// The commits `c` and `d` of the script.
+    first: Id,
+    second: Id,
     ghost fits: { FitsIn store work } by { Prim.hlevel props },
 }
 
-/// The first three words of a text, which are empty where it has fewer.
-fn words(text: &str) -> (&str, &str, &str) {
+/// Returns the first three words of a text, which are empty where it has fewer.
+pub(crate) fn words(text: &str) -> (&str, &str, &str) {
     let mut words = text.split(' ');
     let first = words.next().unwrap_or("");
     let second = words.next().unwrap_or("");
     (first, second, words.next().unwrap_or(""))
 }
 
+/// Adds a path, a sign for the kind of the file there, what it holds and a space; or nothing where there is no file.
+pub(crate) fn tell(
+    path: &[u8],
+    file: Option<(Kind, &[u8])>,
+    text: &mut Vec<u8>,
+) -> Result<(), AllocError> {
+    if let Some((kind, bytes)) = file {
+        text.extend_from_slice(path)?;
+        text.push(match kind {
+            Kind::Plain => b'=',
+            Kind::Exec => b'!',
+            Kind::Link => b'>',
+        })?;
+        text.extend_from_slice(bytes)?;
+        text.push(b' ')?;
+    }
+    Ok(())
+}
+
 impl Mounted {
-    /// A working copy that holds a commit.
-    pub(crate) fn over(alloc: Global, store: Store<GitNaming>, root: Id) -> Result<Mounted, Fail> {
+    /// Returns a working copy over a commit of what these lines put, by the commit's label.
+    pub(crate) fn over(alloc: Global, lines: &str, root: &str) -> Result<Mounted, Fail> {
+        let objects = Objects::of(alloc, lines)?;
+        let (root, first, second) = (objects.id(root), objects.id("c"), objects.id("d"));
+        let store = objects.store;
         let work = WorkCopy::new(alloc, &store, root)?;
-        Ok(Mounted { store, work })
+        Ok(Mounted {
+            store,
+            work,
+            root,
+            first,
+            second,
+        })
     }
 
-    /// Objects, and a working copy over their commit `c`.
-    pub(crate) fn over_first(alloc: Global, objects: Objects) -> Result<Mounted, Fail> {
-        let root = objects.id("c");
-        Mounted::over(alloc, objects.store, root)
+    /// Returns the commit `c` or `d`, or for another label an id that no object has.
+    fn id(&self, label: &str) -> Id {
+        match label {
+            "c" => self.first,
+            "d" => self.second,
+            _ => Id([1; 20]),
+        }
     }
 
-    fn write(&mut self, at: &Path, text: &str) -> Option<ChangeFault> {
-        let bytes = text.as_bytes();
-        self.work.write(&self.store, at, Kind::Plain, bytes).err()
+    /// Puts the working copy over another commit. Returns why it can't.
+    fn reroot(&mut self, commit: Id) -> Option<ChangeFault> {
+        match self.work.reroot(&self.store, commit) {
+            Ok(next) => {
+                self.work = next;
+                self.root = commit;
+                None
+            }
+            Err(CommitFault::NoCommit) => Some(ChangeFault::NoCommit),
+            Err(CommitFault::NoMemory) => Some(ChangeFault::NoMemory),
+        }
     }
 
-    fn remove(&mut self, at: &Path) -> Option<ChangeFault> {
-        self.work.remove(&self.store, at).err()
-    }
-
-    fn revert(&mut self, at: &Path) -> Option<ChangeFault> {
-        self.work.revert(&self.store, at).err()
-    }
-
-    fn rename(&mut self, old: &Path, new: &Path) -> Option<ChangeFault> {
-        self.work.rename(&self.store, old, new).err()
-    }
-
-    fn rename_dir(&mut self, old: &Path, new: &Path) -> Option<ChangeFault> {
-        self.work.rename_dir(&self.store, old, new).err()
-    }
-
-    /// What is answered to a change: a call's name, a path, and text or another path.
+    /// Makes a change and returns what is answered to it: a call's name, a path or a commit's label, and text or another path.
     pub(crate) fn change(
         &mut self,
         alloc: Global,
         text: &str,
     ) -> Result<Option<ChangeFault>, Fail> {
         let (call, at, rest) = words(text);
+        if call == "reroot" {
+            return Ok(self.reroot(self.id(at)));
+        }
         let at = path(alloc, at)?;
-        Ok(match call {
-            "write" => self.write(&at, rest),
-            "remove" => self.remove(&at),
-            "revert" => self.revert(&at),
-            "renamedir" => self.rename_dir(&at, &path(alloc, rest)?),
-            _ => self.rename(&at, &path(alloc, rest)?),
-        })
+        let answer = match call {
+            "write" => self
+                .work
+                .write(&self.store, &at, Kind::Plain, rest.as_bytes()),
+            "remove" => self.work.remove(&self.store, &at),
+            "revert" => self.work.revert(&self.store, &at),
+            "renamedir" => self.work.rename_dir(&self.store, &at, &path(alloc, rest)?),
+            _ => self.work.rename(&self.store, &at, &path(alloc, rest)?),
+        };
+        Ok(answer.err())
     }
 
-    fn files(&self, alloc: Global) -> Result<Vec<Path>, Fail> {
-        Ok(self.work.list(&self.store, &Filter::all(alloc))?)
-    }
-
-    /// The paths of all files, each with a space behind it.
-    pub(crate) fn list(&self, alloc: Global) -> Result<Vec<u8>, Fail> {
-        let paths = self.files(alloc)?;
-        Ok(spaced(alloc, &paths)?)
-    }
-
-    /// The paths of the dirty ones, each with a space behind it.
+    /// Returns the dirty paths, each with a space after it.
     pub(crate) fn dirty(&self, alloc: Global) -> Result<Vec<u8>, Fail> {
         let paths = self.work.dirty(&self.store)?;
         Ok(spaced(alloc, &paths)?)
     }
 
-    /// Whether a file of this kind with this text stands at a path.
-    pub(crate) fn reads(
-        &self,
-        alloc: Global,
-        at: &str,
-        kind: Kind,
-        text: &str,
-    ) -> Result<bool, Fail> {
-        let at = path(alloc, at)?;
-        Ok(self.work.read(&self.store, &at) == Ok((kind, text.as_bytes())))
-    }
-
-    /// Puts the working copy over another commit.
-    pub(crate) fn reroot(&mut self, commit: Id) -> Result<(), CommitFault> {
-        self.work = self.work.reroot(&self.store, commit)?;
-        Ok(())
-    }
-
-    /// Makes a checkout. Gives its conflicts and its unclean paths.
-    fn check_out(
-        &mut self,
-        commit: Id,
-        mode: Mode,
-    ) -> Result<(Sequence<Path>, Sequence<Path>), CommitFault> {
-        let planned = plan(
-            self.store.allocator(),
-            &self.store,
-            &self.work,
-            commit,
-            mode,
-        )?;
-        self.work = planned.next;
-        Ok((planned.conflicts, planned.unclean))
-    }
-
-    /// Makes a checkout, and tells its conflicts and then its unclean paths, each with a space behind it, with a bar between both; or why
-    /// there is none.
+    /// Makes a checkout of the commit `c` or `d`. Returns its conflicts and then its unclean paths, each with a space after it and a bar
+    /// between both.
     pub(crate) fn checkout(
         &mut self,
         alloc: Global,
-        commit: Id,
+        label: &str,
         mode: Mode,
     ) -> Result<Vec<u8>, Fail> {
-        let (conflicts, unclean) = self.check_out(commit, mode)?;
-        let mut text = spaced(alloc, conflicts.as_slice())?;
+        let planned = plan(alloc, &self.store, &self.work, self.id(label), mode)?;
+        self.work = planned.next;
+        let mut text = spaced(alloc, planned.conflicts.as_slice())?;
         text.extend_from_slice(b"| ".as_slice())?;
-        text.extend_from_slice(spaced(alloc, unclean.as_slice())?.as_slice())?;
+        text.extend_from_slice(spaced(alloc, planned.unclean.as_slice())?.as_slice())?;
         Ok(text)
     }
 
-    /// Tells of a path, where a file stands there: the path, `=`, what it holds and a space.
-    fn tell_file(&self, path: &[u8], text: &mut Vec<u8>) -> Result<(), Fail> {
-        if let Some((_, bytes)) = self.work.file(&self.store, path) {
-            text.extend_from_slice(path)?;
-            text.push(b'=')?;
-            text.extend_from_slice(bytes)?;
-            text.push(b' ')?;
-        }
-        Ok(())
-    }
-
-    /// Those of some paths at which a file stands, each with what it holds.
+    /// Returns those of some paths that have a file, each with what it holds.
     pub(crate) fn shown(&self, alloc: Global, paths: &[&str]) -> Result<Vec<u8>, Fail> {
         let mut text = Vec::new(alloc);
         for path in paths {
-            self.tell_file(path.as_bytes(), &mut text)?;
+            let path = path.as_bytes();
+            tell(path, self.work.file(&self.store, path), &mut text)?;
         }
         Ok(text)
     }
 
-    /// The paths of all files, each with what it holds.
+    /// Returns the paths of all files, each with what it holds.
     pub(crate) fn held(&self, alloc: Global) -> Result<Vec<u8>, Fail> {
         let mut text = Vec::new(alloc);
-        for path in &self.files(alloc)? {
-            self.tell_file(path.as_bytes(), &mut text)?;
+        for path in &self.work.list(&self.store, &Filter::all(alloc))? {
+            let file = self.work.read(&self.store, path).ok();
+            tell(path.as_bytes(), file, &mut text)?;
         }
         Ok(text)
     }

@@ -1,12 +1,12 @@
 //! Renames of directories over a commit, and where its files are seen then.
 
-use eden_globs::Filter;
+use crate::mounted::tell;
 use eden_history::ChangeFault;
-use eden_ids::{Id, Kind, Path};
+use eden_ids::Path;
 use eden_moves::{Moved, Moves, carried_path};
 use std::alloc::Global;
 use std::test::Fail;
-use test_kit::{Objects, path, spaced};
+use test_kit::{Objects, filter_of, path, spaced};
 
 /// A directory that is renamed, to which path, what is answered, and then the files that are seen, each with what it holds, and the
 /// unsettled paths.
@@ -101,57 +101,13 @@ const RENAMES: &[Step] = &[
     ("none", "f", None, "a=1 d.x=4 ", "d/e/y d/x "),
 ];
 
-/// The files that are seen at those places.
-fn seen(alloc: Global, objects: &Objects, moves: &Moves) -> Result<Vec<u8>, Fail> {
-    let moved = Moved::of(objects.store.commit_files(objects.id("c")), moves);
-    let mut text = Vec::new(alloc);
-    for &place in PLACES {
-        if let Some((_, bytes)) = moved.file(place.as_bytes()) {
-            text.extend_from_slice(place.as_bytes())?;
-            text.push(b'=')?;
-            text.extend_from_slice(bytes)?;
-            text.push(b' ')?;
-        }
-    }
-    Ok(text)
-}
+/// A commit `c` with the files `a`, `d.x`, `d/e/y` and `d/x`.
+const COMMIT: &str =
+    "blob 1 1;blob 2 2;blob 3 3;blob 4 4;tree e 100644 y 3;tree d 40000 e e 100644 x 2;\
+    tree t 100644 a 1 100644 d.x 4 40000 d d;commit c t";
 
-/// Rows as text: each path with what its blob holds.
-fn told(alloc: Global, objects: &Objects, rows: &[(Path, Kind, Id)]) -> Result<Vec<u8>, Fail> {
-    let mut text = Vec::new(alloc);
-    for (place, _, blob) in rows {
-        text.extend_from_slice(place.as_bytes())?;
-        text.push(b'=')?;
-        for number in ["1", "2", "3", "4"] {
-            if objects.id(number) == *blob {
-                text.extend_from_slice(number.as_bytes())?;
-            }
-        }
-        text.push(b' ')?;
-    }
-    Ok(text)
-}
-
-/// The files that are listed.
-fn listed(alloc: Global, objects: &Objects, moves: &Moves) -> Result<Vec<u8>, Fail> {
-    let moved = Moved::of(objects.store.commit_files(objects.id("c")), moves);
-    told(
-        alloc,
-        objects,
-        moved.list(alloc, &Filter::all(alloc))?.as_slice(),
-    )
-}
-
-/// The files that are listed below directories, one after the other.
-fn listed_below(alloc: Global, objects: &Objects, moves: &Moves) -> Result<Vec<u8>, Fail> {
-    let moved = Moved::of(objects.store.commit_files(objects.id("c")), moves);
-    let mut text = Vec::new(alloc);
-    for top in ["b", "c", "d", "f", "g"] {
-        let rows = moved.list_below(alloc, &path(alloc, top)?, &Filter::all(alloc))?;
-        text.extend_from_slice(told(alloc, objects, rows.as_slice())?.as_slice())?;
-    }
-    Ok(text)
-}
+/// The files of that commit before any rename.
+const UNMOVED: &str = "a=1 d.x=4 d/e/y=3 d/x=2 ";
 
 /// Of a text the words with a slash.
 fn deep(alloc: Global, text: &[u8]) -> Result<Vec<u8>, Fail> {
@@ -165,46 +121,92 @@ fn deep(alloc: Global, text: &[u8]) -> Result<Vec<u8>, Fail> {
     Ok(kept)
 }
 
-/// The first rename that is not answered, or does not leave the files, as its step says.
-fn first_wrong(
-    alloc: Global,
-    objects: &Objects,
-    steps: &[Step],
-) -> Result<Option<&'static str>, Fail> {
-    let mut moves = Moves::new(alloc);
-    let commit = objects.store.commit_files(objects.id("c"));
-    for (old, new, answer, files, unsettled) in steps {
-        let answered = moves.rename(&path(alloc, old)?, &path(alloc, new)?).err();
-        let text = seen(alloc, objects, &moves)?;
-        let paths = spaced(alloc, moves.unsettled(&commit)?.as_slice())?;
-        let all = listed(alloc, objects, &moves)?;
-        let below = listed_below(alloc, objects, &moves)?;
-        let alike = answered == *answer
-            && all.as_slice() == files.as_bytes()
-            && below.as_slice() == deep(alloc, files.as_bytes())?.as_slice()
-            && text.as_slice() == files.as_bytes()
-            && paths.as_slice() == unsettled.as_bytes();
-        if !alike {
+/// The objects of that commit, and directories of it that are renamed.
+#[derive(Drop)]
+struct Renamed {
+    objects: Objects,
+    moves: Moves,
+}
+
+impl Renamed {
+    fn new(alloc: Global) -> Result<Renamed, Fail> {
+        let objects = Objects::of(alloc, COMMIT)?;
+        let moves = Moves::new(alloc);
+        Ok(Renamed { objects, moves })
+    }
+
+    /// Renames a directory. Returns why it is not renamed.
+    fn rename(&mut self, alloc: Global, old: &str, new: &str) -> Result<Option<ChangeFault>, Fail> {
+        let (old, new) = (path(alloc, old)?, path(alloc, new)?);
+        Ok(self.moves.rename(&old, &new).err())
+    }
+
+    /// Returns the files that are seen at the places.
+    fn seen(&self, alloc: Global) -> Result<Vec<u8>, Fail> {
+        let commit = self.objects.store.commit_files(self.objects.id("c"));
+        let moved = Moved::of(commit, &self.moves);
+        let mut text = Vec::new(alloc);
+        for place in PLACES {
+            let place = place.as_bytes();
+            tell(place, moved.file(place), &mut text)?;
+        }
+        Ok(text)
+    }
+
+    /// Returns the files that are listed and a pattern admits: all of them, or those below a directory.
+    fn listed(&self, alloc: Global, top: &str, pattern: &str) -> Result<Vec<u8>, Fail> {
+        let commit = self.objects.store.commit_files(self.objects.id("c"));
+        let moved = Moved::of(commit, &self.moves);
+        let filter = filter_of(alloc, pattern)?;
+        let rows = if top.is_empty() {
+            moved.list(alloc, &filter)?
+        } else {
+            moved.list_below(alloc, &path(alloc, top)?, &filter)?
+        };
+        let mut text = Vec::new(alloc);
+        for (place, kind, blob) in &rows {
+            let bytes = self.objects.store.blob(*blob).unwrap_or(b"".as_slice());
+            tell(place.as_bytes(), Some((*kind, bytes)), &mut text)?;
+        }
+        Ok(text)
+    }
+
+    /// Returns whether these files are seen, listed, and listed below directories.
+    fn shows(&self, alloc: Global, files: &str) -> Result<bool, Fail> {
+        let mut below = Vec::new(alloc);
+        for top in ["b", "c", "d", "f", "g"] {
+            below.extend_from_slice(self.listed(alloc, top, "")?.as_slice())?;
+        }
+        Ok(
+            self.seen(alloc)?.as_slice() == files.as_bytes()
+                && self.listed(alloc, "", "")?.as_slice() == files.as_bytes()
+                && below.as_slice() == deep(alloc, files.as_bytes())?.as_slice(),
+        )
+    }
+}
+
+/// Returns the files of the first step whose rename is not answered, or does not leave them, as it says.
+fn first_wrong(alloc: Global, renamed: &mut Renamed) -> Result<Option<&'static str>, Fail> {
+    if !renamed.shows(alloc, UNMOVED)? {
+        return Ok(Some(UNMOVED));
+    }
+    for (old, new, answer, files, unsettled) in RENAMES {
+        let answered = renamed.rename(alloc, old, new)?;
+        let id = renamed.objects.id("c");
+        let commit = renamed.objects.store.commit_files(id);
+        let paths = spaced(alloc, &renamed.moves.unsettled(&commit)?)?;
+        let alike = answered == *answer && paths.as_slice() == unsettled.as_bytes();
+        if !alike || !renamed.shows(alloc, files)? {
             return Ok(Some(*files));
         }
     }
     Ok(None)
 }
 
-/// A commit `c` with the files `a`, `d.x`, `d/e/y` and `d/x`.
-const COMMIT: &str =
-    "blob 1 1;blob 2 2;blob 3 3;blob 4 4;tree e 100644 y 3;tree d 40000 e e 100644 x 2;\
-    tree t 100644 a 1 100644 d.x 4 40000 d d;commit c t";
-
 #[test]
 fn a_commit_is_seen_through_renamed_directories(rt: HostRuntime) -> Result<(), Fail> {
-    let alloc = rt.alloc();
-    let objects = Objects::of(alloc, COMMIT)?;
-    let unmoved = seen(alloc, &objects, &Moves::new(alloc))?;
-    assert!(rt; unmoved.as_slice() == b"a=1 d.x=4 d/e/y=3 d/x=2 ".as_slice());
-    let all = listed(alloc, &objects, &Moves::new(alloc))?;
-    assert!(rt; all.as_slice() == b"a=1 d.x=4 d/e/y=3 d/x=2 ".as_slice());
-    assert_eq!(rt; first_wrong(alloc, &objects, RENAMES)?, None);
+    let mut renamed = Renamed::new(rt.alloc())?;
+    assert_eq!(rt; first_wrong(rt.alloc(), &mut renamed)?, None);
     Ok(())
 }
 
@@ -248,37 +250,16 @@ const BELOW: &[(&str, &str, &[Below])] = &[
     ),
 ];
 
-/// The first directory below which other files are listed.
-fn first_other(
-    alloc: Global,
-    objects: &Objects,
-    moves: &Moves,
-    cases: &[Below],
-) -> Result<Option<&'static str>, Fail> {
-    let moved = Moved::of(objects.store.commit_files(objects.id("c")), moves);
-    for (top, pattern, wanted) in cases {
-        let filter = Filter::parse(alloc, &[pattern.as_bytes()])?;
-        let rows = moved.list_below(alloc, &path(alloc, top)?, &filter)?;
-        if told(alloc, objects, &rows)?.as_slice() != wanted.as_bytes() {
-            return Ok(Some(*top));
-        }
-    }
-    Ok(None)
-}
-
-/// Renames a directory. It has no clause: what a rename ensures is proved where it is.
-fn rename(alloc: Global, moves: &mut Moves, old: &str, new: &str) -> Result<(), Fail> {
-    Ok(moves.rename(&path(alloc, old)?, &path(alloc, new)?)?)
-}
-
-/// The first directory, after each rename of the table, below which other files are seen.
-fn first_other_below(alloc: Global, objects: &Objects) -> Result<Option<&'static str>, Fail> {
-    let mut moves = Moves::new(alloc);
+/// Returns the first directory, after each rename of the table, below which other files are listed.
+fn first_other_below(alloc: Global, renamed: &mut Renamed) -> Result<Option<&'static str>, Fail> {
     for (old, new, cases) in BELOW {
-        rename(alloc, &mut moves, old, new)?;
-        let other = first_other(alloc, objects, &moves, cases)?;
-        if other.is_some() {
-            return Ok(other);
+        if renamed.rename(alloc, old, new)?.is_some() {
+            return Ok(Some(*old));
+        }
+        for (top, pattern, wanted) in *cases {
+            if renamed.listed(alloc, top, pattern)?.as_slice() != wanted.as_bytes() {
+                return Ok(Some(*top));
+            }
         }
     }
     Ok(None)
@@ -286,25 +267,30 @@ fn first_other_below(alloc: Global, objects: &Objects) -> Result<Option<&'static
 
 #[test]
 fn files_below_a_renamed_directory(rt: HostRuntime) -> Result<(), Fail> {
-    let objects = Objects::of(rt.alloc(), COMMIT)?;
-    assert_eq!(rt; first_other_below(rt.alloc(), &objects)?, None);
+    let mut renamed = Renamed::new(rt.alloc())?;
+    assert_eq!(rt; first_other_below(rt.alloc(), &mut renamed)?, None);
     Ok(())
+}
+
+/// Returns whether `d`, renamed to a path of 63 names, is listed there without what is at no path.
+fn lists_only_paths(alloc: Global, renamed: &mut Renamed) -> Result<bool, Fail> {
+    let above = DEEP.strip_suffix("/4").unwrap_or("");
+    if renamed.rename(alloc, "d", above)?.is_some() {
+        return Ok(false);
+    }
+    let below = format!(in alloc; "{above}/x=2 ")?;
+    let all = format!(in alloc; "{above}/x=2 a=1 d.x=4 ")?;
+    Ok(
+        renamed.listed(alloc, "", "")?.as_slice() == all.as_bytes()
+            && renamed.listed(alloc, above, "")?.as_slice() == below.as_bytes(),
+    )
 }
 
 // Below a path of 63 names `x` stands at a path, and `e/y` at none: it is not listed.
 #[test]
 fn what_is_no_path_is_not_listed(rt: HostRuntime) -> Result<(), Fail> {
-    let alloc = rt.alloc();
-    let objects = Objects::of(alloc, COMMIT)?;
-    let above = DEEP.strip_suffix("/4").unwrap_or("");
-    let mut moves = Moves::new(alloc);
-    rename(alloc, &mut moves, "d", above)?;
-    let wanted = format!(in alloc; "{above}/x=2 a=1 d.x=4 ")?;
-    assert!(rt; listed(alloc, &objects, &moves)?.as_slice() == wanted.as_bytes());
-    let moved = Moved::of(objects.store.commit_files(objects.id("c")), &moves);
-    let rows = moved.list_below(alloc, &path(alloc, above)?, &Filter::all(alloc))?;
-    let wanted = format!(in alloc; "{above}/x=2 ")?;
-    assert!(rt; told(alloc, &objects, &rows)?.as_slice() == wanted.as_bytes());
+    let mut renamed = Renamed::new(rt.alloc())?;
+    assert!(rt; lists_only_paths(rt.alloc(), &mut renamed)?);
     Ok(())
 }
 
@@ -351,23 +337,37 @@ fn first_other_source(alloc: Global, moves: &Moves) -> Result<Option<&'static st
     Ok(None)
 }
 
-#[test]
-fn a_begun_rename_is_done_or_undone(rt: HostRuntime) -> Result<(), Fail> {
-    let alloc = rt.alloc();
-    let mut moves = Moves::new(alloc);
-    rename(alloc, &mut moves, "d", "b")?;
+/// Returns whether a rename that is begun is undone and done, after `d` was renamed to `b`.
+fn is_undone_and_done(alloc: Global, moves: &mut Moves) -> Result<bool, Fail> {
+    moves.rename(&path(alloc, "d")?, &path(alloc, "b")?)?;
     let (old, new) = (path(alloc, "b/e")?, path(alloc, "f")?);
     let begun = moves.begin_rename(&old, &new)?;
-    assert!(rt; moves.is_empty());
-    moves = begun.undone();
-    assert!(rt; said(alloc, &moves)?.as_slice() == b"b=d d= ".as_slice());
-    moves = moves.begin_rename(&old, &new)?.done();
-    assert!(rt; said(alloc, &moves)?.as_slice() == b"b=d b/e= d= f=d/e ".as_slice());
-    assert_eq!(rt; first_other_source(alloc, &moves)?, None);
+    let is_taken = moves.is_empty();
+    *moves = begun.undone();
+    if !is_taken || said(alloc, moves)?.as_slice() != b"b=d d= ".as_slice() {
+        return Ok(false);
+    }
+    *moves = moves.begin_rename(&old, &new)?.done();
+    Ok(said(alloc, moves)?.as_slice() == b"b=d b/e= d= f=d/e ".as_slice())
+}
+
+/// Returns whether directories are seen after that, a rename is refused, and a copy says the same.
+fn is_copied(alloc: Global, moves: &mut Moves) -> Result<bool, Fail> {
+    if first_other_source(alloc, moves)?.is_some() {
+        return Ok(false);
+    }
     let refused = moves.begin_rename(&path(alloc, "b")?, &path(alloc, DEEP)?);
-    assert_eq!(rt; refused.err(), Some(ChangeFault::PathTooLong));
+    if refused.err() != Some(ChangeFault::PathTooLong) {
+        return Ok(false);
+    }
     let copy = moves.copy()?;
-    assert!(rt; said(alloc, &copy)?.as_slice() == b"b=d b/e= d= f=d/e ".as_slice());
+    Ok(said(alloc, &copy)?.as_slice() == b"b=d b/e= d= f=d/e ".as_slice())
+}
+
+#[test]
+fn a_begun_rename_is_done_or_undone(rt: HostRuntime) -> Result<(), Fail> {
+    let mut moves = Moves::new(rt.alloc());
+    assert!(rt; is_undone_and_done(rt.alloc(), &mut moves)? && is_copied(rt.alloc(), &mut moves)?);
     Ok(())
 }
 

@@ -44,32 +44,15 @@ impl Beside {
         })
     }
 
-    /// Sets a copy aside.
-    fn set_aside(&mut self) -> Result<(), Fail> {
-        self.aside = self.work.copy()?;
-        Ok(())
-    }
-
-    /// Goes back to what was set aside.
-    fn go_back(&mut self) -> Result<(), Fail> {
-        self.work = self.aside.copy()?;
-        Ok(())
-    }
-
-    fn write(&mut self, path: Path) -> Result<(), Fail> {
-        self.work
-            .write(&self.store, &path, Kind::Plain, b"".as_slice())?;
-        let _ = self.map.insert(path, ())?;
-        Ok(())
-    }
-
-    /// All paths, each so many behind the one before, and at the end those from the first on.
-    fn told(alloc: Global, step: usize) -> Result<Beside, Fail> {
-        let mut beside = Beside::new(alloc)?;
+    /// Writes all paths, each N after the one before, and past the end those from the first on.
+    fn tell(&mut self, alloc: Global, step: usize) -> Result<(), Fail> {
         for turn in 0..PATHS {
-            beside.write(numbered(alloc, turn.wrapping_mul(step) % PATHS)?)?;
+            let path = numbered(alloc, turn.wrapping_mul(step) % PATHS)?;
+            self.work
+                .write(&self.store, &path, Kind::Plain, b"".as_slice())?;
+            let _ = self.map.insert(path, ())?;
         }
-        Ok(beside)
+        Ok(())
     }
 
     /// Without the paths between two numbers.
@@ -98,22 +81,35 @@ impl Beside {
         }
         Ok(entries.next().is_none())
     }
+
+    /// Returns whether both stay alike when all paths are written and a thousand of them forgotten, and a copy from before has those.
+    fn stays_alike(&mut self, alloc: Global, step: usize) -> Result<bool, Fail> {
+        self.tell(alloc, step)?;
+        if !self.is_alike()? {
+            return Ok(false);
+        }
+        self.aside = self.work.copy()?;
+        self.forget(alloc, 100, 1_100)?;
+        let middle = numbered(alloc, 500)?;
+        if !self.is_alike()? || self.has(&middle) {
+            return Ok(false);
+        }
+        self.work = self.aside.copy()?;
+        Ok(self.has(&middle))
+    }
+}
+
+/// Returns whether a working copy and a map stay alike, told all paths, each N after the one before.
+fn stay_alike(alloc: Global, step: usize) -> Result<bool, Fail> {
+    let mut beside = Beside::new(alloc)?;
+    beside.stays_alike(alloc, step)
 }
 
 // Ascending, descending and scattered. Blocks are cut, and when a thousand paths are forgotten some have no entry any more.
 #[test]
 fn paths_told_in_any_order(rt: HostRuntime) -> Result<(), Fail> {
-    let alloc = rt.alloc();
-    let middle = numbered(alloc, 500)?;
     for step in [1, PATHS - 1, 618] {
-        let mut beside = Beside::told(alloc, step)?;
-        assert!(rt; beside.is_alike()?);
-        beside.set_aside()?;
-        beside.forget(alloc, 100, 1_100)?;
-        assert!(rt; beside.is_alike()?);
-        assert!(rt; !beside.has(&middle));
-        beside.go_back()?;
-        assert!(rt; beside.has(&middle));
+        assert!(rt; stay_alike(rt.alloc(), step)?, "step {step}");
     }
     Ok(())
 }

@@ -2,39 +2,15 @@
 //! what is taken back.
 
 use crate::mounted::Mounted;
+use crate::steps::{Step, first_wrong_over};
 use eden_history::{ChangeFault, Mode};
-use eden_ids::Id;
 use std::alloc::Global;
 use std::test::Fail;
-use test_kit::Objects;
 
-/// A change, what is answered to it, and then the files, each with what it holds, and the dirty paths.
-type Step<'a> = (&'a str, Option<ChangeFault>, &'a str, &'a str);
-
-/// The commit `c` with the files `a`, `d.x`, `d/e/y`, `d/x` and `g/x`, and the commit `k` with `a` and `d/x`.
+/// The commit `c` with the files `a`, `d.x`, `d/e/y`, `d/x` and `g/x`, and the commit `d` with `a` and `d/x`.
 const COMMITS: &str =
-    "blob 1 1;blob 2 2;blob 3 3;blob 4 4;blob 5 5;blob 9 9;tree e 100644 y 3;tree d 40000 e e 100644 x 2;tree g 100644 x 5;\
-    tree t 100644 a 1 100644 d.x 4 40000 d d 40000 g g;commit c t;tree d 100644 x 9;tree t 100644 a 9 40000 d d;commit k t";
-
-/// The first change that is not answered, or does not leave the files, as its step says.
-fn first_wrong<'a>(
-    alloc: Global,
-    mounted: &mut Mounted,
-    steps: &[Step<'a>],
-) -> Result<Option<&'a str>, Fail> {
-    for (change, answer, files, dirty) in steps {
-        let told = mounted.change(alloc, change)?;
-        let held = mounted.held(alloc)?;
-        let changed = mounted.dirty(alloc)?;
-        let alike = told == *answer
-            && held.as_slice() == files.as_bytes()
-            && changed.as_slice() == dirty.as_bytes();
-        if !alike {
-            return Ok(Some(*change));
-        }
-    }
-    Ok(None)
-}
+    "blob 1 1;blob 2 2;blob 3 3;blob 4 4;blob 5 5;blob 9 9;tree e 100644 y 3;tree u 40000 e e 100644 x 2;tree g 100644 x 5;\
+    tree t 100644 a 1 100644 d.x 4 40000 d u 40000 g g;commit c t;tree u 100644 x 9;tree t 100644 a 9 40000 d u;commit d t";
 
 /// Renames over the commit `c`, and changes between them.
 const RENAMES: &[Step<'static>] = &[
@@ -171,63 +147,79 @@ const RENAMES: &[Step<'static>] = &[
 
 #[test]
 fn renamed_directories_keep_their_files(rt: HostRuntime) -> Result<(), Fail> {
-    let alloc = rt.alloc();
-    let mut mounted = Mounted::over_first(alloc, Objects::of(alloc, COMMITS)?)?;
-    assert_eq!(rt; first_wrong(alloc, &mut mounted, RENAMES)?, None);
+    assert_eq!(rt;
+        first_wrong_over(rt.alloc(), COMMITS, "c", "", RENAMES)?,
+        None
+    );
     Ok(())
 }
 
-// The same files are held over the other commit, and then over the first one again.
+/// The same files are held over the commit `d`, and then over the commit `c` again.
+const REROOTS: &[Step<'static>] = &[
+    (
+        "renamedir d b",
+        None,
+        "a=1 b/e/y=3 b/x=2 d.x=4 g/x=5 ",
+        "b/e/y b/x d/e/y d/x ",
+    ),
+    (
+        "reroot d",
+        None,
+        "a=1 b/e/y=3 b/x=2 d.x=4 g/x=5 ",
+        "a b/e/y b/x d.x d/x g/x ",
+    ),
+    (
+        "renamedir none b",
+        Some(ChangeFault::NoEntry),
+        "a=1 b/e/y=3 b/x=2 d.x=4 g/x=5 ",
+        "a b/e/y b/x d.x d/x g/x ",
+    ),
+    (
+        "revert d/x",
+        None,
+        "a=1 b/e/y=3 b/x=2 d.x=4 d/x=9 g/x=5 ",
+        "a b/e/y b/x d.x g/x ",
+    ),
+    (
+        "renamedir d f",
+        None,
+        "a=1 b/e/y=3 b/x=2 d.x=4 f/x=9 g/x=5 ",
+        "a b/e/y b/x d.x d/x f/x g/x ",
+    ),
+    (
+        "reroot c",
+        None,
+        "a=1 b/e/y=3 b/x=2 d.x=4 f/x=9 g/x=5 ",
+        "b/e/y b/x d/e/y d/x f/x ",
+    ),
+    (
+        "revert none",
+        None,
+        "a=1 b/e/y=3 b/x=2 d.x=4 f/x=9 g/x=5 ",
+        "b/e/y b/x d/e/y d/x f/x ",
+    ),
+    (
+        "renamedir b d",
+        None,
+        "a=1 d.x=4 d/e/y=3 d/x=2 f/x=9 g/x=5 ",
+        "f/x ",
+    ),
+];
+
 #[test]
 fn another_commit_below_renamed_directories(rt: HostRuntime) -> Result<(), Fail> {
-    let alloc = rt.alloc();
-    let objects = Objects::of(alloc, COMMITS)?;
-    let (first, second) = (objects.id("c"), objects.id("k"));
-    let mut mounted = Mounted::over_first(alloc, objects)?;
-    assert_eq!(rt; mounted.change(alloc, "renamedir d b")?, None);
-    mounted.reroot(second)?;
-    let steps: [Step<'static>; 3] = [
-        (
-            "renamedir none b",
-            Some(ChangeFault::NoEntry),
-            "a=1 b/e/y=3 b/x=2 d.x=4 g/x=5 ",
-            "a b/e/y b/x d.x d/x g/x ",
-        ),
-        (
-            "revert d/x",
-            None,
-            "a=1 b/e/y=3 b/x=2 d.x=4 d/x=9 g/x=5 ",
-            "a b/e/y b/x d.x g/x ",
-        ),
-        (
-            "renamedir d f",
-            None,
-            "a=1 b/e/y=3 b/x=2 d.x=4 f/x=9 g/x=5 ",
-            "a b/e/y b/x d.x d/x f/x g/x ",
-        ),
-    ];
-    assert_eq!(rt; first_wrong(alloc, &mut mounted, &steps)?, None);
-    mounted.reroot(first)?;
-    let steps: [Step<'static>; 2] = [
-        (
-            "revert none",
-            None,
-            "a=1 b/e/y=3 b/x=2 d.x=4 f/x=9 g/x=5 ",
-            "b/e/y b/x d/e/y d/x f/x ",
-        ),
-        (
-            "renamedir b d",
-            None,
-            "a=1 d.x=4 d/e/y=3 d/x=2 f/x=9 g/x=5 ",
-            "f/x ",
-        ),
-    ];
-    assert_eq!(rt; first_wrong(alloc, &mut mounted, &steps)?, None);
+    assert_eq!(rt;
+        first_wrong_over(rt.alloc(), COMMITS, "c", "", REROOTS)?,
+        None
+    );
     Ok(())
 }
 
-/// What a checkout of the commit `k` tells in each mode where `d` was renamed to `b` over the commit `c`, and the files that it leaves.
-const CHECKOUTS: &[(Mode, &str, &str)] = &[
+/// A mode, what a checkout tells, and the files that it leaves.
+type Checkout = (Mode, &'static str, &'static str);
+
+/// What a checkout of the commit `d` tells in each mode where `d` was renamed to `b` over the commit `c`, and the files that it leaves.
+const CHECKOUTS: &[Checkout] = &[
     (Mode::Dry, "d/x | ", "a=1 b/e/y=3 b/x=2 d.x=4 g/x=5 "),
     (
         Mode::Normal,
@@ -241,30 +233,31 @@ const CHECKOUTS: &[(Mode, &str, &str)] = &[
     ),
 ];
 
-/// What is told of a checkout of this commit once a directory is renamed, and the files that it leaves.
-fn rename_and_check_out(
-    alloc: Global,
-    mounted: &mut Mounted,
-    commit: Id,
-    mode: Mode,
-) -> Result<(Vec<u8>, Vec<u8>), Fail> {
+/// Returns whether a checkout of the commit `d`, once a directory is renamed, reports and leaves what it should.
+fn is_checked_out(alloc: Global, mounted: &mut Mounted, checkout: &Checkout) -> Result<bool, Fail> {
+    let (mode, told, files) = checkout;
     if mounted.change(alloc, "renamedir d b")?.is_some() {
-        return Err(Fail::new("a directory is not renamed"));
+        return Ok(false);
     }
-    let text = mounted.checkout(alloc, commit, mode)?;
-    Ok((text, mounted.held(alloc)?))
+    let text = mounted.checkout(alloc, "d", *mode)?;
+    let held = mounted.held(alloc)?;
+    Ok(text.as_slice() == told.as_bytes() && held.as_slice() == files.as_bytes())
+}
+
+/// The same over the commit `c`.
+fn is_checked_out_over(alloc: Global, checkout: &Checkout) -> Result<bool, Fail> {
+    let mut mounted = Mounted::over(alloc, COMMITS, "c")?;
+    is_checked_out(alloc, &mut mounted, checkout)
 }
 
 #[test]
 fn checkouts_over_renamed_directories(rt: HostRuntime) -> Result<(), Fail> {
-    let alloc = rt.alloc();
-    for (mode, told, files) in CHECKOUTS {
-        let objects = Objects::of(alloc, COMMITS)?;
-        let second = objects.id("k");
-        let mut mounted = Mounted::over_first(alloc, objects)?;
-        let (text, held) = rename_and_check_out(alloc, &mut mounted, second, *mode)?;
-        assert!(rt; text.as_slice() == told.as_bytes(), "{files}");
-        assert!(rt; held.as_slice() == files.as_bytes(), "{files}");
+    for checkout in CHECKOUTS {
+        assert!(rt;
+            is_checked_out_over(rt.alloc(), checkout)?,
+            "{}",
+            checkout.2
+        );
     }
     Ok(())
 }
@@ -314,66 +307,35 @@ const LONG: &[Step<'static>] = &[
     ("renamedir efg d", None, "d/x=1 ", "d/*p "),
 ];
 
-/// A text with these names in place of each star.
-fn spelled(alloc: Global, text: &str, names: &str) -> Result<String, Fail> {
-    let mut spelled = String::new(alloc);
-    for (place, part) in text.split('*').enumerate() {
-        if place > 0 {
-            spelled.push_str(names)?;
-        }
-        spelled.push_str(part)?;
-    }
-    Ok(spelled)
-}
-
-/// The same, with these names in place of each star.
+/// Returns the first change that goes otherwise than its step says over a commit with `d/x` and a file `p` below N directories in `d`, each
+/// of the same name and in the one before it. A star stands for the names of those directories.
 fn first_wrong_below(
     alloc: Global,
-    mounted: &mut Mounted,
-    names: &str,
+    name: &str,
+    directories: usize,
     steps: &[Step<'static>],
 ) -> Result<Option<&'static str>, Fail> {
-    for (change, answer, files, dirty) in steps {
-        let made = spelled(alloc, change, names)?;
-        let files = spelled(alloc, files, names)?;
-        let dirty = spelled(alloc, dirty, names)?;
-        let step = (made.as_str(), *answer, files.as_str(), dirty.as_str());
-        if first_wrong(alloc, mounted, &[step])?.is_some() {
-            return Ok(Some(*change));
-        }
-    }
-    Ok(None)
+    let tree = format!(in alloc; "tree r 40000 {name} r;")?;
+    let trees = tree.repeat(alloc, directories.saturating_sub(1))?;
+    let lines = format!(in alloc;
+        "blob 1 1;tree r 100644 p 1;{trees}tree d 40000 {name} r 100644 x 1;tree t 40000 d d;commit c t"
+    )?;
+    let names = format!(in alloc; "{name}/")?.repeat(alloc, directories)?;
+    first_wrong_over(alloc, lines.as_str(), "c", names.as_str(), steps)
 }
 
 #[test]
 fn renamed_directories_with_deep_paths(rt: HostRuntime) -> Result<(), Fail> {
-    let alloc = rt.alloc();
-    let mut objects = Objects::of(alloc, "blob 1 1;tree r 100644 p 1")?;
-    objects.repeat(alloc, "tree r 40000 n r", 59)?;
-    objects.put(alloc, "tree d 40000 n r 100644 x 1")?;
-    objects.put(alloc, "tree t 40000 d d")?;
-    objects.put(alloc, "commit c t")?;
-    let mut mounted = Mounted::over_first(alloc, objects)?;
-    let names = "n/".repeat(alloc, 60)?;
-    let wrong = first_wrong_below(alloc, &mut mounted, names.as_str(), DEEP)?;
-    assert_eq!(rt; wrong, None);
+    assert_eq!(rt; first_wrong_below(rt.alloc(), "n", 60, DEEP)?, None);
     Ok(())
 }
 
 #[test]
 fn renamed_directories_with_long_paths(rt: HostRuntime) -> Result<(), Fail> {
-    let alloc = rt.alloc();
-    let name = "n".repeat(alloc, 254)?;
-    let mut objects = Objects::of(alloc, "blob 1 1;tree r 100644 p 1")?;
-    let inner = spelled(alloc, "tree r 40000 * r", name.as_str())?;
-    objects.repeat(alloc, inner.as_str(), 3)?;
-    let outer = spelled(alloc, "tree d 40000 * r 100644 x 1", name.as_str())?;
-    objects.put(alloc, outer.as_str())?;
-    objects.put(alloc, "tree t 40000 d d")?;
-    objects.put(alloc, "commit c t")?;
-    let mut mounted = Mounted::over_first(alloc, objects)?;
-    let names = spelled(alloc, "*/*/*/*/", name.as_str())?;
-    let wrong = first_wrong_below(alloc, &mut mounted, names.as_str(), LONG)?;
-    assert_eq!(rt; wrong, None);
+    let name = "n".repeat(rt.alloc(), 254)?;
+    assert_eq!(rt;
+        first_wrong_below(rt.alloc(), name.as_str(), 4, LONG)?,
+        None
+    );
     Ok(())
 }

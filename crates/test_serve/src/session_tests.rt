@@ -1,0 +1,98 @@
+//! One daemon, one mirror, one round.
+
+use crate::client::free_port;
+use eden_command::ProgramFault;
+use eden_connect::{Quiet, connect_program};
+use eden_globs::Filter;
+use eden_serve::serve_program;
+use eden_stream::Counted;
+use std::alloc::Global;
+use std::net::{Ipv4Addr, Net, TcpListener, TcpStream};
+use std::sync::Wait;
+use std::test::Fail;
+use std::thread;
+use std::thread::Threads;
+use std::time::{Clock, Duration};
+
+/// How often a client tries again, a millisecond later, where nobody listens yet.
+const TRIES: u32 = 10_000;
+
+/// The port that is tried first, and how many are: another program may have one of them.
+const FIRST_PORT: u16 = 40_711;
+
+const TURNS: u32 = 16;
+
+/// A script with one file.
+const SCRIPT: &[u8] = b"mount empty 7 1000\nwrite a plain 1\nlisten\n";
+
+/// How a program ended, and what it wrote.
+type Told = (Result<(), ProgramFault>, Vec<u8>);
+
+/// Serves one connection.
+fn serve_one<R: Threads + Wait + Net<Listener = TcpListener, Stream = TcpStream> + Sync>(
+    rt: &R,
+    alloc: Global,
+    port: u16,
+) -> Told {
+    let mut output = Vec::new(alloc);
+    let ended = serve_program(rt, alloc, SCRIPT, &mut Counted::new(&mut output), port, 1);
+    (ended, output)
+}
+
+/// Keeps mirror 1 in its life 1 for a round, once somebody listens.
+fn follow_one<R: Net<Stream = TcpStream> + Clock>(rt: &R, alloc: Global, port: u16) -> Told {
+    let filter = Filter::all(alloc);
+    let mut output = Vec::new(alloc);
+    for _ in 0..TRIES {
+        let ended = connect_program(rt, alloc, &mut output, port, 1, 1, 1, &filter, &mut Quiet);
+        if ended != Err(ProgramFault::NoConnection) {
+            return (ended, output);
+        }
+        thread::sleep(rt, Duration::from_millis(1));
+    }
+    (Err(ProgramFault::NoConnection), output)
+}
+
+/// The port to try in this turn, where nobody listens at it.
+fn port_of<R: Net<Listener = TcpListener, Stream = TcpStream>>(
+    rt: &R,
+    turn: u32,
+) -> Result<Option<u16>, Fail> {
+    if turn > 0 {
+        return Ok(Some(free_port(rt)?));
+    }
+    match TcpListener::bind(rt, (Ipv4Addr::LOCALHOST, FIRST_PORT)) {
+        Ok(_) => Ok(Some(FIRST_PORT)),
+        Err(_) => Ok(None),
+    }
+}
+
+/// Whether both ends have told what they should.
+fn are_right(alloc: Global, port: u16, served: &Told, followed: &Told) -> Result<bool, Fail> {
+    let printed = format!(in alloc; "at 7 1 empty\nat 7 2 empty\nlistening {port}\naudit ok\n")?;
+    let told = b"placed 7 2 0000000000000000000000000000000000000000\nfiles 1\nplain 1 a\n";
+    Ok(
+        served.0 == Ok(())
+            && served.1.as_slice() == printed.as_bytes()
+            && followed.0 == Ok(())
+            && followed.1.as_slice() == told.as_slice(),
+    )
+}
+
+#[test]
+fn serve_and_connect(rt: HostRuntime) -> Result<(), Fail> {
+    let alloc = rt.alloc();
+    for turn in 0..TURNS {
+        let Some(port) = port_of(&rt, turn)? else {
+            continue;
+        };
+        let (served, followed) = thread::join(
+            &rt,
+            || serve_one(&rt, alloc, port),
+            || follow_one(&rt, alloc, port),
+        );
+        assert!(rt; are_right(alloc, port, &served, &followed)?, "{port}");
+        return Ok(());
+    }
+    Err("no port is free".into())
+}

@@ -1,0 +1,142 @@
+//! A daemon that stays: many connections, at once and one after another, and peers that do not do what they should.
+
+use crate::asking::{LINES, big_script, poll_frame};
+use crate::checking::poll_often;
+use crate::client::free_port;
+use crate::feed::Feed;
+use crate::hostile::{hostile_texts, send_all};
+use eden_command::ProgramFault;
+use eden_edend::Objects;
+use eden_stay::stay_program;
+use eden_stream::Counted;
+use std::alloc::Global;
+use std::net::{Net, TcpListener, TcpStream};
+use std::process::Abort;
+use std::sync::Wait;
+use std::sync::atomic::{AtomicBool, Ordering};
+use std::test::Fail;
+use std::thread;
+use std::thread::Threads;
+use std::time::{Clock, Duration, Instant};
+
+/// Runs a script, and behind it lines that write `w`, in front of so many threads, until the flag is set.
+fn stay<R: Threads + Wait + Clock + Net<Listener = TcpListener, Stream = TcpStream> + Sync>(
+    rt: &R,
+    alloc: Global,
+    script: &[u8],
+    ended: &AtomicBool,
+    port: u16,
+    threads: u64,
+) -> Result<(), ProgramFault> {
+    let feed = Feed::new(rt, script, LINES, b"".as_slice(), ended);
+    let mut writer = Counted::new(Vec::new(alloc));
+    stay_program(
+        rt,
+        alloc,
+        Objects::new(alloc),
+        feed,
+        &mut writer,
+        port,
+        threads,
+    )
+}
+
+/// Eight clients ask so often each. Says whether all replies are right.
+fn eight_clients<R: Threads + Net<Listener = TcpListener, Stream = TcpStream> + Clock + Sync>(
+    rt: &R,
+    alloc: Global,
+    port: u16,
+    frame: &[u8],
+    times: u32,
+) -> bool {
+    match thread::map_indices(rt, alloc, 8, &|_| poll_often(rt, alloc, port, frame, times)) {
+        Ok(right) => right.as_slice().iter().all(|right| *right),
+        Err(_) => false,
+    }
+}
+
+/// The script, what hostile peers send, and what each of eight clients asks how often, each time on another connection.
+#[derive(Drop)]
+struct Plan {
+    script: Vec<u8>,
+    hostile: Vec<Vec<u8>>,
+    frame: Vec<u8>,
+    times: u32,
+}
+
+/// What is left once the input of lines has ended: connections that are open, whether all replies were right, and when it has ended.
+#[derive(Drop)]
+struct Left {
+    streams: Vec<TcpStream>,
+    right: bool,
+    since: Instant,
+}
+
+/// Eight clients ask beside hostile peers, and then the input of lines ends.
+fn ask_beside<R: Threads + Net<Listener = TcpListener, Stream = TcpStream> + Clock + Sync>(
+    rt: &R,
+    alloc: Global,
+    port: u16,
+    plan: &Plan,
+    ended: &AtomicBool,
+) -> Option<Left> {
+    let streams = send_all(rt, alloc, port, plan.hostile.as_slice());
+    let right = eight_clients(rt, alloc, port, plan.frame.as_slice(), plan.times);
+    let since = Instant::now(rt);
+    ended.store(true, Ordering::SeqCst);
+    Some(Left {
+        streams: streams?,
+        right,
+        since: since.ok()?,
+    })
+}
+
+/// What the program ends with, and what is left once the input of its lines has ended.
+fn run_beside<R: Threads + Wait + Clock + Net<Listener = TcpListener, Stream = TcpStream> + Sync>(
+    rt: &R,
+    alloc: Global,
+    port: u16,
+    plan: &Plan,
+    ended: &AtomicBool,
+) -> (Result<(), ProgramFault>, Option<Left>) {
+    thread::join(
+        rt,
+        || stay(rt, alloc, plan.script.as_slice(), ended, port, 8),
+        || ask_beside(rt, alloc, port, plan, ended),
+    )
+}
+
+/// Clients are told what is right beside these peers, and the program ends soon once its lines have, though the peers stay connected.
+fn serves_beside<
+    R: Threads + Wait + Clock + Net<Listener = TcpListener, Stream = TcpStream> + Abort + Sync,
+>(rt: &R, alloc: Global, hostile: Vec<Vec<u8>>, times: u32) -> Result<(), Fail> {
+    let plan = Plan {
+        script: big_script(alloc)?,
+        hostile,
+        frame: poll_frame(alloc)?,
+        times,
+    };
+    let port = free_port(rt)?;
+    let ended = AtomicBool::new(false);
+    let (outcome, left) = run_beside(rt, alloc, port, &plan, &ended);
+    assert_eq!(rt; outcome, Ok(()));
+    let Left {
+        streams: _streams,
+        right,
+        since,
+    } = left.ok_or("a peer could not connect")?;
+    assert!(rt; right);
+    assert!(rt; since.elapsed(rt)? < Duration::from_secs(5));
+    Ok(())
+}
+
+#[test]
+fn two_thousand_connections(rt: HostRuntime) -> Result<(), Fail> {
+    serves_beside(&rt, rt.alloc(), Vec::new(rt.alloc()), 250)
+}
+
+#[test]
+fn hostile_peers(rt: HostRuntime) -> Result<(), Fail> {
+    let hostile = hostile_texts(rt.alloc())?;
+    serves_beside(&rt, rt.alloc(), hostile, 20)
+}
