@@ -7,6 +7,7 @@ import glob
 import os
 import re
 import sys
+import textwrap
 
 os.chdir(os.path.join(os.path.dirname(os.path.abspath(__file__)), ".."))
 if len(sys.argv) > 1:
@@ -15,10 +16,66 @@ if len(sys.argv) > 1:
 
 HEAD = """# What is promised, call by call
 
-Made by `docs/promises.py` from the contracts in crates/*/src. Every function, for every input: it is safe (no index out of range, no overflow, no undefined
-behaviour), it returns, and it meets its contract. In the contracts `NoMemory` may come in place of any answer where a growth was refused: no clause
-can say that it comes only there. A call that takes no memory has no such answer. A clause without a name stands here as "the answer". What an
-implementation of a trait promises is said at the trait.
+Printed by `docs/promises.py` from the contracts in crates/*/src.
+
+Every function, for every input, is safe (no index out of range, no overflow, no undefined
+behaviour), returns, and meets its contract. A call that allocates may return `NoMemory` instead
+of any answer; no clause can say that it comes only if memory is short. A clause without a name
+is listed as "the answer". What an implementation of a trait promises is said at the trait.
+
+## In short
+
+- **A mirror that fell behind finds out.** `schedule_law`: `covered`, `told`, `at_head`,
+  `together`, `places`, `values` (docs/theorem.md).
+- **A poll names each changed path and no other, each with its mark; or the position is
+  refused**, for the first cause that holds. `Mount::range_since`, `expand`: `tells`,
+  `comparable`, `commits`; `accepts`, `refuses`.
+- **A change does what it says, or is refused for the first cause that holds and changes
+  nothing.** `Mount::write` and its kin, `Mount::apply`: `answers`, `stands`, `refuses`,
+  `unchanged`.
+- **A checkout does to each path what its mode says, and reports its conflicts.** `plan`,
+  `Mount::checkout`: `files`, `conflicts`, `unclean`.
+- **A journal holds what its limit pays for, and refuses no position within that.**
+  `Journal::add_file`, `add_root`, `flush`: `stands`, `exhausted`.
+- **The difference of two commits is exact, kinds included.** `diff`: `paths`, `fault`.
+- **Each id names one object, forever; a commit's files are those of Git's format; ids are
+  Git's.** `Store::put_tree` and its kin, `lookup`, `list`: `PutGives`, `TreeGives`,
+  `commit_rows`; `GitNaming::id_of`: `git_name`.
+- **A store grows while it is mounted**: several objects are put, or none and the first fault is
+  reported with its place. `Store::import`, `Mount::import`: `ok`, `err`, `refuses`; `answers`,
+  `stands`; `grown_law`, `more_objects_law`.
+- **A mirror takes a reply only if it belongs to its round, and moves only when the round has
+  all that was listed.** `Mirror::deliver`, `deliver_owned`: `ok`, `err`; `Mirror::round_law`:
+  `last`.
+- **Each reply has exactly one spelling, of at most 16 MiB, and is read back as itself.**
+  `reply_spelling_law`, `reply_to`, `serve`: `spelled`; `decode_reply`: `all`.
+- **The frames written are the right replies to the frames read, in order, each asked once.**
+  `serve`: `ends`, `asks`, `stands`.
+- **An audit says exactly whether callers' logs agree with the stored history.** `audit`:
+  `agree`, `noted`, `fault`, `excluded`; `Audited::mount`: `history`.
+- **Callers share a mount**: each call runs under the lock, takes the next ticket, and is
+  answered as a mount that has taken one call fewer answers it. A call that runs out of memory
+  takes no ticket. `Shared::change`, `hold`, `finish`: `answer`, `held`, `ticket`, `share`,
+  `unchanged`; `count`.
+- **A caller's log grows by the call that it made, with its answer or none.** `Desk::change`,
+  `ask`: `log`, `answer`, `left`; `serve_shared`: `ends`.
+- **A thread never loads a number below one that it has loaded or raised.** `HeadWord::load`,
+  `raise`, `split`, `join`: `risen`, `seen`, `same`, `kept`.
+- **A follower's mirror is what its notes make, and `vouch` says exactly whether logs vouch for
+  them.** `Follower::step`, `deliver`: `stepped`, `noted`, `delivered`; `vouch`: `vouched`,
+  `fault`, `excluded`, `merges`; `merge_law`: `schedule`, `world`, `mirror`, `covered` and its
+  kin.
+- **Objects are put as Git prints them, and the first fault is exact.** `read_objects`: `ends`.
+- **A script prints what its lines mean, also up to `listen`**; after it, only lines that change
+  a mount are read. `run`, `run_over`, `run_to_listen`, `run_changes`: `ends`.
+- **A mount that keeps no history answers each frame once, in order, as some state of it under
+  the lock replies.** `Resident::ask`: `told`, `spelled`; `serve_resident`: `ends`.
+- **A daemon that ends well wrote what its script prints up to `listen`, its port, and, if it
+  does not stay, `audit ok`; one that does not says so by a fault, and wrote what the lines
+  before print.** `serve_program`, `stay_program`: `told`; `bad_line`, `read`, `turns_spent`,
+  `no_connection`, `causes`.
+- **What `follow connect` prints is where its mirror is and what it holds**, by the replies that
+  came. `connect_program`: `placed`, `unplaced`.
 """
 OWNER = re.compile(r"^impl(?:<.*?>)? (\w+)(?:<.*>)? \{$|^pub trait (\w+)")
 FUNCTION = re.compile(r"^( *)(pub )?fn (\w+)")
@@ -99,13 +156,13 @@ def main():
     print(HEAD)
     for crate in shipped():
         head = [line[3:] for line in open(f"crates/{crate}/src/lib.rt") if line.startswith("//!")]
-        print(f"## {crate}\n\n{sentence(head)}.\n")
+        print(f"## {crate}\n")
+        print(textwrap.fill(sentence(head) + ".", 98), end="\n\n")
         names = handed_out(crate)
         rows = [row for file in sorted(glob.glob(f"crates/{crate}/src/**/*.rt", recursive=True)) for row in calls(file, names)]
-        if rows:
-            print("| call | what it does | clauses |\n|---|---|---|")
-        for name, told, clauses in rows:
-            print(f"| `{name}` | {told.replace('|', chr(92) + '|')} | {clauses} |")
+        for name, said, listed in rows:
+            print(*textwrap.wrap(f"`{name}`: {said} ({listed})", 98, initial_indent="- ", subsequent_indent="  ",
+                                 break_long_words=False, break_on_hyphens=False), sep="\n")
         print()
 
 

@@ -18,27 +18,47 @@ if len(sys.argv) > 1:
 
 # each promise: its crate, and the functions whose clauses say it
 PROMISES = [
-    ("after every schedule a mirror is told (`schedule_law`)", "eden_headline", ["schedule_law"]),
+    ("after every schedule (`schedule_law`)", "eden_headline", ["schedule_law"]),
     ("what changed since (`range_since`, `expand`)", "eden_accumulate eden_ranges", ["range_since", "expand"]),
     ("what a change does (`write` and its kin, `apply`)", "eden_accumulate", ["write", "remove", "rename", "reset", "flush", "remount", "apply"]),
     ("a checkout (`plan`, `checkout`)", "eden_checkout eden_accumulate", ["plan", "checkout"]),
     ("a journal (`add_file`, `add_root`, `flush`)", "eden_journal", ["add_file", "add_root", "flush"]),
-    ("two commits' difference (`diff`)", "eden_treediff", ["diff"]),
-    ("the store (`put_blob`, `put_tree`, `put_commit`, `lookup`, `list`)", "eden_objects", ["put_blob", "put_tree", "put_commit", "lookup", "list"]),
+    ("the difference of two commits (`diff`)", "eden_treediff", ["diff"]),
+    ("the store (`put_tree` and its kin, `lookup`, `list`)", "eden_objects", ["put_blob", "put_tree", "put_commit", "lookup", "list"]),
     ("a store that grows (`Store::import`, `Mount::import`, `share`)", "eden_objects eden_accumulate", ["import", "share", "grown_law", "more_objects_law"]),
     ("a batch of objects (`read_objects`)", "eden_batch eden_objects", ["read_objects", "put_blob", "put_tree", "put_commit"]),
     ("ids (`GitNaming::id_of`)", "eden_ids", ["git_name"]),
-    ("messages as bytes (`encode_request`, `encode_reply`, `append_reply`, `decode_request`, `decode_reply`)", "eden_wire", ["encode_request", "encode_reply", "append_reply", "decode_request", "decode_reply", "request_law", "reply_law"]),
+    ("messages as bytes (`encode_request`, `decode_reply` and their kin)", "eden_wire", ["encode_request", "encode_reply", "append_reply", "decode_request", "decode_reply", "request_law", "reply_law"]),
     ("a mirror (`begin`, `deliver`, `round_law`)", "eden_mirror", ["begin", "deliver", "round_law"]),
-    ("replies have a spelling (`reply_spelling_law`), and frames are answered (`serve`)", "eden_messages eden_query", ["reply_spelling_law", "serve"]),
+    ("frames are answered (`serve`, `reply_spelling_law`)", "eden_messages eden_query", ["reply_spelling_law", "serve"]),
     ("an audit (`audit`)", "eden_audit", ["audit"]),
     ("callers behind a lock (`Shared`, `Desk`, `serve_shared`)", "eden_shared", ["change", "hold", "finish", "ask", "serve_shared"]),
-    ("a follower, and what vouches for it (`Follower`, `vouch`, `merge_law`)", "eden_follow eden_headline", ["step", "deliver", "vouch", "merge_law"]),
-    ("a mount of which nothing is kept (`Resident`, `serve_resident`)", "eden_resident", ["change", "hold", "ask", "serve_resident"]),
-    ("a script (`run`), up to `listen` (`run_to_listen`) and behind it (`run_changes`)", "eden_edend", ["run", "run_to_listen", "run_changes"]),
-    ("what a daemon prints (`serve_over`), also one that stays (`stay_program`)", "eden_serve eden_stay", ["serve_over", "stay_program"]),
+    ("a follower that logs vouch for (`vouch`, `merge_law`)", "eden_follow eden_headline", ["step", "deliver", "vouch", "merge_law"]),
+    ("a mount that keeps no history (`Resident`)", "eden_resident", ["change", "hold", "ask", "serve_resident"]),
+    ("a script (`run`, `run_to_listen`, `run_changes`)", "eden_edend", ["run", "run_to_listen", "run_changes"]),
+    ("what a daemon prints (`serve_over`, `stay_program`)", "eden_serve eden_stay", ["serve_over", "stay_program"]),
     ("what a client prints of its mirror (`connect_program`)", "eden_connect", ["connect_program"]),
 ]
+
+HEAD = """# What you must trust
+
+The proofs rest on tools and on definitions.
+
+**Tools.** The kit, with its checker, compiler, the statements of its standard library and its
+ported crates (`anyhow` for rigs, `arrayvec`, `atomic_table`, `bstr`, `bytes`, `clap`,
+`crossbeam_channel`, `hex`, `indexmap`, `itoa`, `sha1`, `thiserror`, and for tests `rand_core`
+and `rand_pcg`); clang and the C library, which build what was proved; and the operating system.
+
+**Definitions.** A contract is worth what its words mean. The table counts, for each promise,
+the definitions in crates/*/specs that its clauses use, directly or through others. A definition
+that several promises share counts at each. Add to them the declared types that they name, and
+the standard library's definitions. Files in a folder `specs/internal` are the implementation's
+own: no promise rests on them.
+
+Printed by `docs/trust.py`, which follows names from the clauses of each call.
+
+| promise | definitions | lines, with comments | files |
+|---|---|---|---|"""
 
 HEADER = re.compile(r"^(?:abbrev |unfoldable |opaque )?(?:pub )?(?:record |data )?([^\s:({]+)")
 USE = re.compile(r"^\s*(?:ghost )?use (Rattle\.[\w.]+)(?:\.\{([^}]*)\}| as (\w+))?;?\s*$")
@@ -143,10 +163,7 @@ def count(definitions, places):
 
 def main():
     definitions = Definitions()
-    print("# What must be trusted, promise by promise\n")
-    print("Made by `docs/trust.py`, which follows names from the clauses of each call. Beside these a reader trusts the declared types that they name,")
-    print("the standard library's definitions, and what README.md lists. Definitions that are shared count at each promise.\n")
-    print("| promise | definitions | lines, comments among them | files |\n|---|---|---|---|")
+    print(HEAD)
     everything, where = set(), []
     for told, crates, functions in PROMISES:
         places = set()
@@ -159,7 +176,7 @@ def main():
         print("| %s | %d | %d | %d |" % (told, *count(definitions, places)))
     print("| **all of them** | %d | %d | %d |" % count(definitions, everything))
     told, places = where[0]
-    print(f"\n## Where they stand: {told}\n\n| file | definitions | lines |\n|---|---|---|")
+    print(f"\n## Where they are: {told}\n\n| file | definitions | lines |\n|---|---|---|")
     for file in sorted({file for file, _ in places}):
         here = {place for place in places if place[0] == file}
         print("| %s | %d | %d |" % (file[len("crates/"):], *count(definitions, here)[:2]))
