@@ -60,7 +60,10 @@ find_edend() {
     check_edend "$edend"
 }
 
-# Runs a program that a crate built, and tells on standard output what it measured. What it answers is compared by the gate.
+# `measure CRATE WORD..` runs the program that a crate built, with words, and prints what it
+# measured. The gate compares what it answers.
 measure() {
-    "$root/crates/$1/out/$1" 2>&1 > /dev/null || fail "crates/$1/out/$1 ended with $?"
+    program=crates/$1/out/$1
+    shift
+    "$root/$program" "$@" 2>&1 > /dev/null || fail "$program${*:+ $*} ended with $?"
 }

@@ -6,7 +6,7 @@ set -e
 most=0
 . "$(dirname "$0")/begin.sh"
 
-for name in rig_filters rig_basis; do
-    build "$name" "$name" run
-    measure "$name"
-done
+build rig_tables rig_tables run -- filters
+measure rig_tables filters
+build rig_mounts rig_mounts run -- basis
+measure rig_mounts basis

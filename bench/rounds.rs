@@ -1,5 +1,5 @@
-//! A plain program that does to tables of the standard library what a mirror's round does to its own, with the output of
-//! crates/rig_rounds. See README.md.
+//! A plain program that does to tables of the standard library what a mirror's round does to its
+//! own. It prints as `rig_mounts rounds` does. See README.md.
 
 use std::collections::{BTreeMap, HashMap};
 use std::hint::black_box;

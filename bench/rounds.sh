@@ -8,9 +8,9 @@ most=0
 . "$(dirname "$0")/begin.sh"
 
 needs rustc
-build rig_rounds rig_rounds run
-rustc -C opt-level=3 "$root/bench/rounds.rs" -o "$root/crates/rig_rounds/out/plain"
+build rig_mounts rig_mounts run -- rounds
+rustc -C opt-level=3 "$root/bench/rounds.rs" -o "$root/crates/rig_mounts/out/plain"
 echo "a mirror:"
-measure rig_rounds
+measure rig_mounts rounds
 echo "plain tables:"
-"$root/crates/rig_rounds/out/plain"
+"$root/crates/rig_mounts/out/plain"

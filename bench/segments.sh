@@ -7,5 +7,5 @@ set -e
 most=0
 . "$(dirname "$0")/begin.sh"
 
-build rig_segments rig_segments run
-for try in 1 2 3; do measure rig_segments; done
+build rig_tables rig_tables run -- segments
+for try in 1 2 3; do measure rig_tables segments; done

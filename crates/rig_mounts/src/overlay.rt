@@ -1,18 +1,16 @@
-//! How long a working copy takes for changes of new files, by their number and the order in which they come. See bench/README.md.
+//! How long a working copy takes for changes of new files, by their number and their order.
 //!
-//! So many files are written over the empty commit, each is renamed to a new path, and each is removed there. Standard output tells how
-//! many paths a change touched in the end, and standard error how long each took.
-#![tactic(auto)]
+//! So many files are written over the empty commit. Each is renamed, and removed at the new path.
 
+use crate::measuring::{ORDERS, now};
 use anyhow::Result;
 use eden_ids::{GitNaming, Id, Kind, Path};
 use eden_objects::Store;
 use eden_workcopy::WorkCopy;
 use rig_kit::{Order, each};
 use std::alloc::Global;
-use std::time::CpuClock;
 
-/// A hundred files stand in a directory.
+/// Returns so many paths in this order, a hundred of each directory.
 fn paths(alloc: Global, name: &str, count: u64, order: Order) -> Result<Vec<Path>> {
     let mut paths = Vec::new(alloc);
     for turn in 0..count {
@@ -63,20 +61,20 @@ impl Mounted {
     }
 }
 
-/// Measures so many files in this order.
+/// Measures the changes of so many files in this order.
 fn measure(rt: &HostRuntime, count: u64, order: Order) -> Result<()> {
     let old = paths(rt.alloc(), "file", count, order)?;
     let new = paths(rt.alloc(), "moved", count, order)?;
     let store = Store::new(rt.alloc(), GitNaming);
     let work = WorkCopy::new(rt.alloc(), &store, Id::ZERO)?;
     let mut mounted = Mounted { store, work };
-    let start = rt.thread_cpu_time()?;
+    let start = now(rt)?;
     mounted.write_all(old.as_slice())?;
-    let written = rt.thread_cpu_time()?;
+    let written = now(rt)?;
     mounted.rename_all(old.as_slice(), new.as_slice())?;
-    let renamed = rt.thread_cpu_time()?;
+    let renamed = now(rt)?;
     mounted.remove_all(new.as_slice())?;
-    let removed = rt.thread_cpu_time()?;
+    let removed = now(rt)?;
     println!(rt;
         "{count} files {}: {} touched",
         order.name(),
@@ -92,10 +90,11 @@ fn measure(rt: &HostRuntime, count: u64, order: Order) -> Result<()> {
     Ok(())
 }
 
-fn main(rt: HostRuntime) -> Result<()> {
+/// Measures changes of three numbers of files, in three orders each.
+pub fn measure_overlay(rt: &HostRuntime) -> Result<()> {
     for count in [1_000, 10_000, 80_000] {
-        for order in [Order::Ascending, Order::Descending, Order::Scattered] {
-            measure(&rt, count, order)?;
+        for order in ORDERS {
+            measure(rt, count, *order)?;
         }
     }
     Ok(())

@@ -1,37 +1,32 @@
-//! How long a mirror takes for a round, by the number of its paths and the order in which their contents come. See bench/README.md.
+//! How long a mirror takes for a round, by the number of its paths and the order of their contents.
 //!
-//! A mirror begins its first round, takes the list of all paths, and then the content of each. Standard output tells how each round
-//! ended, which is always placed, and standard error how long it took.
-#![tactic(auto)]
+//! A mirror begins its first round, and takes the list of all paths and then the content of each.
+//! Each round ends placed.
 
+use crate::measuring::{ORDERS, QUERY, now, since};
 use anyhow::Result;
 use eden_globs::Filter;
 use eden_history::Position;
 use eden_ids::{Content, Id, Kind, NoMemory, Path, Sequence};
-use eden_messages::{Outcome, Query, Reply};
+use eden_messages::{Outcome, Reply};
 use eden_mirror::Mirror;
-use rig_kit::{Order, nanoseconds};
+use rig_kit::{Order, each};
 use std::alloc::Global;
-use std::time::{CpuClock, Duration};
+use std::time::Duration;
 
-/// How often each round is measured. The least time counts, since other work on the machine makes it longer and never shorter.
+/// How often each round is measured.
+///
+/// The least time counts, since other work on the machine makes it longer and never shorter.
 const TRIES: usize = 5;
 
-/// The first question of mirror 1.
-const QUERY: Query = Query {
-    mirror: 1,
-    life: 1,
-    number: 1,
-};
-
-/// Where the list is told, and each content.
+/// The position of the list and of each content.
 const PLACE: Position = Position {
     generation: 1,
     sequence: 1,
     root: Id::ZERO,
 };
 
-/// So many paths, ascending.
+/// Returns so many paths, ascending.
 fn paths(alloc: Global, count: usize) -> Result<Vec<Path>> {
     let mut paths = Vec::new(alloc);
     for number in 0..count {
@@ -41,7 +36,7 @@ fn paths(alloc: Global, count: usize) -> Result<Vec<Path>> {
     Ok(paths)
 }
 
-/// The content of a path.
+/// Returns the reply with the content of a path.
 fn content_at(path: &Path, content: &Content) -> Result<Reply, NoMemory> {
     Ok(Reply::ContentIs {
         query: QUERY,
@@ -51,7 +46,7 @@ fn content_at(path: &Path, content: &Content) -> Result<Reply, NoMemory> {
     })
 }
 
-/// The replies that tell the content of each path, as they come.
+/// Returns the replies with the content of each path, as they come.
 fn contents(alloc: Global, paths: &[Path], order: Order) -> Result<Vec<Reply>, NoMemory> {
     let content = Content::from_bytes(alloc, Kind::Plain, b"text".as_slice())?;
     let mut replies = Vec::new(alloc);
@@ -64,7 +59,9 @@ fn contents(alloc: Global, paths: &[Path], order: Order) -> Result<Vec<Reply>, N
     Ok(replies)
 }
 
-/// Gives the replies to the mirror, as a client does that decoded them, and gives the outcome of the last one.
+/// Gives the replies to the mirror, and returns the outcome of the last one.
+///
+/// A client that decoded them gives them so.
 fn deliver_all(mirror: &mut Mirror, replies: Vec<Reply>) -> Result<Outcome, NoMemory> {
     let mut last = Outcome::Ignored;
     for reply in replies {
@@ -73,24 +70,29 @@ fn deliver_all(mirror: &mut Mirror, replies: Vec<Reply>) -> Result<Outcome, NoMe
     Ok(last)
 }
 
-/// How a round with a list and the contents ends, and what processor time it takes.
+/// Returns how a round ends, and what time it takes.
 fn one_round(rt: &HostRuntime, list: &Reply, replies: Vec<Reply>) -> Result<(Outcome, Duration)> {
     let mut mirror = Mirror::new(rt.alloc(), 1, 1, Filter::all(rt.alloc()));
     mirror.begin()?;
-    let start = rt.thread_cpu_time()?;
+    let start = now(rt)?;
     let _ = mirror.deliver(list)?;
     let outcome = deliver_all(&mut mirror, replies)?;
-    Ok((outcome, rt.thread_cpu_time()?.saturating_sub(start)))
+    Ok((outcome, since(rt, start)?))
 }
 
-/// How rounds with a list of these paths end, and the least time that one takes, in nanoseconds.
-fn least(rt: &HostRuntime, list: &Reply, paths: &[Path], order: Order) -> Result<(Outcome, u64)> {
-    let mut least = u64::MAX;
+/// Returns how rounds end, and the least time that one takes.
+fn least(
+    rt: &HostRuntime,
+    list: &Reply,
+    paths: &[Path],
+    order: Order,
+) -> Result<(Outcome, Duration)> {
+    let mut least = Duration::MAX;
     let mut last = Outcome::Ignored;
     for _ in 0..TRIES {
         let replies = contents(rt.alloc(), paths, order)?;
         let (outcome, time) = one_round(rt, list, replies)?;
-        least = least.min(nanoseconds(time));
+        least = least.min(time);
         last = outcome;
     }
     Ok((last, least))
@@ -105,16 +107,20 @@ fn measure(rt: &HostRuntime, count: usize, order: Order) -> Result<()> {
         paths: Sequence::from_vec(paths.clone()?),
     };
     let (outcome, time) = least(rt, &list, paths.as_slice(), order)?;
-    let each = time.checked_div(count as u64).unwrap_or(0);
     println!(rt; "{count} paths {}: {outcome:?}", order.name())?;
-    eprintln!(rt; "{count} paths {}: {each} ns a path", order.name())?;
+    eprintln!(rt;
+        "{count} paths {}: {} ns a path",
+        order.name(),
+        each(time, count as u64)
+    )?;
     Ok(())
 }
 
-fn main(rt: HostRuntime) -> Result<()> {
+/// Measures rounds of three numbers of paths, in three orders each.
+pub fn measure_rounds(rt: &HostRuntime) -> Result<()> {
     for count in [1_000, 10_000, 100_000] {
-        for order in [Order::Ascending, Order::Descending, Order::Scattered] {
-            measure(&rt, count, order)?;
+        for order in ORDERS {
+            measure(rt, count, *order)?;
         }
     }
     Ok(())

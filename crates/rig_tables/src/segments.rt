@@ -1,9 +1,6 @@
-//! What a table that grows costs, with a copy of it after each batch of rows, and what looking up in it costs beside a plain map. See
-//! bench/README.md.
-//!
-//! Standard output tells how many rows were found, and standard error what processor time each took.
-#![tactic(auto)]
+//! What a table that grows costs, with a copy after each batch, and look-ups beside a plain map.
 
+use crate::clock::{now, since};
 use anyhow::Result;
 use eden_ids::{Id, NoMemory};
 use eden_segments::{Share, Shared, Table};
@@ -11,12 +8,12 @@ use indexmap::IndexMap;
 use rig_kit::{each, scattered};
 use std::alloc::Global;
 use std::hint::black_box;
-use std::time::{CpuClock, Duration};
+use std::time::Duration;
 
-/// How many times something short is done.
+/// How often something short is done.
 const TURNS: u64 = 1_000_000;
 
-/// What a store might keep of an object: a number that stands in the row, and bytes behind a pointer.
+/// What a store might keep of an object: a number in the row, and bytes after a pointer.
 #[derive(Drop)]
 struct Row {
     number: u64,
@@ -33,7 +30,7 @@ impl Share for Row {
     }
 }
 
-/// The row of a number, with a payload of some 30 bytes.
+/// Returns the row of a number, with a payload of 30 bytes.
 fn new_row(alloc: Global, number: u64) -> Result<Row> {
     let payload = vec![in alloc; 0u8; 30]?;
     Ok(Row {
@@ -42,7 +39,7 @@ fn new_row(alloc: Global, number: u64) -> Result<Row> {
     })
 }
 
-/// The id of a number, of which each byte looks as if it came by chance.
+/// Returns the id of a number, of which each byte looks as if it came by chance.
 fn id(number: u64) -> Id {
     let mut bytes = [0; 20];
     let mut word = number;
@@ -74,10 +71,6 @@ fn add_rows(table: &mut Table<Row>, first: u64, size: u64) -> Result<()> {
     Ok(())
 }
 
-fn now(rt: &HostRuntime) -> Result<Duration> {
-    Ok(rt.thread_cpu_time()?)
-}
-
 /// What times some calls took: all together, and the longest.
 #[derive(Clone, Copy)]
 struct Times {
@@ -100,7 +93,7 @@ impl Times {
     }
 }
 
-/// What times the batches of a growing table took, and the copies behind them.
+/// What times the batches of a growing table took, and the copies after them.
 #[derive(Clone, Copy)]
 struct Growth {
     adding: Times,
@@ -118,7 +111,7 @@ fn copied(table: &mut Table<Row>) -> Result<Table<Row>> {
     Ok(table.share()?)
 }
 
-/// Adds a batch, takes a copy behind it, and notes what time each took.
+/// Adds a batch, takes a copy after it, and notes what time each took.
 fn grow_once(
     rt: &HostRuntime,
     table: &mut Table<Row>,
@@ -135,20 +128,22 @@ fn grow_once(
     Ok(copy)
 }
 
-/// Adds so many rows in batches. Gives the copy that was taken last: each is kept until the next is taken.
+/// Adds so many rows in batches, and returns the last copy.
+///
+/// Each copy is kept until the next one is taken.
 fn grown(rt: &HostRuntime, count: u64, batches: u64, growth: &mut Growth) -> Result<Table<Row>> {
     let mut table = Table::new(rt.alloc());
     let mut kept = Table::new(rt.alloc());
     let size = count.checked_div(batches).unwrap_or(0);
     for batch in 0..batches {
         let first = batch.saturating_mul(size);
-        // What the copy before held alone is let go here, in nobody's time.
+        // What only the copy before held is freed here, in nobody's time.
         kept = grow_once(rt, &mut table, first, size, growth)?;
     }
     Ok(kept)
 }
 
-/// Adds so many rows in batches, freezes them after each batch and takes a copy, and tells what that took.
+/// Measures a table of so many rows that are added in batches.
 fn grow(rt: &HostRuntime, count: u64, batches: u64) -> Result<()> {
     let mut growth = Growth {
         adding: Times::new(),
@@ -167,7 +162,7 @@ fn grow(rt: &HostRuntime, count: u64, batches: u64) -> Result<()> {
     Ok(())
 }
 
-/// How many of the first numbers have their row.
+/// Returns how many of the first numbers have their row.
 fn found_all(table: &Table<Row>, count: u64) -> usize {
     (0..count)
         .filter(|number| table
@@ -176,13 +171,13 @@ fn found_all(table: &Table<Row>, count: u64) -> usize {
         .count()
 }
 
-/// The time of a clock's call, which is in each time of a copy.
+/// Prints the time of a call of the clock, which is in each time of a copy.
 fn clock(rt: &HostRuntime) -> Result<()> {
     let start = now(rt)?;
     for _ in 0..10_000 {
         black_box(now(rt)?);
     }
-    let time = now(rt)?.saturating_sub(start);
+    let time = since(rt, start)?;
     eprintln!(rt;
         "a call of the clock, which is in each time of one copy: {} ns",
         each(time, 10_000)
@@ -190,37 +185,39 @@ fn clock(rt: &HostRuntime) -> Result<()> {
     Ok(())
 }
 
-/// A table of so many rows, added one by one with a copy after each of the last thousand, so that it has many segments.
+/// Returns a table of so many rows in many segments.
+///
+/// Each of the last rows is frozen by itself.
 fn filled(alloc: Global, count: u64) -> Result<Table<Row>> {
     let mut table = Table::new(alloc);
-    let behind = count.saturating_sub(999);
-    add_rows(&mut table, 0, behind)?;
-    for number in behind..count {
+    let single = count.saturating_sub(999);
+    add_rows(&mut table, 0, single)?;
+    for number in single..count {
         add_batch(&mut table, number, 1)?;
     }
     Ok(table)
 }
 
-/// Copies of a table of so many rows, to which nothing was added since.
+/// Measures copies of a table of so many rows, to which nothing is added.
 fn copies(rt: &HostRuntime, count: u64) -> Result<()> {
     let mut table = filled(rt.alloc(), count)?;
     let start = now(rt)?;
     for _ in 0..TURNS {
         black_box(table.share()?);
     }
-    let time = now(rt)?.saturating_sub(start);
+    let time = since(rt, start)?;
     eprintln!(rt; "a copy of {count} rows: {} ns", each(time, TURNS))?;
     Ok(())
 }
 
-/// A table of so many rows, all in one segment.
+/// Returns a table of so many rows in one segment.
 fn one_segment(alloc: Global, count: u64) -> Result<Table<Row>> {
     let mut table = Table::new(alloc);
     add_rows(&mut table, 0, count)?;
     Ok(table)
 }
 
-/// A table of pointers to so many rows.
+/// Returns a table of pointers to so many rows.
 fn behind_pointers(alloc: Global, count: u64) -> Result<Table<Shared<Row>>> {
     let mut table = Table::new(alloc);
     for number in 0..count {
@@ -235,7 +232,7 @@ fn insert(map: &mut IndexMap<Id, Row>, number: u64, row: Row) -> Result<()> {
     Ok(())
 }
 
-/// A plain map of so many rows.
+/// Returns a plain map of so many rows.
 fn plain_map(alloc: Global, count: u64) -> Result<IndexMap<Id, Row>> {
     let mut map = IndexMap::new(alloc);
     for number in 0..count {
@@ -244,7 +241,7 @@ fn plain_map(alloc: Global, count: u64) -> Result<IndexMap<Id, Row>> {
     Ok(map)
 }
 
-/// Looks up scattered ids of so many rows, and reads of each the number that stands in the row, and a byte of the payload.
+/// Measures look-ups in a plain map and three tables of so many rows.
 fn look_ups(rt: &HostRuntime, count: u64) -> Result<()> {
     let alloc = rt.alloc();
     look_up(rt, "a plain map", count, &plain_map(alloc, count)?)?;
@@ -294,7 +291,7 @@ impl Rows for Table<Shared<Row>> {
     }
 }
 
-/// Times one kind of look-up.
+/// Measures look-ups of scattered ids, which read the row's number or a byte of its payload.
 fn look_up<R: Rows>(rt: &HostRuntime, name: &str, count: u64, rows: &R) -> Result<()> {
     let start = now(rt)?;
     let mut sum = 0u64;
@@ -319,16 +316,17 @@ fn look_up<R: Rows>(rt: &HostRuntime, name: &str, count: u64, rows: &R) -> Resul
     Ok(())
 }
 
-fn main(rt: HostRuntime) -> Result<()> {
-    clock(&rt)?;
+/// Measures growing tables, copies of large ones, and look-ups.
+pub fn measure_segments(rt: &HostRuntime) -> Result<()> {
+    clock(rt)?;
     for batches in [1, 1_000, 100_000] {
-        grow(&rt, 100_000, batches)?;
+        grow(rt, 100_000, batches)?;
     }
     for count in [1_000, 100_000, 1_000_000] {
-        copies(&rt, count)?;
+        copies(rt, count)?;
     }
     for count in [1_000, 100_000] {
-        look_ups(&rt, count)?;
+        look_ups(rt, count)?;
     }
     Ok(())
 }
