@@ -1,10 +1,6 @@
 //! Audits of what was drawn by lot: callers note what the world says, and a mount that stores its history is audited by that.
 
-use crate::imports::Roots;
-use crate::lot::Lot;
-use crate::outcomes::Outcomes;
-use crate::stores::{Commits, family};
-use eden_accumulate::Mount;
+use crate::comparing::Pair;
 use eden_audit::{Answer, AuditFault, Audited, Call, CallLog, LogEntry, audit};
 use eden_history::{Change, ChangeFault};
 use eden_ids::{GitNaming, Id, Sequence};
@@ -14,6 +10,7 @@ use eden_world::World;
 use std::alloc::Global;
 use std::process::Abort;
 use std::test::Fail;
+use test_kit::{Commits, Lot, Outcomes, Roots, family};
 
 /// How many callers there are.
 const CALLERS: u64 = 3;
@@ -29,10 +26,11 @@ struct Scribes {
 impl Scribes {
     /// Of a commit, with a journal of this limit. Nothing is noted yet.
     fn opened(alloc: Global, commits: &mut Commits<4>, limit: u64) -> Result<Scribes, Fail> {
-        let mount = Mount::mount(alloc, commits.store.share()?, commits.ids[2], 7, limit)?;
-        let world = World::mount(alloc, commits.store.share()?, commits.ids[2], 7, limit)?;
+        let pair = Pair::mounted(alloc, &mut commits.store, commits.ids[2], limit)?;
+        let Pair { mount, world } = pair;
+        let audited = Audited::new(alloc, mount)?;
         Ok(Scribes {
-            audited: Audited::new(alloc, mount)?,
+            audited,
             world,
             notes: Vec::new(alloc),
         })
@@ -57,7 +55,8 @@ impl Scribes {
         outcomes: &mut Outcomes,
     ) -> Result<(), Fail> {
         let caller = lot.below(3) as u64;
-        let change = lot.change(alloc, roots, self.world.now())?;
+        let now = self.world.now();
+        let change = lot.change(alloc, roots, now.generation(), now.files())?;
         let _ = self.audited.apply(caller, &change)?;
         let told = self.world.apply(&change)?;
         outcomes.count(&change, &told, roots);
@@ -183,9 +182,26 @@ impl Scribes {
         }
         Ok(None)
     }
+
+    /// Checks that what the callers note of thirty changes, and of what they ask in between, agrees with the history; and that nothing else may
+    /// be noted of an import.
+    fn agree(
+        &mut self,
+        rt: &impl Abort,
+        alloc: Global,
+        seed: u64,
+        first: &[Id; 4],
+        outcomes: &mut Outcomes,
+    ) -> Result<(), Fail> {
+        self.go_on(alloc, seed, first, outcomes)?;
+        assert!(rt; self.said(alloc, None)? == Ok(()), "seed {seed}");
+        let untold = self.untold(alloc)?;
+        assert!(rt; untold.is_none(), "seed {seed}, ticket {untold:?}");
+        Ok(())
+    }
 }
 
-/// What the callers note of thirty changes, and of what they ask in between, agrees with the history; and nothing else is said of an import.
+/// So it is of one seed.
 fn audit_alike(
     rt: &impl Abort,
     alloc: Global,
@@ -194,10 +210,16 @@ fn audit_alike(
     outcomes: &mut Outcomes,
 ) -> Result<(), Fail> {
     let mut scribes = Scribes::opened(alloc, commits, 400)?;
-    scribes.go_on(alloc, seed, &commits.ids, outcomes)?;
-    assert!(rt; scribes.said(alloc, None)? == Ok(()), "seed {seed}");
-    let untold = scribes.untold(alloc)?;
-    assert!(rt; untold.is_none(), "seed {seed}, ticket {untold:?}");
+    scribes.agree(rt, alloc, seed, &commits.ids, outcomes)
+}
+
+/// So it is of each seed, and what comes of the changes is of each kind.
+fn all_audited(rt: &impl Abort, alloc: Global, commits: &mut Commits<4>) -> Result<(), Fail> {
+    let mut outcomes = Outcomes::default();
+    for seed in 0..12_u64 {
+        audit_alike(rt, alloc, commits, seed, &mut outcomes)?;
+    }
+    assert!(rt; outcomes.has_all(), "{outcomes:?}");
     Ok(())
 }
 
@@ -205,10 +227,5 @@ fn audit_alike(
 fn generated_audits(rt: HostRuntime) -> Result<(), Fail> {
     let alloc = rt.alloc();
     let mut commits = family(alloc)?;
-    let mut outcomes = Outcomes::new();
-    for seed in 0..12_u64 {
-        audit_alike(&rt, alloc, &mut commits, seed, &mut outcomes)?;
-    }
-    assert!(rt; outcomes.has_all(), "{outcomes:?}");
-    Ok(())
+    all_audited(&rt, alloc, &mut commits)
 }

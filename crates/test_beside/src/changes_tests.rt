@@ -6,6 +6,7 @@ use eden_accumulate::Mount;
 use eden_history::{Change, Mode};
 use eden_ids::{GitNaming, Id, Kind, Sequence};
 use std::alloc::Global;
+use std::process::Abort;
 use std::test::Fail;
 use test_kit::path;
 
@@ -104,34 +105,38 @@ fn go_on(alloc: Global, pair: &mut Pair, step: &Step) -> Result<(), Fail> {
     pair.same_files(alloc, step)
 }
 
-#[test]
-fn beside_world(rt: HostRuntime) -> Result<(), Fail> {
-    let alloc = rt.alloc();
-    let mut commits = two_commits(alloc)?;
-    let first = commits.ids[0];
-    let mut pair = Pair::mounted(alloc, &mut commits.store, first, 1000)?;
-    for (number, change) in changes(alloc, &commits.ids)?.iter().enumerate() {
+/// Makes all changes on both, and checks to what the mount comes by them.
+fn go_through(
+    rt: &impl Abort,
+    alloc: Global,
+    pair: &mut Pair,
+    commits: &[Id; 2],
+) -> Result<(), Fail> {
+    for (number, change) in changes(alloc, commits)?.iter().enumerate() {
         let step = Step {
             seed: 0,
             number,
             change,
         };
-        go_on(alloc, &mut pair, &step)?;
+        go_on(alloc, pair, &step)?;
     }
-    assert!(rt; extent(&pair.mount) == (1, 3, 2));
-    assert!(rt; pair.mount.work().root() == commits.ids[1]);
+    assert_eq!(rt; extent(&pair.mount), (1, 3, 2));
+    assert_eq!(rt; pair.mount.work().root(), commits[1]);
     Ok(())
 }
 
-// Few files are shared here, so that the plain, slow program can say the same.
 #[test]
-fn checkout_of_small_subtrees(rt: HostRuntime) -> Result<(), Fail> {
+fn beside_world(rt: HostRuntime) -> Result<(), Fail> {
     let alloc = rt.alloc();
-    let mut commits = sharing(alloc, 3)?;
-    let first = commits.ids[0];
-    let mut pair = Pair::mounted(alloc, &mut commits.store, first, 1000)?;
+    let mut commits = two_commits(alloc)?;
+    let mut pair = Pair::mounted(alloc, &mut commits.store, commits.ids[0], 1000)?;
+    go_through(&rt, alloc, &mut pair, &commits.ids)
+}
+
+/// Both go over to a commit, and say the same of what changed.
+fn go_over(alloc: Global, pair: &mut Pair, commit: Id) -> Result<(), Fail> {
     let change = Change::Checkout {
-        commit: commits.ids[1],
+        commit,
         mode: Mode::Normal,
     };
     let step = Step {
@@ -141,4 +146,13 @@ fn checkout_of_small_subtrees(rt: HostRuntime) -> Result<(), Fail> {
     };
     let _ = pair.apply(&step)?;
     pair.same_past(alloc, &step)
+}
+
+// Few files are shared here, so that the plain, slow program can say the same.
+#[test]
+fn checkout_of_small_subtrees(rt: HostRuntime) -> Result<(), Fail> {
+    let alloc = rt.alloc();
+    let mut commits = sharing(alloc, 3)?;
+    let mut pair = Pair::mounted(alloc, &mut commits.store, commits.ids[0], 1000)?;
+    go_over(alloc, &mut pair, commits.ids[1])
 }

@@ -1,15 +1,17 @@
 //! A mount and a world side by side, and what each of them says.
 
-use crate::seen::{read, seen};
 use eden_accumulate::{Mount, expand};
 use eden_globs::Filter;
 use eden_history::{Answer, Change, Marked, Position, SinceFault};
-use eden_ids::{Content, GitNaming, Id, Path, PathTable, Sequence};
+use eden_ids::{Content, GitNaming, Id, Kind, Path, PathTable, Sequence};
 use eden_objects::Store;
 use eden_world::World;
 use std::alloc::Global;
 use std::fmt::Debug;
 use std::test::Fail;
+
+/// The limits of journals over which a mount and a world are compared: of none, of few and of all of their changes.
+pub(crate) const LIMITS: &[u64] = &[0, 150, 400, 2000, 1_000_000];
 
 /// The change that both made last, and where it stands among those of its lot.
 #[derive(Clone, Copy)]
@@ -60,12 +62,17 @@ fn differing(
 }
 
 /// The paths of the files that a mount lists.
-fn listed(alloc: Global, mount: &Mount<GitNaming>) -> Result<Vec<Path>, Fail> {
+pub(crate) fn listed(alloc: Global, mount: &Mount<GitNaming>) -> Result<Vec<Path>, Fail> {
     Ok(mount.snapshot()?.files(mount.store(), &Filter::all(alloc))?)
 }
 
 /// Paths with their marks, and directories.
 type Told = (Sequence<Marked>, Sequence<Path>);
+
+/// The kind and the bytes of a file.
+fn seen(file: &Content) -> (Kind, &[u8]) {
+    (file.kind, file.bytes.as_slice())
+}
 
 /// A mount and a world over copies of one store.
 #[derive(Drop)]
@@ -74,18 +81,28 @@ pub(crate) struct Pair {
     pub(crate) world: World<GitNaming>,
 }
 
+/// Makes a mount of a commit, in generation 7, with a journal of this limit.
+pub(crate) fn mounted(
+    alloc: Global,
+    store: &mut Store<GitNaming>,
+    root: Id,
+    limit: u64,
+) -> Result<Mount<GitNaming>, Fail> {
+    let store = store.share()?;
+    Ok(Mount::mount(alloc, store, root, 7, limit)?)
+}
+
 impl Pair {
-    /// Both of a commit, in generation 7, with a journal of this limit.
+    /// Makes both of a commit, in generation 7, with a journal of this limit.
     pub(crate) fn mounted(
         alloc: Global,
         store: &mut Store<GitNaming>,
         root: Id,
         limit: u64,
     ) -> Result<Pair, Fail> {
-        Ok(Pair {
-            mount: Mount::mount(alloc, store.share()?, root, 7, limit)?,
-            world: World::mount(alloc, store.share()?, root, 7, limit)?,
-        })
+        let world = World::mount(alloc, store.share()?, root, 7, limit)?;
+        let mount = mounted(alloc, store, root, limit)?;
+        Ok(Pair { mount, world })
     }
 
     /// Makes the change on both: they answer alike.
@@ -98,8 +115,8 @@ impl Pair {
 
     /// Both have the same file at a path.
     fn same_file(&self, step: &Step, path: &Path) -> Result<(), Fail> {
-        let expected = seen(file(&self.world, path));
-        step.alike((path, read(&self.mount, path)), (path, expected))
+        let expected = file(&self.world, path).map(seen);
+        step.alike((path, self.mount.read(path).ok()), (path, expected))
     }
 
     /// The mount lists just the world's files, and reads each of them.
@@ -118,10 +135,15 @@ impl Pair {
         Ok(World::mount(alloc, store, self.mount.work().root(), 1, 0)?)
     }
 
+    /// The paths on which the world differs from a world of the mount's root.
+    fn differing(&mut self, alloc: Global) -> Result<Vec<Path>, Fail> {
+        let clean = self.clean(alloc)?;
+        differing(alloc, &self.world, &clean)
+    }
+
     /// Just the paths on which the world differs from a world of its root are dirty.
     pub(crate) fn same_dirty(&mut self, alloc: Global, step: &Step) -> Result<(), Fail> {
-        let clean = self.clean(alloc)?;
-        let expected = differing(alloc, &self.world, &clean)?;
+        let expected = self.differing(alloc)?;
         let dirty = self.mount.work().dirty(self.mount.store())?;
         step.alike(dirty.as_slice(), expected.as_slice())
     }

@@ -1,10 +1,12 @@
 //! Filters beside a plain matcher, which tries each way in which a path may match a pattern.
 
-use crate::lot::Lot;
+use crate::patterns::{long_path, pattern};
 use eden_globs::Filter;
 use eden_ids::Path;
 use std::alloc::Global;
+use std::process::Abort;
 use std::test::Fail;
+use test_kit::Lot;
 
 /// Whether a name matches a part of a pattern.
 fn is_named(part: &[u8], name: &[u8]) -> bool {
@@ -158,20 +160,24 @@ fn known_pairs(rt: HostRuntime) -> Result<(), Fail> {
     Ok(())
 }
 
-#[test]
-fn generated_pairs(rt: HostRuntime) -> Result<(), Fail> {
-    let alloc = rt.alloc();
-    let mut lot = Lot::new(1);
+/// Draws two thousand pairs, at each of which the filter says what the plain matcher says. Returns how many of them are admitted.
+fn admitted_pairs(rt: &impl Abort, alloc: Global, lot: &mut Lot) -> Result<u32, Fail> {
     let mut admitted = 0;
     for pair in 0..2000_u32 {
-        let pattern = lot.pattern(alloc)?;
-        let path = lot.long_path(alloc)?;
+        let pattern = pattern(alloc, lot)?;
+        let path = long_path(alloc, lot)?;
         let same = same_answers(alloc, pattern.as_slice(), &path)?;
         assert!(rt; same, "pair {pair}: {pattern:?} at {path:?}");
         if is_admitted(alloc, pattern.as_slice(), &path)? {
             admitted = pair.min(admitted) + 1;
         }
     }
+    Ok(admitted)
+}
+
+#[test]
+fn generated_pairs(rt: HostRuntime) -> Result<(), Fail> {
+    let admitted = admitted_pairs(&rt, rt.alloc(), &mut Lot::new(1))?;
     assert!(rt; admitted > 100, "{admitted} pairs are admitted");
     Ok(())
 }

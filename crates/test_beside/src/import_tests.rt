@@ -6,6 +6,7 @@ use eden_ids::{Id, Sequence};
 use eden_objects::{Object, PutFault, Store, Word};
 use eden_world::World;
 use std::alloc::Global;
+use std::process::Abort;
 use std::test::Fail;
 use test_kit::FirstByte;
 
@@ -31,9 +32,8 @@ struct Colliding {
 
 impl Colliding {
     fn opened(alloc: Global) -> Result<Colliding, Fail> {
-        let mut store = Store::new(alloc, FirstByte);
-        let world = World::mount(alloc, store.share()?, Id::ZERO, 7, 1000)?;
-        let mount = Mount::mount(alloc, store, Id::ZERO, 7, 1000)?;
+        let world = World::mount(alloc, Store::new(alloc, FirstByte), Id::ZERO, 7, 1000)?;
+        let mount = Mount::mount(alloc, Store::new(alloc, FirstByte), Id::ZERO, 7, 1000)?;
         Ok(Colliding { mount, world })
     }
 
@@ -89,22 +89,27 @@ impl Colliding {
             && self.mount.position() == at
             && self.world.position() == at
     }
+
+    /// Imports one row after another, by a change and by a call, and checks what comes of it.
+    fn import_all(&mut self, rt: &impl Abort, alloc: Global) -> Result<(), Fail> {
+        let opening = Position {
+            generation: 7,
+            sequence: 1,
+            root: Id::ZERO,
+        };
+        for (texts, refusal, file) in IMPORTS {
+            let answer = answer_of(opening, *refusal);
+            assert!(rt; self.import(alloc, texts)? == answer, "{texts:?}");
+            assert!(rt; self.call(alloc, texts)? == answer, "{texts:?}");
+            assert!(rt; self.has(opening, *file), "{texts:?}");
+        }
+        Ok(())
+    }
 }
 
 #[test]
 fn import_refusals(rt: HostRuntime) -> Result<(), Fail> {
     let alloc = rt.alloc();
-    let opening = Position {
-        generation: 7,
-        sequence: 1,
-        root: Id::ZERO,
-    };
     let mut both = Colliding::opened(alloc)?;
-    for (texts, refusal, file) in IMPORTS {
-        let answer = answer_of(opening, *refusal);
-        assert!(rt; both.import(alloc, texts)? == answer, "{texts:?}");
-        assert!(rt; both.call(alloc, texts)? == answer, "{texts:?}");
-        assert!(rt; both.has(opening, *file), "{texts:?}");
-    }
-    Ok(())
+    both.import_all(&rt, alloc)
 }

@@ -1,7 +1,8 @@
 //! Which positions a mount has had, and what stood where then.
 
 use eden_history::{Answer, Change, Position};
-use eden_ids::{Content, Files, GitNaming, Path};
+use eden_ids::{Content, Files, GitNaming, Id, Path};
+use eden_objects::Store;
 use eden_world::{Row, World};
 use std::alloc::Global;
 use std::test::Fail;
@@ -27,11 +28,21 @@ fn moment_of(world: &World<GitNaming>) -> Result<Moment, Fail> {
     Ok(Moment { position, files })
 }
 
+/// What the world is now, as the first of its moments.
+fn first_moments(alloc: Global, world: &World<GitNaming>) -> Result<Vec<Moment>, Fail> {
+    Ok(vec![in alloc; moment_of(world)?]?)
+}
+
 impl Past {
-    /// Of a world that was just mounted.
-    pub(crate) fn opened(alloc: Global, world: World<GitNaming>) -> Result<Past, Fail> {
-        let mut moments = Vec::new(alloc);
-        moments.push(moment_of(&world)?)?;
+    /// Of a world of a commit, in generation 7, with a journal of this limit.
+    pub(crate) fn mounted(
+        alloc: Global,
+        store: Store<GitNaming>,
+        root: Id,
+        limit: u64,
+    ) -> Result<Past, Fail> {
+        let world = World::mount(alloc, store, root, 7, limit)?;
+        let moments = first_moments(alloc, &world)?;
         Ok(Past { world, moments })
     }
 

@@ -1,12 +1,11 @@
 //! Schedules drawn by lot.
 
-use crate::imports::Roots;
-use crate::lot::Lot;
 use crate::scene::{Scene, Step};
 use eden_globs::Filter;
 use eden_messages::{Query, Request};
 use std::alloc::Global;
 use std::test::Fail;
+use test_kit::{Lot, Roots};
 
 /// Which steps come next follows from the seed and from what has happened so far. Mostly something goes on: the next reply comes, the next
 /// request is served, or a mirror begins a round or sends what it asks. In between anything else happens.
@@ -114,8 +113,12 @@ impl ScheduleLot {
         scene: &Scene,
     ) -> Result<Step, Fail> {
         let mirror = self.any(scene.followers.len());
+        let now = scene.now();
         Ok(match self.lot.below(40) {
-            0..=5 => Step::Change(self.lot.change(alloc, roots, scene.now())?),
+            0..=5 => Step::Change(
+                self.lot
+                    .change(alloc, roots, now.generation(), now.files())?,
+            ),
             6 => Step::Refilter(mirror, self.filter(alloc)?),
             7 => Step::Restart(mirror, self.filter(alloc)?),
             8 => Step::Strange(self.strange(alloc, scene)?),

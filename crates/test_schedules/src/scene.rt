@@ -1,21 +1,18 @@
 //! A mount, mirrors of it, and every frame that was ever sent between them.
 
 use crate::frames::{asked, replied, reply_in, served};
-use crate::imports::Roots;
-use crate::lot::PATHS;
-use crate::outcomes::Outcomes;
 use crate::past::Past;
-use crate::seen::{read, seen};
 use eden_accumulate::Mount;
 use eden_globs::Filter;
 use eden_history::{Change, Marked, Position, SinceFault};
-use eden_ids::{Content, GitNaming, Path};
+use eden_ids::{Content, GitNaming, Id, Path};
 use eden_messages::{Cause, Outcome, Query, Reply, Request};
 use eden_mirror::Mirror;
-use eden_world::{Row, World};
+use eden_objects::Store;
+use eden_world::Row;
 use std::alloc::Global;
 use std::test::Fail;
-use test_kit::path;
+use test_kit::{LOT_PATHS, Outcomes, Roots, path};
 
 /// One thing that happens. Mirrors, requests and replies are told by their place among those that there are.
 #[derive(Debug, Drop)]
@@ -60,7 +57,7 @@ pub(crate) struct Follower {
 /// In how many states, after a step, a mirror had a place, had one at the head, held something else than the working copy, and then was
 /// refused what changed since or was told it by a list; how often two mirrors at the head held the same file; how often one took a list of
 /// the files below a directory, and one of none; and what became of imports and of renames of directories.
-#[derive(Clone, Copy, Debug, PartialEq)]
+#[derive(Clone, Copy, Debug, Default)]
 pub(crate) struct Tally {
     placed: u64,
     at_head: u64,
@@ -108,6 +105,14 @@ fn is_covered(mount: &Mount<GitNaming>, place: &Position, behind: &[Path]) -> Re
     }
 }
 
+/// Whether a mount reads this at a path.
+fn reads(mount: &Mount<GitNaming>, path: &Path, file: Option<&Content>) -> bool {
+    match (mount.read(path), file) {
+        (Ok((kind, bytes)), Some(file)) => kind == file.kind && bytes == file.bytes.as_slice(),
+        (read, file) => read.is_err() && file.is_none(),
+    }
+}
+
 /// What the mount replies, over bytes, to a poll since a place.
 fn polled(
     alloc: Global,
@@ -135,21 +140,6 @@ fn count(number: &mut u64, so: bool) {
 }
 
 impl Tally {
-    /// None yet.
-    pub(crate) fn new() -> Tally {
-        Tally {
-            placed: 0,
-            at_head: 0,
-            behind: 0,
-            refused: 0,
-            told: 0,
-            together: 0,
-            listed: 0,
-            emptied: 0,
-            outcomes: Outcomes::new(),
-        }
-    }
-
     /// Whether there was some of each, but for lists that told a mirror what it lacks: over a journal that holds nothing there is none.
     pub(crate) fn has_all(&self) -> bool {
         self.placed > 0
@@ -211,7 +201,7 @@ impl Follower {
     ) -> Result<Vec<Path>, Fail> {
         let mut list = Vec::new(alloc);
         for path in paths {
-            if self.wants(path) && seen(self.held(path)) != read(mount, path) {
+            if self.wants(path) && !reads(mount, path, self.held(path)) {
                 list.push(path.copy()?)?;
             }
         }
@@ -254,7 +244,7 @@ impl Follower {
     fn as_many(&self, mount: &Mount<GitNaming>, paths: &[Path]) -> Result<bool, Fail> {
         let wanted = paths
             .iter()
-            .filter(|path| self.wants(path) && read(mount, path).is_some())
+            .filter(|path| self.wants(path) && mount.read(path).is_ok())
             .count();
         Ok(self.mirror.files()?.len() == wanted)
     }
@@ -271,32 +261,50 @@ pub(crate) struct Scene {
     pub(crate) replies: Vec<Sent>,
 }
 
+/// A mount of a commit, in generation 7.
+fn mounted(
+    alloc: Global,
+    store: &mut Store<GitNaming>,
+    root: Id,
+    limit: u64,
+) -> Result<Mount<GitNaming>, Fail> {
+    let store = store.share()?;
+    Ok(Mount::mount(alloc, store, root, 7, limit)?)
+}
+
 impl Scene {
-    /// A mount, the world for which it stands, and a mirror for each filter, with nothing sent.
-    pub(crate) fn fresh(
+    /// A mount of a commit, in generation 7 and with a journal of this limit, and the world for which it stands; no mirror, and nothing sent.
+    pub(crate) fn mounted(
         alloc: Global,
-        mount: Mount<GitNaming>,
-        world: World<GitNaming>,
-        filters: Vec<Filter>,
+        store: &mut Store<GitNaming>,
+        root: Id,
+        limit: u64,
     ) -> Result<Scene, Fail> {
-        let mut followers = Vec::new(alloc);
-        let mut id = 0u64;
-        for filter in filters {
-            followers.push(Follower::new(alloc, id, 1, filter)?)?;
-            id = id.saturating_add(1);
-        }
-        let mut paths = Vec::new(alloc);
-        for text in PATHS {
-            paths.push(path(alloc, text)?)?;
-        }
+        let past = Past::mounted(alloc, store.share()?, root, limit)?;
+        let mount = mounted(alloc, store, root, limit)?;
         Ok(Scene {
-            paths,
-            past: Past::opened(alloc, world)?,
+            paths: Vec::new(alloc),
+            past,
             mount,
-            followers,
+            followers: Vec::new(alloc),
             sent: Vec::new(alloc),
             replies: Vec::new(alloc),
         })
+    }
+
+    /// Adds the paths that are drawn by lot.
+    pub(crate) fn add_paths(&mut self, alloc: Global) -> Result<(), Fail> {
+        for text in LOT_PATHS {
+            self.paths.push(path(alloc, text)?)?;
+        }
+        Ok(())
+    }
+
+    /// Adds a mirror in its first life, with the next id.
+    pub(crate) fn add_follower(&mut self, alloc: Global, filter: Filter) -> Result<(), Fail> {
+        let id = self.followers.len() as u64;
+        self.followers.push(Follower::new(alloc, id, 1, filter)?)?;
+        Ok(())
     }
 
     /// What the world is now.
