@@ -1,4 +1,4 @@
-//! Audits of what was drawn by lot: callers note what the world says, and a mount that stores its history is audited by that.
+//! Audits of what was drawn by lot: callers note what the world answers, and a mount that stores its history is audited by that.
 
 use crate::comparing::Pair;
 use eden_audit::{Answer, AuditFault, Audited, Call, CallLog, LogEntry, audit};
@@ -24,7 +24,7 @@ struct Scribes {
 }
 
 impl Scribes {
-    /// Of a commit, with a journal of this limit. Nothing is noted yet.
+    /// Mounts the third commit with a journal of this limit. Nothing is noted yet.
     fn opened(alloc: Global, commits: &mut Commits<4>, limit: u64) -> Result<Scribes, Fail> {
         let pair = Pair::mounted(alloc, &mut commits.store, commits.ids[2], limit)?;
         let Pair { mount, world } = pair;
@@ -46,7 +46,7 @@ impl Scribes {
         Ok(self.notes.push((caller, entry))?)
     }
 
-    /// A caller makes a change drawn by lot.
+    /// Makes a change drawn by lot, as one of the callers.
     fn change(
         &mut self,
         alloc: Global,
@@ -63,7 +63,7 @@ impl Scribes {
         self.note(caller, Call::Change(change), Answer::from(told))
     }
 
-    /// A caller asks for a basis, a poll, a fetch and a list.
+    /// Asks for a basis, a poll, a fetch and a list, as one of the callers.
     fn ask(&mut self, alloc: Global, lot: &mut Lot) -> Result<(), Fail> {
         let caller = lot.below(3) as u64;
         let query = Query {
@@ -84,7 +84,7 @@ impl Scribes {
         self.note(caller, Call::Ask(request), Answer::Replied(reply))
     }
 
-    /// The log of a caller, with this entry in place of the one under the same ticket.
+    /// Returns the log of a caller, with this entry in place of its ticket's.
     fn log(&self, alloc: Global, caller: u64, other: Option<&LogEntry>) -> Result<CallLog, Fail> {
         let mut entries = Vec::new(alloc);
         for (by, entry) in &self.notes {
@@ -96,7 +96,7 @@ impl Scribes {
         Ok(CallLog { caller, entries })
     }
 
-    /// What an audit says of all that is noted, with this entry in place of the one under the same ticket.
+    /// Audits all that is noted, with this entry in place of its ticket's.
     fn said(
         &mut self,
         alloc: Global,
@@ -109,7 +109,7 @@ impl Scribes {
         Ok(audit(alloc, &mut self.audited, logs.as_slice()))
     }
 
-    /// For each import another answer and another call, and what is wrong with them.
+    /// Returns another answer and another call of each import, and their faults.
     fn wrong(&self, alloc: Global) -> Result<Vec<(LogEntry, AuditFault)>, Fail> {
         let mut wrong = Vec::new(alloc);
         for (_, entry) in &self.notes {
@@ -122,14 +122,14 @@ impl Scribes {
     }
 }
 
-/// The entry with another answer.
+/// Returns the entry with another answer.
 fn otherwise_answered(entry: &LogEntry) -> Result<LogEntry, Fail> {
     let mut other = copy_of(entry)?;
     other.answer = Answer::Refused(ChangeFault::TooLarge);
     Ok(other)
 }
 
-/// The entry with an import of no object as its call.
+/// Returns the entry with an import of no object as its call.
 fn of_nothing(alloc: Global, entry: &LogEntry) -> Result<LogEntry, Fail> {
     let mut other = copy_of(entry)?;
     let objects = Sequence::new(alloc);
@@ -137,7 +137,7 @@ fn of_nothing(alloc: Global, entry: &LogEntry) -> Result<LogEntry, Fail> {
     Ok(other)
 }
 
-/// The entry, or the other one under the same ticket.
+/// Returns the entry, or the other one if it has the same ticket.
 fn chosen<'a>(entry: &'a LogEntry, other: Option<&'a LogEntry>) -> &'a LogEntry {
     match other {
         Some(other) if other.ticket == entry.ticket => other,
@@ -154,7 +154,7 @@ fn copy_of(entry: &LogEntry) -> Result<LogEntry, Fail> {
 }
 
 impl Scribes {
-    /// Makes thirty changes drawn by lot, and asks in between.
+    /// Makes thirty changes that follow from a seed, and asks in between.
     fn go_on(
         &mut self,
         alloc: Global,
@@ -173,7 +173,7 @@ impl Scribes {
         Ok(())
     }
 
-    /// The ticket of an entry with which a wrong one is not told by its name, if there is one.
+    /// Returns the ticket of a wrong entry whose fault the audit does not name, if there is one.
     fn untold(&mut self, alloc: Global) -> Result<Option<u64>, Fail> {
         for (other, fault) in &self.wrong(alloc)? {
             if self.said(alloc, Some(other))? != Err(*fault) {
@@ -183,8 +183,7 @@ impl Scribes {
         Ok(None)
     }
 
-    /// Checks that what the callers note of thirty changes, and of what they ask in between, agrees with the history; and that nothing else may
-    /// be noted of an import.
+    /// Checks that what is noted agrees with the history, and that nothing else may be noted of an import.
     fn agree(
         &mut self,
         rt: &impl Abort,
@@ -201,7 +200,7 @@ impl Scribes {
     }
 }
 
-/// So it is of one seed.
+/// Checks it of the calls that follow from one seed.
 fn audit_alike(
     rt: &impl Abort,
     alloc: Global,
@@ -213,7 +212,7 @@ fn audit_alike(
     scribes.agree(rt, alloc, seed, &commits.ids, outcomes)
 }
 
-/// So it is of each seed, and what comes of the changes is of each kind.
+/// Checks it of each seed, and that each outcome is among those of the changes.
 fn all_audited(rt: &impl Abort, alloc: Global, commits: &mut Commits<4>) -> Result<(), Fail> {
     let mut outcomes = Outcomes::default();
     for seed in 0..12_u64 {

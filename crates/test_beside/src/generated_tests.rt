@@ -7,7 +7,9 @@ use std::process::Abort;
 use std::test::Fail;
 use test_kit::{Commits, Lot, Outcomes, Roots, family};
 
-/// Makes a change on both, and compares them: what they answer, which files they hold, which are dirty, and what they say of the past.
+/// Makes a change on both, and compares them.
+///
+/// Compared are their answers, their files, which of these are dirty, and what changed since each number.
 fn go_on(
     alloc: Global,
     pair: &mut Pair,
@@ -22,7 +24,7 @@ fn go_on(
     pair.same_past(alloc, step)
 }
 
-/// Makes eighty changes on both, which are drawn by this seed.
+/// Makes eighty changes on both, which follow from this seed.
 fn go_through(
     alloc: Global,
     pair: &mut Pair,
@@ -45,7 +47,7 @@ fn go_through(
     Ok(())
 }
 
-/// A mount and a world with this limit go through the same changes alike.
+/// Checks that a mount and a world with this limit go through changes alike.
 fn go_alike(
     alloc: Global,
     commits: &mut Commits<4>,
@@ -56,7 +58,7 @@ fn go_alike(
     go_through(alloc, &mut pair, limit, &commits.ids, outcomes)
 }
 
-/// So they do with each limit, and what comes of the changes is of each kind.
+/// Checks it with each limit, and that each outcome is among those of the changes.
 fn all_alike(rt: &impl Abort, alloc: Global, commits: &mut Commits<4>) -> Result<(), Fail> {
     let mut outcomes = Outcomes::default();
     for limit in LIMITS {

@@ -1,4 +1,4 @@
-//! What a mount replies, to frames and from what it held, beside what the world says.
+//! What a mount replies, to frames and from what it held, beside what the world replies.
 
 use crate::comparing::{LIMITS, Pair, Step};
 use eden_accumulate::Mount;
@@ -14,7 +14,7 @@ use std::process::Abort;
 use std::test::Fail;
 use test_kit::{Commits, Lot, Outcomes, Roots, family};
 
-/// What a mount held for a request, with the objects that it had then, and what it was to reply then.
+/// What a mount held for a request, the objects that it had then, and the right reply.
 #[derive(Drop)]
 struct Held {
     request: Request,
@@ -25,7 +25,9 @@ struct Held {
 }
 
 impl Held {
-    /// That what was held is answered by the right reply, over the objects of then and over those of now.
+    /// Checks that what was held is answered by the right reply.
+    ///
+    /// That is so over the objects of then and over those of now.
     fn keeps(&self, alloc: Global, now: &Store<GitNaming>, step: &Step) -> Result<(), Fail> {
         for store in [&self.store, now] {
             let told = answer(alloc, &self.raw, store, &self.filter)?;
@@ -35,7 +37,7 @@ impl Held {
     }
 }
 
-/// The frames of requests, one after another.
+/// Returns the frames of requests, one after another.
 fn frames_of(alloc: Global, requests: &[Request]) -> Result<Vec<u8>, Fail> {
     let mut frames = Vec::new(alloc);
     for request in requests {
@@ -44,7 +46,7 @@ fn frames_of(alloc: Global, requests: &[Request]) -> Result<Vec<u8>, Fail> {
     Ok(frames)
 }
 
-/// What a mount writes to one stream of requests.
+/// Returns what a mount writes to one stream of requests.
 fn served(
     alloc: Global,
     mount: &mut Mount<GitNaming>,
@@ -65,7 +67,7 @@ fn served(
     Err(Fail::new(format_args!("serving {requests:?} ended {ended:?}")))
 }
 
-/// Reads the first of some frames. Returns its reply, and the frames after it.
+/// Returns the reply in the first of some frames, and the frames after it.
 fn first_reply(alloc: Global, frames: &[u8]) -> Result<(Reply, &[u8]), Fail> {
     let [a, b, c, d, rest @ ..] = frames else {
         return Err(Fail::new("a reply without a length"));
@@ -75,26 +77,6 @@ fn first_reply(alloc: Global, frames: &[u8]) -> Result<(Reply, &[u8]), Fail> {
         (Some(body), Some(rest)) => Ok((decode_reply(alloc, body)?, rest)),
         _ => Err(Fail::new("a reply is cut short")),
     }
-}
-
-/// That the mount replied to a request what the world says; and what it holds for the request.
-fn held_alike(
-    pair: &mut Pair,
-    step: &Step,
-    request: Request,
-    filter: Filter,
-    told: &Reply,
-) -> Result<Held, Fail> {
-    let reply = pair.world.reply(&request)?;
-    step.alike((&request, told), (&request, &reply))?;
-    let (raw, store) = pair.mount.hold(1, &request)?;
-    Ok(Held {
-        request,
-        filter,
-        raw,
-        store,
-        reply,
-    })
 }
 
 /// A mount and a world that reply alike, and what was held after the last of their changes.
@@ -107,7 +89,7 @@ struct Replies {
 }
 
 impl Replies {
-    /// Of the third commit, with a journal of this limit. Nothing is held yet.
+    /// Mounts the third commit with a journal of this limit. Nothing is held yet.
     fn opened(alloc: Global, commits: &mut Commits<4>, limit: u64) -> Result<Replies, Fail> {
         let pair = Pair::mounted(alloc, &mut commits.store, commits.ids[2], limit)?;
         Ok(Replies {
@@ -118,14 +100,14 @@ impl Replies {
         })
     }
 
-    /// The change that both make next.
+    /// Draws the change that both make next.
     fn next_change(&mut self, alloc: Global) -> Result<Change, Fail> {
         let now = self.pair.world.now();
         self.lot
             .change(alloc, &mut self.roots, now.generation(), now.files())
     }
 
-    /// That what was held is still answered as it was to be.
+    /// Checks that all that was held is still answered as it was to be.
     fn keep(&self, alloc: Global, step: &Step) -> Result<(), Fail> {
         for held in &self.kept {
             held.keeps(alloc, self.pair.mount.store(), step)?;
@@ -133,7 +115,7 @@ impl Replies {
         Ok(())
     }
 
-    /// Four requests by a filter.
+    /// Draws four requests by a filter.
     fn draw(&mut self, alloc: Global, step: &Step, filter: &Filter) -> Result<Vec<Request>, Fail> {
         let query = Query {
             mirror: 1,
@@ -144,7 +126,27 @@ impl Replies {
         self.lot.requests(alloc, query, &now, filter)
     }
 
-    /// Compares the replies in these frames, one to each request, and keeps what is held for it.
+    /// Checks that the mount replied to a request what the world replies.
+    fn same_reply(&self, step: &Step, request: &Request, told: &Reply) -> Result<(), Fail> {
+        let reply = self.pair.world.reply(request)?;
+        step.alike((request, told), (request, &reply))
+    }
+
+    /// Holds what the mount has for a request, beside the right reply.
+    fn hold(&mut self, request: &Request, filter: &Filter, reply: Reply) -> Result<Held, Fail> {
+        let filter = filter.copy()?;
+        let asked = request.copy()?;
+        let (raw, store) = self.pair.mount.hold(1, request)?;
+        Ok(Held {
+            request: asked,
+            filter,
+            raw,
+            store,
+            reply,
+        })
+    }
+
+    /// Compares the reply in each of these frames, and keeps what is held for its request.
     fn hold_all(
         &mut self,
         alloc: Global,
@@ -156,15 +158,15 @@ impl Replies {
         let mut rest = frames;
         for request in requests {
             let (told, after) = first_reply(alloc, rest)?;
-            let (request, filter) = (request.copy()?, filter.copy()?);
-            let held = held_alike(&mut self.pair, step, request, filter, &told)?;
+            self.same_reply(step, request, &told)?;
+            let held = self.hold(request, filter, told)?;
             self.kept.push(held)?;
             rest = after;
         }
         step.alike(rest, b"".as_slice())
     }
 
-    /// Asks four requests by a filter drawn by lot, in one stream, and keeps what is held for them.
+    /// Asks four requests in one stream, and keeps what is held for them.
     fn ask(&mut self, alloc: Global, step: &Step) -> Result<(), Fail> {
         let filter = self.lot.filter(alloc)?;
         let requests = self.draw(alloc, step, &filter)?;
@@ -172,7 +174,7 @@ impl Replies {
         self.hold_all(alloc, step, requests.as_slice(), &filter, frames.as_slice())
     }
 
-    /// Makes the change on both, and asks.
+    /// Makes the change on both, asks again what was held, and asks anew.
     fn go_on(&mut self, alloc: Global, step: &Step, outcomes: &mut Outcomes) -> Result<(), Fail> {
         let answer = self.pair.apply(step)?;
         outcomes.count(step.change, &answer, &self.roots);
@@ -183,7 +185,7 @@ impl Replies {
         self.ask(alloc, step)
     }
 
-    /// Makes eighty changes, drawn by the seed, on both.
+    /// Makes eighty changes on both, and names this seed if they differ.
     fn go_through(
         &mut self,
         alloc: Global,
@@ -203,7 +205,9 @@ impl Replies {
     }
 }
 
-/// A mount and a world with this limit reply alike after each change, and from what was held after one of the last four.
+/// Checks that a mount and a world with this limit reply alike after each change.
+///
+/// So does the mount from what it held after one of the last four changes.
 fn reply_alike(
     alloc: Global,
     commits: &mut Commits<4>,
@@ -214,7 +218,7 @@ fn reply_alike(
     replies.go_through(alloc, limit, outcomes)
 }
 
-/// So they do with each limit, and what comes of the changes is of each kind.
+/// Checks it with each limit, and that each outcome is among those of the changes.
 fn all_reply_alike(rt: &impl Abort, alloc: Global, commits: &mut Commits<4>) -> Result<(), Fail> {
     let mut outcomes = Outcomes::default();
     for limit in LIMITS {

@@ -1,4 +1,4 @@
-//! What a mount alone says.
+//! What a mount alone answers.
 
 use crate::comparing::{listed, mounted};
 use crate::stores::{sharing, two_commits};
@@ -13,7 +13,7 @@ use std::process::Abort;
 use std::test::Fail;
 use test_kit::{path, spaced};
 
-/// A mount of a commit at the last number, at which its journal begins.
+/// Mounts a commit at the last number, at which its journal begins.
 fn last(alloc: Global, store: &mut Store<GitNaming>, root: Id) -> Result<Mount<GitNaming>, Fail> {
     let store = store.share()?;
     let work = WorkCopy::new(alloc, &store, root)?;
@@ -21,7 +21,7 @@ fn last(alloc: Global, store: &mut Store<GitNaming>, root: Id) -> Result<Mount<G
     Ok(Mount::from_parts(store, work, journal))
 }
 
-/// A file that no commit has.
+/// Returns a file that no commit has, to be imported.
 fn file(alloc: Global) -> Result<Vec<Object>, Fail> {
     let mut objects = Vec::new(alloc);
     let payload = Sequence::from_vec(b"z".as_slice().to_vec(alloc)?);
@@ -46,7 +46,7 @@ enum Act {
     Remount(u64),
 }
 
-/// Makes a call that changes files. Gives the position, or why it is refused.
+/// Makes a call that changes files. Returns the position, or why it is refused.
 fn change_file(
     alloc: Global,
     mount: &mut Mount<GitNaming>,
@@ -61,7 +61,7 @@ fn change_file(
     })
 }
 
-/// Goes over to a commit. Gives the position, or why that is refused.
+/// Checks out a commit. Returns the position, or why that is refused.
 fn check_out(
     mount: &mut Mount<GitNaming>,
     commit: Id,
@@ -73,7 +73,7 @@ fn check_out(
     }
 }
 
-/// Makes a call. Gives the position, or why it is refused.
+/// Makes a call. Returns the position, or why it is refused.
 fn make(
     alloc: Global,
     mount: &mut Mount<GitNaming>,
@@ -90,7 +90,9 @@ fn make(
     })
 }
 
-/// What is told of a mount at the last number: no file, and no path that changed since; what changed since the fifth number is truncated.
+/// Returns whether a mount at the last number has no file and no change since.
+///
+/// What changed since the fifth number is truncated.
 fn tells_nothing(alloc: Global, mount: &Mount<GitNaming>) -> Result<bool, Fail> {
     let mut place = mount.position();
     let none = mount.changes_since(&place)?.marked.is_empty();
@@ -100,7 +102,7 @@ fn tells_nothing(alloc: Global, mount: &Mount<GitNaming>) -> Result<bool, Fail> 
     Ok(none && files.is_empty() && fault == Some(SinceFault::Truncated(u64::MAX)))
 }
 
-/// Whether a mount reads no file at a path.
+/// Returns whether a mount reads no file at a path.
 fn has_none(alloc: Global, mount: &Mount<GitNaming>, at: &str) -> Result<bool, Fail> {
     Ok(mount.read(&path(alloc, at)?) == Err(ChangeFault::NoEntry))
 }
@@ -123,11 +125,11 @@ fn sequence_exhausted(rt: HostRuntime) -> Result<(), Fail> {
     refuses_write(&rt, alloc, &mut mount)
 }
 
-/// What refuses a call that takes a number, where nothing else does and there is none left.
+/// Why a call is refused that takes a number, if nothing else is wrong and none is left.
 const EXHAUSTED: Option<ChangeFault> = Some(ChangeFault::SequenceExhausted);
 
-/// Calls at the last number, and why they are refused; none where they are made. What stands against a path is told first, and an import
-/// takes no number.
+/// Calls at the last number, and why they are refused; none if they are made. What is wrong with a path is named first. An import takes no
+/// number.
 const AT_LAST: &[(Act, Option<ChangeFault>)] = &[
     (Act::Write("f"), EXHAUSTED),
     (Act::Remove("f"), EXHAUSTED),
@@ -147,7 +149,7 @@ const AT_LAST: &[(Act, Option<ChangeFault>)] = &[
     (Act::Import, None),
 ];
 
-/// Whether a call is refused so, or made, and leaves the mount where it is.
+/// Returns whether a call is refused so, or made, and leaves the position.
 fn stays(
     alloc: Global,
     mount: &mut Mount<GitNaming>,
@@ -164,7 +166,7 @@ fn stays(
     Ok(answer == wanted && mount.position() == now)
 }
 
-/// Checks what each call at the last number is answered, over the first of two commits, and that the next generation begins at 1.
+/// Checks each call at the last number, and that the next generation begins at 1.
 fn stays_at_last(
     rt: &impl Abort,
     alloc: Global,
@@ -193,7 +195,7 @@ fn sequence_exhausted_over_files(rt: HostRuntime) -> Result<(), Fail> {
     stays_at_last(&rt, alloc, &mut mount, &commits.ids)
 }
 
-/// Whether a store has that file, by the id that `git hash-object` gives to its bytes.
+/// Returns whether a store has that file, by the id from `git hash-object`.
 fn has_file(store: &Store<GitNaming>) -> bool {
     match Id::from_hex(b"fa7af8bf5fdd704f73beb3adc5612682a98e1af5".as_slice()) {
         Ok(file) => store.blob(file) == Some(b"z".as_slice()),
@@ -201,7 +203,7 @@ fn has_file(store: &Store<GitNaming>) -> bool {
     }
 }
 
-/// Whether a file of this kind and text stands at a path.
+/// Returns whether a file of this kind and text is at a path.
 fn holds(
     alloc: Global,
     mount: &Mount<GitNaming>,
@@ -218,7 +220,7 @@ fn write_and_import(alloc: Global, mount: &mut Mount<GitNaming>) -> Result<(), F
     Ok(())
 }
 
-/// Whether a file was written to a mount, and not to its copy, which is one number before it.
+/// Returns whether a mount alone has a change that its copy from before lacks.
 fn are_parted(
     alloc: Global,
     before: &Mount<GitNaming>,
@@ -230,7 +232,7 @@ fn are_parted(
     Ok(written && kept && numbers == (1, 2))
 }
 
-/// Changes a mount, and checks that neither the copy from before nor the store that it shares is changed.
+/// Changes a mount, and checks that its copy and the store stay as they were.
 fn part(
     rt: &impl Abort,
     alloc: Global,
@@ -244,7 +246,7 @@ fn part(
     Ok(())
 }
 
-/// Does so with the copy that is made now.
+/// Checks so with a copy that is made now.
 fn part_from_copy(
     rt: &impl Abort,
     alloc: Global,
@@ -263,7 +265,7 @@ fn copies_part(rt: HostRuntime) -> Result<(), Fail> {
     part_from_copy(&rt, alloc, &commits.store, &mut mount)
 }
 
-/// Writes one file to a mount of the first commit, removes another one, and checks what a snapshot lists.
+/// Writes a file and removes another one, and checks what a snapshot lists.
 fn lists_changed(rt: &impl Abort, alloc: Global, mount: &mut Mount<GitNaming>) -> Result<(), Fail> {
     mount.write(&path(alloc, "d/e")?, Kind::Link, b"1".as_slice())?;
     mount.remove(&path(alloc, "a")?)?;
@@ -281,7 +283,7 @@ fn snapshot_lists(rt: HostRuntime) -> Result<(), Fail> {
     lists_changed(&rt, alloc, &mut mount)
 }
 
-/// The checkout that goes over to a commit.
+/// Returns the checkout that goes over to a commit.
 fn checkout_of(commit: Id) -> Change {
     Change::Checkout {
         commit,
@@ -289,7 +291,7 @@ fn checkout_of(commit: Id) -> Change {
     }
 }
 
-/// That it is made, with no conflict.
+/// Returns what it is answered if it is made without a conflict.
 fn made(alloc: Global, commit: Id) -> Answer {
     Answer::Checked {
         position: Position {
@@ -301,7 +303,9 @@ fn made(alloc: Global, commit: Id) -> Answer {
     }
 }
 
-/// Whether what changed is this path alone, which the root named: no file was changed, and no path is unclean.
+/// Returns whether a range is of this path alone, which the root named.
+///
+/// No file was changed, and no path is unclean.
 fn is_of_one(
     alloc: Global,
     store: &Store<GitNaming>,
@@ -318,21 +322,21 @@ fn is_of_one(
     )
 }
 
-/// Whether what changed since a position is `f` alone.
+/// Returns whether `f` alone changed since a position.
 fn names_one(alloc: Global, mount: &Mount<GitNaming>, since: &Position) -> Result<bool, Fail> {
     let path = path(alloc, "f")?;
     let range = mount.range_since(since)?;
     is_of_one(alloc, mount.store(), &range, path)
 }
 
-/// Whether the mount goes over to a commit, with no conflict.
+/// Checks out a commit, and returns whether that was without a conflict.
 fn goes_over(alloc: Global, mount: &mut Mount<GitNaming>, commit: Id) -> Result<bool, Fail> {
     let change = checkout_of(commit);
     let answer = mount.apply(&change)?;
     Ok(answer == made(alloc, commit))
 }
 
-/// Goes over to the second commit, and checks what changed.
+/// Checks out the second commit, and checks what changed.
 fn changes_one(
     rt: &impl Abort,
     alloc: Global,

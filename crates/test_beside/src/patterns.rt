@@ -11,7 +11,7 @@ const PIECES: [&str; 8] = ["a", "b", "ab", "*", "?", "\\*", "**", "a"];
 /// What names are made of.
 const NAMES: [&str; 8] = ["a", "b", "ab", "*", "a", "b", "a", ".b"];
 
-/// Adds one to three of these.
+/// Adds one to three of these pieces.
 fn add_pieces(lot: &mut Lot, text: &mut Vec<u8>, pieces: &[&str; 8]) -> Result<(), Fail> {
     for _ in 0..=lot.below(3) {
         text.extend_from_slice(pieces[lot.below(8)].as_bytes())?;

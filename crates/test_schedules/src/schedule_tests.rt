@@ -7,7 +7,7 @@ use std::alloc::Global;
 use std::test::Fail;
 use test_kit::{Commits, Roots, family};
 
-/// Adds what a schedule begins with: the paths, and three mirrors with filters drawn by lot.
+/// Adds what a schedule begins with: the paths, and three mirrors.
 fn fill(alloc: Global, scene: &mut Scene, lot: &mut ScheduleLot) -> Result<(), Fail> {
     scene.add_paths(alloc)?;
     for _ in 0..3 {
@@ -16,7 +16,7 @@ fn fill(alloc: Global, scene: &mut Scene, lot: &mut ScheduleLot) -> Result<(), F
     Ok(())
 }
 
-/// What is broken after a step, if anything is.
+/// Takes a step. Returns what is broken after it, if anything is.
 fn broken_after(
     alloc: Global,
     scene: &mut Scene,
@@ -31,7 +31,7 @@ fn broken_after(
 /// The number of a step, the step, and what is broken after it.
 type Broken = (u64, Step, &'static str);
 
-/// Takes sixty steps of a schedule, which are drawn by this seed. Returns the first after which something is broken, if there is one.
+/// Takes sixty steps that follow from a seed. Returns the first that breaks something.
 fn take_steps(
     alloc: Global,
     scene: &mut Scene,
@@ -52,7 +52,7 @@ fn take_steps(
     Ok(None)
 }
 
-/// Three mirrors follow a mount of the third commit with this limit, and after each step hold what is promised.
+/// Has three mirrors follow a mount of the third commit. Returns what breaks first.
 fn follow(
     alloc: Global,
     commits: &mut Commits<4>,
@@ -64,7 +64,7 @@ fn follow(
     take_steps(alloc, &mut scene, seed, &commits.ids, tally)
 }
 
-/// Follows forty schedules over these commits.
+/// Checks forty schedules over these commits. Returns what was seen in them.
 fn follow_all(alloc: Global, commits: &mut Commits<4>, limit: u64) -> Result<Tally, Fail> {
     let mut tally = Tally::default();
     for seed in 0..40_u64 {
@@ -78,7 +78,7 @@ fn follow_all(alloc: Global, commits: &mut Commits<4>, limit: u64) -> Result<Tal
     Ok(tally)
 }
 
-/// What is seen in forty schedules with this limit.
+/// Checks forty schedules with this limit. Returns what was seen in them.
 fn follow_forty(alloc: Global, limit: u64) -> Result<Tally, Fail> {
     let mut commits = family(alloc)?;
     follow_all(alloc, &mut commits, limit)
