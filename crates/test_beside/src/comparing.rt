@@ -176,12 +176,7 @@ impl Pair {
     }
 
     /// Checks that both answer the same of what changed since a position.
-    pub(crate) fn same_since(
-        &self,
-        alloc: Global,
-        step: &Step,
-        since: &Position,
-    ) -> Result<(), Fail> {
+    fn same_since(&self, alloc: Global, step: &Step, since: &Position) -> Result<(), Fail> {
         match (self.mount.range_since(since), self.world_since(since)?) {
             (Ok(range), Ok(expected)) => self.same_range(alloc, step, since, &range, &expected),
             (told, expected) => step.alike((since, told.err()), (since, expected.err())),
