@@ -1,10 +1,6 @@
-//! Audits of what was drawn by lot: callers note what the world says, and a mount that stores its history is audited by that.
+//! Audits of what was drawn by lot: callers note what the world answers, and a mount that stores its history is audited by that.
 
-use crate::imports::Roots;
-use crate::lot::Lot;
-use crate::outcomes::Outcomes;
-use crate::stores::{Commits, family};
-use eden_accumulate::Mount;
+use crate::comparing::Pair;
 use eden_audit::{Answer, AuditFault, Audited, Call, CallLog, LogEntry, audit};
 use eden_history::{Change, ChangeFault};
 use eden_ids::{GitNaming, Id, Sequence};
@@ -14,6 +10,7 @@ use eden_world::World;
 use std::alloc::Global;
 use std::process::Abort;
 use std::test::Fail;
+use test_kit::{Commits, Lot, Outcomes, Roots, family};
 
 /// How many callers there are.
 const CALLERS: u64 = 3;
@@ -27,12 +24,13 @@ struct Scribes {
 }
 
 impl Scribes {
-    /// Of a commit, with a journal of this limit. Nothing is noted yet.
+    /// Mounts the third commit with a journal of this limit. Nothing is noted yet.
     fn opened(alloc: Global, commits: &mut Commits<4>, limit: u64) -> Result<Scribes, Fail> {
-        let mount = Mount::mount(alloc, commits.store.share()?, commits.ids[2], 7, limit)?;
-        let world = World::mount(alloc, commits.store.share()?, commits.ids[2], 7, limit)?;
+        let pair = Pair::mounted(alloc, &mut commits.store, commits.ids[2], limit)?;
+        let Pair { mount, world } = pair;
+        let audited = Audited::new(alloc, mount)?;
         Ok(Scribes {
-            audited: Audited::new(alloc, mount)?,
+            audited,
             world,
             notes: Vec::new(alloc),
         })
@@ -48,7 +46,7 @@ impl Scribes {
         Ok(self.notes.push((caller, entry))?)
     }
 
-    /// A caller makes a change drawn by lot.
+    /// Makes a change drawn by lot, as one of the callers.
     fn change(
         &mut self,
         alloc: Global,
@@ -57,14 +55,15 @@ impl Scribes {
         outcomes: &mut Outcomes,
     ) -> Result<(), Fail> {
         let caller = lot.below(3) as u64;
-        let change = lot.change(alloc, roots, self.world.now())?;
+        let now = self.world.now();
+        let change = lot.change(alloc, roots, now.generation(), now.files())?;
         let _ = self.audited.apply(caller, &change)?;
         let told = self.world.apply(&change)?;
         outcomes.count(&change, &told, roots);
         self.note(caller, Call::Change(change), Answer::from(told))
     }
 
-    /// A caller asks for a basis, a poll, a fetch and a list.
+    /// Asks for a basis, a poll, a fetch and a list, as one of the callers.
     fn ask(&mut self, alloc: Global, lot: &mut Lot) -> Result<(), Fail> {
         let caller = lot.below(3) as u64;
         let query = Query {
@@ -85,7 +84,7 @@ impl Scribes {
         self.note(caller, Call::Ask(request), Answer::Replied(reply))
     }
 
-    /// The log of a caller, with this entry in place of the one under the same ticket.
+    /// Returns the log of a caller, with this entry in place of its ticket's.
     fn log(&self, alloc: Global, caller: u64, other: Option<&LogEntry>) -> Result<CallLog, Fail> {
         let mut entries = Vec::new(alloc);
         for (by, entry) in &self.notes {
@@ -97,7 +96,7 @@ impl Scribes {
         Ok(CallLog { caller, entries })
     }
 
-    /// What an audit says of all that is noted, with this entry in place of the one under the same ticket.
+    /// Audits all that is noted, with this entry in place of its ticket's.
     fn said(
         &mut self,
         alloc: Global,
@@ -110,7 +109,7 @@ impl Scribes {
         Ok(audit(alloc, &mut self.audited, logs.as_slice()))
     }
 
-    /// For each import another answer and another call, and what is wrong with them.
+    /// Returns another answer and another call of each import, and their faults.
     fn wrong(&self, alloc: Global) -> Result<Vec<(LogEntry, AuditFault)>, Fail> {
         let mut wrong = Vec::new(alloc);
         for (_, entry) in &self.notes {
@@ -123,14 +122,14 @@ impl Scribes {
     }
 }
 
-/// The entry with another answer.
+/// Returns the entry with another answer.
 fn otherwise_answered(entry: &LogEntry) -> Result<LogEntry, Fail> {
     let mut other = copy_of(entry)?;
     other.answer = Answer::Refused(ChangeFault::TooLarge);
     Ok(other)
 }
 
-/// The entry with an import of no object as its call.
+/// Returns the entry with an import of no object as its call.
 fn of_nothing(alloc: Global, entry: &LogEntry) -> Result<LogEntry, Fail> {
     let mut other = copy_of(entry)?;
     let objects = Sequence::new(alloc);
@@ -138,7 +137,7 @@ fn of_nothing(alloc: Global, entry: &LogEntry) -> Result<LogEntry, Fail> {
     Ok(other)
 }
 
-/// The entry, or the other one under the same ticket.
+/// Returns the entry, or the other one if it has the same ticket.
 fn chosen<'a>(entry: &'a LogEntry, other: Option<&'a LogEntry>) -> &'a LogEntry {
     match other {
         Some(other) if other.ticket == entry.ticket => other,
@@ -155,7 +154,7 @@ fn copy_of(entry: &LogEntry) -> Result<LogEntry, Fail> {
 }
 
 impl Scribes {
-    /// Makes thirty changes drawn by lot, and asks in between.
+    /// Makes thirty changes that follow from a seed, and asks in between.
     fn go_on(
         &mut self,
         alloc: Global,
@@ -174,7 +173,7 @@ impl Scribes {
         Ok(())
     }
 
-    /// The ticket of an entry with which a wrong one is not told by its name, if there is one.
+    /// Returns the ticket of a wrong entry whose fault the audit does not name, if there is one.
     fn untold(&mut self, alloc: Global) -> Result<Option<u64>, Fail> {
         for (other, fault) in &self.wrong(alloc)? {
             if self.said(alloc, Some(other))? != Err(*fault) {
@@ -183,9 +182,25 @@ impl Scribes {
         }
         Ok(None)
     }
+
+    /// Checks that what is noted agrees with the history, and that nothing else may be noted of an import.
+    fn agree(
+        &mut self,
+        rt: &impl Abort,
+        alloc: Global,
+        seed: u64,
+        first: &[Id; 4],
+        outcomes: &mut Outcomes,
+    ) -> Result<(), Fail> {
+        self.go_on(alloc, seed, first, outcomes)?;
+        assert!(rt; self.said(alloc, None)? == Ok(()), "seed {seed}");
+        let untold = self.untold(alloc)?;
+        assert!(rt; untold.is_none(), "seed {seed}, ticket {untold:?}");
+        Ok(())
+    }
 }
 
-/// What the callers note of thirty changes, and of what they ask in between, agrees with the history; and nothing else is said of an import.
+/// Checks it of the calls that follow from one seed.
 fn audit_alike(
     rt: &impl Abort,
     alloc: Global,
@@ -194,10 +209,16 @@ fn audit_alike(
     outcomes: &mut Outcomes,
 ) -> Result<(), Fail> {
     let mut scribes = Scribes::opened(alloc, commits, 400)?;
-    scribes.go_on(alloc, seed, &commits.ids, outcomes)?;
-    assert!(rt; scribes.said(alloc, None)? == Ok(()), "seed {seed}");
-    let untold = scribes.untold(alloc)?;
-    assert!(rt; untold.is_none(), "seed {seed}, ticket {untold:?}");
+    scribes.agree(rt, alloc, seed, &commits.ids, outcomes)
+}
+
+/// Checks it of each seed, and that each outcome is among those of the changes.
+fn all_audited(rt: &impl Abort, alloc: Global, commits: &mut Commits<4>) -> Result<(), Fail> {
+    let mut outcomes = Outcomes::default();
+    for seed in 0..12_u64 {
+        audit_alike(rt, alloc, commits, seed, &mut outcomes)?;
+    }
+    assert!(rt; outcomes.has_all(), "{outcomes:?}");
     Ok(())
 }
 
@@ -205,10 +226,5 @@ fn audit_alike(
 fn generated_audits(rt: HostRuntime) -> Result<(), Fail> {
     let alloc = rt.alloc();
     let mut commits = family(alloc)?;
-    let mut outcomes = Outcomes::new();
-    for seed in 0..12_u64 {
-        audit_alike(&rt, alloc, &mut commits, seed, &mut outcomes)?;
-    }
-    assert!(rt; outcomes.has_all(), "{outcomes:?}");
-    Ok(())
+    all_audited(&rt, alloc, &mut commits)
 }

@@ -6,6 +6,7 @@ use eden_accumulate::Mount;
 use eden_history::{Change, Mode};
 use eden_ids::{GitNaming, Id, Kind, Sequence};
 use std::alloc::Global;
+use std::process::Abort;
 use std::test::Fail;
 use test_kit::path;
 
@@ -16,13 +17,13 @@ enum Act {
     Write(&'static str),
     /// It goes to this path.
     Rename(&'static str),
-    /// What stands below it goes to the same place below this path.
+    /// What is below it goes to the same place below this path.
     RenameDir(&'static str),
     /// It goes away.
     Remove,
 }
 
-/// The change that does so to the file at a path.
+/// Returns the change that does so to the file at a path.
 fn change_of(alloc: Global, at: &str, act: Act) -> Result<Change, Fail> {
     let old = path(alloc, at)?;
     Ok(match act {
@@ -66,7 +67,9 @@ const OF_FILES: &[(&str, Act)] = &[
     ("d/e", Act::Write("3")),
 ];
 
-/// Adds changes of the root and of the mount, of each kind and of each refusal but that of the last number.
+/// Adds changes of the root and of the mount.
+///
+/// They are of each kind, and of each refusal but that of the last number.
 fn add_of_roots(changes: &mut Vec<Change>, commits: &[Id; 2]) -> Result<(), Fail> {
     let checkout = |commit, mode| Change::Checkout { commit, mode };
     let [first, second] = *commits;
@@ -81,7 +84,7 @@ fn add_of_roots(changes: &mut Vec<Change>, commits: &[Id; 2]) -> Result<(), Fail
     Ok(())
 }
 
-/// All of these, one after another, and then the removal of a file of the second commit.
+/// Returns all of these, and then the removal of a file of the second commit.
 fn changes(alloc: Global, commits: &[Id; 2]) -> Result<Vec<Change>, Fail> {
     let mut changes = Vec::new(alloc);
     for (at, act) in OF_FILES {
@@ -92,7 +95,7 @@ fn changes(alloc: Global, commits: &[Id; 2]) -> Result<Vec<Change>, Fail> {
     Ok(changes)
 }
 
-/// The floor and the head of a mount's journal, and how many runs it holds.
+/// Returns the floor and the head of a mount's journal, and how many runs it holds.
 fn extent(mount: &Mount<GitNaming>) -> (u64, u64, usize) {
     let journal = mount.journal();
     (journal.floor(), journal.head(), journal.held())
@@ -104,34 +107,38 @@ fn go_on(alloc: Global, pair: &mut Pair, step: &Step) -> Result<(), Fail> {
     pair.same_files(alloc, step)
 }
 
-#[test]
-fn beside_world(rt: HostRuntime) -> Result<(), Fail> {
-    let alloc = rt.alloc();
-    let mut commits = two_commits(alloc)?;
-    let first = commits.ids[0];
-    let mut pair = Pair::mounted(alloc, &mut commits.store, first, 1000)?;
-    for (number, change) in changes(alloc, &commits.ids)?.iter().enumerate() {
+/// Makes all changes on both, and checks the mount's journal and root after them.
+fn go_through(
+    rt: &impl Abort,
+    alloc: Global,
+    pair: &mut Pair,
+    commits: &[Id; 2],
+) -> Result<(), Fail> {
+    for (number, change) in changes(alloc, commits)?.iter().enumerate() {
         let step = Step {
             seed: 0,
             number,
             change,
         };
-        go_on(alloc, &mut pair, &step)?;
+        go_on(alloc, pair, &step)?;
     }
-    assert!(rt; extent(&pair.mount) == (1, 3, 2));
-    assert!(rt; pair.mount.work().root() == commits.ids[1]);
+    assert_eq!(rt; extent(&pair.mount), (1, 3, 2));
+    assert_eq!(rt; pair.mount.work().root(), commits[1]);
     Ok(())
 }
 
-// Few files are shared here, so that the plain, slow program can say the same.
 #[test]
-fn checkout_of_small_subtrees(rt: HostRuntime) -> Result<(), Fail> {
+fn beside_world(rt: HostRuntime) -> Result<(), Fail> {
     let alloc = rt.alloc();
-    let mut commits = sharing(alloc, 3)?;
-    let first = commits.ids[0];
-    let mut pair = Pair::mounted(alloc, &mut commits.store, first, 1000)?;
+    let mut commits = two_commits(alloc)?;
+    let mut pair = Pair::mounted(alloc, &mut commits.store, commits.ids[0], 1000)?;
+    go_through(&rt, alloc, &mut pair, &commits.ids)
+}
+
+/// Checks out a commit on both, and compares what changed since each number.
+fn go_over(alloc: Global, pair: &mut Pair, commit: Id) -> Result<(), Fail> {
     let change = Change::Checkout {
-        commit: commits.ids[1],
+        commit,
         mode: Mode::Normal,
     };
     let step = Step {
@@ -141,4 +148,13 @@ fn checkout_of_small_subtrees(rt: HostRuntime) -> Result<(), Fail> {
     };
     let _ = pair.apply(&step)?;
     pair.same_past(alloc, &step)
+}
+
+// Few files are shared here, so that the plain, slow program can answer too.
+#[test]
+fn checkout_of_small_subtrees(rt: HostRuntime) -> Result<(), Fail> {
+    let alloc = rt.alloc();
+    let mut commits = sharing(alloc, 3)?;
+    let mut pair = Pair::mounted(alloc, &mut commits.store, commits.ids[0], 1000)?;
+    go_over(alloc, &mut pair, commits.ids[1])
 }

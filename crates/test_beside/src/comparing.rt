@@ -1,17 +1,19 @@
-//! A mount and a world side by side, and what each of them says.
+//! A mount and a world side by side, and what each of them answers.
 
-use crate::seen::{read, seen};
-use eden_accumulate::{Mount, expand};
+use eden_accumulate::{Mount, Range, expand};
 use eden_globs::Filter;
 use eden_history::{Answer, Change, Marked, Position, SinceFault};
-use eden_ids::{Content, GitNaming, Id, Path, PathTable, Sequence};
+use eden_ids::{Content, GitNaming, Id, Kind, Path, PathTable, Sequence};
 use eden_objects::Store;
 use eden_world::World;
 use std::alloc::Global;
 use std::fmt::Debug;
 use std::test::Fail;
 
-/// The change that both made last, and where it stands among those of its lot.
+/// The limits of journals over which a mount and a world are compared: of none, of few and of all of their changes.
+pub(crate) const LIMITS: &[u64] = &[0, 150, 400, 2000, 1_000_000];
+
+/// The change that both made last, and its place among those of its seed.
 #[derive(Clone, Copy)]
 pub(crate) struct Step<'a> {
     pub(crate) seed: u64,
@@ -20,7 +22,7 @@ pub(crate) struct Step<'a> {
 }
 
 impl Step<'_> {
-    /// That both say the same.
+    /// Checks that the mount and the world answer the same.
     pub(crate) fn alike<T: Debug + PartialEq + Drop>(
         &self,
         told: T,
@@ -36,12 +38,12 @@ impl Step<'_> {
     }
 }
 
-/// The file that stands at a path of a world.
+/// Returns the file at a path of a world.
 fn file<'a>(world: &'a World<GitNaming>, path: &Path) -> Option<&'a Content> {
     world.now().files().get(path)
 }
 
-/// The paths at which two worlds have something else, in byte order.
+/// Returns the paths at which two worlds differ, in byte order.
 fn differing(
     alloc: Global,
     one: &World<GitNaming>,
@@ -59,13 +61,18 @@ fn differing(
     Ok(paths)
 }
 
-/// The paths of the files that a mount lists.
-fn listed(alloc: Global, mount: &Mount<GitNaming>) -> Result<Vec<Path>, Fail> {
+/// Returns the paths of the files that a mount lists.
+pub(crate) fn listed(alloc: Global, mount: &Mount<GitNaming>) -> Result<Vec<Path>, Fail> {
     Ok(mount.snapshot()?.files(mount.store(), &Filter::all(alloc))?)
 }
 
 /// Paths with their marks, and directories.
 type Told = (Sequence<Marked>, Sequence<Path>);
+
+/// Returns the kind and the bytes of a file.
+fn seen(file: &Content) -> (Kind, &[u8]) {
+    (file.kind, file.bytes.as_slice())
+}
 
 /// A mount and a world over copies of one store.
 #[derive(Drop)]
@@ -74,21 +81,31 @@ pub(crate) struct Pair {
     pub(crate) world: World<GitNaming>,
 }
 
+/// Mounts a commit in generation 7, with a journal of this limit.
+pub(crate) fn mounted(
+    alloc: Global,
+    store: &mut Store<GitNaming>,
+    root: Id,
+    limit: u64,
+) -> Result<Mount<GitNaming>, Fail> {
+    let store = store.share()?;
+    Ok(Mount::mount(alloc, store, root, 7, limit)?)
+}
+
 impl Pair {
-    /// Both of a commit, in generation 7, with a journal of this limit.
+    /// Mounts a commit as both, in generation 7, with a journal of this limit.
     pub(crate) fn mounted(
         alloc: Global,
         store: &mut Store<GitNaming>,
         root: Id,
         limit: u64,
     ) -> Result<Pair, Fail> {
-        Ok(Pair {
-            mount: Mount::mount(alloc, store.share()?, root, 7, limit)?,
-            world: World::mount(alloc, store.share()?, root, 7, limit)?,
-        })
+        let world = World::mount(alloc, store.share()?, root, 7, limit)?;
+        let mount = mounted(alloc, store, root, limit)?;
+        Ok(Pair { mount, world })
     }
 
-    /// Makes the change on both: they answer alike.
+    /// Makes the change on both, and checks that they answer alike.
     pub(crate) fn apply(&mut self, step: &Step) -> Result<Answer, Fail> {
         let told = self.mount.apply(step.change)?;
         step.alike(&told, &self.world.apply(step.change)?)?;
@@ -96,13 +113,13 @@ impl Pair {
         Ok(told)
     }
 
-    /// Both have the same file at a path.
+    /// Checks that both have the same file at a path.
     fn same_file(&self, step: &Step, path: &Path) -> Result<(), Fail> {
-        let expected = seen(file(&self.world, path));
-        step.alike((path, read(&self.mount, path)), (path, expected))
+        let expected = file(&self.world, path).map(seen);
+        step.alike((path, self.mount.read(path).ok()), (path, expected))
     }
 
-    /// The mount lists just the world's files, and reads each of them.
+    /// Checks that the mount lists just the world's files, and reads each of them.
     pub(crate) fn same_files(&self, alloc: Global, step: &Step) -> Result<(), Fail> {
         let listed = listed(alloc, &self.mount)?;
         step.alike(listed.len(), self.world.now().files().paths().count())?;
@@ -112,21 +129,28 @@ impl Pair {
         Ok(())
     }
 
-    /// A world of the mount's root.
+    /// Makes a world of the mount's root, which nothing has changed.
     fn clean(&mut self, alloc: Global) -> Result<World<GitNaming>, Fail> {
         let store = self.mount.share()?;
         Ok(World::mount(alloc, store, self.mount.work().root(), 1, 0)?)
     }
 
-    /// Just the paths on which the world differs from a world of its root are dirty.
-    pub(crate) fn same_dirty(&mut self, alloc: Global, step: &Step) -> Result<(), Fail> {
+    /// Returns the paths on which the world differs from one of the mount's root.
+    fn differing(&mut self, alloc: Global) -> Result<Vec<Path>, Fail> {
         let clean = self.clean(alloc)?;
-        let expected = differing(alloc, &self.world, &clean)?;
+        differing(alloc, &self.world, &clean)
+    }
+
+    /// Checks that just those paths are dirty in the mount.
+    pub(crate) fn same_dirty(&mut self, alloc: Global, step: &Step) -> Result<(), Fail> {
+        let expected = self.differing(alloc)?;
         let dirty = self.mount.work().dirty(self.mount.store())?;
         step.alike(dirty.as_slice(), expected.as_slice())
     }
 
-    /// What the world says changed since a position: the paths with their marks, and the directories that were renamed.
+    /// Returns what changed in the world since a position.
+    ///
+    /// These are the paths with their marks, and the directories that were renamed.
     fn world_since(&self, since: &Position) -> Result<Result<Told, SinceFault>, Fail> {
         if let Some(fault) = self.world.now().status(self.world.floor()?, *since) {
             return Ok(Err(fault));
@@ -136,24 +160,30 @@ impl Pair {
         Ok(Ok((marked, prefixes)))
     }
 
-    /// Both say the same of what changed since a position.
-    pub(crate) fn same_since(
+    /// Checks that a range of the mount is what changed in the world since a position.
+    fn same_range(
         &self,
         alloc: Global,
         step: &Step,
         since: &Position,
+        range: &Range,
+        expected: &Told,
     ) -> Result<(), Fail> {
+        let (marked, prefixes) = expected;
+        let told = expand(alloc, self.mount.store(), range)?;
+        step.alike((since, told.as_slice()), (since, marked.as_slice()))?;
+        step.alike((since, &range.prefixes), (since, prefixes))
+    }
+
+    /// Checks that both answer the same of what changed since a position.
+    fn same_since(&self, alloc: Global, step: &Step, since: &Position) -> Result<(), Fail> {
         match (self.mount.range_since(since), self.world_since(since)?) {
-            (Ok(range), Ok((marked, prefixes))) => {
-                let told = expand(alloc, self.mount.store(), &range)?;
-                step.alike((since, told.as_slice()), (since, marked.as_slice()))?;
-                step.alike((since, &range.prefixes), (since, &prefixes))
-            }
+            (Ok(range), Ok(expected)) => self.same_range(alloc, step, since, &range, &expected),
             (told, expected) => step.alike((since, told.err()), (since, expected.err())),
         }
     }
 
-    /// Both say the same since each number up to the present one, of the first hundred.
+    /// Checks so since each of the first hundred numbers, up to the present one.
     pub(crate) fn same_past(&self, alloc: Global, step: &Step) -> Result<(), Fail> {
         let mut since = self.world.position();
         for sequence in 0..=since.sequence.min(99) {

@@ -1,12 +1,14 @@
 //! Filters beside a plain matcher, which tries each way in which a path may match a pattern.
 
-use crate::lot::Lot;
+use crate::patterns::{long_path, pattern};
 use eden_globs::Filter;
 use eden_ids::Path;
 use std::alloc::Global;
+use std::process::Abort;
 use std::test::Fail;
+use test_kit::Lot;
 
-/// Whether a name matches a part of a pattern.
+/// Returns whether a name matches a part of a pattern.
 fn is_named(part: &[u8], name: &[u8]) -> bool {
     let Some((first, rest)) = part.split_first() else {
         return name.is_empty();
@@ -29,7 +31,7 @@ fn is_named(part: &[u8], name: &[u8]) -> bool {
     }
 }
 
-/// Whether the names of a path match the parts of a pattern.
+/// Returns whether the names of a path match the parts of a pattern.
 fn is_matched(parts: &[&[u8]], names: &[&[u8]]) -> bool {
     let Some((part, rest)) = parts.split_first() else {
         return names.is_empty();
@@ -48,8 +50,9 @@ fn is_matched(parts: &[&[u8]], names: &[&[u8]]) -> bool {
     is_named(part, name) && is_matched(rest, left)
 }
 
-/// Whether some names could stand behind these, so that all of them match the parts: some parts are left, and each name before a part
-/// `**` matches its part.
+/// Returns whether some names could follow these, so that all of them match the parts.
+///
+/// They could if some parts are left, and each name before a part `**` matches its part.
 fn is_entered(parts: &[&[u8]], names: &[&[u8]]) -> bool {
     for (place, part) in parts.iter().enumerate() {
         let Some(name) = names.get(place) else {
@@ -77,7 +80,9 @@ fn admits(filter: &Filter, path: &Path) -> bool {
     filter.admits(path)
 }
 
-/// Whether a filter says of a directory what the plain matcher says; and it enters each directory above a path that it admits.
+/// Returns whether a filter answers of a directory what the plain matcher does.
+///
+/// And it enters each directory above a path that it admits.
 fn same_entry(
     filter: &Filter,
     directory: &[u8],
@@ -89,7 +94,9 @@ fn same_entry(
     told == is_entered(parts, names) && (told || !admitted)
 }
 
-/// That the filter of this pattern says of the path, and of each directory above it, what the plain matcher says.
+/// Returns whether a pattern's filter and the plain matcher agree on a path.
+///
+/// They are compared at each directory above it too.
 fn same_answers(alloc: Global, pattern: &[u8], path: &Path) -> Result<bool, Fail> {
     let filter = Filter::parse(alloc, &[pattern])?;
     let parts = split(alloc, pattern)?;
@@ -135,7 +142,7 @@ const PATHS: &[&str] = &[
     "x/y", "a*", "a*b", "a/a/x/x",
 ];
 
-/// That the filter of this pattern says of each of the paths what the plain matcher says.
+/// Returns whether they agree on each of the paths.
 fn same_at_all(alloc: Global, pattern: &str) -> Result<bool, Fail> {
     for path in PATHS {
         let path = Path::parse(alloc, path.as_bytes())?;
@@ -158,20 +165,24 @@ fn known_pairs(rt: HostRuntime) -> Result<(), Fail> {
     Ok(())
 }
 
-#[test]
-fn generated_pairs(rt: HostRuntime) -> Result<(), Fail> {
-    let alloc = rt.alloc();
-    let mut lot = Lot::new(1);
+/// Checks two thousand pairs, and returns how many of them are admitted.
+fn admitted_pairs(rt: &impl Abort, alloc: Global, lot: &mut Lot) -> Result<u32, Fail> {
     let mut admitted = 0;
     for pair in 0..2000_u32 {
-        let pattern = lot.pattern(alloc)?;
-        let path = lot.long_path(alloc)?;
+        let pattern = pattern(alloc, lot)?;
+        let path = long_path(alloc, lot)?;
         let same = same_answers(alloc, pattern.as_slice(), &path)?;
         assert!(rt; same, "pair {pair}: {pattern:?} at {path:?}");
         if is_admitted(alloc, pattern.as_slice(), &path)? {
             admitted = pair.min(admitted) + 1;
         }
     }
+    Ok(admitted)
+}
+
+#[test]
+fn generated_pairs(rt: HostRuntime) -> Result<(), Fail> {
+    let admitted = admitted_pairs(&rt, rt.alloc(), &mut Lot::new(1))?;
     assert!(rt; admitted > 100, "{admitted} pairs are admitted");
     Ok(())
 }

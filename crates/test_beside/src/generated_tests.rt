@@ -1,14 +1,15 @@
 //! Changes drawn by lot.
 
-use crate::comparing::{Pair, Step};
-use crate::imports::Roots;
-use crate::lot::Lot;
-use crate::outcomes::Outcomes;
-use crate::stores::{Commits, family};
+use crate::comparing::{LIMITS, Pair, Step};
+use eden_ids::Id;
 use std::alloc::Global;
+use std::process::Abort;
 use std::test::Fail;
+use test_kit::{Commits, Lot, Outcomes, Roots, family};
 
-/// Makes a change on both, and compares them: what they answer, which files they hold, which are dirty, and what they say of the past.
+/// Makes a change on both, and compares them.
+///
+/// Compared are their answers, their files, which of these are dirty, and what changed since each number.
 fn go_on(
     alloc: Global,
     pair: &mut Pair,
@@ -23,7 +24,30 @@ fn go_on(
     pair.same_past(alloc, step)
 }
 
-/// A mount and a world with this limit go through the same changes alike.
+/// Makes eighty changes on both, which follow from this seed.
+fn go_through(
+    alloc: Global,
+    pair: &mut Pair,
+    seed: u64,
+    first: &[Id; 4],
+    outcomes: &mut Outcomes,
+) -> Result<(), Fail> {
+    let mut lot = Lot::new(seed);
+    let mut roots = Roots::new(first);
+    for number in 1..=80 {
+        let now = pair.world.now();
+        let change = lot.change(alloc, &mut roots, now.generation(), now.files())?;
+        let step = Step {
+            seed,
+            number,
+            change: &change,
+        };
+        go_on(alloc, pair, &step, &roots, outcomes)?;
+    }
+    Ok(())
+}
+
+/// Checks that a mount and a world with this limit go through changes alike.
 fn go_alike(
     alloc: Global,
     commits: &mut Commits<4>,
@@ -31,17 +55,16 @@ fn go_alike(
     outcomes: &mut Outcomes,
 ) -> Result<(), Fail> {
     let mut pair = Pair::mounted(alloc, &mut commits.store, commits.ids[2], limit)?;
-    let mut lot = Lot::new(limit);
-    let mut roots = Roots::new(&commits.ids);
-    for number in 1..=80 {
-        let change = lot.change(alloc, &mut roots, pair.world.now())?;
-        let step = Step {
-            seed: limit,
-            number,
-            change: &change,
-        };
-        go_on(alloc, &mut pair, &step, &roots, outcomes)?;
+    go_through(alloc, &mut pair, limit, &commits.ids, outcomes)
+}
+
+/// Checks it with each limit, and that each outcome is among those of the changes.
+fn all_alike(rt: &impl Abort, alloc: Global, commits: &mut Commits<4>) -> Result<(), Fail> {
+    let mut outcomes = Outcomes::default();
+    for limit in LIMITS {
+        go_alike(alloc, commits, *limit, &mut outcomes)?;
     }
+    assert!(rt; outcomes.has_all(), "{outcomes:?}");
     Ok(())
 }
 
@@ -49,10 +72,5 @@ fn go_alike(
 fn generated_changes(rt: HostRuntime) -> Result<(), Fail> {
     let alloc = rt.alloc();
     let mut commits = family(alloc)?;
-    let mut outcomes = Outcomes::new();
-    for limit in [0, 150, 400, 2000, 1_000_000] {
-        go_alike(alloc, &mut commits, limit, &mut outcomes)?;
-    }
-    assert!(rt; outcomes.has_all(), "{outcomes:?}");
-    Ok(())
+    all_alike(&rt, alloc, &mut commits)
 }

@@ -6,10 +6,11 @@ use eden_ids::{Id, Sequence};
 use eden_objects::{Object, PutFault, Store, Word};
 use eden_world::World;
 use std::alloc::Global;
+use std::process::Abort;
 use std::test::Fail;
 use test_kit::FirstByte;
 
-/// Files of these texts, as objects that are imported.
+/// Returns files of these texts, as objects that are imported.
 fn files(alloc: Global, texts: &[&str]) -> Result<Sequence<Object>, Fail> {
     let mut objects = Vec::new(alloc);
     for text in texts {
@@ -31,13 +32,12 @@ struct Colliding {
 
 impl Colliding {
     fn opened(alloc: Global) -> Result<Colliding, Fail> {
-        let mut store = Store::new(alloc, FirstByte);
-        let world = World::mount(alloc, store.share()?, Id::ZERO, 7, 1000)?;
-        let mount = Mount::mount(alloc, store, Id::ZERO, 7, 1000)?;
+        let world = World::mount(alloc, Store::new(alloc, FirstByte), Id::ZERO, 7, 1000)?;
+        let mount = Mount::mount(alloc, Store::new(alloc, FirstByte), Id::ZERO, 7, 1000)?;
         Ok(Colliding { mount, world })
     }
 
-    /// What both answer to an import of such files.
+    /// Imports such files by a change, and returns what both answer.
     fn import(&mut self, alloc: Global, texts: &[&str]) -> Result<Answer, Fail> {
         let objects = files(alloc, texts)?;
         let change = Change::Import { objects };
@@ -48,7 +48,7 @@ impl Colliding {
         Err(Fail::new("the world answers otherwise"))
     }
 
-    /// What the mount's call answers.
+    /// Imports such files by the mount's call, and returns the answer.
     fn call(&mut self, alloc: Global, texts: &[&str]) -> Result<Answer, Fail> {
         Ok(match self.mount.import(files(alloc, texts)?.as_slice()) {
             Ok(position) => Answer::At(position),
@@ -60,7 +60,7 @@ impl Colliding {
 /// Which object an import is refused for, and why; none where it is made.
 type Refusal = Option<(u64, PutFault)>;
 
-/// What an import is answered in a mount that is at this position.
+/// Returns what an import is answered in a mount at this position.
 fn answer_of(opening: Position, refusal: Refusal) -> Answer {
     match refusal {
         Some((place, fault)) => Answer::Refused(ChangeFault::BadObject { place, fault }),
@@ -68,7 +68,7 @@ fn answer_of(opening: Position, refusal: Refusal) -> Answer {
     }
 }
 
-/// Files that are imported together, the refusal, and the file that stands under their first byte after that.
+/// Files that are imported together, the refusal, and the file under `a` after that.
 const IMPORTS: &[(&[&str], Refusal, Option<&str>)] = &[
     (&["ab", "ac"], Some((1, PutFault::IdTaken)), None),
     (&["c", "", "ab", "ac"], Some((1, PutFault::ZeroId)), None),
@@ -82,29 +82,34 @@ const IMPORTS: &[(&[&str], Refusal, Option<&str>)] = &[
 ];
 
 impl Colliding {
-    /// Whether both are at a position, and have this file under its first byte.
+    /// Returns whether both are at a position, and have this file under `a`.
     fn has(&self, at: Position, file: Option<&str>) -> bool {
         let held = self.mount.store().blob(Id([b'a'; 20]));
         held == file.map(|text: &str| text.as_bytes())
             && self.mount.position() == at
             && self.world.position() == at
     }
+
+    /// Imports each row, by a change and by a call, and checks what comes of it.
+    fn import_all(&mut self, rt: &impl Abort, alloc: Global) -> Result<(), Fail> {
+        let opening = Position {
+            generation: 7,
+            sequence: 1,
+            root: Id::ZERO,
+        };
+        for (texts, refusal, file) in IMPORTS {
+            let answer = answer_of(opening, *refusal);
+            assert!(rt; self.import(alloc, texts)? == answer, "{texts:?}");
+            assert!(rt; self.call(alloc, texts)? == answer, "{texts:?}");
+            assert!(rt; self.has(opening, *file), "{texts:?}");
+        }
+        Ok(())
+    }
 }
 
 #[test]
 fn import_refusals(rt: HostRuntime) -> Result<(), Fail> {
     let alloc = rt.alloc();
-    let opening = Position {
-        generation: 7,
-        sequence: 1,
-        root: Id::ZERO,
-    };
     let mut both = Colliding::opened(alloc)?;
-    for (texts, refusal, file) in IMPORTS {
-        let answer = answer_of(opening, *refusal);
-        assert!(rt; both.import(alloc, texts)? == answer, "{texts:?}");
-        assert!(rt; both.call(alloc, texts)? == answer, "{texts:?}");
-        assert!(rt; both.has(opening, *file), "{texts:?}");
-    }
-    Ok(())
+    both.import_all(&rt, alloc)
 }

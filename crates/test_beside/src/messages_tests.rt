@@ -1,21 +1,20 @@
-//! What a mount replies, to frames and from what it held, beside what the world says.
+//! What a mount replies, to frames and from what it held, beside what the world replies.
 
-use crate::comparing::{Pair, Step};
-use crate::frames::replied;
-use crate::imports::Roots;
-use crate::lot::Lot;
-use crate::outcomes::Outcomes;
-use crate::stores::{Commits, family};
+use crate::comparing::{LIMITS, Pair, Step};
+use eden_accumulate::Mount;
 use eden_globs::Filter;
 use eden_history::Change;
 use eden_ids::GitNaming;
 use eden_messages::{Query, Reply, Request};
 use eden_objects::Store;
-use eden_query::{Raw, Served, answer};
+use eden_query::{Raw, Served, answer, decode_reply, encode_request, serve};
+use eden_stream::Counted;
 use std::alloc::Global;
+use std::process::Abort;
 use std::test::Fail;
+use test_kit::{Commits, Lot, Outcomes, Roots, family};
 
-/// What a mount held for a request, with the objects that it had then, and what it was to reply then.
+/// What a mount held for a request, the objects that it had then, and the right reply.
 #[derive(Drop)]
 struct Held {
     request: Request,
@@ -26,41 +25,58 @@ struct Held {
 }
 
 impl Held {
-    /// That this reply, made of what was held, is the right one.
-    fn is_right(&self, step: &Step, told: &Reply) -> Result<(), Fail> {
-        step.alike((&self.request, told), (&self.request, &self.reply))
-    }
-
-    /// That the reply is the right one, over the objects of then and over those of now.
+    /// Checks that what was held is answered by the right reply.
+    ///
+    /// That is so over the objects of then and over those of now.
     fn keeps(&self, alloc: Global, now: &Store<GitNaming>, step: &Step) -> Result<(), Fail> {
         for store in [&self.store, now] {
             let told = answer(alloc, &self.raw, store, &self.filter)?;
-            self.is_right(step, &told)?;
+            step.alike((&self.request, &told), (&self.request, &self.reply))?;
         }
         Ok(())
     }
 }
 
-/// That the mount replies to a request, by frames, what the world says; and what it holds for the request.
-fn held_alike(
+/// Returns the frames of requests, one after another.
+fn frames_of(alloc: Global, requests: &[Request]) -> Result<Vec<u8>, Fail> {
+    let mut frames = Vec::new(alloc);
+    for request in requests {
+        frames.extend_from_slice(encode_request(alloc, request)?.as_slice())?;
+    }
+    Ok(frames)
+}
+
+/// Returns what a mount writes to one stream of requests.
+fn served(
     alloc: Global,
-    pair: &mut Pair,
-    step: &Step,
-    request: Request,
-    filter: Filter,
-) -> Result<Held, Fail> {
-    let told = replied(alloc, &mut pair.mount, &request)?;
-    let reply = pair.world.reply(&request)?;
-    let (raw, store) = pair.mount.hold(1, &request)?;
-    let held = Held {
-        request,
-        filter,
-        raw,
-        store,
-        reply,
+    mount: &mut Mount<GitNaming>,
+    requests: &[Request],
+) -> Result<Vec<u8>, Fail> {
+    let stream = frames_of(alloc, requests)?;
+    let mut replies = Vec::new(alloc);
+    let mut writer = Counted::new(&mut replies);
+    let ended = serve(
+        alloc,
+        &mut Counted::new(stream.as_slice()),
+        &mut writer,
+        mount,
+    );
+    if ended == Ok(requests.len() as u64) {
+        return Ok(replies);
+    }
+    Err(Fail::new(format_args!("serving {requests:?} ended {ended:?}")))
+}
+
+/// Returns the reply in the first of some frames, and the frames after it.
+fn first_reply(alloc: Global, frames: &[u8]) -> Result<(Reply, &[u8]), Fail> {
+    let [a, b, c, d, rest @ ..] = frames else {
+        return Err(Fail::new("a reply without a length"));
     };
-    held.is_right(step, &told)?;
-    Ok(held)
+    let length = u32::from_be_bytes([*a, *b, *c, *d]) as usize;
+    match (rest.get(..length), rest.get(length..)) {
+        (Some(body), Some(rest)) => Ok((decode_reply(alloc, body)?, rest)),
+        _ => Err(Fail::new("a reply is cut short")),
+    }
 }
 
 /// A mount and a world that reply alike, and what was held after the last of their changes.
@@ -73,23 +89,25 @@ struct Replies {
 }
 
 impl Replies {
-    /// Of the third commit, with a journal of this limit. Nothing is held yet.
+    /// Mounts the third commit with a journal of this limit. Nothing is held yet.
     fn opened(alloc: Global, commits: &mut Commits<4>, limit: u64) -> Result<Replies, Fail> {
+        let pair = Pair::mounted(alloc, &mut commits.store, commits.ids[2], limit)?;
         Ok(Replies {
-            pair: Pair::mounted(alloc, &mut commits.store, commits.ids[2], limit)?,
+            pair,
             lot: Lot::new(limit),
             roots: Roots::new(&commits.ids),
             kept: Vec::new(alloc),
         })
     }
 
-    /// The change that both make next.
+    /// Draws the change that both make next.
     fn next_change(&mut self, alloc: Global) -> Result<Change, Fail> {
+        let now = self.pair.world.now();
         self.lot
-            .change(alloc, &mut self.roots, self.pair.world.now())
+            .change(alloc, &mut self.roots, now.generation(), now.files())
     }
 
-    /// That what was held is still answered as it was to be.
+    /// Checks that all that was held is still answered as it was to be.
     fn keep(&self, alloc: Global, step: &Step) -> Result<(), Fail> {
         for held in &self.kept {
             held.keeps(alloc, self.pair.mount.store(), step)?;
@@ -97,41 +115,66 @@ impl Replies {
         Ok(())
     }
 
-    /// Asks a request, and keeps what is held for it.
-    fn ask_one(
-        &mut self,
-        alloc: Global,
-        step: &Step,
-        request: Request,
-        filter: Filter,
-    ) -> Result<(), Fail> {
-        let held = held_alike(alloc, &mut self.pair, step, request, filter)?;
-        Ok(self.kept.push(held)?)
-    }
-
-    /// Four requests by a filter drawn by lot.
-    fn draw(&mut self, alloc: Global, step: &Step) -> Result<(Vec<Request>, Filter), Fail> {
+    /// Draws four requests by a filter.
+    fn draw(&mut self, alloc: Global, step: &Step, filter: &Filter) -> Result<Vec<Request>, Fail> {
         let query = Query {
             mirror: 1,
             life: step.seed,
             number: step.number as u64,
         };
-        let filter = self.lot.filter(alloc)?;
         let now = self.pair.mount.position();
-        let requests = self.lot.requests(alloc, query, &now, &filter)?;
-        Ok((requests, filter))
+        self.lot.requests(alloc, query, &now, filter)
     }
 
-    /// Asks four requests by a filter drawn by lot, and keeps what is held for them.
-    fn ask(&mut self, alloc: Global, step: &Step) -> Result<(), Fail> {
-        let (requests, filter) = self.draw(alloc, step)?;
-        for request in &requests {
-            self.ask_one(alloc, step, request.copy()?, filter.copy()?)?;
+    /// Checks that the mount replied to a request what the world replies.
+    fn same_reply(&self, step: &Step, request: &Request, told: &Reply) -> Result<(), Fail> {
+        let reply = self.pair.world.reply(request)?;
+        step.alike((request, told), (request, &reply))
+    }
+
+    /// Holds what the mount has for a request, beside the right reply.
+    fn hold(&mut self, request: &Request, filter: &Filter, reply: Reply) -> Result<Held, Fail> {
+        let filter = filter.copy()?;
+        let asked = request.copy()?;
+        let (raw, store) = self.pair.mount.hold(1, request)?;
+        Ok(Held {
+            request: asked,
+            filter,
+            raw,
+            store,
+            reply,
+        })
+    }
+
+    /// Compares the reply in each of these frames, and keeps what is held for its request.
+    fn hold_all(
+        &mut self,
+        alloc: Global,
+        step: &Step,
+        requests: &[Request],
+        filter: &Filter,
+        frames: &[u8],
+    ) -> Result<(), Fail> {
+        let mut rest = frames;
+        for request in requests {
+            let (told, after) = first_reply(alloc, rest)?;
+            self.same_reply(step, request, &told)?;
+            let held = self.hold(request, filter, told)?;
+            self.kept.push(held)?;
+            rest = after;
         }
-        Ok(())
+        step.alike(rest, b"".as_slice())
     }
 
-    /// Makes the change on both, and asks.
+    /// Asks four requests in one stream, and keeps what is held for them.
+    fn ask(&mut self, alloc: Global, step: &Step) -> Result<(), Fail> {
+        let filter = self.lot.filter(alloc)?;
+        let requests = self.draw(alloc, step, &filter)?;
+        let frames = served(alloc, &mut self.pair.mount, requests.as_slice())?;
+        self.hold_all(alloc, step, requests.as_slice(), &filter, frames.as_slice())
+    }
+
+    /// Makes the change on both, asks again what was held, and asks anew.
     fn go_on(&mut self, alloc: Global, step: &Step, outcomes: &mut Outcomes) -> Result<(), Fail> {
         let answer = self.pair.apply(step)?;
         outcomes.count(step.change, &answer, &self.roots);
@@ -141,9 +184,30 @@ impl Replies {
         }
         self.ask(alloc, step)
     }
+
+    /// Makes eighty changes on both, and names this seed if they differ.
+    fn go_through(
+        &mut self,
+        alloc: Global,
+        seed: u64,
+        outcomes: &mut Outcomes,
+    ) -> Result<(), Fail> {
+        for number in 1..=80 {
+            let change = self.next_change(alloc)?;
+            let step = Step {
+                seed,
+                number,
+                change: &change,
+            };
+            self.go_on(alloc, &step, outcomes)?;
+        }
+        Ok(())
+    }
 }
 
-/// A mount and a world with this limit reply alike after each change, and from what was held after one of the last four.
+/// Checks that a mount and a world with this limit reply alike after each change.
+///
+/// So does the mount from what it held after one of the last four changes.
 fn reply_alike(
     alloc: Global,
     commits: &mut Commits<4>,
@@ -151,15 +215,16 @@ fn reply_alike(
     outcomes: &mut Outcomes,
 ) -> Result<(), Fail> {
     let mut replies = Replies::opened(alloc, commits, limit)?;
-    for number in 1..=80 {
-        let change = replies.next_change(alloc)?;
-        let step = Step {
-            seed: limit,
-            number,
-            change: &change,
-        };
-        replies.go_on(alloc, &step, outcomes)?;
+    replies.go_through(alloc, limit, outcomes)
+}
+
+/// Checks it with each limit, and that each outcome is among those of the changes.
+fn all_reply_alike(rt: &impl Abort, alloc: Global, commits: &mut Commits<4>) -> Result<(), Fail> {
+    let mut outcomes = Outcomes::default();
+    for limit in LIMITS {
+        reply_alike(alloc, commits, *limit, &mut outcomes)?;
     }
+    assert!(rt; outcomes.has_all(), "{outcomes:?}");
     Ok(())
 }
 
@@ -167,10 +232,5 @@ fn reply_alike(
 fn generated_requests(rt: HostRuntime) -> Result<(), Fail> {
     let alloc = rt.alloc();
     let mut commits = family(alloc)?;
-    let mut outcomes = Outcomes::new();
-    for limit in [0, 150, 400, 2000, 1_000_000] {
-        reply_alike(alloc, &mut commits, limit, &mut outcomes)?;
-    }
-    assert!(rt; outcomes.has_all(), "{outcomes:?}");
-    Ok(())
+    all_reply_alike(&rt, alloc, &mut commits)
 }

@@ -1,30 +1,27 @@
-//! What a mount alone says.
+//! What a mount alone answers.
 
-use crate::stores::{Commits, sharing, two_commits};
-use eden_accumulate::{ChangeFault, Mode, Mount, expand};
-use eden_globs::Filter;
+use crate::comparing::{listed, mounted};
+use crate::stores::{sharing, two_commits};
+use eden_accumulate::{ChangeFault, Mode, Mount, Range, expand};
 use eden_history::{Answer, Change, Mark, Marked, Position, SinceFault};
-use eden_ids::{GitNaming, Id, Kind, Sequence};
+use eden_ids::{GitNaming, Id, Kind, Path, Sequence};
 use eden_journal::Journal;
 use eden_objects::{Object, Store, Word};
 use eden_workcopy::WorkCopy;
 use std::alloc::Global;
+use std::process::Abort;
 use std::test::Fail;
-use test_kit::path;
+use test_kit::{path, spaced};
 
-fn mount_first(alloc: Global, commits: &mut Commits<2>) -> Result<Mount<GitNaming>, Fail> {
-    Ok(Mount::mount(alloc, commits.store.share()?, commits.ids[0], 7, 1000)?)
-}
-
-/// A mount of a commit at the last number, at which its journal begins.
-fn last(alloc: Global, commits: &mut Commits<2>, root: Id) -> Result<Mount<GitNaming>, Fail> {
-    let store = commits.store.share()?;
+/// Mounts a commit at the last number, at which its journal begins.
+fn last(alloc: Global, store: &mut Store<GitNaming>, root: Id) -> Result<Mount<GitNaming>, Fail> {
+    let store = store.share()?;
     let work = WorkCopy::new(alloc, &store, root)?;
     let journal = Journal::starting_at(alloc, 7, root, 1000, u64::MAX);
     Ok(Mount::from_parts(store, work, journal))
 }
 
-/// A file that no commit has.
+/// Returns a file that no commit has, to be imported.
 fn file(alloc: Global) -> Result<Vec<Object>, Fail> {
     let mut objects = Vec::new(alloc);
     let payload = Sequence::from_vec(b"z".as_slice().to_vec(alloc)?);
@@ -49,7 +46,7 @@ enum Act {
     Remount(u64),
 }
 
-/// Makes a call that changes files. Gives the position, or why it is refused.
+/// Makes a call that changes files. Returns the position, or why it is refused.
 fn change_file(
     alloc: Global,
     mount: &mut Mount<GitNaming>,
@@ -64,7 +61,7 @@ fn change_file(
     })
 }
 
-/// Goes over to a commit. Gives the position, or why that is refused.
+/// Checks out a commit. Returns the position, or why that is refused.
 fn check_out(
     mount: &mut Mount<GitNaming>,
     commit: Id,
@@ -76,7 +73,7 @@ fn check_out(
     }
 }
 
-/// Makes a call. Gives the position, or why it is refused.
+/// Makes a call. Returns the position, or why it is refused.
 fn make(
     alloc: Global,
     mount: &mut Mount<GitNaming>,
@@ -93,39 +90,46 @@ fn make(
     })
 }
 
-/// What is told of a mount at the last number: no file, and no path that changed since; what changed since the fifth number is truncated.
+/// Returns whether a mount at the last number has no file and no change since.
+///
+/// What changed since the fifth number is truncated.
 fn tells_nothing(alloc: Global, mount: &Mount<GitNaming>) -> Result<bool, Fail> {
     let mut place = mount.position();
     let none = mount.changes_since(&place)?.marked.is_empty();
     place.sequence = 5;
     let fault = mount.changes_since(&place).err();
-    let files = listed(alloc, mount, &Filter::all(alloc))?;
+    let files = listed(alloc, mount)?;
     Ok(none && files.is_empty() && fault == Some(SinceFault::Truncated(u64::MAX)))
 }
 
-/// Whether a mount reads no file at a path.
+/// Returns whether a mount reads no file at a path.
 fn has_none(alloc: Global, mount: &Mount<GitNaming>, at: &str) -> Result<bool, Fail> {
     Ok(mount.read(&path(alloc, at)?) == Err(ChangeFault::NoEntry))
+}
+
+/// Checks that a mount of no file, at the last number, refuses a write and stays as it was.
+fn refuses_write(rt: &impl Abort, alloc: Global, mount: &mut Mount<GitNaming>) -> Result<(), Fail> {
+    let answer = make(alloc, mount, Act::Write("a"), Id::ZERO)?;
+    assert!(rt; answer == Err(ChangeFault::SequenceExhausted));
+    assert!(rt; has_none(alloc, mount, "a")?);
+    assert!(rt; mount.position().sequence == u64::MAX);
+    assert!(rt; tells_nothing(alloc, mount)?);
+    Ok(())
 }
 
 #[test]
 fn sequence_exhausted(rt: HostRuntime) -> Result<(), Fail> {
     let alloc = rt.alloc();
     let mut commits = two_commits(alloc)?;
-    let mut mount = last(alloc, &mut commits, Id::ZERO)?;
-    let answer = make(alloc, &mut mount, Act::Write("a"), Id::ZERO)?;
-    assert!(rt; answer == Err(ChangeFault::SequenceExhausted));
-    assert!(rt; has_none(alloc, &mount, "a")?);
-    assert!(rt; mount.position().sequence == u64::MAX);
-    assert!(rt; tells_nothing(alloc, &mount)?);
-    Ok(())
+    let mut mount = last(alloc, &mut commits.store, Id::ZERO)?;
+    refuses_write(&rt, alloc, &mut mount)
 }
 
-/// What refuses a call that takes a number, where nothing else does and there is none left.
+/// Why a call is refused that takes a number, if nothing else is wrong and none is left.
 const EXHAUSTED: Option<ChangeFault> = Some(ChangeFault::SequenceExhausted);
 
-/// Calls at the last number, and why they are refused; none where they are made. What stands against a path is told first, and an import
-/// takes no number.
+/// Calls at the last number, and why they are refused; none if they are made. What is wrong with a path is named first. An import takes no
+/// number.
 const AT_LAST: &[(Act, Option<ChangeFault>)] = &[
     (Act::Write("f"), EXHAUSTED),
     (Act::Remove("f"), EXHAUSTED),
@@ -145,7 +149,7 @@ const AT_LAST: &[(Act, Option<ChangeFault>)] = &[
     (Act::Import, None),
 ];
 
-/// Whether a call is refused so, or made, and leaves the mount where it is.
+/// Returns whether a call is refused so, or made, and leaves the position.
 fn stays(
     alloc: Global,
     mount: &mut Mount<GitNaming>,
@@ -162,38 +166,36 @@ fn stays(
     Ok(answer == wanted && mount.position() == now)
 }
 
-#[test]
-fn sequence_exhausted_over_files(rt: HostRuntime) -> Result<(), Fail> {
-    let alloc = rt.alloc();
-    let mut commits = sharing(alloc, 1)?;
-    let [first, second] = commits.ids;
-    let mut mount = last(alloc, &mut commits, first)?;
+/// Checks each call at the last number, and that the next generation begins at 1.
+fn stays_at_last(
+    rt: &impl Abort,
+    alloc: Global,
+    mount: &mut Mount<GitNaming>,
+    commits: &[Id; 2],
+) -> Result<(), Fail> {
+    let [first, second] = *commits;
     for (act, fault) in AT_LAST {
-        assert!(rt; stays(alloc, &mut mount, *act, second, *fault)?);
+        assert!(rt; stays(alloc, mount, *act, second, *fault)?);
     }
-    assert!(rt; holds(alloc, &mount, "f", (Kind::Plain, b"x".as_slice()))?);
+    assert!(rt; holds(alloc, mount, "f", (Kind::Plain, b"x".as_slice()))?);
     let opening = Position {
         generation: 8,
         sequence: 1,
         root: first,
     };
-    assert!(rt; make(alloc, &mut mount, Act::Remount(8), second)? == Ok(opening));
+    assert!(rt; make(alloc, mount, Act::Remount(8), second)? == Ok(opening));
     Ok(())
 }
 
-/// A mount, and its copy that was made before a file was written and another one imported.
-fn parted(
-    alloc: Global,
-    commits: &mut Commits<2>,
-) -> Result<(Mount<GitNaming>, Mount<GitNaming>), Fail> {
-    let mut mount = mount_first(alloc, commits)?;
-    let before = mount.copy()?;
-    mount.write(&path(alloc, "a")?, Kind::Exec, b"1".as_slice())?;
-    mount.import(file(alloc)?.as_slice())?;
-    Ok((before, mount))
+#[test]
+fn sequence_exhausted_over_files(rt: HostRuntime) -> Result<(), Fail> {
+    let alloc = rt.alloc();
+    let mut commits = sharing(alloc, 1)?;
+    let mut mount = last(alloc, &mut commits.store, commits.ids[0])?;
+    stays_at_last(&rt, alloc, &mut mount, &commits.ids)
 }
 
-/// Whether a store has that file, by the id that `git hash-object` gives to its bytes.
+/// Returns whether a store has that file, by the id from `git hash-object`.
 fn has_file(store: &Store<GitNaming>) -> bool {
     match Id::from_hex(b"fa7af8bf5fdd704f73beb3adc5612682a98e1af5".as_slice()) {
         Ok(file) => store.blob(file) == Some(b"z".as_slice()),
@@ -201,7 +203,7 @@ fn has_file(store: &Store<GitNaming>) -> bool {
     }
 }
 
-/// Whether a file of this kind and text stands at a path.
+/// Returns whether a file of this kind and text is at a path.
 fn holds(
     alloc: Global,
     mount: &Mount<GitNaming>,
@@ -211,7 +213,14 @@ fn holds(
     Ok(mount.read(&path(alloc, at)?)? == file)
 }
 
-/// Whether a file was written to a mount, and not to its copy, which stands one number before it.
+/// Writes a file, and imports another one.
+fn write_and_import(alloc: Global, mount: &mut Mount<GitNaming>) -> Result<(), Fail> {
+    mount.write(&path(alloc, "a")?, Kind::Exec, b"1".as_slice())?;
+    mount.import(file(alloc)?.as_slice())?;
+    Ok(())
+}
+
+/// Returns whether a mount alone has a change that its copy from before lacks.
 fn are_parted(
     alloc: Global,
     before: &Mount<GitNaming>,
@@ -223,75 +232,89 @@ fn are_parted(
     Ok(written && kept && numbers == (1, 2))
 }
 
+/// Changes a mount, and checks that its copy and the store stay as they were.
+fn part(
+    rt: &impl Abort,
+    alloc: Global,
+    store: &Store<GitNaming>,
+    before: &Mount<GitNaming>,
+    mount: &mut Mount<GitNaming>,
+) -> Result<(), Fail> {
+    write_and_import(alloc, mount)?;
+    assert!(rt; has_file(mount.store()) && !has_file(before.store()) && !has_file(store));
+    assert!(rt; are_parted(alloc, before, mount)?);
+    Ok(())
+}
+
+/// Checks so with a copy that is made now.
+fn part_from_copy(
+    rt: &impl Abort,
+    alloc: Global,
+    store: &Store<GitNaming>,
+    mount: &mut Mount<GitNaming>,
+) -> Result<(), Fail> {
+    let before = mount.copy()?;
+    part(rt, alloc, store, &before, mount)
+}
+
 #[test]
 fn copies_part(rt: HostRuntime) -> Result<(), Fail> {
     let alloc = rt.alloc();
     let mut commits = two_commits(alloc)?;
-    let (before, mount) = parted(alloc, &mut commits)?;
-    let has = has_file(mount.store()) && !has_file(before.store()) && !has_file(&commits.store);
-    assert!(rt; has && are_parted(alloc, &before, &mount)?);
-    Ok(())
+    let mut mount = mounted(alloc, &mut commits.store, commits.ids[0], 1000)?;
+    part_from_copy(&rt, alloc, &commits.store, &mut mount)
 }
 
-/// The paths of the files that a filter admits, as a snapshot tells them, each with a space behind it.
-fn listed(alloc: Global, mount: &Mount<GitNaming>, filter: &Filter) -> Result<Vec<u8>, Fail> {
-    let snapshot = mount.snapshot()?;
-    let mut text = Vec::new(alloc);
-    for path in snapshot.files(mount.store(), filter)? {
-        text.extend_from_slice(path.as_bytes())?;
-        text.push(b' ')?;
-    }
-    Ok(text)
-}
-
-/// A mount of the first commit where one file was written and another one removed.
-fn changed(alloc: Global, commits: &mut Commits<2>) -> Result<Mount<GitNaming>, Fail> {
-    let mut mount = mount_first(alloc, commits)?;
+/// Writes a file and removes another one, and checks what a snapshot lists.
+fn lists_changed(rt: &impl Abort, alloc: Global, mount: &mut Mount<GitNaming>) -> Result<(), Fail> {
     mount.write(&path(alloc, "d/e")?, Kind::Link, b"1".as_slice())?;
     mount.remove(&path(alloc, "a")?)?;
-    Ok(mount)
+    let text = spaced(alloc, listed(alloc, mount)?.as_slice())?;
+    assert!(rt; text.as_slice() == b"b d/e ".as_slice());
+    assert!(rt; mount.snapshot()?.position() == mount.position());
+    Ok(())
 }
 
 #[test]
 fn snapshot_lists(rt: HostRuntime) -> Result<(), Fail> {
     let alloc = rt.alloc();
     let mut commits = two_commits(alloc)?;
-    let mount = changed(alloc, &mut commits)?;
-    let text = listed(alloc, &mount, &Filter::all(alloc))?;
-    assert!(rt; text.as_slice() == b"b d/e ".as_slice());
-    let place = mount.snapshot()?.position();
-    assert!(rt; place == mount.position());
-    Ok(())
+    let mut mount = mounted(alloc, &mut commits.store, commits.ids[0], 1000)?;
+    lists_changed(&rt, alloc, &mut mount)
 }
 
-/// The checkout that goes over to the second commit.
-fn checkout_of(commits: &Commits<2>) -> Change {
+/// Returns the checkout that goes over to a commit.
+fn checkout_of(commit: Id) -> Change {
     Change::Checkout {
-        commit: commits.ids[1],
+        commit,
         mode: Mode::Normal,
     }
 }
 
-/// That it is made, with no conflict.
-fn made(alloc: Global, commits: &Commits<2>) -> Answer {
+/// Returns what it is answered if it is made without a conflict.
+fn made(alloc: Global, commit: Id) -> Answer {
     Answer::Checked {
         position: Position {
             generation: 7,
             sequence: 2,
-            root: commits.ids[1],
+            root: commit,
         },
         conflicts: Sequence::new(alloc),
     }
 }
 
-/// Whether what changed since a position is `f` alone, which the root named: no file was changed, and no path is unclean.
-fn names_one(alloc: Global, mount: &Mount<GitNaming>, since: &Position) -> Result<bool, Fail> {
-    let range = mount.range_since(since)?;
-    let marked = expand(alloc, mount.store(), &range)?;
-    let named = [Marked {
-        mark: Mark::Root,
-        path: path(alloc, "f")?,
-    }];
+/// Returns whether a range is of this path alone, which the root named.
+///
+/// No file was changed, and no path is unclean.
+fn is_of_one(
+    alloc: Global,
+    store: &Store<GitNaming>,
+    range: &Range,
+    path: Path,
+) -> Result<bool, Fail> {
+    let mark = Mark::Root;
+    let named = [Marked { mark, path }];
+    let marked = expand(alloc, store, range)?;
     Ok(
         range.changes.as_slice().is_empty()
             && range.unclean.as_slice().is_empty()
@@ -299,15 +322,32 @@ fn names_one(alloc: Global, mount: &Mount<GitNaming>, since: &Position) -> Resul
     )
 }
 
-/// Whether the mount goes over to the second commit, with no conflict.
-fn goes_over(
+/// Returns whether `f` alone changed since a position.
+fn names_one(alloc: Global, mount: &Mount<GitNaming>, since: &Position) -> Result<bool, Fail> {
+    let path = path(alloc, "f")?;
+    let range = mount.range_since(since)?;
+    is_of_one(alloc, mount.store(), &range, path)
+}
+
+/// Checks out a commit, and returns whether that was without a conflict.
+fn goes_over(alloc: Global, mount: &mut Mount<GitNaming>, commit: Id) -> Result<bool, Fail> {
+    let change = checkout_of(commit);
+    let answer = mount.apply(&change)?;
+    Ok(answer == made(alloc, commit))
+}
+
+/// Checks out the second commit, and checks what changed.
+fn changes_one(
+    rt: &impl Abort,
     alloc: Global,
     mount: &mut Mount<GitNaming>,
-    commits: &Commits<2>,
-) -> Result<bool, Fail> {
-    let change = checkout_of(commits);
-    let answer = mount.apply(&change)?;
-    Ok(answer == made(alloc, commits))
+    second: Id,
+) -> Result<(), Fail> {
+    let since = mount.position();
+    assert!(rt; goes_over(alloc, mount, second)?);
+    assert!(rt; names_one(alloc, mount, &since)?);
+    assert!(rt; holds(alloc, mount, "f", (Kind::Plain, b"y".as_slice()))?);
+    Ok(())
 }
 
 // Of the two to the fortieth files that the commits share none is read or listed, or the test would not end.
@@ -315,10 +355,6 @@ fn goes_over(
 fn checkout_of_shared_subtrees(rt: HostRuntime) -> Result<(), Fail> {
     let alloc = rt.alloc();
     let mut commits = sharing(alloc, 40)?;
-    let mut mount = mount_first(alloc, &mut commits)?;
-    let since = mount.position();
-    assert!(rt; goes_over(alloc, &mut mount, &commits)?);
-    assert!(rt; names_one(alloc, &mount, &since)?);
-    assert!(rt; holds(alloc, &mount, "f", (Kind::Plain, b"y".as_slice()))?);
-    Ok(())
+    let mut mount = mounted(alloc, &mut commits.store, commits.ids[0], 1000)?;
+    changes_one(&rt, alloc, &mut mount, commits.ids[1])
 }

@@ -1,15 +1,14 @@
 //! Schedules drawn by lot.
 
-use crate::imports::Roots;
-use crate::lot::Lot;
 use crate::scene::{Scene, Step};
 use eden_globs::Filter;
 use eden_messages::{Query, Request};
 use std::alloc::Global;
 use std::test::Fail;
+use test_kit::{Lot, Roots};
 
-/// Which steps come next follows from the seed and from what has happened so far. Mostly something goes on: the next reply comes, the next
-/// request is served, or a mirror begins a round or sends what it asks. In between anything else happens.
+/// Draws steps, which follow from the seed and from what has happened so far. Mostly something goes on: the next reply comes, the next request
+/// is served, or a mirror begins a round or sends what it asks. In between anything else happens.
 #[derive(Drop)]
 pub(crate) struct ScheduleLot {
     lot: Lot,
@@ -26,7 +25,7 @@ impl ScheduleLot {
         }
     }
 
-    /// A place among so many, if there is one.
+    /// Draws a place among so many, if there is one.
     fn any(&mut self, count: usize) -> usize {
         if count == 0 {
             return 0;
@@ -34,6 +33,7 @@ impl ScheduleLot {
         self.lot.below(count)
     }
 
+    /// Draws a filter, which is that of all paths as often as not.
     pub(crate) fn filter(&mut self, alloc: Global) -> Result<Filter, Fail> {
         let parsed = match self.lot.below(8) {
             0..=3 => Ok(Filter::all(alloc)),
@@ -48,7 +48,7 @@ impl ScheduleLot {
         Ok(parsed?)
     }
 
-    /// A request under a life that no mirror ever has, or an id that none has.
+    /// Draws a request under a life that no mirror ever has, or an id that none has.
     fn strange(&mut self, alloc: Global, scene: &Scene) -> Result<Request, Fail> {
         let query = Query {
             mirror: self.lot.below(4) as u64,
@@ -77,13 +77,13 @@ impl ScheduleLot {
         })
     }
 
-    /// The next one after a place; sometimes one is lost.
+    /// Returns the next one after a place. Sometimes one is lost.
     fn after(&mut self, place: usize) -> usize {
         let lost = usize::from(self.lot.below(16) == 0);
         place.saturating_add(1).saturating_add(lost)
     }
 
-    /// Something goes on.
+    /// Returns a step by which something goes on.
     fn onwards(&mut self, scene: &Scene, mirror: usize) -> Step {
         if let Some(given) = scene.replies.get(self.come) {
             let reply = self.come;
@@ -107,6 +107,7 @@ impl ScheduleLot {
         }
     }
 
+    /// Draws the next step.
     pub(crate) fn step(
         &mut self,
         alloc: Global,
@@ -114,8 +115,12 @@ impl ScheduleLot {
         scene: &Scene,
     ) -> Result<Step, Fail> {
         let mirror = self.any(scene.followers.len());
+        let now = scene.now();
         Ok(match self.lot.below(40) {
-            0..=5 => Step::Change(self.lot.change(alloc, roots, scene.now())?),
+            0..=5 => Step::Change(
+                self.lot
+                    .change(alloc, roots, now.generation(), now.files())?,
+            ),
             6 => Step::Refilter(mirror, self.filter(alloc)?),
             7 => Step::Restart(mirror, self.filter(alloc)?),
             8 => Step::Strange(self.strange(alloc, scene)?),

@@ -8,12 +8,12 @@ use eden_stream::Counted;
 use std::alloc::Global;
 use std::test::Fail;
 
-/// The frame of a request.
+/// Returns the frame of a request.
 pub(crate) fn asked(alloc: Global, request: &Request) -> Result<Vec<u8>, Fail> {
     Ok(encode_request(alloc, request)?)
 }
 
-/// What the mount writes to the bytes of one frame.
+/// Returns what the mount writes to the bytes of one frame.
 pub(crate) fn served(
     alloc: Global,
     mount: &mut Mount<GitNaming>,
@@ -29,7 +29,7 @@ pub(crate) fn served(
     Ok(written)
 }
 
-/// The reply that a frame spells.
+/// Returns the reply that a frame spells.
 pub(crate) fn reply_in(alloc: Global, frame: &[u8]) -> Result<Reply, Fail> {
     match frame.get(4..) {
         Some(body) => Ok(decode_reply(alloc, body)?),
@@ -37,7 +37,7 @@ pub(crate) fn reply_in(alloc: Global, frame: &[u8]) -> Result<Reply, Fail> {
     }
 }
 
-/// What the mount replies, by frames, to a request.
+/// Returns what the mount replies, by frames, to a request.
 pub(crate) fn replied(
     alloc: Global,
     mount: &mut Mount<GitNaming>,

@@ -1,12 +1,13 @@
-//! Which positions a mount has had, and what stood where then.
+//! Which positions a mount has had, and what was where then.
 
 use eden_history::{Answer, Change, Position};
-use eden_ids::{Content, Files, GitNaming, Path};
+use eden_ids::{Content, Files, GitNaming, Id, Path};
+use eden_objects::Store;
 use eden_world::{Row, World};
 use std::alloc::Global;
 use std::test::Fail;
 
-/// A position, and the files that stood then.
+/// A position, and the files of then.
 #[derive(Drop)]
 struct Moment {
     position: Position,
@@ -20,18 +21,28 @@ pub(crate) struct Past {
     moments: Vec<Moment>,
 }
 
-/// What the world is now.
+/// Returns what the world is now, to be kept.
 fn moment_of(world: &World<GitNaming>) -> Result<Moment, Fail> {
     let position = world.position();
     let files = world.now().files().copy()?;
     Ok(Moment { position, files })
 }
 
+/// Returns the first moment of a world.
+fn first_moments(alloc: Global, world: &World<GitNaming>) -> Result<Vec<Moment>, Fail> {
+    Ok(vec![in alloc; moment_of(world)?]?)
+}
+
 impl Past {
-    /// Of a world that was just mounted.
-    pub(crate) fn opened(alloc: Global, world: World<GitNaming>) -> Result<Past, Fail> {
-        let mut moments = Vec::new(alloc);
-        moments.push(moment_of(&world)?)?;
+    /// Mounts a commit as a world, in generation 7, with a journal of this limit.
+    pub(crate) fn mounted(
+        alloc: Global,
+        store: Store<GitNaming>,
+        root: Id,
+        limit: u64,
+    ) -> Result<Past, Fail> {
+        let world = World::mount(alloc, store, root, 7, limit)?;
+        let moments = first_moments(alloc, &world)?;
         Ok(Past { world, moments })
     }
 
@@ -45,7 +56,7 @@ impl Past {
         Ok(answer)
     }
 
-    /// The present position.
+    /// Returns the present position.
     pub(crate) fn position(&self) -> Position {
         self.world.position()
     }
@@ -60,17 +71,17 @@ impl Past {
         Ok(())
     }
 
-    /// What there is now.
+    /// Returns what the world is now.
     pub(crate) fn now(&self) -> &Row {
         self.world.now()
     }
 
-    /// Whether the world was at a place.
+    /// Returns whether the world was at a place.
     pub(crate) fn has(&self, place: &Position) -> bool {
         self.moments.iter().any(|then| then.position == *place)
     }
 
-    /// Whether this stood at a path in the generation of a place, then or later.
+    /// Returns whether this was at a path in the generation of a place, then or later.
     pub(crate) fn stood(&self, place: &Position, path: &Path, file: Option<&Content>) -> bool {
         self.moments.iter().any(|then| {
             then.position.generation == place.generation

@@ -1,23 +1,20 @@
 //! A mount, mirrors of it, and every frame that was ever sent between them.
 
 use crate::frames::{asked, replied, reply_in, served};
-use crate::imports::Roots;
-use crate::lot::PATHS;
-use crate::outcomes::Outcomes;
 use crate::past::Past;
-use crate::seen::{read, seen};
 use eden_accumulate::Mount;
 use eden_globs::Filter;
 use eden_history::{Change, Marked, Position, SinceFault};
-use eden_ids::{Content, GitNaming, Path};
+use eden_ids::{Content, GitNaming, Id, Path};
 use eden_messages::{Cause, Outcome, Query, Reply, Request};
 use eden_mirror::Mirror;
-use eden_world::{Row, World};
+use eden_objects::Store;
+use eden_world::Row;
 use std::alloc::Global;
 use std::test::Fail;
-use test_kit::path;
+use test_kit::{LOT_PATHS, Outcomes, Roots, path};
 
-/// One thing that happens. Mirrors, requests and replies are told by their place among those that there are.
+/// One thing that happens. Mirrors, requests and replies are named by their place among those that there are.
 #[derive(Debug, Drop)]
 pub(crate) enum Step {
     /// The mount is changed, or refuses it.
@@ -43,7 +40,7 @@ pub(crate) enum Step {
     Strange(Request),
 }
 
-/// A frame, and the place of the mirror that sent it or asked for it; a client's that is none is above all of them.
+/// A frame, and the place of the mirror that sent it or asked for it. The place of a client that is no mirror is above all of them.
 #[derive(Drop)]
 pub(crate) struct Sent {
     pub(crate) owner: usize,
@@ -57,10 +54,10 @@ pub(crate) struct Follower {
     filter: Filter,
 }
 
-/// In how many states, after a step, a mirror had a place, had one at the head, held something else than the working copy, and then was
-/// refused what changed since or was told it by a list; how often two mirrors at the head held the same file; how often one took a list of
-/// the files below a directory, and one of none; and what became of imports and of renames of directories.
-#[derive(Clone, Copy, Debug, PartialEq)]
+/// What was seen. After how many steps a mirror had a place, had one at the head, or held something else than the working copy; and then was
+/// refused what changed since, or was sent it as a list. How often two mirrors at the head held the same file. How often one took a list of the
+/// files below a directory, and one of none. And what became of imports and of renames of directories.
+#[derive(Clone, Copy, Debug, Default)]
 pub(crate) struct Tally {
     placed: u64,
     at_head: u64,
@@ -73,12 +70,12 @@ pub(crate) struct Tally {
     outcomes: Outcomes,
 }
 
-/// Whether a path is one of those that changed, or lies below one of the directories that files were moved between.
+/// Returns whether a path changed, or is below a directory that files were moved from or to.
 fn is_among(path: &Path, marked: &[Marked], prefixes: &[Path]) -> bool {
     marked.iter().any(|m| m.path == *path) || prefixes.iter().any(|prefix| path.is_below(prefix))
 }
 
-/// Whether a reply to a poll lists a path, or refuses what was asked in a way by which the client learns that it is behind.
+/// Returns whether a reply to a poll lists a path, or refuses it to a client that is behind.
 fn tells(reply: &Reply, path: &Path) -> bool {
     match reply {
         Reply::ChangesAre {
@@ -94,7 +91,7 @@ fn tells(reply: &Reply, path: &Path) -> bool {
     }
 }
 
-/// Whether each of these paths is among the changes since a place, or the place is refused as stale or truncated.
+/// Returns whether each path changed since a place, or that is refused as stale or truncated.
 fn is_covered(mount: &Mount<GitNaming>, place: &Position, behind: &[Path]) -> Result<bool, Fail> {
     match mount.changes_since(place) {
         Ok(changes) => Ok(
@@ -108,7 +105,15 @@ fn is_covered(mount: &Mount<GitNaming>, place: &Position, behind: &[Path]) -> Re
     }
 }
 
-/// What the mount replies, over bytes, to a poll since a place.
+/// Returns whether a mount has just this at a path.
+fn reads(mount: &Mount<GitNaming>, path: &Path, file: Option<&Content>) -> bool {
+    match (mount.read(path), file) {
+        (Ok((kind, bytes)), Some(file)) => kind == file.kind && bytes == file.bytes.as_slice(),
+        (read, file) => read.is_err() && file.is_none(),
+    }
+}
+
+/// Returns what the mount replies, over bytes, to a poll since a place.
 fn polled(
     alloc: Global,
     mount: &mut Mount<GitNaming>,
@@ -129,28 +134,15 @@ fn polled(
     replied(alloc, mount, &request)
 }
 
-/// One more, where this is so.
+/// Adds 1 if this is so.
 fn count(number: &mut u64, so: bool) {
     *number = number.saturating_add(u64::from(so));
 }
 
 impl Tally {
-    /// None yet.
-    pub(crate) fn new() -> Tally {
-        Tally {
-            placed: 0,
-            at_head: 0,
-            behind: 0,
-            refused: 0,
-            told: 0,
-            together: 0,
-            listed: 0,
-            emptied: 0,
-            outcomes: Outcomes::new(),
-        }
-    }
-
-    /// Whether there was some of each, but for lists that told a mirror what it lacks: over a journal that holds nothing there is none.
+    /// Returns whether there was some of each but lists.
+    ///
+    /// Over a journal that holds nothing no list tells a mirror what it lacks.
     pub(crate) fn has_all(&self) -> bool {
         self.placed > 0
             && self.at_head > 0
@@ -160,12 +152,14 @@ impl Tally {
             && self.outcomes.has_all()
     }
 
-    /// Whether a list told a mirror what it lacks, and what stands below a directory was listed to one, files and no file.
+    /// Returns whether there were lists.
+    ///
+    /// One told a mirror what it lacks. What is below a directory was listed to one, some files and no file.
     pub(crate) fn has_told(&self) -> bool {
         self.told > 0 && self.listed > 0 && self.emptied > 0
     }
 
-    /// One more list of what stands below a directory, where it is one that a mirror took.
+    /// Counts a list of what is below a directory, if a mirror took it.
     fn count_list(&mut self, reply: &Reply, outcome: Outcome) {
         if let Reply::ListIs { paths, .. } = reply {
             let taken = outcome != Outcome::Ignored;
@@ -175,7 +169,7 @@ impl Tally {
         }
     }
 
-    /// One more reply by which a mirror learned that it is behind.
+    /// Counts a reply by which a mirror learned that it is behind.
     fn count_reply(&mut self, reply: &Reply) {
         let refused = matches!(reply, Reply::Refused { .. });
         count(&mut self.behind, true);
@@ -197,12 +191,12 @@ impl Follower {
         self.filter.admits(path)
     }
 
-    /// The file that it holds at a path.
+    /// Returns the file that it holds at a path.
     fn held(&self, path: &Path) -> Option<&Content> {
         self.mirror.get(path)
     }
 
-    /// Those of the paths that it wants and at which it holds something else than the mount.
+    /// Returns those of the paths that it wants and at which it differs from the mount.
     fn behind(
         &self,
         alloc: Global,
@@ -211,15 +205,16 @@ impl Follower {
     ) -> Result<Vec<Path>, Fail> {
         let mut list = Vec::new(alloc);
         for path in paths {
-            if self.wants(path) && seen(self.held(path)) != read(mount, path) {
+            if self.wants(path) && !reads(mount, path, self.held(path)) {
                 list.push(path.copy()?)?;
             }
         }
         Ok(list)
     }
 
-    /// Whether the mount was at its place, so that this is not ahead, and what it holds at each of the paths that it wants stood there then or
-    /// later.
+    /// Returns whether what it holds is of its place.
+    ///
+    /// The mount was at that place, so it is not ahead. What it holds at each path that it wants was there then or later.
     fn is_of(&self, past: &Past, place: &Position, paths: &[Path]) -> bool {
         past.has(place)
             && paths.iter().all(|path| {
@@ -227,7 +222,7 @@ impl Follower {
             })
     }
 
-    /// Whether it has the generation and the number of a position.
+    /// Returns whether it has the generation and the number of a position.
     fn is_at(&self, now: &Position) -> bool {
         match self.mirror.position() {
             Some(place) => { (place.generation, place.sequence) == (now.generation, now.sequence) }
@@ -235,7 +230,7 @@ impl Follower {
         }
     }
 
-    /// Whether both hold the same at each of the paths that both want. The files that they hold there are counted.
+    /// Returns whether both hold the same at each path that both want, and counts their files.
     fn agrees_with(&self, other: &Follower, paths: &[Path], tally: &mut Tally) -> bool {
         for path in paths {
             if !self.wants(path) || !other.wants(path) {
@@ -250,11 +245,11 @@ impl Follower {
         true
     }
 
-    /// That it holds as many files as the mount does at those of the paths that it wants.
+    /// Returns whether it holds as many files as the mount has at paths that it wants.
     fn as_many(&self, mount: &Mount<GitNaming>, paths: &[Path]) -> Result<bool, Fail> {
         let wanted = paths
             .iter()
-            .filter(|path| self.wants(path) && read(mount, path).is_some())
+            .filter(|path| self.wants(path) && mount.read(path).is_ok())
             .count();
         Ok(self.mirror.files()?.len() == wanted)
     }
@@ -272,39 +267,59 @@ pub(crate) struct Scene {
 }
 
 impl Scene {
-    /// A mount, the world for which it stands, and a mirror for each filter, with nothing sent.
-    pub(crate) fn fresh(
+    /// Mounts a commit in generation 7, beside what a world of it has been.
+    fn beside(
         alloc: Global,
-        mount: Mount<GitNaming>,
-        world: World<GitNaming>,
-        filters: Vec<Filter>,
+        store: Store<GitNaming>,
+        root: Id,
+        limit: u64,
+        past: Past,
     ) -> Result<Scene, Fail> {
-        let mut followers = Vec::new(alloc);
-        let mut id = 0u64;
-        for filter in filters {
-            followers.push(Follower::new(alloc, id, 1, filter)?)?;
-            id = id.saturating_add(1);
-        }
-        let mut paths = Vec::new(alloc);
-        for text in PATHS {
-            paths.push(path(alloc, text)?)?;
-        }
+        let mount = Mount::mount(alloc, store, root, 7, limit)?;
         Ok(Scene {
-            paths,
-            past: Past::opened(alloc, world)?,
+            paths: Vec::new(alloc),
+            past,
             mount,
-            followers,
+            followers: Vec::new(alloc),
             sent: Vec::new(alloc),
             replies: Vec::new(alloc),
         })
     }
 
-    /// What the world is now.
+    /// Mounts a commit with a journal of this limit, beside a world.
+    ///
+    /// There is no mirror yet, and nothing is sent.
+    pub(crate) fn mounted(
+        alloc: Global,
+        store: &mut Store<GitNaming>,
+        root: Id,
+        limit: u64,
+    ) -> Result<Scene, Fail> {
+        let past = Past::mounted(alloc, store.share()?, root, limit)?;
+        Scene::beside(alloc, store.share()?, root, limit, past)
+    }
+
+    /// Adds the paths of which changes are drawn.
+    pub(crate) fn add_paths(&mut self, alloc: Global) -> Result<(), Fail> {
+        for text in LOT_PATHS {
+            self.paths.push(path(alloc, text)?)?;
+        }
+        Ok(())
+    }
+
+    /// Adds a mirror in its first life, with the next id.
+    pub(crate) fn add_follower(&mut self, alloc: Global, filter: Filter) -> Result<(), Fail> {
+        let id = self.followers.len() as u64;
+        self.followers.push(Follower::new(alloc, id, 1, filter)?)?;
+        Ok(())
+    }
+
+    /// Returns what the world is now.
     pub(crate) fn now(&self) -> &Row {
         self.past.now()
     }
 
-    /// The mount and the world make a change, or refuse it.
+    /// Makes a change on the mount and the world, or both refuse it.
     fn change(&mut self, change: &Change, roots: &Roots, tally: &mut Tally) -> Result<(), Fail> {
         let told = self.mount.apply(change)?;
         let expected = self.past.apply(change)?;
@@ -322,7 +337,7 @@ impl Scene {
         Ok(())
     }
 
-    /// The mount answers a request, if it is there.
+    /// Has the mount answer a request, if it is there.
     fn serve(&mut self, alloc: Global, place: usize) -> Result<(), Fail> {
         if let Some(sent) = self.sent.get(place) {
             let frame = served(alloc, &mut self.mount, sent.frame.as_slice())?;
@@ -332,7 +347,7 @@ impl Scene {
         Ok(())
     }
 
-    /// A reply comes to a mirror, if both are there.
+    /// Delivers a reply to a mirror, if both are there.
     fn come(
         &mut self,
         alloc: Global,
@@ -350,7 +365,7 @@ impl Scene {
         Ok(())
     }
 
-    /// The mirror sends what is outstanding.
+    /// Sends what is outstanding in a mirror's round.
     fn ask(&mut self, alloc: Global, owner: usize) -> Result<(), Fail> {
         if let Some(follower) = self.followers.get(owner) {
             let requests = follower.mirror.outstanding()?;
@@ -361,7 +376,7 @@ impl Scene {
         Ok(())
     }
 
-    /// The mirror begins a round, if it is there.
+    /// Begins a round of a mirror, if it is there.
     fn begin(&mut self, mirror: usize) -> Result<(), Fail> {
         if let Some(follower) = self.followers.get_mut(mirror) {
             follower.mirror.begin()?;
@@ -369,7 +384,7 @@ impl Scene {
         Ok(())
     }
 
-    /// The mirror wants other paths.
+    /// Gives a mirror other paths to want.
     fn refilter(&mut self, mirror: usize, filter: &Filter) -> Result<(), Fail> {
         if let Some(follower) = self.followers.get_mut(mirror) {
             follower.mirror.refilter(filter.copy()?);
@@ -378,7 +393,7 @@ impl Scene {
         Ok(())
     }
 
-    /// The mirror begins anew.
+    /// Begins a mirror anew, under its next life.
     fn restart(&mut self, alloc: Global, mirror: usize, filter: &Filter) -> Result<(), Fail> {
         if let Some(follower) = self.followers.get_mut(mirror) {
             let id = follower.mirror.id();
@@ -388,7 +403,7 @@ impl Scene {
         Ok(())
     }
 
-    /// What the step says happens.
+    /// Does what a step says.
     pub(crate) fn happen(
         &mut self,
         alloc: Global,
@@ -411,7 +426,7 @@ impl Scene {
         }
     }
 
-    /// Whether each two mirrors at the head hold the same at the paths that both want.
+    /// Returns whether each two mirrors at the head agree on the paths that both want.
     fn agree_at_head(&self, tally: &mut Tally) -> bool {
         let now = self.mount.position();
         for one in &self.followers {
@@ -427,9 +442,11 @@ impl Scene {
         true
     }
 
-    /// What does not hold of the mirrors with a place, though it is promised: the place was a position of the mount, and what the mirror
-    /// holds stood there then or later; the paths at which it is behind are among the changes since its place, or the place is refused,
-    /// and a poll since then tells so; at the head it is behind nowhere and holds nothing else, and agrees with others there.
+    /// Returns what does not hold of the mirrors with a place, though it is promised.
+    ///
+    /// The place was a position of the mount, and what the mirror holds was there then or later. The paths at which it is behind are among the
+    /// changes since its place, or the place is refused, and so a poll since then replies. At the head it is behind nowhere, holds nothing else,
+    /// and agrees with others there.
     pub(crate) fn broken(
         &mut self,
         alloc: Global,
@@ -455,7 +472,9 @@ impl Scene {
     }
 }
 
-/// What does not hold of the paths at which a mirror is behind. Where that is none, nothing is promised of what is told.
+/// Returns what does not hold of the paths at which a mirror is behind.
+///
+/// If it is behind nowhere, nothing is promised of replies to it.
 fn broken_behind(
     alloc: Global,
     mount: &mut Mount<GitNaming>,
@@ -478,7 +497,7 @@ fn broken_behind(
     Ok(None)
 }
 
-/// What does not hold of a mirror that has a place.
+/// Returns what does not hold of a mirror that has a place.
 fn broken_of(
     alloc: Global,
     mount: &mut Mount<GitNaming>,
