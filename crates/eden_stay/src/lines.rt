@@ -1,4 +1,4 @@
-//! The lines behind `listen`, which change what stays.
+//! The lines after `listen`, which change what stays.
 
 use eden_edend::{Changer, Labels, LineInput, run_changes};
 use eden_history::Change;
@@ -28,7 +28,7 @@ impl<'a, N: Naming + Drop, T: Served<N>, R: Wait> Changer for Writer<'a, N, T, R
     }
 }
 
-/// What a script has behind `listen`.
+/// What a script has after `listen`.
 #[derive(Drop)]
 pub(crate) struct Lines<I: Read + Drop> {
     pub(crate) input: LineInput<I>,
@@ -38,7 +38,9 @@ pub(crate) struct Lines<I: Read + Drop> {
 }
 
 impl<I: Read + Drop> Lines<I> {
-    /// Makes the changes of the lines, to the end of the input or the first fault. Gives the number of the last line.
+    /// Makes the changes of the lines, to the end of the input or the first fault.
+    ///
+    /// Returns the number of the last line.
     pub(crate) fn run<N: Naming + Drop, T: Served<N>, R: Wait>(
         self,
         rt: &R,
