@@ -538,6 +538,27 @@ fn ended_scripts(rt: HostRuntime) -> Result<(), Fail> {
     Ok(())
 }
 
+/// Calls that ask for help.
+const HELPS: &[&str] = &["edend --help", "edend run --help", "edend serve --help"];
+
+/// Returns the first line that doesn't fit into 80 columns, other than the usage, which `clap` writes on one line.
+pub(crate) fn first_wide(text: &[u8]) -> Option<&str> {
+    let mut lines = text.split(|byte| *byte == b'\n');
+    let line = lines.find(|line| line.len() > 80 && !line.starts_with(b"Usage: "))?;
+    str::from_utf8(line).ok()
+}
+
+#[test]
+fn helps(rt: HostRuntime) -> Result<(), Fail> {
+    for words in HELPS {
+        let (status, told) = told_at(&rt, rt.alloc(), words, ONE, 1)?;
+        assert_eq!(rt; status, 2, "{words}");
+        assert!(rt; !told.is_empty(), "{words}");
+        assert_eq!(rt; first_wide(told.as_slice()), None, "{words}");
+    }
+    Ok(())
+}
+
 // The script and the objects could not be read either.
 #[test]
 fn port_in_use(rt: HostRuntime) -> Result<(), Fail> {
