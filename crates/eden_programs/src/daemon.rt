@@ -200,9 +200,9 @@ fn serve_or_run<
 ///   the objects are read. Or the file of objects can't be opened: `edend: FILE: ` and what the system says.
 /// - 4: the audit of what was served names a fault, which the output tells.
 ///
-/// What goes wrong while a mount is served, and ends nothing but itself, is counted: connections that ended at a frame that can't be answered, and
-/// times that all places were taken. One line at the end has the counts, if there are any. With `serve --verbose` each is printed when it happens,
-/// and so is a line after `listen` that can't be read, and where the script has ended.
+/// With `serve --verbose` it prints what goes wrong while it serves and ends nothing but itself, when it happens: a change that is refused, a
+/// connection that ends at a frame that can't be answered, a connection that takes the last place, and a line after `listen` that can't be read. One
+/// line at the end has the counts, if there are any, and another says where the script has ended.
 ///
 /// All this goes to `errors`; that it can't be printed changes no status.
 pub fn edend<

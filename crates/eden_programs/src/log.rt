@@ -1,22 +1,23 @@
 //! What goes wrong while a mount is served, as standard error shows it.
 
 use crate::daemon_words::NAME;
+use crate::reason::Excerpt;
 use eden_frames::FrameFault;
+use eden_history::{Change, ChangeFault};
 use eden_serve::Observer;
 use std::io::Write;
 use std::sync::{Mutex, Wait};
 
-/// What was heard, and where it is printed.
+/// Where it is printed, and how often each was heard.
 #[derive(Drop)]
 struct Heard<'a, E> {
     errors: &'a mut E,
-    /// How many connections have ended with a frame that can't be answered.
+    changes: u64,
     frames: u64,
-    /// How often each place had a connection.
     taken: u64,
 }
 
-/// Counts what goes wrong while a mount is served, and prints it if that is asked for.
+/// Prints what goes wrong while a mount is served when it happens, and counts it. Without `--verbose` it does nothing.
 #[derive(Drop)]
 pub(crate) struct Log<'a, 'b, E, R: Wait> {
     rt: &'b R,
@@ -24,11 +25,27 @@ pub(crate) struct Log<'a, 'b, E, R: Wait> {
     heard: Mutex<Heard<'a, E>>,
 }
 
+/// Returns the word of a line that asks for such a change, and the path that comes after it.
+fn line_of(change: &Change) -> (&'static str, &[u8]) {
+    match change {
+        Change::Write { path, .. } => ("write ", path.as_bytes()),
+        Change::Remove { path } => ("remove ", path.as_bytes()),
+        Change::Rename { old, .. } => ("rename ", old.as_bytes()),
+        Change::RenameDir { old, .. } => ("renamedir ", old.as_bytes()),
+        Change::Checkout { .. } => ("checkout", b""),
+        Change::Reset { .. } => ("reset", b""),
+        Change::Flush => ("flush", b""),
+        Change::Remount { .. } => ("remount", b""),
+        Change::Import { .. } => ("import", b""),
+    }
+}
+
 impl<'a, 'b, E: Write, R: Wait> Log<'a, 'b, E, R> {
     /// Returns a log that has heard nothing.
     pub(crate) fn new(rt: &'b R, errors: &'a mut E, is_verbose: bool) -> Log<'a, 'b, E, R> {
         let heard = Heard {
             errors,
+            changes: 0,
             frames: 0,
             taken: 0,
         };
@@ -39,30 +56,33 @@ impl<'a, 'b, E: Write, R: Wait> Log<'a, 'b, E, R> {
         }
     }
 
-    /// Prints how often what was heard, if there was anything.
+    /// Prints how often each was heard, if anything was.
     pub(crate) fn finish(self) {
         let Heard {
             errors,
+            changes,
             frames,
             taken,
         } = self.heard.into_inner();
-        if frames > 0 || taken > 0 {
+        if changes > 0 || frames > 0 || taken > 0 {
             let _ = write!(
                 errors,
-                "{NAME}: connections that ended at an invalid frame: {frames}; times that all places were taken: {taken}\n"
+                "{NAME}: refused changes: {changes}; connections that ended at an invalid frame: {frames}; times that all places were taken: {taken}\n"
             );
         }
     }
 }
 
 impl<'a, 'b, E: Write, R: Wait> Observer for Log<'a, 'b, E, R> {
-    fn frame_refused(&self, number: u64, fault: FrameFault) {
-        let mut heard = self.heard.lock(self.rt);
-        heard.frames = heard.frames.saturating_add(1);
+    fn change_refused(&self, change: &Change, fault: ChangeFault) {
         if self.is_verbose {
+            let (word, path) = line_of(change);
+            let path = Excerpt(path);
+            let mut heard = self.heard.lock(self.rt);
+            heard.changes = heard.changes.saturating_add(1);
             let _ = write!(
                 heard.errors,
-                "{NAME}: a connection has ended: frame {number}: {fault}\n"
+                "{NAME}: `{word}{path}` was refused: {fault}\n"
             );
         }
     }
@@ -77,10 +97,21 @@ impl<'a, 'b, E: Write, R: Wait> Observer for Log<'a, 'b, E, R> {
         }
     }
 
-    fn places_taken(&self) {
-        let mut heard = self.heard.lock(self.rt);
-        heard.taken = heard.taken.saturating_add(1);
+    fn frame_refused(&self, number: u64, fault: FrameFault) {
         if self.is_verbose {
+            let mut heard = self.heard.lock(self.rt);
+            heard.frames = heard.frames.saturating_add(1);
+            let _ = write!(
+                heard.errors,
+                "{NAME}: a connection has ended: frame {number}: {fault}\n"
+            );
+        }
+    }
+
+    fn places_taken(&self) {
+        if self.is_verbose {
+            let mut heard = self.heard.lock(self.rt);
+            heard.taken = heard.taken.saturating_add(1);
             let _ = write!(
                 heard.errors,
                 "{NAME}: all places are taken; the next connection waits\n"

@@ -153,8 +153,8 @@ fn serve_behind<
 /// the name of the fault.
 ///
 /// A connection that can't be accepted counts as one that has ended. If no thread can be made, a connection is served before the next one is
-/// accepted, and the lines are run after the last connection. The observer hears of each frame that can't be answered, and of a line that can't be
-/// read, when it happens.
+/// accepted, and the lines are run after the last connection. The observer hears of each change that is refused, of each frame that can't be
+/// answered, and of a line that can't be read, when it happens.
 ///
 /// # Errors
 ///

@@ -7,7 +7,7 @@ ghost use Rattle.eden_serve.specs.Servings.{NotesChange};
 use crate::observing::Observer;
 use eden_audit::Audited;
 use eden_edend::{Changer, Labels, LineInput, run_changes};
-use eden_history::Change;
+use eden_history::{Answer, Change};
 use eden_ids::{GitNaming, NoMemory};
 use eden_shared::{Desk, Shared};
 use eden_stream::RunFault;
@@ -37,24 +37,28 @@ pub(crate) struct Wrote<L: Ledger> {
 
 /// A desk at its lock, which makes changes.
 #[derive(Drop)]
-struct Writer<'a, 'b, L: Ledger, R: Wait> {
+struct Writer<'a, 'b, L: Ledger, R: Wait, V: Observer> {
     rt: &'a R,
+    observer: &'a V,
     shared: &'a Behind<L>,
     desk: &'b mut Desk<L>,
 }
 
-impl<'a, 'b, L: Ledger, R: Wait> Changer for Writer<'a, 'b, L, R> {
+impl<'a, 'b, L: Ledger, R: Wait, V: Observer> Changer for Writer<'a, 'b, L, R, V> {
     ghost made = { λ before change after. NotesChange before.desk.now change after.desk.now };
 
     fn change(&mut self, change: &Change) -> Result<(), NoMemory> {
-        self.desk.change(self.rt, self.shared, change)?;
+        let (_, answer) = self.desk.change(self.rt, self.shared, change)?;
+        if let Answer::Refused(fault) = answer {
+            self.observer.change_refused(change, fault);
+        }
         Ok(())
     }
 }
 
 /// Makes the changes of the lines, to the end of the input or the first fault.
 ///
-/// The observer hears of a line that can't be read.
+/// The observer hears of each change that is refused, and of a line that can't be read.
 pub(crate) fn write_lines<L: Ledger, R: Wait, I: Read + Drop, V: Observer>(
     rt: &R,
     alloc: Global,
@@ -70,6 +74,7 @@ pub(crate) fn write_lines<L: Ledger, R: Wait, I: Read + Drop, V: Observer>(
     } = lines;
     let mut writer = Writer {
         rt,
+        observer,
         shared,
         desk: &mut desk,
     };

@@ -45,7 +45,7 @@ fn run_threads<R: Threads + Wait + Clock + Net + Sync, I: Read + Drop, V: Observ
             if !serves {
                 return None;
             }
-            let ended = lines.run(rt, alloc, &station.resident);
+            let ended = lines.run(rt, alloc, &station.resident, observer);
             station.close(rt, threads);
             Some(ended)
         },
@@ -89,8 +89,8 @@ fn stay_listener<R: Threads + Wait + Clock + Net + Sync, I: Read + Drop, V: Obse
 ///
 /// Each of this many threads accepts the next connection when its last one has ended. Meanwhile the lines after `listen` change the mount, as in
 /// `eden_edend::run_changes`. If not all of the threads can be made, there are fewer. A connection ends when its peer ends it, with a fault, or after
-/// 1,000,000 reads. That ends no other. The observer hears of each frame that can't be answered, and each time that the last thread takes a
-/// connection.
+/// 1,000,000 reads. That ends no other. The observer hears of each change that is refused, of each frame that can't be
+/// answered, and each time that the last thread takes a connection.
 ///
 /// Once the input has ended, or a line has a fault, no connection is accepted any more. Those that are open end within 200 ms or so, whatever their
 /// peers do. What is not read or not written by then is lost. Then this ends too.

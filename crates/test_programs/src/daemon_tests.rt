@@ -487,7 +487,9 @@ const ENDINGS: &[(&str, &str)] = &[
     ("edend serve --port PORT --connections 1 --stay", ""),
     (
         "edend serve --port PORT --connections 1 --stay --verbose",
-        "edend: the script has ended within line 5\n",
+        "edend: `remove zz` was refused: NoEntry\n\
+edend: refused changes: 1; connections that ended at an invalid frame: 0; times that all places were taken: 0\n\
+edend: the script has ended within line 5\n",
     ),
 ];
 

@@ -18,8 +18,11 @@ type Row = (&'static str, &'static [u8], &'static [u8], u8, &'static str);
 
 const MOUNTED: &[u8] = b"mount empty 7 1000\nlisten\n";
 
+/// Changes that are refused after `listen`.
+const REFUSED: &[u8] = b"mount empty 7 1000\nlisten\nremove d/zz\nwrite a plain x\n#\nremount 7\n";
+
 /// No line `position` is read after `listen`.
-const REFUSED: &[u8] = b"mount empty 7 1000\nlisten\nflush\nposition\nflush\n";
+const UNREADABLE: &[u8] = b"mount empty 7 1000\nlisten\nflush\nposition\nflush\n";
 
 /// The length of a frame that is too large.
 const TOO_LARGE: &[u8] = &[255; 4];
@@ -43,7 +46,7 @@ const ROWS: &[Row] = &[
         MOUNTED,
         TOO_LARGE,
         0,
-        "edend: connections that ended at an invalid frame: 1; times that all places were taken: 0\n",
+        "",
     ),
     (
         "edend serve --port PORT --connections 1 --verbose",
@@ -51,23 +54,40 @@ const ROWS: &[Row] = &[
         BAD_TAG,
         0,
         "edend: a connection has ended: frame 1: BadTag\n\
-edend: connections that ended at an invalid frame: 1; times that all places were taken: 0\n\
+edend: refused changes: 0; connections that ended at an invalid frame: 1; times that all places were taken: 0\n\
 edend: the script has ended after line 2\n",
     ),
     (
-        "edend serve --port PORT --connections 1",
+        "edend serve --port PORT --connections 1 --verbose",
         REFUSED,
+        b"",
+        0,
+        "edend: `remove d/zz` was refused: NoEntry\n\
+edend: `remount` was refused: GenerationNotNew\n\
+edend: refused changes: 2; connections that ended at an invalid frame: 0; times that all places were taken: 0\n\
+edend: the script has ended after line 6\n",
+    ),
+    (
+        "edend serve --port PORT --connections 1",
+        UNREADABLE,
         b"",
         1,
         "line 4: BadLine: after `listen` only write, remove, rename, renamedir, checkout, reset, flush and remount are read\n",
     ),
     (
         "edend serve --port PORT --connections 1 --verbose",
-        REFUSED,
+        UNREADABLE,
         b"",
         1,
         "edend: line 4 can't be read, so no line changes the mount any more\n\
 line 4: BadLine: after `listen` only write, remove, rename, renamedir, checkout, reset, flush and remount are read\n",
+    ),
+    (
+        "edend serve --port PORT --connections 1 --stay",
+        MOUNTED,
+        TOO_LARGE,
+        0,
+        "",
     ),
     (
         "edend serve --port PORT --connections 2 --stay --verbose",
@@ -77,27 +97,13 @@ line 4: BadLine: after `listen` only write, remove, rename, renamedir, checkout,
         "edend: the script has ended after line 2\n",
     ),
     (
-        "edend serve --port PORT --connections 1 --stay",
-        MOUNTED,
-        b"",
-        0,
-        "edend: connections that ended at an invalid frame: 0; times that all places were taken: 1\n",
-    ),
-    (
-        "edend serve --port PORT --connections 2 --stay",
-        MOUNTED,
-        BAD_TAG,
-        0,
-        "edend: connections that ended at an invalid frame: 1; times that all places were taken: 0\n",
-    ),
-    (
         "edend serve --port PORT --connections 1 --stay --verbose",
         MOUNTED,
         CUT_SHORT,
         0,
         "edend: all places are taken; the next connection waits\n\
 edend: a connection has ended: frame 1: CutShort\n\
-edend: connections that ended at an invalid frame: 1; times that all places were taken: 1\n\
+edend: refused changes: 0; connections that ended at an invalid frame: 1; times that all places were taken: 1\n\
 edend: the script has ended after line 2\n",
     ),
 ];
