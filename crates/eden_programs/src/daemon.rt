@@ -3,12 +3,13 @@
 ghost use Rattle.std.specs.Prelude.{◌≡◌, ◌≤◌};
 
 use crate::daemon_words::{NAME, Service, Setting, Task, read_words};
+use crate::log::Log;
 use crate::objects::{Shelf, first_objects};
 use crate::script::Script;
 use crate::told::tell;
 use eden_command::{ProgramFault, end_unrun};
 use eden_edend::{Objects, run_over};
-use eden_serve::{program_fault, serve_over};
+use eden_serve::{Observer, program_fault, serve_over};
 use eden_stay::stay_program;
 use eden_stream::Counted;
 use std::alloc::{AllocError, Global};
@@ -39,6 +40,7 @@ fn work<
     R: Threads + Wait + Clock + Net<Listener = TcpListener, Stream = TcpStream> + Sync,
     I: Read + Send + Drop,
     O: Write,
+    V: Observer + Sync,
 >(
     rt: &R,
     alloc: Global,
@@ -46,6 +48,7 @@ fn work<
     objects: Objects,
     input: I,
     output: &mut O,
+    observer: &V,
 ) -> Result<(), ProgramFault> {
     let Some(
         Service {
@@ -60,9 +63,27 @@ fn work<
     };
     let mut writer = Counted::new(output);
     if stays {
-        stay_program(rt, alloc, objects, input, &mut writer, port, connections)
+        stay_program(
+            rt,
+            alloc,
+            objects,
+            input,
+            &mut writer,
+            port,
+            connections,
+            observer,
+        )
     } else {
-        serve_over(rt, alloc, objects, input, &mut writer, port, connections)
+        serve_over(
+            rt,
+            alloc,
+            objects,
+            input,
+            &mut writer,
+            port,
+            connections,
+            observer,
+        )
     }
 }
 
@@ -118,17 +139,11 @@ fn explain<I>(
     Ok(Some(why))
 }
 
-/// Prints where the script has ended, if the command line asks for it, and returns the status of a program that ends well.
-fn end_well<I, E: Write>(errors: &mut E, service: Option<Service>, script: &mut Script<I>) -> u8
+/// Prints where the script has ended, if that is asked for, and returns the status of a program that ends well.
+fn end_well<I, E: Write>(errors: &mut E, is_verbose: bool, script: &mut Script<I>) -> u8
     ensures { result ≡ 0 }
 {
-    if matches!(
-        service,
-        Some(Service {
-            is_verbose: true,
-            ..
-        })
-    ) {
+    if is_verbose {
         let (count, is_whole) = script.finish();
         let end = if is_whole { "after" } else { "within" };
         let _ = write!(errors, "{NAME}: the script has ended {end} line {count}\n");
@@ -141,7 +156,7 @@ fn serve_or_run<
     R: Threads + Wait + Clock + Net<Listener = TcpListener, Stream = TcpStream> + Sync,
     I: Read + Send + Drop,
     O: Write,
-    E: Write,
+    E: Write + Send,
 >(
     rt: &R,
     alloc: Global,
@@ -156,8 +171,12 @@ fn serve_or_run<
     ensures { result ≤ 4 }
 {
     let mut script = Script::new(alloc, input);
-    match work(rt, alloc, service, objects, &mut script, output) {
-        Ok(()) => end_well(errors, service, &mut script),
+    let is_verbose = service.is_some_and(|service| service.is_verbose);
+    let log = Log::new(rt, &mut *errors, is_verbose);
+    let done = work(rt, alloc, service, objects, &mut script, output, &log);
+    log.finish();
+    match done {
+        Ok(()) => end_well(errors, is_verbose, &mut script),
         Err(fault) => {
             let why = explain(alloc, &fault, &mut script, setting, port);
             tell(errors, NAME, &fault, why)
@@ -181,13 +200,17 @@ fn serve_or_run<
 ///   the objects are read. Or the file of objects can't be opened: `edend: FILE: ` and what the system says.
 /// - 4: the audit of what was served names a fault, which the output tells.
 ///
-/// With `serve --verbose` it prints where the script has ended. All this goes to `errors`; that it can't be printed changes no status.
+/// With `serve --verbose` it prints what goes wrong while it serves and ends nothing but itself, when it happens: a change that is refused, a
+/// connection that ends at a frame that can't be answered, a connection that takes the last place, and a line after `listen` that can't be read. One
+/// line at the end has the counts, if there are any, and another says where the script has ended.
+///
+/// All this goes to `errors`; that it can't be printed changes no status.
 pub fn edend<
     R: Threads + Wait + Clock + Net<Listener = TcpListener, Stream = TcpStream> + Sync,
     S: Shelf,
     I: Read + Send + Drop,
     O: Write,
-    E: Write,
+    E: Write + Send,
 >(
     rt: &R,
     alloc: Global,

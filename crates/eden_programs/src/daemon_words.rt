@@ -8,10 +8,14 @@ use std::alloc::Global;
 /// The program's name, in what it tells.
 pub(crate) const NAME: &str = "edend";
 
-/// What `edend run` is for, and the lines of its script.
-const ABOUT_RUN: &str = "Runs a script from standard input: edend run < FILE
+/// What `edend run` is for.
+const ABOUT_RUN: &str = "Runs a script from standard input";
 
-Each line is one of these, its words separated by single spaces (docs/script.md):
+/// What `edend run` is for, and the lines of its script.
+const LONG_ABOUT_RUN: &str = "Runs a script from standard input: edend run < FILE
+
+Each line is one of these, with single spaces between its words
+(docs/script.md):
   blob L TEXT | tree L [MODE NAME LABEL].. | commit L TREE | id L
   mount L GENERATION LIMIT
   write PATH KIND TEXT | remove PATH | rename OLD NEW | renamedir OLD NEW
@@ -23,7 +27,10 @@ L, LABEL and TREE are labels: 1 to 32 of a to z and 0 to 9.
 In a word \\\\ is a backslash, \\n a line feed, \\s a space, and \\e nothing.";
 
 /// What `edend serve` is for.
-const ABOUT_SERVE: &str = "Serves a mount over TCP, on 127.0.0.1 alone:
+const ABOUT_SERVE: &str = "Serves a mount over TCP, on 127.0.0.1 alone";
+
+/// What `edend serve` is for, and the lines that it reads.
+const LONG_ABOUT_SERVE: &str = "Serves a mount over TCP, on 127.0.0.1 alone:
   edend serve --port P --connections N < FILE
 
 Runs the script up to the line `listen` as `edend run` does: lines blob, tree,
@@ -40,9 +47,10 @@ With --stay it serves N connections at a time until the script ends. It keeps no
 history and prints no audit, so its memory does not grow with the calls.";
 
 /// What `--objects` is for.
-const ABOUT_OBJECTS: &str = "Put these objects first, as `git cat-file --batch` prints them.
-An object comes after those that it names. The label of a
-commit is the first 32 digits of its id.";
+const ABOUT_OBJECTS: &str = "Put these objects first, in the form that
+`git cat-file --batch` prints. An object comes after
+those that it names. The label of a commit is the
+first 32 digits of its id.";
 
 /// How a mount is served.
 #[derive(Clone, Copy)]
@@ -53,7 +61,7 @@ pub(crate) struct Service {
     pub(crate) connections: u64,
     /// Whether it takes connections until its input ends.
     pub(crate) stays: bool,
-    /// Whether it prints where its script has ended.
+    /// Whether it prints what is refused, and where its script has ended.
     pub(crate) is_verbose: bool,
 }
 
@@ -115,18 +123,19 @@ fn serve_command<'a>(alloc: Global) -> Result<Command<'a>, Error> {
         "N",
         1,
         64,
-        "How many connections to serve, 1 to 64; with --stay, at a time",
+        "How many connections, 1 to 64; with --stay, at a time",
     );
     let stay = Arg::new(alloc, "stay")
         .long("stay")
-        .help("Serve connections until the script ends, without a history")
+        .help("Serve until the script ends, and keep no history")
         .action(ArgAction::SetTrue);
     let verbose = Arg::new(alloc, "verbose")
         .long("verbose")
-        .help("Print on standard error where the script has ended")
+        .help("Print what is refused, and where the script has ended")
         .action(ArgAction::SetTrue);
     let command = Command::new(alloc, "serve")
         .about(ABOUT_SERVE)
+        .long_about(LONG_ABOUT_SERVE)
         .arg(port)?
         .arg(connections)?
         .arg(stay)?
@@ -149,6 +158,7 @@ fn service_of(command: &mut Command<'_>, serve: &ArgMatches<'_>) -> Result<Servi
 pub(crate) fn read_words<'a>(alloc: Global, words: &'a [String]) -> Result<Task<'a>, Error> {
     let run = Command::new(alloc, "run")
         .about(ABOUT_RUN)
+        .long_about(LONG_ABOUT_RUN)
         .arg(objects_option(alloc))?;
     let mut command = Command::new(alloc, NAME)
         .version(VERSION)

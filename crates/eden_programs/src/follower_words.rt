@@ -9,12 +9,18 @@ use std::alloc::Global;
 pub(crate) const NAME: &str = "follow";
 
 /// What `follow demo` is for.
-const ABOUT_DEMO: &str =
+const ABOUT_DEMO: &str = "Runs writers beside followers, and audits what they did";
+
+/// What `follow demo` does.
+const LONG_ABOUT_DEMO: &str =
     "Runs two writers that change a mount and two followers that keep mirrors of
 it, and audits what they did";
 
 /// What `follow connect` is for.
-const ABOUT_CONNECT: &str = "Keeps a mirror of a mount that `edend serve` serves on 127.0.0.1
+const ABOUT_CONNECT: &str = "Keeps a mirror of a mount that `edend serve` serves";
+
+/// What `follow connect` does and prints.
+const LONG_ABOUT_CONNECT: &str = "Keeps a mirror of a mount that `edend serve` serves on 127.0.0.1
 
 It makes N rounds, and prints the mirror: `placed GENERATION SEQUENCE ROOT` or
 `unplaced`, `files N`, and a line `KIND LENGTH PATH` for each file.
@@ -87,6 +93,7 @@ fn connect_command<'a>(alloc: Global) -> Result<Command<'a>, Error> {
         .action(ArgAction::Append);
     let command = Command::new(alloc, "connect")
         .about(ABOUT_CONNECT)
+        .long_about(LONG_ABOUT_CONNECT)
         .arg(port)?
         .arg(mirror)?
         .arg(life)?
@@ -116,7 +123,9 @@ fn wanted_of<'a>(
 
 /// What the words of a command line ask for. Help and the version are errors here too: they run nothing.
 pub(crate) fn read_words<'a>(alloc: Global, words: &'a [String]) -> Result<Task<'a>, Error> {
-    let demo = Command::new(alloc, "demo").about(ABOUT_DEMO);
+    let demo = Command::new(alloc, "demo")
+        .about(ABOUT_DEMO)
+        .long_about(LONG_ABOUT_DEMO);
     let mut command = Command::new(alloc, NAME)
         .version(VERSION)
         .about("Keeps mirrors of a mount")

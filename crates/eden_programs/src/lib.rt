@@ -25,6 +25,7 @@ mod devices;
 mod explained;
 mod follower;
 mod follower_words;
+mod log;
 mod objects;
 mod options;
 mod reason;

@@ -18,7 +18,7 @@ use Rattle.eden_shared.specs.Passes.{PassView, made_by}
 use Rattle.eden_stream.specs.declared.lines.RunFault.{RunFault}
 use Rattle.eden_stream.specs.declared.lines.RunFault.TheVariants as ran
 
--- why a program ends whose lines have ended so
+-- why a program ends if its lines have ended with this fault
 abbrev pub program_fault : RunFault → ProgramFault
 program_fault (ran.BadLine number) = faults.BadLine number
 program_fault ran.Read = faults.Read
@@ -45,7 +45,7 @@ pub record NotesChange (before : DeskView) (change : Change) (after : DeskView) 
   pub caller : after.caller ≡ before.caller
   pub log : after.log ≡ before.log ++ noted ticket (calls.Change change) (answer_made answer) ∷ []
 
--- Some mount with its history took as many calls as the passes made, and the logs agree with it and note all that stands there.
+-- Some mount with its history took as many calls as the passes made. The logs agree with it, and note all of its calls.
 pub record Agrees (passes : List PassView) (logs : List CallLog) : Type 0 where
   pub audited : Stored
   pub taken : length audited.entries ≡ made_by passes

@@ -1,4 +1,4 @@
-//! What is found in the end, and how it is told.
+//! The audit at the end, and how its outcome is printed.
 
 ghost use Rattle.std.specs.Prelude.{◌≡◌, ◌⊎◌, IfErr, IfOk, Ok, OnOk, codes};
 ghost use Rattle.std.specs.String.{string_bytes};
@@ -27,12 +27,12 @@ pub(crate) fn judge<L: Ledger>(
 {
     match shared.finish(passes) {
         Ok(mut audited) => audit(alloc, &mut audited, logs),
-        // The calls of a pass that is missing stand in no log.
+        // No log has the calls of a missing pass.
         Err(_) => Err(AuditFault::CountsDiffer),
     }
 }
 
-/// The line that tells what an audit says.
+/// Returns the line that says what an audit found.
 fn audit_text(alloc: Global, audit: Result<(), AuditFault>) -> Result<String, NoMemory>
     ensures { IfOk result (λ text. audit ≡ Ok tt → string_bytes text ≡ codes "audit ok\n") }
 {
@@ -42,7 +42,9 @@ fn audit_text(alloc: Global, audit: Result<(), AuditFault>) -> Result<String, No
     }
 }
 
-/// Writes what an audit says, at once, and gives what is wrong. Where it had no memory nothing is written.
+/// Writes and flushes what an audit found, and returns what is wrong.
+///
+/// Nothing is written if the audit was out of memory.
 pub(crate) fn tell_audit<O: Write>(
     alloc: Global,
     output: &mut O,

@@ -1,6 +1,7 @@
-//! `edend serve` as a library: a script makes a mount up to its line `listen`; then the mount is served to connections over TCP, each in a thread
-//! of its own, while the lines behind `listen` change it; and in the end an audit says whether what all of them noted agrees with the mount's
-//! history.
+//! `edend serve` as a library.
+//!
+//! A script makes a mount up to its line `listen`. Then the mount is served to connections over TCP, each in a thread of its own, while the lines
+//! after `listen` change it. Each thread notes its calls and their answers. At the end an audit compares these notes with the mount's history.
 //!
 //! ```rust
 //! use eden_serve::serve_program;
@@ -18,11 +19,13 @@
 #![tactic(auto)]
 
 pub use crate::listening::{Listening, listen, program_fault};
+pub use crate::observing::{Observer, Unobserved};
 pub use crate::program::{serve_listener, serve_over, serve_program};
 pub use eden_command::ProgramFault;
 
 mod auditing;
 mod listening;
+mod observing;
 mod program;
 mod threads;
 mod writing;

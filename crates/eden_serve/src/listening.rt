@@ -15,7 +15,7 @@ use std::alloc::{AllocError, Global};
 use std::io::{Read, Write};
 use std::net::{Ipv4Addr, Net, TcpListener, TcpStream};
 
-/// Why a program ends whose lines have ended so.
+/// Returns why a program ends if its lines have ended with this fault.
 pub fn program_fault(fault: RunFault) -> ProgramFault
     ensures told { result ≡ program_fault fault }
     ensures cause { stops_unaudited result ≡ true }
@@ -29,7 +29,7 @@ pub fn program_fault(fault: RunFault) -> ProgramFault
     }
 }
 
-/// Listens on a port of 127.0.0.1, and on no other address. `NoConnection` comes where it can't be bound.
+/// Listens on a port of 127.0.0.1, and on no other address. `NoConnection` if it can't be bound.
 fn open_port<R: Net<Listener = TcpListener, Stream = TcpStream>>(
     rt: &R,
     port: u16,
@@ -42,7 +42,7 @@ fn open_port<R: Net<Listener = TcpListener, Stream = TcpStream>>(
     }
 }
 
-/// The line that tells where connections are taken.
+/// Returns the line that says where connections are accepted.
 fn port_text(alloc: Global, port: u16) -> Result<Vec<u8>, AllocError>
     ensures { IfOk result (λ text. text.items ≡ listening_text port) }
 {
@@ -53,7 +53,9 @@ fn port_text(alloc: Global, port: u16) -> Result<Vec<u8>, AllocError>
     Ok(text)
 }
 
-/// Writes that connections are taken on this port, at once: `Write` comes where the output fails, and `NoMemory` where a growth was refused.
+/// Writes and flushes that connections are accepted on this port.
+///
+/// `Write` if the output fails, and `NoMemory` if an allocation does.
 fn tell_port<O: Write>(alloc: Global, output: &mut O, port: u16) -> Result<(), ProgramFault>
     ensures told { OnOk result (Appends (O.contents output.old) (O.contents output.new) (listening_text port)) }
     ensures causes { IfErr result (λ fault. (fault ≡ ProgramFault.Write) ⊎ (fault ≡ ProgramFault.NoMemory)) }
@@ -67,29 +69,29 @@ fn tell_port<O: Write>(alloc: Global, output: &mut O, port: u16) -> Result<(), P
     Ok(())
 }
 
-/// What a program that serves has once connections are taken.
+/// What a program that serves has once connections are accepted.
 #[derive(Drop)]
 pub struct Listening<I: Read + Drop> {
-    /// What the script up to `listen` leaves.
+    /// What the script has made up to `listen`.
     pub opened: Opened,
-    /// The input, which goes on behind that line.
+    /// The input, which goes on after that line.
     pub input: LineInput<I>,
-    /// What takes the connections.
+    /// What accepts the connections.
     pub listener: TcpListener,
 }
 
-/// Runs a script, which begins with some objects and with labels that are bound to some of them, up to its first line that is `listen`, and then
-/// listens on a port of 127.0.0.1.
+/// Runs a script up to its line `listen`, and then listens on a port of 127.0.0.1.
 ///
-/// What the lines before `listen` print is written, and then `listening` and the port, once connections are taken there. Nothing else is written.
+/// The script begins with these objects, and with labels that are bound to some of them. What the lines before `listen` print is written, and then
+/// `listening` and the port, once connections are accepted there. Nothing else is written.
 ///
 /// # Errors
 ///
-/// - `BadLine`, with the number of the first line that can't be read, of `listen` where there is no mount, or of the line behind the last, where
-///   the script ends before `listen`: no port is bound.
-/// - `NoConnection`, where the port can't be bound.
-/// - `Read`, `Write`, `TurnsSpent` and `NoMemory` as those of `eden_edend::run`, of the lines before `listen`; `Write` and `NoMemory` also where the
-///   port can't be told.
+/// - `BadLine`, with the number of the first line that can't be read, of `listen` if there is no mount, or of the line after the last if the script
+///   ends before `listen`. No port is bound.
+/// - `NoConnection` if the port can't be bound.
+/// - `Read`, `Write`, `TurnsSpent` and `NoMemory` as in `eden_edend::run`, for the lines before `listen`. `Write` and `NoMemory` also if the port can't
+///   be printed.
 pub fn listen<R: Net<Listener = TcpListener, Stream = TcpStream>, I: Read + Drop, W: CountedWrite>(
     rt: &R,
     alloc: Global,

@@ -9,6 +9,7 @@ ghost use Rattle.eden_serve.specs.Servings.{stops_serving};
 
 use crate::auditing::{judge, tell_audit};
 use crate::listening::{Listening, listen, program_fault};
+use crate::observing::{Observer, Unobserved};
 use crate::threads::{Ended, run_threads};
 use crate::writing::{Behind, Lines};
 use eden_accumulate::Mount;
@@ -26,7 +27,7 @@ use std::sync::Wait;
 use std::sync::ledger::{Blank, Ledger};
 use std::thread::Threads;
 
-/// A mount that stores its history from now on.
+/// Makes a mount that stores its history from now on.
 fn store_history(alloc: Global, mount: Mount<GitNaming>) -> Result<Audited<GitNaming>, ProgramFault>
     ensures stored { IfOk result (λ audited. audited.entries ≡ []) }
     ensures cause { IfErr result (λ fault. fault ≡ ProgramFault.NoMemory) }
@@ -37,7 +38,7 @@ fn store_history(alloc: Global, mount: Mount<GitNaming>) -> Result<Audited<GitNa
     }
 }
 
-/// A desk at a lock. `NoConnection` comes where it has given all its passes.
+/// Opens a desk at a lock. `NoConnection` if the lock has given all its passes.
 fn open_desk<L: Ledger>(
     rt: &impl Wait,
     alloc: Global,
@@ -51,7 +52,7 @@ fn open_desk<L: Ledger>(
     }
 }
 
-/// So many desks.
+/// Opens this many desks at a lock.
 fn open_desks<L: Ledger>(
     rt: &impl Wait,
     alloc: Global,
@@ -70,7 +71,7 @@ fn open_desks<L: Ledger>(
     Ok(desks)
 }
 
-/// Takes the mount back, and tells what the audit says, and else how the writer's lines have ended.
+/// Takes the mount back, writes what the audit found, and returns how the writer's lines have ended if it agrees.
 fn close<L: Ledger, O: Write>(
     alloc: Global,
     shared: Behind<L>,
@@ -96,8 +97,14 @@ fn close<L: Ledger, O: Write>(
     }
 }
 
-/// Serves behind a lock with this ledger.
-fn serve_behind<L: Ledger + Send + Sync, R: Threads + Wait + Sync, I: Read + Send + Drop, O: Write>(
+/// Serves as `serve_listener` does, with this kind of ledger in the lock.
+fn serve_behind<
+    L: Ledger + Send + Sync,
+    R: Threads + Wait + Sync,
+    I: Read + Send + Drop,
+    O: Write,
+    V: Observer + Sync,
+>(
     rt: &R,
     alloc: Global,
     blank: Blank,
@@ -106,6 +113,7 @@ fn serve_behind<L: Ledger + Send + Sync, R: Threads + Wait + Sync, I: Read + Sen
     output: &mut O,
     listener: &TcpListener,
     connections: u64,
+    observer: &V,
 ) -> Result<(), ProgramFault>
     requires name { blank.name ≡ L.name }
     requires parts { blank.parts ≡ L.parts }
@@ -131,31 +139,38 @@ fn serve_behind<L: Ledger + Send + Sync, R: Threads + Wait + Sync, I: Read + Sen
         from: line,
     };
     let desks = open_desks(rt, alloc, &shared, connections)?;
-    match run_threads(rt, alloc, &shared, listener, desks, lines) {
+    match run_threads(rt, alloc, &shared, listener, desks, lines, observer) {
         Ok(ended) => close(alloc, shared, ended, output),
         Err(NoMemory) => Err(ProgramFault::NoMemory),
     }
 }
 
-/// Serves what a script has opened to so many connections, which a listener accepts: each in a thread of its own, all at once, by
-/// `eden_shared::serve_shared`, to its end or its fault, which ends no other. Meanwhile a thread makes the changes of the input's lines behind
-/// `listen`, as `eden_edend::run_changes` does. Each of them notes what it did and was told.
+/// Serves what a script has opened to this many connections, and then audits it.
 ///
-/// When all have ended, an audit compares that with the mount's history, and `audit ok` is written, or `audit` and the name of the fault.
+/// The listener accepts the connections. Each is served in a thread of its own, by `eden_shared::serve_shared`, to its end or its fault, which ends
+/// no other. Meanwhile a thread makes the changes of the lines after `listen`, as `eden_edend::run_changes` does. Each of them notes its calls and
+/// their answers. When all have ended, an audit compares the notes with the mount's history. `audit ok` is written if they agree, else `audit` and
+/// the name of the fault.
 ///
-/// A connection that can't be accepted counts as one that has ended. Where no thread can be made, a connection is served before the next one is
-/// accepted, and the lines are run behind the last connection.
+/// A connection that can't be accepted counts as one that has ended. If no thread can be made, a connection is served before the next one is
+/// accepted, and the lines are run after the last connection. The observer hears of each change that is refused, of each frame that can't be
+/// answered, and of a line that can't be read, when it happens.
 ///
 /// # Errors
 ///
-/// - `NoConnection`, where there are more connections than a lock has callers beside the writer, which are 254: none is accepted.
-/// - `Write`, where the output fails: the first bytes of what the audit says are written.
-/// - `Refused`, where the audit names a fault, which is written.
-/// - `BadLine`, `Read` and `TurnsSpent`, where the lines behind `listen` have ended so, and the audit agrees, which is written. The number is
-///   counted from the first line of the script.
-/// - `NoMemory`, where a growth was refused: to those lines, and the audit agrees; or in what all need, and nothing is written. That one was
-///   refused to a connection ends this connection alone.
-pub fn serve_listener<R: Threads + Wait + Sync, I: Read + Send + Drop, O: Write>(
+/// - `NoConnection` if there are more than 254 connections, since a lock has 255 callers and one is the writer. None is accepted.
+/// - `Write` if the output fails. The first bytes of what the audit found are written.
+/// - `Refused` if the audit finds a fault, which is written.
+/// - `BadLine`, `Read` and `TurnsSpent` if the lines after `listen` have ended so. The audit agrees, which is written. The number is counted from
+///   the first line of the script.
+/// - `NoMemory` if an allocation fails: for those lines, and the audit agrees; or for what all need, and nothing is written. A connection that is
+///   out of memory ends alone.
+pub fn serve_listener<
+    R: Threads + Wait + Sync,
+    I: Read + Send + Drop,
+    O: Write,
+    V: Observer + Sync,
+>(
     rt: &R,
     alloc: Global,
     opened: Opened,
@@ -163,6 +178,7 @@ pub fn serve_listener<R: Threads + Wait + Sync, I: Read + Send + Drop, O: Write>
     output: &mut O,
     listener: &TcpListener,
     connections: u64,
+    observer: &V,
 ) -> Result<(), ProgramFault>
     ensures told { OnOk result (Appends (O.contents output.old) (O.contents output.new) (codes "audit ok\n")) }
     ensures bad_line { (number : ℕ) → IsErrOf result (ProgramFault.BadLine number)
@@ -172,7 +188,7 @@ pub fn serve_listener<R: Threads + Wait + Sync, I: Read + Send + Drop, O: Write>
     ensures no_connection { IsErrOf result ProgramFault.NoConnection → Keeps (O.contents output.old) (O.contents output.new) }
     ensures causes { IfErr result (λ fault. stops_serving fault ≡ true) }
 {
-    serve_behind::<Brand, R, I, O>(
+    serve_behind::<Brand, R, I, O, V>(
         rt,
         alloc,
         Blank::new(256),
@@ -181,18 +197,22 @@ pub fn serve_listener<R: Threads + Wait + Sync, I: Read + Send + Drop, O: Write>
         output,
         listener,
         connections,
+        observer,
     )
 }
 
-/// Runs the program as `serve_program` does, over a script that begins with some objects, and with labels that are bound to some of them.
+/// Runs the program as `serve_program` does, over objects that are already there.
+///
+/// The script begins with these objects, and with labels that are bound to some of them. The observer hears what `serve_listener` says.
 ///
 /// # Errors
 ///
-/// As those of `serve_program`.
+/// As in `serve_program`.
 pub fn serve_over<
     R: Threads + Wait + Net<Listener = TcpListener, Stream = TcpStream> + Sync,
     I: Read + Send + Drop,
     W: CountedWrite,
+    V: Observer + Sync,
 >(
     rt: &R,
     alloc: Global,
@@ -201,6 +221,7 @@ pub fn serve_over<
     output: &mut W,
     port: u16,
     connections: u64,
+    observer: &V,
 ) -> Result<(), ProgramFault>
     ensures told { OnOk result (TellsAudit (script_text (session_over objects.store objects.labels)) port (I.remaining input) (W.contents output.old) (W.contents output.new)) }
     ensures bad_line { (number : ℕ) → IsErrOf result (ProgramFault.BadLine number)
@@ -222,21 +243,31 @@ pub fn serve_over<
         input,
         listener,
     } = listen(rt, alloc, objects, input, output, port)?;
-    serve_listener(rt, alloc, opened, input, output, &listener, connections)
+    serve_listener(
+        rt,
+        alloc,
+        opened,
+        input,
+        output,
+        &listener,
+        connections,
+        observer,
+    )
 }
 
-/// Runs a script up to its first line that is `listen`, and then serves its mount to so many connections over TCP, on a port of 127.0.0.1.
+/// Runs a script up to its line `listen`, and then serves its mount over TCP.
 ///
 /// The lines before `listen` are run as `eden_edend::run` does, and what they print is written. Then `listening` and the port are written, once
-/// connections are taken there. The rest is as `serve_listener` says: where that ends well `audit ok` is all that is written behind it.
+/// connections are accepted there, on 127.0.0.1. The mount is served to this many connections as `serve_listener` does. If that ends well, `audit ok`
+/// is all that is written after the port.
 ///
 /// # Errors
 ///
-/// - `BadLine`, with the number of the first line that can't be read, of `listen` where there is no mount, or of the line behind the last, where
-///   the script ends before `listen`: no port is bound. After `audit ok`: with that of a line behind `listen` that can't be read.
-/// - `NoConnection`, where the port can't be bound; or as `serve_listener` says.
-/// - `Read`, `Write`, `TurnsSpent` and `NoMemory` as those of `eden_edend::run`, of the lines before `listen`; and as `serve_listener` says.
-/// - `Refused` as `serve_listener` says.
+/// - `BadLine`, with the number of the first line that can't be read, of `listen` if there is no mount, or of the line after the last if the script
+///   ends before `listen`. No port is bound. Or with the number of a line after `listen` that can't be read: `audit ok` is written then.
+/// - `NoConnection` if the port can't be bound, or as in `serve_listener`.
+/// - `Read`, `Write`, `TurnsSpent` and `NoMemory` as in `eden_edend::run`, for the lines before `listen`, and as in `serve_listener`.
+/// - `Refused` as in `serve_listener`.
 pub fn serve_program<
     R: Threads + Wait + Net<Listener = TcpListener, Stream = TcpStream> + Sync,
     I: Read + Send + Drop,
@@ -272,5 +303,6 @@ pub fn serve_program<
         output,
         port,
         connections,
+        &Unobserved,
     )
 }

@@ -1,6 +1,8 @@
 //! The threads: the writer's, and one for each connection.
 
+use crate::observing::Observer;
 use crate::writing::{Behind, Lines, Wrote, write_lines};
+use eden_frames::ServeFault;
 use eden_ids::NoMemory;
 use eden_shared::{CallLog, Desk, OpenGate, Pass, serve_shared};
 use eden_stream::{Counted, RunFault};
@@ -22,7 +24,7 @@ pub(crate) struct Ended<L: Ledger> {
 }
 
 impl<L: Ledger> Ended<L> {
-    /// Nothing yet.
+    /// Returns what no thread has ended with yet.
     fn none(alloc: Global) -> Ended<L> {
         Ended {
             passes: Vec::new(alloc),
@@ -58,19 +60,20 @@ impl<L: Ledger> Ended<L> {
     }
 }
 
-/// Serves a connection to its end, whatever ends it.
-fn serve_one<L: Ledger>(
+/// Serves a connection to its end, and tells the observer of a frame that can't be answered.
+fn serve_one<L: Ledger, V: Observer>(
     rt: &impl Wait,
     alloc: Global,
     shared: &Behind<L>,
     mut desk: Desk<L>,
     stream: TcpStream,
+    observer: &V,
 ) -> Desk<L> {
-    // A small reply is not to wait for the next one. Where that can't be had it may.
+    // A small reply is not to wait for the next one. If the option can't be set, it may.
     let _ = stream.set_nodelay(true);
     let mut reader = Counted::new(&stream);
     let mut writer = Counted::new(&stream);
-    let _ = serve_shared(
+    let served = serve_shared(
         rt,
         alloc,
         &mut reader,
@@ -79,41 +82,47 @@ fn serve_one<L: Ledger>(
         &mut desk,
         &OpenGate,
     );
+    if let Err(ServeFault::Frame { number, fault }) = served {
+        observer.frame_refused(number, fault);
+    }
     desk
 }
 
-/// Accepts a connection, which is served in a thread of its own. Gives the desk back where there is no such thread: it has served the connection, if
-/// one was accepted.
-fn accept_one<'s, E, L: Ledger + Send + Sync + 's, R: Threads + Wait + Sync>(
+/// Accepts a connection, and serves it in a thread of its own.
+///
+/// Returns the desk if there is no such thread. It has then served the connection, if one was accepted.
+fn accept_one<'s, E, L: Ledger + Send + Sync + 's, R: Threads + Wait + Sync, V: Observer + Sync>(
     scope: &Scope<'s, E>,
     rt: &'s R,
     alloc: Global,
     shared: &'s Behind<L>,
     listener: &TcpListener,
     desk: Desk<L>,
+    observer: &'s V,
 ) -> Result<JoinHandle<Desk<L>>, Desk<L>> {
     let Ok((stream, _)) = listener.accept() else {
         return Err(desk);
     };
-    match scope.spawn(move || serve_one(rt, alloc, shared, desk, stream)) {
+    match scope.spawn(move || serve_one(rt, alloc, shared, desk, stream, observer)) {
         Ok(thread) => Ok(thread),
         Err(kept) => Err((kept.value)()),
     }
 }
 
-/// Accepts a connection for each of these desks, serves all to their ends, each in a thread of its own, and takes their desks.
-fn serve_all<'s, E, L: Ledger + Send + Sync + 's, R: Threads + Wait + Sync>(
+/// Accepts a connection for each of these desks, serves all to their ends, and takes the desks back.
+fn serve_all<'s, E, L: Ledger + Send + Sync + 's, R: Threads + Wait + Sync, V: Observer + Sync>(
     scope: &Scope<'s, E>,
     rt: &'s R,
     alloc: Global,
     shared: &'s Behind<L>,
     listener: &TcpListener,
     desks: Vec<Desk<L>>,
+    observer: &'s V,
     ended: &mut Ended<L>,
 ) -> Result<(), NoMemory> {
     let mut threads = Vec::new(alloc);
     for desk in desks {
-        match accept_one(scope, rt, alloc, shared, listener, desk) {
+        match accept_one(scope, rt, alloc, shared, listener, desk, observer) {
             Ok(thread) => threads.push(thread)?,
             Err(desk) => ended.add(desk)?,
         }
@@ -121,26 +130,33 @@ fn serve_all<'s, E, L: Ledger + Send + Sync + 's, R: Threads + Wait + Sync>(
     ended.join(rt, threads)
 }
 
-/// Runs the writer in a thread and accepts a connection for each of these desks, each served in a thread of its own; joins all. Where no
-/// connection is accepted the desk does nothing. Where no thread can be made the connection is served here, and the writer's lines are run
-/// here behind the last connection.
+/// Runs the writer and a connection for each of these desks, each in a thread, and joins all.
 ///
-/// `NoMemory` comes where a growth was refused, once all threads that were made have ended.
-pub(crate) fn run_threads<L: Ledger + Send + Sync, R: Threads + Wait + Sync, I: Read + Send + Drop>(
+/// If no connection is accepted, its desk does nothing. If no thread can be made, the connection is served here, and the writer's lines are run here
+/// after the last connection. `NoMemory` if an allocation fails, once all threads have ended.
+pub(crate) fn run_threads<
+    L: Ledger + Send + Sync,
+    R: Threads + Wait + Sync,
+    I: Read + Send + Drop,
+    V: Observer + Sync,
+>(
     rt: &R,
     alloc: Global,
     shared: &Behind<L>,
     listener: &TcpListener,
     desks: Vec<Desk<L>>,
     lines: Lines<L, I>,
+    observer: &V,
 ) -> Result<Ended<L>, NoMemory> {
     let mut ended = Ended::none(alloc);
     let (served, wrote) = thread::scope(
         thread::scope_env(),
         rt,
         |scope| -> (Result<(), NoMemory>, Wrote<L>) {
-            let writing = scope.spawn(move || write_lines(rt, alloc, shared, lines));
-            let served = serve_all(scope, rt, alloc, shared, listener, desks, &mut ended);
+            let writing = scope.spawn(move || write_lines(rt, alloc, shared, lines, observer));
+            let served = serve_all(
+                scope, rt, alloc, shared, listener, desks, observer, &mut ended,
+            );
             match writing {
                 Ok(thread) => (served, thread.join(rt)),
                 Err(kept) => (served, (kept.value)()),

@@ -1,11 +1,12 @@
 //! `edend serve --stay` as a library: each of some threads serves one connection after another, for as long as there is input.
 //!
-//! What a script has mounted is asked and changed behind a lock that keeps nothing of it: no call is noted, no history is stored, and so there is
-//! no audit. So nothing grows with the number of calls or of connections. The replies are made by the same code, and each is right of the mount
-//! as it stood when its request was held.
+//! What a script has mounted is asked and changed behind a lock. No call is noted and no history is stored, so there is no audit, and nothing grows
+//! with the number of calls or of connections. The replies are made by the same code as in `eden_serve`. Each is right for the mount as it was when
+//! its request was held.
 //!
 //! ```rust
 //! use eden_edend::Objects;
+//! use eden_serve::Unobserved;
 //! use eden_stay::stay_program;
 //! use eden_stream::Counted;
 //!
@@ -15,7 +16,7 @@
 //! let objects = Objects::new(alloc);
 //! let script = script.as_slice();
 //! // A port that nobody listens at.
-//! let ended = stay_program(rt, alloc, objects, script, &mut writer, port, 2);
+//! let ended = stay_program(rt, alloc, objects, script, &mut writer, port, 2, &Unobserved);
 //! assert_eq!(rt; ended, Ok(()));
 //! assert!(rt; text.starts_with(b"at 7 1 empty\nlistening ".as_slice()));
 //! ```

@@ -1,4 +1,4 @@
-//! The program: a script up to `listen`, the threads that serve what it mounted, and the lines behind.
+//! The program: a script up to `listen`, the threads that serve what it mounted, and the lines after `listen`.
 
 ghost use Rattle.std.specs.Prelude.{◌≡◌, ◌⊎◌, true, ℕ, IfErr, IsErrOf, OnOk};
 ghost use Rattle.eden_script.specs.ScriptText.{script_text};
@@ -10,7 +10,7 @@ use crate::lines::Lines;
 use crate::station::Station;
 use eden_command::ProgramFault;
 use eden_edend::{LineInput, Objects, Opened};
-use eden_serve::{Listening, listen, program_fault};
+use eden_serve::{Listening, Observer, listen, program_fault};
 use eden_stream::{CountedWrite, RunFault};
 use std::alloc::Global;
 use std::io::Read;
@@ -20,14 +20,16 @@ use std::thread;
 use std::thread::Threads;
 use std::time::Clock;
 
-/// Serves connections in so many threads, or in as many as can be made, while the lines run. Ends once all of them have ended, and tells how the
-/// lines have ended; or nothing, where no thread could be made: then no line is read.
-fn run_threads<R: Threads + Wait + Clock + Net + Sync, I: Read + Drop>(
+/// Serves connections in this many threads, or in as many as can be made, while the lines run.
+///
+/// Returns how the lines have ended, once all threads have. Returns `None` if no thread could be made. No line is read then.
+fn run_threads<R: Threads + Wait + Clock + Net + Sync, I: Read + Drop, V: Observer + Sync>(
     rt: &R,
     alloc: Global,
     station: &Station,
     lines: Lines<I>,
     threads: u64,
+    observer: &V,
 ) -> Option<Result<u64, RunFault>> {
     thread::scope(
         thread::scope_env(),
@@ -35,26 +37,30 @@ fn run_threads<R: Threads + Wait + Clock + Net + Sync, I: Read + Drop>(
         move |scope| -> Option<Result<u64, RunFault>> {
             let mut serves = false;
             for _ in 0..threads {
-                serves |= scope.spawn(move || station.accept_all(rt, alloc)).is_ok();
+                match scope.spawn(move || station.accept_all(rt, alloc, observer)) {
+                    Ok(_) => serves = true,
+                    Err(_) => station.lacks_thread(),
+                }
             }
             if !serves {
                 return None;
             }
-            let ended = lines.run(rt, alloc, &station.resident);
+            let ended = lines.run(rt, alloc, &station.resident, observer);
             station.close(rt, threads);
             Some(ended)
         },
     )
 }
 
-/// Serves what a script has opened to the connections that a listener accepts, while the input's lines behind `listen` change it.
-fn stay_listener<R: Threads + Wait + Clock + Net + Sync, I: Read + Drop>(
+/// Serves what a script has opened to the connections that come, while the lines after `listen` change it.
+fn stay_listener<R: Threads + Wait + Clock + Net + Sync, I: Read + Drop, V: Observer + Sync>(
     rt: &R,
     alloc: Global,
     opened: Opened,
     input: LineInput<I>,
     listener: TcpListener,
     threads: u64,
+    observer: &V,
 ) -> Result<(), ProgramFault>
     ensures { IfErr result (λ fault. stops_unaudited fault ≡ true) }
 {
@@ -63,43 +69,44 @@ fn stay_listener<R: Threads + Wait + Clock + Net + Sync, I: Read + Drop>(
         mount,
         labels,
     } = opened;
-    let station = Station::new(mount, listener)?;
+    let station = Station::new(mount, listener, threads)?;
     let lines = Lines {
         input,
         labels,
         from: line,
     };
-    match run_threads(rt, alloc, &station, lines, threads) {
+    match run_threads(rt, alloc, &station, lines, threads, observer) {
         Some(Ok(_)) => Ok(()),
         Some(Err(fault)) => Err(program_fault(fault)),
         None => Err(ProgramFault::NoConnection),
     }
 }
 
-/// Runs a script, which begins with some objects and with labels that are bound to some of them, up to its first line that is `listen`, and then
-/// serves its mount to the connections that come to a port of 127.0.0.1, in so many threads, each of which accepts the next connection when its
-/// last one has ended. Meanwhile it makes the changes of the input's lines behind `listen`, as `eden_edend::run_changes` does.
+/// Runs a script up to its line `listen`, and then serves its mount until the lines end.
 ///
-/// What the lines before `listen` print is written, and then `listening` and the port, once connections are taken there. Nothing else is written.
+/// The script begins with these objects, and with labels that are bound to some of them. What the lines before `listen` print is written, and then
+/// `listening` and the port, once connections are accepted there, on 127.0.0.1. Nothing else is written.
 ///
-/// A connection ends when its peer ends it, with a fault, or behind 1,000,000 reads. That ends no other. Where not all of the threads can be
-/// made, there are fewer.
+/// Each of this many threads accepts the next connection when its last one has ended. Meanwhile the lines after `listen` change the mount, as in
+/// `eden_edend::run_changes`. If not all of the threads can be made, there are fewer. A connection ends when its peer ends it, with a fault, or after
+/// 1,000,000 reads. That ends no other. The observer hears of each change that is refused, of each frame that can't be
+/// answered, and each time that the last thread takes a connection.
 ///
-/// Once the input has ended, or a line has a fault, no connection is accepted any more, and those that are open end within 200 ms or so, whatever
-/// their peers do: what is not read or not written by then is lost. Then this ends too.
+/// Once the input has ended, or a line has a fault, no connection is accepted any more. Those that are open end within 200 ms or so, whatever their
+/// peers do. What is not read or not written by then is lost. Then this ends too.
 ///
 /// # Errors
 ///
-/// - `BadLine`, with the number of the first line that can't be read, of `listen` where there is no mount, or of the line behind the last, where
-///   the script ends before `listen`: no port is bound. Or with that of a line behind `listen` that changes no mount.
-/// - `NoConnection`, where the port can't be bound, the system can't tell where it listens, or no thread could be made: no line behind `listen`
-///   is read.
-/// - `Read`, `Write`, `TurnsSpent` and `NoMemory` as those of `eden_edend::run`, of the lines before `listen`; and `Read`, `TurnsSpent` and
-///   `NoMemory`, where the lines behind it have ended so. A growth that was refused to a connection ends this connection alone.
+/// - `BadLine`, with the number of the first line that can't be read, of `listen` if there is no mount, or of the line after the last if the script
+///   ends before `listen`. No port is bound. Or with the number of a line after `listen` that changes no mount.
+/// - `NoConnection` if the port can't be bound, the system can't say where it listens, or no thread could be made. No line after `listen` is read.
+/// - `Read`, `Write`, `TurnsSpent` and `NoMemory` as in `eden_edend::run`, for the lines before `listen`. `Read`, `TurnsSpent` and `NoMemory` also if the
+///   lines after it have ended so. A connection that is out of memory ends alone.
 pub fn stay_program<
     R: Threads + Wait + Clock + Net<Listener = TcpListener, Stream = TcpStream> + Sync,
     I: Read + Drop,
     W: CountedWrite,
+    V: Observer + Sync,
 >(
     rt: &R,
     alloc: Global,
@@ -108,6 +115,7 @@ pub fn stay_program<
     writer: &mut W,
     port: u16,
     threads: u64,
+    observer: &V,
 ) -> Result<(), ProgramFault>
     ensures told { OnOk result (TellsPort (script_text (session_over objects.store objects.labels)) port (I.remaining input) (W.contents writer.old) (W.contents writer.new)) }
     ensures bad_line { (number : ℕ) → IsErrOf result (ProgramFault.BadLine number)
@@ -129,5 +137,5 @@ pub fn stay_program<
         input,
         listener,
     } = listen(rt, alloc, objects, input, writer, port)?;
-    stay_listener(rt, alloc, opened, input, listener, threads)
+    stay_listener(rt, alloc, opened, input, listener, threads, observer)
 }

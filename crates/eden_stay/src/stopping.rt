@@ -8,10 +8,11 @@ use std::io::{Error, ErrorKind, Read, Write};
 use std::sync::Wait;
 use std::sync::atomic::{AtomicBool, Ordering};
 
-/// A device whose reads and writes end once a flag is set: a read then gives no byte, as at the end of an input, and a write gives `TimedOut`.
+/// A device whose reads and writes end once a flag is set.
 ///
-/// Until then `WouldBlock` and `TimedOut` of the device are no answer: it is asked again, which counts as no call. So a device that gives one
-/// of them again and again while it waits, as a socket with timeouts does, ends soon after the flag is set, whatever its peer does.
+/// A read then returns no byte, as at the end of an input, and a write returns `TimedOut`. Until then `WouldBlock` and `TimedOut` of the device are
+/// no answer: it is asked again, which counts as no call. A socket with timeouts returns one of them again and again while it waits. So it ends soon
+/// after the flag is set, whatever its peer does.
 #[derive(Drop)]
 pub struct Stoppable<'a, D, R: Wait> {
     rt: &'a R,
@@ -19,7 +20,7 @@ pub struct Stoppable<'a, D, R: Wait> {
     device: D,
 }
 
-/// Whether the device would have had to wait for longer.
+/// Returns whether the device would have had to wait longer.
 fn has_waited(outcome: &io::Result<usize>) -> bool
     ensures { OnTrue result (IsErr outcome.now) }
 {
@@ -30,7 +31,7 @@ fn has_waited(outcome: &io::Result<usize>) -> bool
 }
 
 impl<'a, D, R: Wait> Stoppable<'a, D, R> {
-    /// The device, which ends once `stopped` is set.
+    /// Wraps a device, so that it ends once `stopped` is set.
     pub fn new(rt: &'a R, stopped: &'a AtomicBool, device: D) -> Stoppable<'a, D, R> {
         Stoppable {
             rt,

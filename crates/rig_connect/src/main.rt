@@ -10,6 +10,7 @@ use eden_globs::Filter;
 use eden_history::Position;
 use eden_ids::Id;
 use eden_messages::{Query, Reply, Request};
+use eden_serve::Unobserved;
 use eden_stay::stay_program;
 use eden_stream::Counted;
 use eden_wire::encode_request;
@@ -195,7 +196,7 @@ fn stay<R: Threads + Wait + Clock + Net<Listener = TcpListener, Stream = TcpStre
     let feed = Feed::new(rt, script, lines, b"".as_slice(), ended);
     let mut writer = Counted::new(Vec::new(alloc));
     let objects = Objects::new(alloc);
-    stay_program(rt, alloc, objects, feed, &mut writer, port, 64).is_ok()
+    stay_program(rt, alloc, objects, feed, &mut writer, port, 64, &Unobserved).is_ok()
 }
 
 /// Tells of how many files a client was told, and in what time.

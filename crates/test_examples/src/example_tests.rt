@@ -621,6 +621,7 @@ fn eden_stay_example<
     R: Abort + Threads + Wait + Clock + Net<Listener = TcpListener, Stream = TcpStream> + Sync,
 >(rt: &R, alloc: Global, port: u16) -> Result<(), Fail> {
     use eden_edend::Objects;
+    use eden_serve::Unobserved;
     use eden_stay::stay_program;
     use eden_stream::Counted;
 
@@ -630,7 +631,16 @@ fn eden_stay_example<
     let objects = Objects::new(alloc);
     let script = script.as_slice();
     // A port that nobody listens at.
-    let ended = stay_program(rt, alloc, objects, script, &mut writer, port, 2);
+    let ended = stay_program(
+        rt,
+        alloc,
+        objects,
+        script,
+        &mut writer,
+        port,
+        2,
+        &Unobserved,
+    );
     assert_eq!(rt; ended, Ok(()));
     assert!(rt; text.starts_with(b"at 7 1 empty\nlistening ".as_slice()));
     Ok(())

@@ -10,15 +10,16 @@ use std::test::Fail;
 use std::thread::Threads;
 use std::time::Clock;
 use test_devices::{Sink, Source};
+use test_serve::free_port;
 
 /// What a program came to: its status, what it wrote, and what it told of a fault.
 type End = (u8, Vec<u8>, Vec<u8>);
 
 /// One file, `batch`, which can't be read from a place on.
 #[derive(Drop)]
-struct OneFile {
-    bytes: &'static [u8],
-    fails_at: usize,
+pub(crate) struct OneFile {
+    pub(crate) bytes: &'static [u8],
+    pub(crate) fails_at: usize,
 }
 
 impl Shelf for OneFile {
@@ -35,6 +36,15 @@ impl Shelf for OneFile {
     }
 }
 
+/// Splits the words of a command line at their spaces.
+pub(crate) fn split_words(alloc: Global, words: &str) -> Result<Vec<String>, Fail> {
+    let mut list = Vec::new(alloc);
+    for word in words.split(' ') {
+        list.push(String::from_str(alloc, word)?)?;
+    }
+    Ok(list)
+}
+
 /// What `edend` comes to with words that are parted by spaces, beside one file, a script that can't be read from a place on, and an output and
 /// a place to tell faults that are full at another.
 fn ran<R: Threads + Wait + Clock + Net<Listener = TcpListener, Stream = TcpStream> + Sync>(
@@ -46,10 +56,7 @@ fn ran<R: Threads + Wait + Clock + Net<Listener = TcpListener, Stream = TcpStrea
     fails_at: usize,
     full_at: usize,
 ) -> Result<End, Fail> {
-    let mut list = Vec::new(alloc);
-    for word in words.split(' ') {
-        list.push(String::from_str(alloc, word)?)?;
-    }
+    let list = split_words(alloc, words)?;
     let mut source = Source::new(script.as_bytes());
     source.fails_at = fails_at;
     let mut sink = Sink::new(alloc);
@@ -80,7 +87,7 @@ type Row = (
 );
 
 /// No place.
-const ALL: usize = usize::MAX;
+pub(crate) const ALL: usize = usize::MAX;
 
 /// A script of one line.
 const ONE: &str = "mount empty 7 1000\n";
@@ -480,14 +487,18 @@ const ENDINGS: &[(&str, &str)] = &[
     ("edend serve --port PORT --connections 1 --stay", ""),
     (
         "edend serve --port PORT --connections 1 --stay --verbose",
-        "edend: the script has ended within line 5\n",
+        "edend: `remove zz` was refused: NoEntry\n\
+edend: refused changes: 1; connections that ended at an invalid frame: 0; times that all places were taken: 0\n\
+edend: the script has ended within line 5\n",
     ),
 ];
 
-/// A port that nobody listens at.
-fn free_port<R: Net<Listener = TcpListener, Stream = TcpStream>>(rt: &R) -> Result<u16, Fail> {
-    let listener = TcpListener::bind(rt, (Ipv4Addr::LOCALHOST, 0))?;
-    Ok(listener.local_addr()?.port())
+/// Puts a port in the place of `PORT`.
+pub(crate) fn words_at(alloc: Global, words: &str, port: u16) -> Result<String, Fail> {
+    match words.split_once("PORT") {
+        Some((before, after)) => Ok(format!(in alloc; "{before}{port}{after}")?),
+        None => Ok(String::from_str(alloc, words)?),
+    }
 }
 
 /// What `edend` tells of a script, where the words have the port for `PORT`, beside objects.
@@ -498,12 +509,7 @@ fn told_at<R: Threads + Wait + Clock + Net<Listener = TcpListener, Stream = TcpS
     script: &str,
     port: u16,
 ) -> Result<(u8, Vec<u8>), Fail> {
-    let (front, behind) = words.split_once("PORT").unwrap_or((words, ""));
-    let words = if front == words {
-        String::from_str(alloc, words)?
-    } else {
-        format!(in alloc; "{front}{port}{behind}")?
-    };
+    let words = words_at(alloc, words, port)?;
     let file = OneFile {
         bytes: BATCH,
         fails_at: ALL,
@@ -530,6 +536,27 @@ fn ended_scripts(rt: HostRuntime) -> Result<(), Fail> {
         let (status, told) = told_at(&rt, rt.alloc(), words, REFUSED, port)?;
         assert_eq!(rt; status, 0, "{words}");
         assert!(rt; told.as_slice() == why.as_bytes(), "{words}");
+    }
+    Ok(())
+}
+
+/// Calls that ask for help.
+const HELPS: &[&str] = &["edend --help", "edend run --help", "edend serve --help"];
+
+/// Returns the first line that doesn't fit into 80 columns, other than the usage, which `clap` writes on one line.
+pub(crate) fn first_wide(text: &[u8]) -> Option<&str> {
+    let mut lines = text.split(|byte| *byte == b'\n');
+    let line = lines.find(|line| line.len() > 80 && !line.starts_with(b"Usage: "))?;
+    str::from_utf8(line).ok()
+}
+
+#[test]
+fn helps(rt: HostRuntime) -> Result<(), Fail> {
+    for words in HELPS {
+        let (status, told) = told_at(&rt, rt.alloc(), words, ONE, 1)?;
+        assert_eq!(rt; status, 2, "{words}");
+        assert!(rt; !told.is_empty(), "{words}");
+        assert_eq!(rt; first_wide(told.as_slice()), None, "{words}");
     }
     Ok(())
 }

@@ -1,5 +1,6 @@
 //! `follow` over devices: each status that can be brought about, and what is told with it; and what each fault of a program is called.
 
+use crate::daemon_tests::{first_wide, split_words};
 use eden_command::ProgramFault;
 use eden_logs::AuditFault;
 use eden_programs::{Screen, follow};
@@ -61,21 +62,18 @@ const ROWS: &[Row] = &[
     ),
 ];
 
-/// Whether the program comes to what its row says.
-fn is_as_told<R: Threads + Wait + Clock + Net<Stream = TcpStream> + Sync>(
+/// Runs `follow` with these words and an output that is full at a place. Returns its status, its output, and what it prints of a fault.
+fn ran<R: Threads + Wait + Clock + Net<Stream = TcpStream> + Sync>(
     rt: &R,
     alloc: Global,
-    row: &Row,
-) -> Result<bool, Fail> {
-    let (words, full_at, status, text, told) = *row;
-    let mut list = Vec::new(alloc);
-    for word in words.split(' ') {
-        list.push(String::from_str(alloc, word)?)?;
-    }
+    words: &str,
+    full_at: usize,
+) -> Result<(u8, Vec<u8>, Vec<u8>), Fail> {
+    let list = split_words(alloc, words)?;
     let mut output = Sink::new(alloc);
     output.full_at = full_at;
     let mut errors = Sink::new(alloc);
-    let ended = follow(
+    let status = follow(
         rt,
         alloc,
         list.as_slice(),
@@ -83,12 +81,41 @@ fn is_as_told<R: Threads + Wait + Clock + Net<Stream = TcpStream> + Sync>(
         &mut errors,
         Screen::None,
     );
+    Ok((status, output.bytes, errors.bytes))
+}
+
+/// Whether the program comes to what its row says.
+fn is_as_told<R: Threads + Wait + Clock + Net<Stream = TcpStream> + Sync>(
+    rt: &R,
+    alloc: Global,
+    row: &Row,
+) -> Result<bool, Fail> {
+    let (words, full_at, status, text, told) = *row;
+    let (ended, output, errors) = ran(rt, alloc, words, full_at)?;
     let is_told = if status == 2 {
-        errors.bytes.starts_with(told.as_bytes())
+        errors.starts_with(told.as_bytes())
     } else {
-        errors.bytes.as_slice() == told.as_bytes()
+        errors.as_slice() == told.as_bytes()
     };
-    Ok(ended == status && output.bytes.as_slice() == text.as_bytes() && is_told)
+    Ok(ended == status && output.as_slice() == text.as_bytes() && is_told)
+}
+
+/// Calls that ask for help.
+const HELPS: &[&str] = &[
+    "follow --help",
+    "follow demo --help",
+    "follow connect --help",
+];
+
+#[test]
+fn helps(rt: HostRuntime) -> Result<(), Fail> {
+    for words in HELPS {
+        let (status, _, told) = ran(&rt, rt.alloc(), words, ALL)?;
+        assert_eq!(rt; status, 2, "{words}");
+        assert!(rt; !told.is_empty(), "{words}");
+        assert_eq!(rt; first_wide(told.as_slice()), None, "{words}");
+    }
+    Ok(())
 }
 
 #[test]

@@ -7,3 +7,5 @@
 mod daemon_tests;
 #[cfg(test)]
 mod follower_tests;
+#[cfg(test)]
+mod observed_tests;

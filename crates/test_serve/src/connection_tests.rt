@@ -4,7 +4,7 @@ use crate::checking::{Frames, ask_both, make_frames};
 use crate::client::{connect, listen};
 use crate::serving::{PRINTED, SCRIPT, SEQUENCE, serve};
 use eden_edend::{LineInput, Objects, run_to_listen};
-use eden_serve::{ProgramFault, serve_listener};
+use eden_serve::{ProgramFault, Unobserved, serve_listener};
 use eden_stream::Counted;
 use std::alloc::Global;
 use std::net::{Net, TcpListener, TcpStream};
@@ -101,7 +101,16 @@ fn refused<R: Threads + Wait + Net<Listener = TcpListener, Stream = TcpStream> +
     let mut reader = Counted::new(&mut input);
     let mut unread = Counted::new(Vec::new(alloc));
     let opened = run_to_listen(alloc, Objects::new(alloc), &mut reader, &mut unread)?;
-    Ok(serve_listener(rt, alloc, opened, input, output, &listener, connections))
+    Ok(serve_listener(
+        rt,
+        alloc,
+        opened,
+        input,
+        output,
+        &listener,
+        connections,
+        &Unobserved,
+    ))
 }
 
 /// How many connections, and what comes of them where none is accepted. A lock has 255 callers, of whom one is the writer.

@@ -3,6 +3,7 @@
 use crate::client::free_port;
 use eden_command::ProgramFault;
 use eden_edend::Objects;
+use eden_serve::Unobserved;
 use eden_stay::stay_program;
 use eden_stream::Counted;
 use std::alloc::Global;
@@ -32,6 +33,7 @@ fn outcome<R: Threads + Wait + Clock + Net<Listener = TcpListener, Stream = TcpS
         &mut writer,
         port,
         threads,
+        &Unobserved,
     )
 }
 

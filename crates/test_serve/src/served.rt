@@ -2,7 +2,7 @@
 
 use crate::feed::Feed;
 use eden_edend::{LineInput, Objects, run_to_listen};
-use eden_serve::serve_listener;
+use eden_serve::{Unobserved, serve_listener};
 use eden_stream::Counted;
 use std::alloc::Global;
 use std::net::TcpListener;
@@ -24,7 +24,17 @@ pub fn serve_feed<R: Threads + Wait + Clock + Sync>(
     let mut reader = Counted::new(&mut input);
     let mut writer = Counted::new(&mut output);
     let opened = run_to_listen(alloc, Objects::new(alloc), &mut reader, &mut writer).ok()?;
-    serve_listener(rt, alloc, opened, input, &mut output, listener, connections).ok()?;
+    serve_listener(
+        rt,
+        alloc,
+        opened,
+        input,
+        &mut output,
+        listener,
+        connections,
+        &Unobserved,
+    )
+    .ok()?;
     let printed = output.strip_suffix(b"audit ok\n".as_slice())?.len();
     output.truncate(printed);
     Some(output)

@@ -7,6 +7,7 @@ use crate::feed::Feed;
 use crate::hostile::{hostile_texts, send_all};
 use eden_command::ProgramFault;
 use eden_edend::Objects;
+use eden_serve::Unobserved;
 use eden_stay::stay_program;
 use eden_stream::Counted;
 use std::alloc::Global;
@@ -38,6 +39,7 @@ fn stay<R: Threads + Wait + Clock + Net<Listener = TcpListener, Stream = TcpStre
         &mut writer,
         port,
         threads,
+        &Unobserved,
     )
 }
 
