@@ -283,7 +283,7 @@ class _Beginning:
     def _serve(self, port: int, objects: bool) -> List[str]:
         """Returns the command line of edend."""
         words = [self._edend, "serve", "--port", str(port), "--connections", str(CONNECTIONS)]
-        words += ["--stay"]
+        words += ["--stay", "--verbose"]
         return words + (["--objects", os.path.join(self._folder, "objects")] if objects else [])
 
     def _file(self, name: str, how: int) -> IO[bytes]:
