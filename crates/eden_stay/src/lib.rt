@@ -15,8 +15,9 @@
 //! let mut writer = Counted::new(&mut text);
 //! let objects = Objects::new(alloc);
 //! let script = script.as_slice();
+//! let silent = &Unobserved;
 //! // A port that nobody listens at.
-//! let ended = stay_program(rt, alloc, objects, script, &mut writer, port, 2, &Unobserved);
+//! let ended = stay_program(rt, alloc, objects, script, &mut writer, port, 2, silent);
 //! assert_eq!(rt; ended, Ok(()));
 //! assert!(rt; text.starts_with(b"at 7 1 empty\nlistening ".as_slice()));
 //! ```
