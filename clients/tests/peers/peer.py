@@ -20,27 +20,28 @@ SAMPLE = "/usr/share/git-core/templates/hooks/fsmonitor-watchman.sample"
 """The hook that comes with Git, which runs the command `watchman`."""
 
 
+def _runs(*words):
+    """Returns whether a command ends well. What it prints is lost."""
+    with contextlib.suppress(OSError):
+        ran = subprocess.run(
+            words, stdout=subprocess.DEVNULL, stderr=subprocess.DEVNULL, check=False
+        )
+        return ran.returncode == 0
+    return False
+
+
 def need(command, package):
     """Installs what isn't here, or ends the trial."""
+    install = ("apt-get", "install", "-y", "--no-install-recommends", package)
+    # A new machine knows no packages before the update.
     if (
-        subprocess.run(
-            ["sh", "-c", command], stdout=subprocess.DEVNULL, stderr=subprocess.DEVNULL, check=False
-        ).returncode
-        == 0
+        _runs("sh", "-c", command)
+        or (_runs(*install) and _runs("sh", "-c", command))
+        or (_runs("apt-get", "update") and _runs(*install) and _runs("sh", "-c", command))
     ):
         return
-    with contextlib.suppress(OSError):
-        subprocess.run(
-            ["apt-get", "install", "-y", "--no-install-recommends", package],
-            stdout=subprocess.DEVNULL,
-            stderr=subprocess.DEVNULL,
-            check=False,
-        )
-    if subprocess.run(
-        ["sh", "-c", command], stdout=subprocess.DEVNULL, stderr=subprocess.DEVNULL, check=False
-    ).returncode:
-        print(f"{os.path.basename(sys.argv[0])}: not run: no {package}")
-        sys.exit(0)
+    print(f"{os.path.basename(sys.argv[0])}: not run: no {package}")
+    sys.exit(0)
 
 
 @contextlib.contextmanager
