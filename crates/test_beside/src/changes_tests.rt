@@ -131,7 +131,8 @@ fn go_through(
 fn beside_world(rt: HostRuntime) -> Result<(), Fail> {
     let alloc = rt.alloc();
     let mut commits = two_commits(alloc)?;
-    let mut pair = Pair::mounted(alloc, &mut commits.store, commits.ids[0], 1000)?;
+    let root = commits.ids[0];
+    let mut pair = Pair::mounted(alloc, &mut commits.store, root, 1000)?;
     go_through(&rt, alloc, &mut pair, &commits.ids)
 }
 
@@ -155,6 +156,7 @@ fn go_over(alloc: Global, pair: &mut Pair, commit: Id) -> Result<(), Fail> {
 fn checkout_of_small_subtrees(rt: HostRuntime) -> Result<(), Fail> {
     let alloc = rt.alloc();
     let mut commits = sharing(alloc, 3)?;
-    let mut pair = Pair::mounted(alloc, &mut commits.store, commits.ids[0], 1000)?;
+    let root = commits.ids[0];
+    let mut pair = Pair::mounted(alloc, &mut commits.store, root, 1000)?;
     go_over(alloc, &mut pair, commits.ids[1])
 }

@@ -191,7 +191,8 @@ fn stays_at_last(
 fn sequence_exhausted_over_files(rt: HostRuntime) -> Result<(), Fail> {
     let alloc = rt.alloc();
     let mut commits = sharing(alloc, 1)?;
-    let mut mount = last(alloc, &mut commits.store, commits.ids[0])?;
+    let root = commits.ids[0];
+    let mut mount = last(alloc, &mut commits.store, root)?;
     stays_at_last(&rt, alloc, &mut mount, &commits.ids)
 }
 
@@ -261,7 +262,8 @@ fn part_from_copy(
 fn copies_part(rt: HostRuntime) -> Result<(), Fail> {
     let alloc = rt.alloc();
     let mut commits = two_commits(alloc)?;
-    let mut mount = mounted(alloc, &mut commits.store, commits.ids[0], 1000)?;
+    let root = commits.ids[0];
+    let mut mount = mounted(alloc, &mut commits.store, root, 1000)?;
     part_from_copy(&rt, alloc, &commits.store, &mut mount)
 }
 
@@ -279,7 +281,8 @@ fn lists_changed(rt: &impl Abort, alloc: Global, mount: &mut Mount<GitNaming>) -
 fn snapshot_lists(rt: HostRuntime) -> Result<(), Fail> {
     let alloc = rt.alloc();
     let mut commits = two_commits(alloc)?;
-    let mut mount = mounted(alloc, &mut commits.store, commits.ids[0], 1000)?;
+    let root = commits.ids[0];
+    let mut mount = mounted(alloc, &mut commits.store, root, 1000)?;
     lists_changed(&rt, alloc, &mut mount)
 }
 
@@ -355,6 +358,7 @@ fn changes_one(
 fn checkout_of_shared_subtrees(rt: HostRuntime) -> Result<(), Fail> {
     let alloc = rt.alloc();
     let mut commits = sharing(alloc, 40)?;
-    let mut mount = mounted(alloc, &mut commits.store, commits.ids[0], 1000)?;
+    let root = commits.ids[0];
+    let mut mount = mounted(alloc, &mut commits.store, root, 1000)?;
     changes_one(&rt, alloc, &mut mount, commits.ids[1])
 }
