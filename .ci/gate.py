@@ -1,6 +1,9 @@
 #!/usr/bin/env python3
 """Runs `rt ci`, or `rt ci CRATE..` if crates are named, and ends with its status.
 
+What passed on this machine is kept: by rt itself, or by kept.py in GATE_KEPT if the kit's rt keeps
+nothing. An empty GATE_KEPT proves everything again.
+
 At the end it prints on standard error how many minutes of a processor went to proofs, to seeds and
 edits, to tests and to programs, and which ten crates took most.
 """
@@ -21,6 +24,8 @@ from collections import Counter
 from concurrent.futures import Future, ThreadPoolExecutor
 from types import ModuleType
 from typing import Any, Callable
+
+from kept import keep
 
 PROOFS, EDITS, TESTS, PROGRAMS, OTHER = "proofs", "seeds and edits", "tests", "programs", "other"
 DEAREST = 10
@@ -122,8 +127,9 @@ def main(names: list[str]) -> int:
     spent = Spent()
     spent.measure_commands()
     spent.note_all(rt)
+    words = keep(rt, os.environ.get("GATE_KEPT", "/var/cache/railburnet-gate"), names)
     try:
-        return rt.main(["ci", *names])
+        return rt.main(words)
     finally:
         sys.stdout.flush()
         print(spent.report(), file=sys.stderr)

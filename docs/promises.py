@@ -48,17 +48,21 @@ is listed as "the answer". What an implementation of a trait promises is said at
   all that was listed.** `Mirror::deliver`, `deliver_owned`: `ok`, `err`; `Mirror::round_law`:
   `last`.
 - **Each reply has exactly one spelling, of at most 16 MiB, and is read back as itself.**
-  `reply_spelling_law`, `reply_to`, `serve`: `spelled`; `decode_reply`: `all`.
+  `reply_spelling_law`, `reply_to`, `answer_request`: `spelled`; `decode_reply`: `all`.
+- **A request is read with its patience, if it has one, or the first fault is reported.**
+  `decode_asked`: `spelled`, `all`, `exact`; `append_asked`: `read_back`, `exact`; `asked_law`.
 - **The frames written are the right replies to the frames read, in order, each asked once.**
   `serve`: `ends`, `asks`, `stands`.
 - **An audit says exactly whether callers' logs agree with the stored history.** `audit`:
   `agree`, `noted`, `fault`, `excluded`; `Audited::mount`: `history`.
+- **After an audit, a follower that the logs vouch for has a mirror faithful to the mount.**
+  `follows`: `faithful`, `at_head`, `fault`; `Audited::opening_law`.
 - **Callers share a mount**: each call runs under the lock, takes the next ticket, and is
   answered as a mount that has taken one call fewer answers it. A call that runs out of memory
   takes no ticket. `Shared::change`, `hold`, `finish`: `answer`, `held`, `ticket`, `share`,
   `unchanged`; `count`.
 - **A caller's log grows by the call that it made, with its answer or none.** `Desk::change`,
-  `ask`: `log`, `answer`, `left`; `serve_shared`: `ends`.
+  `ask`, `ask_patiently`: `log`, `answer`, `left`; `serve_shared`: `ends`.
 - **A thread never loads a number below one that it has loaded or raised.** `HeadWord::load`,
   `raise`, `split`, `join`: `risen`, `seen`, `same`, `kept`.
 - **A follower's mirror is what its notes make, and `vouch` says exactly whether logs vouch for
@@ -66,16 +70,20 @@ is listed as "the answer". What an implementation of a trait promises is said at
   `fault`, `excluded`, `merges`; `merge_law`: `schedule`, `world`, `mirror`, `covered` and its
   kin.
 - **Objects are put as Git prints them, and the first fault is exact.** `read_objects`: `ends`.
-- **A script prints what its lines mean, also up to `listen`**; after it, only lines that change
-  a mount are read. `run`, `run_over`, `run_to_listen`, `run_changes`: `ends`.
-- **A mount that keeps no history answers each frame once, in order, as some state of it under
-  the lock replies.** `Resident::ask`: `told`, `spelled`; `serve_resident`: `ends`.
-- **A daemon that ends well wrote what its script prints up to `listen`, its port, and, if it
-  does not stay, `audit ok`; one that does not says so by a fault, and wrote what the lines
-  before print.** `serve_program`, `stay_program`: `told`; `bad_line`, `read`, `turns_spent`,
-  `no_connection`, `causes`.
+- **A script prints what its lines mean, also up to `listen`**, which opens their mount. After it
+  each line makes its change, once and in order, up to the first that changes no mount. `run`,
+  `run_over`, `run_to_listen`, `run_changes`: `ends`.
+- **A mount of which nothing is logged answers each frame once, in order, as it replies after
+  exactly some number of the changes that were made.** `Unlogged::change`: `made`, `share`;
+  `Unlogged::ask`, `ask_patiently`: `told`, `spelled`; `Unlogged::finish`: `reached`;
+  `serve_unlogged`: `ends`. No clause says for how long a reply waits.
+- **What a daemon writes is exact, however it ends: what its script prints up to `listen`, its
+  port or socket, and, after a number of connections, what an audit found.** `listen`,
+  `serve_listener`, `run_daemon`, `serve_program`: `ends`; `listen`, `run_daemon`: `read`,
+  `turns_spent`.
 - **What `follow connect` prints is where its mirror is and what it holds**, by the replies that
-  came. `connect_program`: `placed`, `unplaced`.
+  came. It ends without a connection only if 16 of a round were asked for. `keep_mirror`: `placed`,
+  `unplaced`, `cut_off`; `connect_program`: `placed`, `unplaced`, `rounds`.
 """
 OWNER = re.compile(r"^impl(?:<.*?>)? (\w+)(?:<.*>)? \{$|^pub trait (\w+)")
 FUNCTION = re.compile(r"^( *)(pub )?fn (\w+)")

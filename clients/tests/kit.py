@@ -8,6 +8,7 @@ import socket
 import subprocess
 import sys
 import tempfile
+import threading
 import time
 import unittest
 
@@ -74,6 +75,46 @@ def change_one(how, one, other, text):
         os.chmod(one, 0o755 if text < b"5" else 0o644)
     else:
         os.makedirs(one, exist_ok=True)
+
+
+class Relay:
+    """A port whose connections are handed on to another port frame by frame, and end at a request
+    with a refused tag. It has the tags of all requests that came."""
+
+    def __init__(self, port, refused=()):
+        self._port, self._refused = port, refused
+        self.tags = []
+        self._listener = socket.create_server(("127.0.0.1", 0))
+        self.port = self._listener.getsockname()[1]
+
+    def __enter__(self):
+        threading.Thread(target=self._accept, daemon=True).start()
+        return self
+
+    def __exit__(self, *_):
+        self._listener.close()
+
+    def _accept(self):
+        with contextlib.suppress(OSError):
+            while True:
+                peer, _ = self._listener.accept()
+                threading.Thread(target=self._hand_on, args=(peer,), daemon=True).start()
+
+    def _hand_on(self, peer):
+        with peer, socket.create_connection(("127.0.0.1", self._port)) as service:
+            with peer.makefile("rb") as requests, service.makefile("rb") as replies:
+                while request := frame_from(requests):
+                    self.tags.append(request[5])
+                    if request[5] in self._refused:
+                        return
+                    service.sendall(request)
+                    peer.sendall(frame_from(replies))
+
+
+def frame_from(stream):
+    """The next frame of a stream, or nothing at its end."""
+    head = stream.read(4)
+    return head + stream.read(int.from_bytes(head, "big")) if len(head) == 4 else b""
 
 
 class InFolder(unittest.TestCase):

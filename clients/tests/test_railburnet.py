@@ -6,9 +6,10 @@ import re
 import socket
 import struct
 import threading
+import time
 import unittest
 
-from kit import CLIENTS, InFolder
+from kit import CLIENTS, InFolder, Relay
 
 import railburnet
 import slow_frames
@@ -63,6 +64,7 @@ class Frames(unittest.TestCase):
             Basis(ONE),
             BasisIs(ONE, first, []),
             Poll(ONE, first),
+            Poll(ONE, first),
             ChangesAre(ONE, first, [], []),
             Fetch(ONE, b"a"),
             ContentIs(ONE, first, b"a", None),
@@ -79,17 +81,18 @@ class Frames(unittest.TestCase):
         ]
         frames = known_frames()
         names = [type(message).__name__.replace("Below", "List") for message in wanted]
-        self.assertEqual([name.split()[0] for name, _ in frames], names)
-        for (_, frame), message in zip(frames, wanted):
+        self.assertEqual([name.replace("Patient", "").split()[0] for name, _ in frames], names)
+        for (name, frame), message in zip(frames, wanted):
             if isinstance(message, (Basis, Poll, Fetch, Below)):
-                self.assertEqual(railburnet.encode_request(message), frame)
+                patience = 10_000 if name == "PatientPoll" else 0
+                self.assertEqual(railburnet.encode_request(message, patience), frame)
             else:
                 self.assertEqual(struct.unpack(">I", frame[:4])[0], len(frame) - 4)
                 self.assertEqual(railburnet.decode_reply(frame[4:]), message)
 
     def test_every_cut(self):
         for name, frame in known_frames():
-            if name.split()[0] in ("Basis", "Poll", "Fetch", "List"):
+            if name.split()[0] in ("Basis", "Poll", "PatientPoll", "Fetch", "List"):
                 continue
             for end in range(4, len(frame)):
                 with self.assertRaises(FrameFault) as raised:
@@ -676,6 +679,40 @@ class Connections(InFolder):
             self.assertEqual(client.basis().paths, [b"a"])
         self.assertEqual(dict(mirror.files), {b"a": File(Kind.PLAIN, b"1")})
         client.close()
+
+    def test_waiting(self):
+        """A poll waits for what it names, and no longer than its patience."""
+        port, server = self.server(b"mount empty 7 1000000\nwrite a plain 1\n")
+        with railburnet.Client(port, connections=1) as client:
+            begun = time.monotonic()
+            self.assertEqual(
+                client.wait(Position(7, 1), patience=60).marked, [(Mark.CREATED, b"a")]
+            )
+            with self.assertRaises(railburnet.PositionRefused):
+                client.wait(Position(6, 1), patience=60)
+            write = threading.Timer(
+                0.2, self.lines, (server, b"write c plain 1", b"write b plain 1")
+            )
+            write.start()
+            changes = client.wait(Position(7, 2), [b"b"], 60)
+            self.assertEqual(changes.marked, [(Mark.CREATED, b"b")])
+            self.assertEqual(changes.position.sequence, 4)
+            self.assertLess(time.monotonic() - begun, 30)
+            write.join()
+            begun = time.monotonic()
+            changes = client.wait(Position(7, 2), [b"d"], 0.2)
+            self.assertEqual((changes.marked, changes.position.sequence), ([], 4))
+            self.assertGreaterEqual(time.monotonic() - begun, 0.2)
+
+    def test_a_mount_that_cannot_wait(self):
+        """An older one ends the connection at a patient request. It is tried twice."""
+        port, _ = self.server(b"mount empty 7 1000000\nwrite a plain 1\n")
+        with Relay(port, refused=[frames.PATIENCE_TAG]) as relay:
+            with railburnet.Client(relay.port) as client:
+                for _ in range(4):
+                    changes = client.wait(Position(7, 1), patience=60)
+                    self.assertEqual(changes.marked, [(Mark.CREATED, b"a")])
+            self.assertEqual(relay.tags, [5, 2, 5, 2, 2, 2])
 
     def test_another_version(self):
         """A frame of version 1 ends the connection, and nothing is answered."""

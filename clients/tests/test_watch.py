@@ -4,9 +4,12 @@ import contextlib
 import os
 import signal
 import subprocess
+import time
 import unittest
 
-from kit import InFolder, change, client, wait_until
+from kit import InFolder, Relay, change, client, wait_until
+
+from railburnet import frames
 
 COMMAND = """#!/bin/bash
 echo "begun $(date +%s%N)" >> "$LOG"
@@ -69,6 +72,29 @@ class Watching(InFolder):
         self.lines(server, b"rename d/a d/z")
         self.assertEqual(self.runs(2)[1][2], [b"word", b"d/a", b"d/z"])
         self.assertIn(b"watch: 2 paths changed: d/a, d/z; running ", self.text("stderr"))
+
+    def test_waiting(self):
+        """The mount is asked once and waits, for what the patterns admit."""
+        port, server = self.server(b"mount empty 7 1000000\n")
+        with Relay(port) as relay:
+            self.watch(relay.port, "d/*")
+            self.lines(server, *(b"write f%d plain 1" % n for n in range(100)))
+            time.sleep(1)
+            self.assertLessEqual(len(relay.tags), 2)
+            self.lines(server, b"write d/a plain 1")
+            self.assertEqual(self.runs(1)[0][2], [b"d/a"])
+            self.assertLess(len(relay.tags), 10)
+
+    def test_a_mount_that_cannot_wait(self):
+        port, server = self.server(b"mount empty 7 1000000\n")
+        with Relay(port, refused=[frames.PATIENCE_TAG]) as relay:
+            self.watch(relay.port, "d/*")
+            self.lines(server, b"write d/a plain 1")
+            self.assertEqual(self.runs(1)[0][2], [b"d/a"])
+            self.lines(server, b"write d/b plain 1")
+            self.assertEqual(self.runs(2)[1][2], [b"d/b"])
+            self.assertEqual(relay.tags.count(frames.PATIENCE_TAG), 2)
+        self.assertNotIn(b"trying again", self.text("stderr"))
 
     def test_a_moved_directory(self):
         port, server = self.server(

@@ -2,6 +2,7 @@
 from __future__ import annotations
 
 import errno
+import math
 import os
 import selectors
 import socket
@@ -41,6 +42,10 @@ from .mirror import Mirror, Outcome
 
 SILENT = 5.0
 """After how many seconds without an answer somebody is told."""
+MOST_PATIENCE = 60.0
+"""For how many seconds a mount waits at most for a change."""
+MOST_CUT = 2
+"""After how many connections in a row that end at a patient request no more are tried."""
 
 
 class Connection:
@@ -71,8 +76,9 @@ class Connection:
         self._selector.close()
         self._socket.close()
 
-    def ask_all(self, requests: Iterable[Request]) -> Iterator[Reply]:
-        """The replies to requests, in their order, as they come.
+    def ask_all(self, requests: Iterable[Request], patience: float = 0.0) -> Iterator[Reply]:
+        """The replies to requests, in their order, as they come. The mount may wait with each for
+        so many seconds, if it is a poll and nothing changed.
 
         Requests are sent ahead while replies are read, so two full buffers can't wait for each
         other. Who doesn't take all replies has to close the connection. ConnectionLost where it
@@ -85,12 +91,12 @@ class Connection:
                 if request is None:
                     more = False
                 else:
-                    unsent += encode_request(request)
+                    unsent += encode_request(request, math.ceil(patience * 1000))
                     waiting += 1
             if waiting == 0:
                 return
             del unsent[: self._send(unsent)]
-            for body in self._received(bool(unsent)):
+            for body in self._received(bool(unsent), patience):
                 waiting -= 1
                 yield decode_reply(body)
 
@@ -103,18 +109,19 @@ class Connection:
         except OSError as error:
             raise ConnectionLost(error.errno, f"the connection broke: {error.strerror}") from None
 
-    def _received(self, unsent: bool) -> Iterator[bytes]:
+    def _received(self, unsent: bool, patience: float) -> Iterator[bytes]:
         """Waits until something can be read, or sent where there is something to send, and gives
-        the bodies that came."""
+        the bodies that came. It isn't silence that the mount waits so long."""
         self._selector.modify(
             self._socket, selectors.EVENT_READ | (selectors.EVENT_WRITE if unsent else 0)
         )
-        events = self._selector.select(min(self._timeout, SILENT))
+        events = self._selector.select(patience + min(self._timeout, SILENT))
         if not events and self._timeout > SILENT:
             self._silent()
             events = self._selector.select(self._timeout - SILENT)
         if not events:
-            raise ConnectionLost(errno.ETIMEDOUT, f"no reply within {self._timeout:g} seconds")
+            seconds = self._timeout + patience
+            raise ConnectionLost(errno.ETIMEDOUT, f"no reply within {seconds:g} seconds")
         if not events[0][1] & selectors.EVENT_READ:
             return
         try:
@@ -153,6 +160,7 @@ class Client:
         self._mirror = int.from_bytes(os.urandom(8), "big")
         self._life = time.time_ns()
         self._number = 0
+        self._cut = 0
         self._fault: Exception = ConnectionLost("no connection was made")
 
     def close(self) -> None:
@@ -223,12 +231,28 @@ class Client:
     def since(self, position: Position, patterns: Iterable[bytes] = ()) -> ChangesAre:
         """What changed since a position. PositionRefused where that can't be told, TooLarge
         where it doesn't fit into a frame."""
-        reply = self._ask(Poll(self._query(), position, tuple(patterns)))
-        if isinstance(reply, Refused):
-            raise TooLarge() if reply.cause is Cause.TOO_LARGE else PositionRefused(reply)
-        assert isinstance(reply, ChangesAre)
-        drop_own([path for _, path in reply.marked], reply.marked)
-        return reply
+        return _changes(self._ask(Poll(self._query(), position, tuple(patterns))))
+
+    def wait(
+        self, position: Position, patterns: Iterable[bytes] = (), patience: float = 20.0
+    ) -> ChangesAre:
+        """What changed since a position, as soon as something did, or nothing after so many
+        seconds, at most 60. It raises what `since` does.
+
+        A mount that can't wait answers at once, as `since` does: one that keeps an audit, and an
+        older one, which ends the connection first.
+        """
+        poll = Poll(self._query(), position, tuple(patterns))
+        patience = min(patience, MOST_PATIENCE)
+        if self._cut < MOST_CUT:
+            try:
+                reply = self._reply(poll, patience)
+                self._cut = 0
+                return _changes(reply)
+            except (ConnectionLost, FrameFault) as fault:
+                self._lost(fault)
+                self._cut += 1
+        return _changes(self._ask(poll))
 
     def fetch(self, path: bytes) -> ContentIs:
         """What stands at a path."""
@@ -275,14 +299,20 @@ class Client:
     def _ask(self, request: Request) -> Reply:
         for _ in self._connections():
             try:
-                for reply in self._connected().ask_all([request]):
-                    if reply.query == request.query:
-                        self._waiting = False
-                        return reply
-                    raise FrameFault("a reply to another question")
+                return self._reply(request)
             except (ConnectionLost, FrameFault) as fault:
                 self._lost(fault)
+                # What comes next may be another mount, which can wait.
+                self._cut = 0
         raise AssertionError("connections end by an exception")
+
+    def _reply(self, request: Request, patience: float = 0.0) -> Reply:
+        """Asks once, over the connection that there is or a new one."""
+        for reply in self._connected().ask_all([request], patience):
+            if reply.query == request.query:
+                self._waiting = False
+                return reply
+        raise FrameFault("a reply to another question")
 
     def _query(self) -> Query:
         self._number += 1
@@ -317,6 +347,15 @@ class Client:
         self.close()
 
 
+def _changes(reply: Reply) -> ChangesAre:
+    """Returns the reply to a poll without feed's own files, or raises why it is refused."""
+    if isinstance(reply, Refused):
+        raise TooLarge() if reply.cause is Cause.TOO_LARGE else PositionRefused(reply)
+    assert isinstance(reply, ChangesAre)
+    drop_own([path for _, path in reply.marked], reply.marked)
+    return reply
+
+
 class Changes:
     """Which paths changed, poll by poll; no contents."""
 
@@ -326,9 +365,9 @@ class Changes:
         self.position: Optional[Position] = None
         self.refused: Optional[str] = None
 
-    def next(self) -> List[Tuple[Optional[Mark], bytes]]:
+    def next(self, patience: float = 0.0) -> List[Tuple[Optional[Mark], bytes]]:
         """What changed since the last call; the first call gives all files that there are, without
-        marks.
+        marks. Any other waits for a change for so many seconds, as `Client.wait` does.
 
         Where files were moved from one directory to another, every path below these that there
         was or is may have changed, and is given without a mark unless it has one. Where the
@@ -337,7 +376,7 @@ class Changes:
         self.refused = None
         if self.position is not None:
             try:
-                reply = self._client.since(self.position, self._patterns)
+                reply = self._since(self.position, patience)
                 below = [path for prefix in reply.prefixes for path in self._below(prefix)]
             except (PositionRefused, TooLarge) as refusal:
                 self.refused, self.position = str(refusal) or "TOO_LARGE", None
@@ -353,6 +392,11 @@ class Changes:
         self.position = basis.position
         before, self._known = self._known, dict.fromkeys(basis.paths)
         return [(None, path) for path in sorted({*before, *basis.paths})]
+
+    def _since(self, position: Position, patience: float) -> ChangesAre:
+        if patience > 0:
+            return self._client.wait(position, self._patterns, patience)
+        return self._client.since(position, self._patterns)
 
     def _below(self, prefix: bytes) -> List[bytes]:
         """The paths below a directory that there were or are."""

@@ -14,6 +14,7 @@ VERSION = 2
 MOST_BODY = 16_777_216
 MOST_CONTENT = 8_388_608
 MOST_NUMBER = 2**64 - 1
+PATIENCE_TAG = 5
 OWN_PATHS = b".git/.railburnet"
 """The directory of a mount in which feed keeps files of its own: no directory that it follows
 has it."""
@@ -325,8 +326,13 @@ def _spelled_position(position: Position) -> bytes:
     return _POSITION.pack(position.generation, position.sequence, position.root)
 
 
-def encode_request(request: Request) -> bytes:
-    """The frame of a request. ValueError where a path or a filter is none."""
+def encode_request(request: Request, patience: int = 0) -> bytes:
+    """Returns the frame of a request, for whose reply the mount may wait so many milliseconds.
+
+    Without patience the request is alone in it, as any mount reads it. ValueError if a path, a
+    filter or the patience is invalid."""
+    if not 0 <= patience < 2**32:
+        raise ValueError(f"{patience} is no number of milliseconds that a frame holds")
     if isinstance(request, Fetch):
         tag, fields = 3, _checked_path(request.path)
     elif isinstance(request, Below):
@@ -337,6 +343,8 @@ def encode_request(request: Request) -> bytes:
         tag, fields = 1, _checked_patterns(request.patterns)
     query = request.query
     body = _QUERY.pack(VERSION, tag, query.mirror, query.life, query.number) + fields
+    if patience:
+        body = struct.pack(">BBI", VERSION, PATIENCE_TAG, patience) + body
     return struct.pack(">I", len(body)) + body
 
 

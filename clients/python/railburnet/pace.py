@@ -36,8 +36,9 @@ class Pace:
 
     @property
     def settled(self) -> float:
-        """For how many seconds nothing had changed when the bell rang."""
-        return SETTLE if self._bell is not None else 0.0
+        """For how many seconds nothing had changed when the mount was told of a change: the feed
+        of a mount of this machine waits."""
+        return SETTLE if self._target.mount() is not None else 0.0
 
     def _new_bell(self) -> Optional[Bell]:
         try:

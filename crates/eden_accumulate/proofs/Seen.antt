@@ -10,11 +10,11 @@ use Rattle.eden_objects.specs.Commits.{commit_map}
 use Rattle.eden_objects.specs.Files.{commit_files, files_of}
 use Rattle.eden_moves.specs.Moves.{Moves, at_paths, seen_through}
 use Rattle.eden_workcopy.specs.declared.work.WorkCopy.{WorkCopy}
-use Rattle.eden_workcopy.specs.Layers.{Mark}
-use Rattle.eden_workcopy.specs.Listings.{admitted, shown_over}
+use Rattle.eden_overlay.specs.Layers.{Mark}
+use Rattle.eden_overlay.specs.Listings.{admitted, shown_over}
 use Rattle.eden_workcopy.specs.Meanings.{base_of, means, touched_of}
 use Rattle.eden_workcopy.proofs.Works.{all_at_paths}
-use Rattle.eden_workcopy.proofs.WovenRows.{layer_shown}
+use Rattle.eden_overlay.proofs.WovenRows.{layer_shown}
 use Rattle.eden_accumulate.specs.Mounts.{State}
 use Rattle.eden_accumulate.proofs.Standing.{IsPresent}
 

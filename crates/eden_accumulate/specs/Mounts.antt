@@ -1,4 +1,4 @@
--- What a mount holds, and of which history of changes it is the present.
+-- The state of a mount, and the histories of changes of which it is the present.
 use Rattle.std.specs.Prelude.{◌≡◌, List, []}
 use Rattle.eden_ids.specs.FileMaps.{FileMap}
 use Rattle.eden_objects.specs.Objects.{Held}
@@ -29,8 +29,9 @@ pub record State : Type 0 where
 abbrev pub files_of : State → FileMap
 files_of mount = means mount.held mount.work
 
--- a mount is the present of a world: the objects, the root and the files are the world's, and the journal holds what the limit pays for
--- of what the world recorded. All that the world replies has a spelling
+-- a mount is the present of a world: the objects, the root and the files are the world's,
+-- and the journal holds as much as the limit allows of what the world recorded.
+-- Everything that the world replies has an encoding
 pub record StandsFor (mount : State) (world : WorldState) : Type 0 where
   pub held : mount.held ≡ world.held
   pub fits : FitsIn mount.held mount.work
@@ -40,16 +41,18 @@ pub record StandsFor (mount : State) (world : WorldState) : Type 0 where
   pub is_world : IsSomeWorld world
   pub spellable : IsSpellable world
 
--- a mount that has more objects stands for the same worlds over these objects
+-- a mount that has more objects is the present of the same worlds over these objects
 abbrev pub StandsOver : Type 0
 StandsOver = (name : Namer) (mount : State) (world : WorldState) (more : List Held) → StandsFor mount world → IsClosed more → AllNamed name more → AreSmall more
     → HasAll mount.held more → StandsFor (record mount { held = more }) (over_held world more)
 
--- the answer to a change is that of each world for which the mount stands; of an import, where this naming names the objects
+-- the answer to a change is that of each world of which the mount is the present; for an
+-- import, if this naming names the objects
 abbrev pub Answers : Namer → State → Change → Answer → Type 0
 Answers name mount change answer = (world : WorldState) → StandsFor mount world → answer_of name world change ≡ answer
 
--- after a change a mount stands for each world for which it stood, as the change leaves it
+-- after a change the mount is the present of each world of which it was, as the change
+-- leaves it
 abbrev pub Follows : Namer → State → Change → State → Type 0
 Follows name mount change after = (world : WorldState) → StandsFor mount world → StandsFor after (world_after name world change)
 

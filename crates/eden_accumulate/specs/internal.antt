@@ -1,4 +1,4 @@
--- Words that the code alone uses.
+-- Definitions that the code alone uses.
 pub mod Applied
 pub mod Refusals
 pub mod Rows

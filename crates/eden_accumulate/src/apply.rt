@@ -1,4 +1,4 @@
-//! The call behind each change.
+//! Changes given as values.
 
 ghost use Rattle.std.specs.Prelude.{◌≡◌, IfOk, OnOk, OnErr};
 ghost use Rattle.eden_history.specs.declared.answer.Answer.TheVariants as answer;
@@ -10,7 +10,7 @@ use crate::root::Checked;
 use eden_history::{Answer, Change, ChangeFault, Position};
 use eden_ids::{Naming, NoMemory};
 
-/// A refusal as an answer. A want of memory is none.
+/// Returns a refusal as an answer, or `None` if it is `NoMemory`.
 fn answer_refused(fault: ChangeFault) -> Option<Answer>
     ensures { result ≡ applied.refused fault }
 {
@@ -20,7 +20,7 @@ fn answer_refused(fault: ChangeFault) -> Option<Answer>
     }
 }
 
-/// What a change came to, as an answer.
+/// Returns the result of a change as an answer.
 fn answer_at(told: Result<Position, ChangeFault>) -> Option<Answer>
     ensures { result ≡ applied.told_as answer.At told }
 {
@@ -30,7 +30,7 @@ fn answer_at(told: Result<Position, ChangeFault>) -> Option<Answer>
     }
 }
 
-/// What a checkout came to, as an answer.
+/// Returns the result of a checkout as an answer.
 fn answer_checked(told: Result<Checked, ChangeFault>) -> Option<Answer>
     ensures { result ≡ applied.told_as (λ checked. answer.Checked checked.position checked.conflicts) told }
 {
@@ -44,10 +44,15 @@ fn answer_checked(told: Result<Checked, ChangeFault>) -> Option<Answer>
 }
 
 impl<N: Naming + Drop> Mount<N> {
-    /// Makes a change by the call of its name, and answers what that call tells: the position after it, of a checkout its conflicts too,
-    /// or why it is refused.
+    /// Makes a change and returns its answer.
     ///
-    /// `NoMemory` comes where a growth was refused. After a refusal, and after `NoMemory`, nothing has changed.
+    /// The answer is what the method for this change returns: the position after it, with
+    /// the conflicts of a checkout, or why it is refused. If it is refused, nothing
+    /// changes.
+    ///
+    /// # Errors
+    ///
+    /// - `NoMemory` if an allocation fails; nothing changes.
     pub fn apply(&mut self, change: &Change) -> Result<Answer, NoMemory>
         ensures answers { IfOk result (λ answer. Answers N.id self.old change.now answer) }
         ensures stands { OnOk result (Follows N.id self.old change.now self.new) }
@@ -56,7 +61,9 @@ impl<N: Naming + Drop> Mount<N> {
         self.answer_to(change).ok_or(NoMemory)
     }
 
-    /// Makes a change, and tells its answer. With no memory it is not made.
+    /// Makes a change and returns its answer, or `None`.
+    ///
+    /// On `NoMemory` it returns `None` and changes nothing.
     fn answer_to(&mut self, change: &Change) -> Option<Answer>
         ensures { applied.Applies N.id self.old change.now result self.new }
     {

@@ -1,4 +1,4 @@
-//! Objects taken into the store, all of them or none.
+//! Imports of objects into the store, all or none.
 
 ghost use Rattle.std.specs.Prelude.{◌≡◌, ◌≢◌, IfOk, IfErr, OnOk, OnErr};
 ghost use Rattle.eden_history.specs.declared.answer.Answer.TheVariants.{At};
@@ -11,11 +11,17 @@ use eden_ids::Naming;
 use eden_objects::{ImportFault, Object};
 
 impl<N: Naming + Drop> Mount<N> {
-    /// Puts objects into the store, in their order, each after all that it names: all of them, or none. An object may be there already.
-    /// Files, root and journal stay as they are, and the answer is the present position.
+    /// Puts objects into the store, in order: all of them, or none.
     ///
-    /// Refused as `BadObject`, with the place of the first object that the store refuses, counted from 0, and why. `NoMemory` may stand in
-    /// place of any answer where a growth was refused. After a refusal nothing has changed.
+    /// Each object must come after those that it refers to. An object may be there
+    /// already. Files, root and journal stay as they are. Returns the present position.
+    ///
+    /// # Errors
+    ///
+    /// - `BadObject` with the index of the first object that the store refuses, and why;
+    ///   nothing changes.
+    /// - `NoMemory` if an allocation fails; it may be returned instead of any other answer;
+    ///   nothing changes.
     pub fn import(&mut self, objects: &[Object]) -> Result<Position, ChangeFault>
         ensures answers { IfOk result (λ position. Answers N.id self.old (Import objects.now) (At position)) }
         ensures stands { OnOk result (Follows N.id self.old (Import objects.now) self.new) }

@@ -1,6 +1,17 @@
 //! A mount: a working copy of a commit, and the journal of what changed in it.
 //!
-//! Its tests stand in `test_beside`, where it goes through the same changes as the plain, slow program.
+//! A `Mount` owns a store of objects, a working copy and a journal. The changes are
+//! `write`, `remove`, `rename`, `rename_dir`, `checkout`, `reset`, `flush`, `remount` and
+//! `import`. Each is refused with a `ChangeFault`, or is made and answered with the
+//! position after it. The journal records those that make an event. `apply` makes a
+//! change that is given as a value.
+//!
+//! `range_since` and `changes_since` say what changed since a position. A `Snapshot`
+//! remembers which files there were, without contents, so that they can be listed after
+//! the mount's lock is released.
+//!
+//! A mount keeps no history. Its contracts compare it with a world (eden_history), which
+//! does. Its tests are in `test_beside`.
 //!
 //! ```rust
 //! use eden_accumulate::Mount;
@@ -23,7 +34,7 @@ pub use crate::range::Changes;
 pub use crate::root::Checked;
 pub use crate::snapshot::Snapshot;
 pub use eden_history::{ChangeFault, Mode, MountFault, Position};
-pub use eden_ranges::{Range, accumulate, expand};
+pub use eden_ranges::{Due, Range, accumulate, expand};
 
 mod apply;
 mod change;

@@ -1,4 +1,4 @@
-//! A mount, its parts, and what it tells of the present.
+//! A mount, its parts and its present state.
 
 ghost use Rattle.std.specs.Prelude.{◌≡◌, ◌≢◌, [], None, Some, IfOk, IfErr, OnOk, OnErr, IsSome, not, nat_lt, ◌^◌, ◌-◌, if◌then◌else◌};
 ghost use Rattle.eden_ids.specs.FileMaps.{file_at};
@@ -16,10 +16,10 @@ use eden_workcopy::WorkCopy;
 use std::alloc::Global;
 use std::marker::Model;
 
-/// A working copy over a store, and the journal of what changed in it.
+/// A working copy over a store, with the journal of its changes.
 ///
-/// It keeps no history: a mount is the present of some world, the slow program that keeps all rows, and each call does to it what the
-/// world's call does to the world.
+/// It keeps no history. A mount is the present state of some world: a model that keeps
+/// all rows. Each call does to the mount what the world's call does to the world.
 #[derive(Drop)]
 pub struct Mount<N: Naming + Drop> {
     pub(crate) store: Store<N>,
@@ -45,9 +45,13 @@ impl<N: Naming + Drop> Model for Mount<N> {
 impl<N: Naming + Drop> Mount<N> {
     ghost use Rattle.eden_accumulate.specs.Mounts.{StandsFor, begun_at, files_of};
 
-    /// A mount of a commit, with no event, at number 1 of a generation. The limit is how many bytes the journal may hold.
+    /// Mounts a commit, with no event, at number 1 of a generation.
     ///
-    /// `NoCommit` comes where the id is no commit's, and gives the store back. It takes no memory.
+    /// `limit` is the most bytes that the journal may hold. Does not allocate.
+    ///
+    /// # Errors
+    ///
+    /// - `NoCommit` if the id is not that of a commit; the store is given back.
     pub fn mount(
         alloc: Global,
         store: Store<N>,
@@ -74,14 +78,14 @@ impl<N: Naming + Drop> Mount<N> {
         })
     }
 
-    /// The objects. This takes no memory.
+    /// Returns the store of objects. Does not allocate.
     pub fn store(&self) -> &Store<N>
         ensures { result.now ≡ self.now.held }
     {
         &self.store
     }
 
-    /// The files. This takes no memory.
+    /// Returns the working copy. Does not allocate.
     pub fn work(&self) -> &WorkCopy
         ensures work { result.now ≡ self.now.work }
         ensures fits { FitsIn self.now.held self.now.work }
@@ -89,14 +93,14 @@ impl<N: Naming + Drop> Mount<N> {
         &self.work
     }
 
-    /// What changed. This takes no memory.
+    /// Returns the journal. Does not allocate.
     pub fn journal(&self) -> &Journal
         ensures { result.now.log ≡ self.now.log }
     {
         &self.journal
     }
 
-    /// The present position. This takes no memory.
+    /// Returns the present position. Does not allocate.
     pub fn position(&self) -> Position
         ensures log { result ≡ record { generation = self.now.log.generation; sequence = self.now.log.head; root = self.now.log.root } }
         ensures world { (world : WorldState) → StandsFor self.now world → result ≡ position_of (now world) }
@@ -108,10 +112,15 @@ impl<N: Naming + Drop> Mount<N> {
         }
     }
 
-    /// The kind and the bytes of the file at a path.
+    /// Returns the kind and the bytes of the file at a path. Does not allocate.
     ///
-    /// Refused, in this order, as `NotADirectory` where a file stands at a proper prefix of the path's components, as `IsADirectory`
-    /// where files stand below the path, or as `NoEntry` where no file stands at it. It takes no memory.
+    /// # Errors
+    ///
+    /// The first of these that applies:
+    ///
+    /// - `NotADirectory` if there is a file at a proper prefix of the path's components.
+    /// - `IsADirectory` if there are files below the path.
+    /// - `NoEntry` if there is no file at it.
     pub fn read(&self, path: &Path) -> Result<(Kind, &[u8]), ChangeFault>
         ensures accepts { IfOk result (λ _. (world : WorldState) → StandsFor self.now world → absent_fault (now world).files path.now ≡ None) }
         ensures reads { IfOk result (λ seen. (world : WorldState) → StandsFor self.now world
@@ -122,10 +131,11 @@ impl<N: Naming + Drop> Mount<N> {
         self.work.read(&self.store, path)
     }
 
-    /// A mount of its parts, with no event, that begins at the journal's head.
+    /// Makes a mount of its parts, with no event.
     ///
-    /// Condition: over the store the working copy holds files, the journal's root is the working copy's, and the journal holds nothing. It
-    /// takes no memory.
+    /// It begins at the journal's head. Over the store the working copy must hold files,
+    /// the journal's root must be the working copy's, and the journal must hold nothing.
+    /// Does not allocate.
     pub fn from_parts(store: Store<N>, work: WorkCopy, journal: Journal) -> Mount<N>
         requires fits { FitsIn store work }
         requires root { journal.log.root ≡ work.root }
@@ -133,7 +143,8 @@ impl<N: Naming + Drop> Mount<N> {
         ensures value { result ≡ record { held = store; work = work; log = journal.log } }
         ensures stands { StandsFor result (begun_at result) }
     {
-        // A journal stands for some history, and one that holds nothing also for the one that begins at its head.
+        // A journal is that of some history; one that holds nothing is also that of the
+        // history that begins at its head.
         let _ = journal.head();
         let _ = journal.generation();
         store.closed_law();
@@ -145,8 +156,14 @@ impl<N: Naming + Drop> Mount<N> {
         }
     }
 
-    /// A copy of the store, as `Store::share` gives it: it has the same objects, and keeps them whatever either takes in afterwards.
-    /// `NoMemory` comes where a growth was refused. Either way the mount is as it was.
+    /// Returns a copy of the store, as `Store::share` does.
+    ///
+    /// It has the same objects, and does not change when either store takes in more. The
+    /// mount does not change.
+    ///
+    /// # Errors
+    ///
+    /// - `NoMemory` if an allocation fails; nothing changes.
     pub fn share(&mut self) -> Result<Store<N>, NoMemory>
         ensures copy { IfOk result (λ store. store ≡ self.old.held) }
         ensures same { self.new ≡ self.old }
@@ -154,8 +171,14 @@ impl<N: Naming + Drop> Mount<N> {
         self.store.share()
     }
 
-    /// A mount that is equal to this one, over a copy of the store, so that what either mount takes in afterwards is not in the other.
-    /// `NoMemory` comes where a growth was refused. Either way this mount is as it was.
+    /// Returns a copy of this mount, over a copy of the store.
+    ///
+    /// Objects that either mount takes in later are not in the other. This mount does not
+    /// change.
+    ///
+    /// # Errors
+    ///
+    /// - `NoMemory` if an allocation fails; nothing changes.
     pub fn copy(&mut self) -> Result<Mount<N>, NoMemory>
         ensures copy { IfOk result (λ mount. mount ≡ self.old) }
         ensures same { self.new ≡ self.old }

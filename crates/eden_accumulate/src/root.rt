@@ -1,4 +1,4 @@
-//! The changes of the commit: reset and checkout.
+//! Changes of the commit: reset and checkout.
 
 ghost use Rattle.std.specs.Prelude.{◌≡◌, ◌≢◌, None, Some, IfOk, IfErr, OnOk, OnErr};
 ghost use Rattle.eden_objects.specs.Commits.{commit_map};
@@ -15,16 +15,16 @@ use eden_history::{ChangeFault, Mode, Position};
 use eden_ids::{Id, Naming, Path, Sequence, id_law};
 use eden_objects::CommitFault;
 
-/// What a checkout came to.
+/// The result of a checkout.
 #[derive(Drop)]
 pub struct Checked {
     /// The position after it.
     pub position: Position,
-    /// The paths at which files that were changed stood against files of the new commit, ascending.
+    /// The paths of changed files that conflict with the commit, ascending.
     pub conflicts: Sequence<Path>,
 }
 
-/// Whether a checkout is only tried.
+/// Returns true if a checkout is only tried.
 fn is_dry(mode: Mode) -> bool
     ensures { result ≡ checkouts.is_dry mode }
 {
@@ -32,7 +32,7 @@ fn is_dry(mode: Mode) -> bool
 }
 
 impl<N: Naming + Drop> Mount<N> {
-    /// That an id is no commit's.
+    /// Returns `NoCommit` if an id is not that of a commit.
     #[tactic(auto, using(eden_history::proofs::Committed::commit_there, eden_history::proofs::Committed::commit_gone))]
     fn commit_fault(&self, commit: Id) -> Option<ChangeFault>
         ensures { result ≡ outcome.commit_fault (commit_map self.now.held commit) }
@@ -44,18 +44,26 @@ impl<N: Naming + Drop> Mount<N> {
         }
     }
 
-    /// Why the mount can't go over to a commit.
+    /// Returns why the root cannot be moved to a commit.
     fn reset_refusal(&self, commit: Id) -> Option<ChangeFault>
         ensures { IsRefusal self.now (Reset commit) result }
     {
         self.commit_fault(commit).or(self.number_fault())
     }
 
-    /// Goes over to another commit, and leaves the files as they are. The answer is the position after it.
+    /// Moves the root to another commit, and leaves the files.
     ///
-    /// Refused, in this order, as `NoCommit` where the id is no commit's or as `SequenceExhausted` where no number is left. `NoMemory`
-    /// comes where a growth was refused. After a refusal nothing has changed. Only the paths that a change touched and those on which the
-    /// two commits differ are looked at.
+    /// Returns the position after it. Only the paths that a change touched and those at
+    /// which the two commits differ are looked at.
+    ///
+    /// # Errors
+    ///
+    /// The first of these that applies; nothing changes:
+    ///
+    /// - `NoCommit` if the id is not that of a commit.
+    /// - `SequenceExhausted` if no number is left.
+    ///
+    /// `NoMemory` if an allocation fails; nothing changes.
     pub fn reset(&mut self, commit: Id) -> Result<Position, ChangeFault>
         ensures answers { IfOk result (λ position. Answers N.id self.old (Reset commit) (answer.At position)) }
         ensures stands { OnOk result (Follows N.id self.old (Reset commit) self.new) }
@@ -79,7 +87,7 @@ impl<N: Naming + Drop> Mount<N> {
         Ok(self.position())
     }
 
-    /// Why a commit can't be checked out.
+    /// Returns why a commit cannot be checked out.
     fn checkout_refusal(&self, commit: Id, mode: Mode) -> Option<ChangeFault>
         ensures { IsRefusal self.now (Checkout commit mode) result }
     {
@@ -90,12 +98,20 @@ impl<N: Naming + Drop> Mount<N> {
         fault.or(self.number_fault())
     }
 
-    /// Goes over to another commit, and makes the files those of that commit as far as the mode says. `Dry` changes nothing and is no
-    /// event: its answer is the present position and the conflicts.
+    /// Checks out another commit: changes the files to its files, as the mode says.
     ///
-    /// Refused, in this order, as `NoCommit` where the id is no commit's or, unless it is only tried, as `SequenceExhausted` where no
-    /// number is left. `NoMemory` comes where a growth was refused. After a refusal nothing has changed. Only the paths that a change
-    /// touched and those on which the two commits differ are looked at.
+    /// `Dry` changes nothing and is no event; it returns the present position and the
+    /// conflicts. Only the paths that a change touched and those at which the two commits
+    /// differ are looked at.
+    ///
+    /// # Errors
+    ///
+    /// The first of these that applies; nothing changes:
+    ///
+    /// - `NoCommit` if the id is not that of a commit.
+    /// - `SequenceExhausted` if no number is left, unless the mode is `Dry`.
+    ///
+    /// `NoMemory` if an allocation fails; nothing changes.
     pub fn checkout(&mut self, commit: Id, mode: Mode) -> Result<Checked, ChangeFault>
         ensures answers { IfOk result (λ checked. Answers N.id self.old (Checkout commit mode) (answer.Checked checked.position checked.conflicts)) }
         ensures stands { OnOk result (Follows N.id self.old (Checkout commit mode) self.new) }

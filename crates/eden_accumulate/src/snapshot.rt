@@ -1,10 +1,10 @@
-//! Which files a mount held at a position.
+//! The files that a mount held at a position.
 
 ghost use Rattle.std.specs.Prelude.{◌≡◌, ◌≢◌, None, IsSome, List, ℕ, T, IfOk, IfErr};
 ghost use Rattle.std.specs.FinMap.{is_sorted};
 ghost use Rattle.eden_objects.specs.Commits.{commit_map};
-ghost use Rattle.eden_workcopy.specs.Layers.{by_bytes};
-ghost use Rattle.eden_workcopy.specs.Listings.{admitted};
+ghost use Rattle.eden_overlay.specs.Layers.{by_bytes};
+ghost use Rattle.eden_overlay.specs.Listings.{admitted};
 ghost use Rattle.eden_workcopy.specs.Meanings.{touched_of};
 ghost use Rattle.eden_history.specs.Changes.{below};
 ghost use Rattle.eden_history.specs.Worlds.{WorldState, now, position_of};
@@ -16,10 +16,12 @@ use eden_history::Position;
 use eden_ids::{Naming, NoMemory, Path, Sequence, paths_below};
 use eden_moves::{Moved, Moves};
 use eden_objects::{CommitFault, Store};
-use eden_workcopy::woven;
+use eden_overlay::woven;
 
-/// Which files a mount held at a position: which directories of its commit were renamed, and the paths that changes touched, each with whether a
-/// file stands there; no contents.
+/// The files that a mount held at a position, without their contents.
+///
+/// It keeps which directories of the commit were renamed, and the paths that changes
+/// touched, each with whether there is a file.
 #[derive(Drop)]
 pub struct Snapshot {
     position: Position,
@@ -32,17 +34,23 @@ pub struct Snapshot {
 impl Snapshot {
     ghost use Rattle.eden_accumulate.specs.Snapshots.{shown_to};
 
-    /// The position at which it was taken. This takes no memory.
+    /// Returns the position at which it was taken. Does not allocate.
     pub fn position(&self) -> Position
         ensures { result ≡ self.now.position }
     {
         self.position
     }
 
-    /// The paths of the files that a filter admits, in byte order, over a store that has the position's commit.
+    /// Returns the admitted paths of files, in byte order.
     ///
-    /// `NoCommit` comes where the store hasn't that commit, and `NoMemory` may stand in place of any answer where a growth was refused. No
-    /// path is made that the filter does not admit, and no directory is read below which it admits nothing (`Filter::admits_below`).
+    /// The store must have the position's commit. No path is made that the filter does
+    /// not admit, and no directory is read below which it admits nothing
+    /// (`Filter::admits_below`).
+    ///
+    /// # Errors
+    ///
+    /// - `NoCommit` if the store does not have that commit.
+    /// - `NoMemory` if an allocation fails; it may be returned instead of any other answer.
     pub fn files<N: Naming + Drop>(
         &self,
         store: &Store<N>,
@@ -56,16 +64,20 @@ impl Snapshot {
             return Err(CommitFault::NoCommit);
         };
         let alloc = store.allocator();
-        let rows = Moved::of(commit, &self.moves).list(alloc, filter)?;
-        Ok(woven(alloc, rows, self.touched.as_slice(), filter)?)
+        let listed = Moved::of(commit, &self.moves).list(alloc, filter)?;
+        Ok(woven(alloc, listed, self.touched.as_slice(), filter)?)
     }
 
-    /// The paths of the files below a directory that a filter admits, in byte order, over a store that has the position's commit. The path
-    /// need not be a directory's: then there are none.
+    /// Returns the admitted paths of files below a directory, in byte order.
     ///
-    /// `NoCommit` comes where the store hasn't that commit, and `NoMemory` may stand in place of any answer where a growth was refused. Of
-    /// the commit only the directories on the way are searched, and those that are seen below the path are read, where the filter may admit
-    /// something below them.
+    /// The store must have the position's commit. If the path is not a directory, there
+    /// are none. Of the commit only the directories on the way are searched, and those
+    /// below the path are read if the filter may admit something below them.
+    ///
+    /// # Errors
+    ///
+    /// - `NoCommit` if the store does not have that commit.
+    /// - `NoMemory` if an allocation fails; it may be returned instead of any other answer.
     pub fn files_below<N: Naming + Drop>(
         &self,
         store: &Store<N>,
@@ -80,21 +92,26 @@ impl Snapshot {
             return Err(CommitFault::NoCommit);
         };
         let alloc = store.allocator();
-        let rows = Moved::of(commit, &self.moves).list_below(alloc, prefix, filter)?;
+        let listed = Moved::of(commit, &self.moves).list_below(alloc, prefix, filter)?;
         let touched = paths_below(self.touched.as_slice(), prefix.as_bytes());
-        Ok(woven(alloc, rows, touched, filter)?)
+        Ok(woven(alloc, listed, touched, filter)?)
     }
 }
 
 impl<N: Naming + Drop> Mount<N> {
     ghost use Rattle.eden_accumulate.specs.Snapshots.{shown_to};
 
-    /// Which files are held now, without their contents. `NoMemory` comes where a growth was refused.
+    /// Returns a snapshot of the files that are held now.
+    ///
+    /// # Errors
+    ///
+    /// - `NoMemory` if an allocation fails.
     pub fn snapshot(&self) -> Result<Snapshot, NoMemory>
         ensures position { IfOk result (λ snapshot. (world : WorldState) → StandsFor self.now world → snapshot.position ≡ position_of (now world)) }
         ensures moves { IfOk result (λ snapshot. snapshot.moves ≡ self.now.work.moves) }
         ensures touched { IfOk result (λ snapshot. snapshot.touched ≡ touched_of self.now.work) }
-        // What it shows over the mount's store is what a filter admits of the world's files.
+        // Over the mount's store, it shows those of the world's files that the filter
+        // admits.
         ensures files { IfOk result (λ snapshot. (world : WorldState) → StandsFor self.now world → (patterns : List (List ℕ))
             → shown_to patterns self.now.held snapshot ≡ admitted patterns (now world).files) }
     {

@@ -1,5 +1,5 @@
 -- How the reading of a batch ends, by how the pumping of its objects does.
-use Rattle.std.proofs.Common.{◌≡◌, Bool, true, false, ℕ, ◌+◌, inl, inr, List, [], ◌∷◌, ◌++◌, length, map, drop, Option, Result, Ok, Err, refl, sym, ap, ◌∙◌, subst, arith, append_assoc, append-nil}
+use Rattle.std.proofs.Common.{◌≡◌, Bool, true, false, ℕ, ◌+◌, ◌⊎◌, inl, inr, List, [], ◌∷◌, ◌++◌, length, map, drop, Option, Result, Ok, Err, refl, sym, ap, ◌∙◌, subst, arith, append_assoc, append-nil}
 use Rattle.std.specs.List.{concat}
 use Rattle.std.proofs.lemmas.List.{drop_at, length-map}
 use Rattle.std.proofs.lemmas.List.Folds.{concat-append}
@@ -7,13 +7,14 @@ use Rattle.std.proofs.lemmas.List.Elements.{All-nil}
 use Rattle.eden_ids.specs.declared.id.Id.{Id}
 use Rattle.eden_objects.specs.Objects.{Held}
 use Rattle.eden_stream.specs.Pumps as pumps
-use Rattle.eden_stream.specs.Pumps.{Faults, Losses, Ran, Tellings}
+use Rattle.eden_stream.specs.Pumps.{Faults, Halts, Ran, Tellings}
 use Rattle.eden_stream.specs.declared.pump.Stop.{Stop}
 use Rattle.eden_stream.specs.declared.pump.Stop.TheVariants.{Item, Read, Write, TurnsSpent, NoMemory}
 use Rattle.eden_batch.specs.Batches.{IsObject, batch, written}
-use Rattle.eden_batch.specs.Ends.{Ends, HasFault, ReadsObjects, StopsAtObject, StopsBetween}
+use Rattle.eden_batch.specs.Ends.{BeginsWith, Ends, HasFault, ReadsObjects, StopsAtObject, StopsBetween, StopsEarly}
+use Rattle.eden_batch.specs.Puttings.{IsPut}
 use Rattle.eden_batch.specs.internal.Grammar.{IsFaulty, object_grammar}
-use Rattle.eden_batch.specs.internal.Loads.{Fails, Fills, HavePut, IsReadAs, AreSame, Overfills, put_story, with_ids}
+use Rattle.eden_batch.specs.internal.Loads.{AreSame, Fails, Fills, HavePut, IsItemPut, IsReadAs, put_story, with_ids}
 use Rattle.eden_batch.specs.declared.fault.ObjectFault.{ObjectFault}
 use Rattle.eden_batch.specs.declared.fault.ObjectFault.TheVariants.{BadHeader, CutShort, OtherId, Refused, TooLarge}
 use Rattle.eden_batch.specs.declared.fault.ObjectsFault.{ObjectsFault}
@@ -128,20 +129,46 @@ module _ {I : Type 0} (name : List ℕ → List ℕ → Id) (has : I → List He
         partial = partial.0;
       }
 
-  overfilled : (ended : Bool) (stream : List ℕ) (items : List (List ℕ)) (text : List ℕ)
-      → Losses object_grammar (put_story name has over before now) ended stream items text
-      → Overfills name (has before.into.now) (has now.into.now) before.ids.now.items now.ids.now.items items
-  overfilled ended stream items text (inl lost) = lost.1
-  overfilled ended stream items text (inr spent) = spent.3.1
+  -- an item that was put begins what is left
+  begun : (items : List (List ℕ)) (item left rest stream : List ℕ) (held new : List Held) → stream ≡ concat items ++ rest → stream ≡ concat (items ++ item ∷ []) ++ left
+      → (new ≡ held) ⊎ IsItemPut name item held new → (new ≡ held) ⊎ BeginsWith (λ object. IsPut name object held new) rest
+  begun items item left rest stream held new cut next (inl same) = inl same
+  begun items item left rest stream held new cut next (inr put) =
+      inr (record { object = put.0; more = left; is_object = put.1; cut = taken items item left rest stream cut next ∙ ap (λ i. i ++ left) put.2; is = put.3 })
+
+  early : (ended : Bool) (count : ℕ) (rest : List ℕ) (next : ℕ) → before.ids.now.items ≡ [] → next ≡ length now.ids.now.items + 1
+      → (ran : Ran object_grammar (Halts object_grammar (put_story name has over before now) ended) r0 r1 w0 w1 ended count rest [])
+      → Halts object_grammar (put_story name has over before now) ended ran.stream ran.items (ran.sent ++ [])
+      → StopsEarly name r0 r1 (has before.into.now) (has now.into.now) next
+  early ended count rest next none next_is ran (inl told) =
+      let fills = told.1 in
+      record {
+        objects = fills.objects;
+        rest = rest;
+        held = has now.into.now;
+        front = reads _ ended count rest [] ran fills.objects (has now.into.now) fills.have;
+        number_is = next_number fills.objects next fills.ids_are none next_is;
+        grown = inl refl;
+      }
+  early ended count rest next none next_is ran (inr spent) =
+      let halts = spent.3.1 in
+      record {
+        objects = halts.objects;
+        rest = rest;
+        held = halts.held;
+        front = reads _ ended count rest [] ran halts.objects halts.held halts.have;
+        number_is = next_number halts.objects next halts.ids_are none next_is;
+        grown = begun ran.items spent.0 spent.1 rest ran.stream halts.held (has now.into.now) ran.cut spent.2 halts.grown;
+      }
 
   -- the same store and list are filled, however the pumping ended
   pub same_filling : (outcome : Result ℕ (Stop ObjectFault)) → pumps.Ends object_grammar (put_story name has over before now) r0 r1 w0 w1 outcome → AreSame name has over before now
   same_filling (Ok count) e = e.2.says.0
-  same_filling (Err (Item number fault)) e = elim e.4.says [ inl f ↦ f.0.0 | inr f ↦ f.0.0 ]
+  same_filling (Err (Item number fault)) e = elim e.4.says [ inl f ↦ f.0.0 | inr f ↦ f.0 ]
   same_filling (Err Read) e = e.3.says.0
   same_filling (Err TurnsSpent) e = e.3.says.0
   same_filling (Err NoMemory) e = elim e.3.says [ inl f ↦ f.0 | inr f ↦ f.3.0 ]
-  same_filling (Err Write) e = elim e.4.says [ inl f ↦ f.0 | inr f ↦ f.3.0 ]
+  same_filling (Err Write) e = elim e.4.says [ inl f ↦ f | inr f ↦ f.3.0 ]
 
   pub ends : (ids : List Id) → ids ≡ now.ids.now.items → before.ids.now.items ≡ [] → (next : ℕ) → next ≡ length now.ids.now.items + 1
       → (outcome : Result ℕ (Stop ObjectFault)) (result : Result (Unit {0}) ObjectsFault) → IsReadAs next outcome result
@@ -160,17 +187,7 @@ module _ {I : Type 0} (name : List ℕ → List ℕ → Id) (has : I → List He
   ends ids noted none next next_is (Err (Item number fault)) result is e = rw is (at_object number fault e.0 e.1 e.2 e.3 e.4 e.4.says)
   ends ids noted none next next_is (Err Read) result is e = rw is (between e.0 e.1 e.2 e.3 next none next_is)
   ends ids noted none next next_is (Err TurnsSpent) result is e = rw is (between e.0 e.1 e.2 e.3 next none next_is)
-  ends ids noted none next next_is (Err NoMemory) result is e =
-      let ran = e.3 in
-      let over = overfilled e.0 ran.stream ran.items (ran.sent ++ []) ran.says in
-      rw is (record {
-        objects = over.objects;
-        rest = e.2;
-        held = over.held;
-        front = reads _ e.0 e.1 e.2 [] ran over.objects over.held over.have;
-        number_is = next_number over.objects next over.ids_are none next_is;
-        grown = over.grown;
-      })
+  ends ids noted none next next_is (Err NoMemory) result is e = rw is (early e.0 e.1 e.2 next none next_is e.3 e.3.says)
   ends ids noted none next next_is (Err Write) result is e = absurd is
 
 -- each end is told as itself

@@ -4,22 +4,20 @@ use Rattle.std.specs.Cmp.Lexicographic.{bytes_decides}
 use Rattle.std.proofs.lemmas.List.{append-nil, map-append, take_at}
 use Rattle.std.proofs.lemmas.List.Elements.{All-push}
 use Rattle.eden_ids.specs.declared.id.Id.{Id}
-use Rattle.eden_ids.specs.Sameness.{same_bytes, same_id}
-use Rattle.eden_git.specs.Words.{same_word}
+use Rattle.eden_ids.specs.Sameness.{same_id}
 use Rattle.eden_git.specs.declared.word.Word.{Word}
-use Rattle.eden_git.specs.declared.word.Word.TheVariants.{Blob, Tree, Commit}
 use Rattle.eden_objects.specs.Imports.{IsOver, put_word}
-use Rattle.eden_objects.specs.Objects.{Held, find, zero_id}
-use Rattle.eden_objects.specs.Puts.{Outcome, commit_fault, kept_or_added, named, put_outcome, too_large, tree_fault, unless}
+use Rattle.eden_objects.specs.Objects.{Held}
+use Rattle.eden_objects.specs.Puts.{Outcome}
 use Rattle.eden_objects.specs.declared.fault.PutFault.{PutFault}
 use Rattle.eden_objects.specs.declared.fault.PutFault.TheVariants as put
 use Rattle.eden_batch.specs.Batches.{IsObject, header, written}
 use Rattle.eden_batch.specs.Puttings.{ArePut, IsPut}
 use Rattle.eden_batch.specs.internal.Fields.{IsHeader, Reads, header_field}
 use Rattle.eden_batch.specs.internal.Grammar.{IsPrinted}
-use Rattle.eden_batch.specs.internal.Loads.{AreSame, Fails, FailsAt, Fills, Overfills, Puts, put_story, refusal_of}
+use Rattle.eden_batch.specs.internal.Loads.{AreSame, Fails, FailsAt, Fills, HaltsAt, IsItemPut, Puts, put_story, refusal_of}
 use Rattle.eden_stream.specs.Stories.{Tells}
-use Rattle.eden_stream.specs.declared.teller.Answer.TheVariants.{Fault}
+use Rattle.eden_stream.specs.declared.teller.Step.TheVariants.{Fault}
 use Rattle.eden_batch.specs.declared.fault.ObjectFault.TheVariants.{Refused}
 use Rattle.eden_batch.specs.declared.fault.ObjectFault.{ObjectFault}
 use Rattle.eden_batch.specs.declared.fields.Lack.{Lack}
@@ -89,39 +87,6 @@ put_more : (name : List ℕ → List ℕ → Id) (objects : List Held) (object :
 put_more name [] object old held new put one = (new, subst (λ h. IsPut name object h new) put one, refl)
 put_more name (o ∷ os) object old held new put one = (put.0, put.1, put_more name os object put.0 held new put.2 one)
 
--- what a put call does to what is held
-held_after : Outcome → List Held
-held_after (Ok put) = put.1
-held_after (Err fault) = []
-
-kept : (same : Bool) (stays : Id × List Held) (id : Id) (now : List Held) → cond same (Ok stays) (Err put.IdTaken) ≡ Ok (id, now) → now ≡ stays.1
-unfolding held_after
-kept true stays id now e = sym (ap held_after e)
-kept false stays id now e = cc
-
-kept_grows : (new : Held) (held : List Held) (o : Option Held) (id : Id) (now : List Held) → kept_or_added new held o ≡ Ok (id, now)
-    → (now ≡ held) ⊎ ((object : Held) × (now ≡ object ∷ held))
-unfolding held_after
-kept_grows new held None id now e = inr (new, sym (ap held_after e))
-kept_grows new held (Some h) id now e = inl (kept (same_word h.word new.word && same_bytes h.payload new.payload) (new.id, held) id now e)
-
-outcome_grows : (b : Bool) (rest : Outcome) (id : Id) (held now : List Held) → (rest ≡ Ok (id, now) → (now ≡ held) ⊎ ((object : Held) × (now ≡ object ∷ held)))
-    → cond b (Err put.ZeroId) rest ≡ Ok (id, now) → (now ≡ held) ⊎ ((object : Held) × (now ≡ object ∷ held))
-outcome_grows true rest id held now goes e = cc
-outcome_grows false rest id held now goes e = goes e
-
-unless_grows : (fault : Option PutFault) (new : Held) (held : List Held) (id : Id) (now : List Held) → unless fault (put_outcome new held) ≡ Ok (id, now)
-    → (now ≡ held) ⊎ ((object : Held) × (now ≡ object ∷ held))
-unless_grows (Some fault) new held id now e = cc
-unless_grows None new held id now e =
-    outcome_grows (same_id new.id zero_id) (kept_or_added new held (find new.id held)) id held now (kept_grows new held (find new.id held) id now) e
-
-pub grows : (name : List ℕ → List ℕ → Id) (word : Word) (payload : List ℕ) (held : List Held) (id : Id) (now : List Held)
-    → put_word name word payload held ≡ Ok (id, now) → (now ≡ held) ⊎ ((object : Held) × (now ≡ object ∷ held))
-grows name Blob payload held id now e = unless_grows (too_large payload) (named name Blob payload) held id now e
-grows name Tree payload held id now e = unless_grows (tree_fault payload held) (named name Tree payload) held id now e
-grows name Commit payload held id now e = unless_grows (commit_fault payload held) (named name Commit payload) held id now e
-
 pub refusal_is : (cause : PutFault) → (cause ≡ put.NoMemory → ⊥) → Fault (Refused cause) ≡ refusal_of cause
 refusal_is put.NoMemory other = absurd (other refl)
 refusal_is cause other = refl
@@ -141,8 +106,8 @@ module _ (name : List ℕ → List ℕ → Id) (old held new : List Held) (noted
         ∙ ap (λ l. noted ++ l) (sym (map-append (λ o. o.id) fills.objects (object ∷ [])));
   }
 
-  pub overfills : (new ≡ held) ⊎ ((object : Held) × (new ≡ object ∷ held)) → Overfills name old new noted ids items
-  overfills grown = record { objects = fills.objects; held = held; have = fills.have; ids_are = fills.ids_are; grown = grown }
+  pub halts_at : (item : List ℕ) → (new ≡ held) ⊎ IsItemPut name item held new → HaltsAt name old new noted ids items item
+  halts_at item grown = record { objects = fills.objects; held = held; have = fills.have; ids_are = fills.ids_are; grown = grown }
 
   pub fails_at : (object : Held) (item : List ℕ) (fault : ObjectFault) → IsObject object → item ≡ written object → Fails name object held new fault
       → FailsAt name old new items item fault
@@ -182,8 +147,8 @@ module _ {I : Type 0} (name : List ℕ → List ℕ → Id) (has : I → List He
       → IsObject object → item ≡ written object → Puts (Err cause) name object.word object.payload held (has now.into.now)
       → Tells (put_story name has over before now) items sent item text text (refusal_of cause)
   tells_refused before now same held items fills put.NoMemory object sent item text is item_is puts =
-      (same, overfills name (has before.into.now) held (has now.into.now) before.ids.now.items now.ids.now.items items fills (inl puts))
+      (same, halts_at name (has before.into.now) held (has now.into.now) before.ids.now.items now.ids.now.items items fills item (inl puts))
   tells_refused before now same held items fills cause object sent item text is item_is puts = (
-    (same, overfills name (has before.into.now) held (has now.into.now) before.ids.now.items now.ids.now.items items fills (inl puts.0)),
+    same,
     fails_at name (has before.into.now) held (has now.into.now) before.ids.now.items now.ids.now.items items fills object item _ is item_is (puts.1, puts.0),
   )

@@ -6,8 +6,8 @@ use Rattle.std.specs.Char.{digit_value}
 use Rattle.std.proofs.lemmas.Bool.{cases_lt}
 use Rattle.std.proofs.lemmas.List.{take-append-le, take-append-drop, take_all, length-take}
 use Rattle.std.proofs.lemmas.Fmt.{decimal_by_steps, decimal_digit, decimal_step, decimal_is_IsNumeral, decimal_injective, length-decimal-le}
-use Rattle.eden_numbers.specs.Numbers.{number_of}
-use Rattle.eden_numbers.proofs.NumberLemmas.{number_of-decimal, number_of-some}
+use Rattle.eden_git.specs.Numbers.{number_of}
+use Rattle.eden_git.proofs.NumberLemmas.{number_of-decimal, number_of-some}
 use Rattle.eden_batch.specs.internal.Fields.{size_field}
 use Rattle.eden_batch.proofs.Lines.{Unbroken, front_of_line, same_line}
 

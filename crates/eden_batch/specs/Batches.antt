@@ -1,4 +1,5 @@
--- What `git cat-file --batch` prints (`git help cat-file`, "Batch output"): for each object a header, its bytes and a line feed.
+-- What `git cat-file --batch` prints (`git help cat-file`, "Batch output"): for each object a
+-- header, its bytes and a line feed.
 use Rattle.std.specs.Prelude.{◌≡◌, ◌≢◌, ℕ, ◌^◌, ◌<◌, ◌≤◌, ◌⊎◌, List, [], ◌∷◌, ◌++◌, length, decimal}
 use Rattle.std.specs.List.{flat_map}
 use Rattle.hex.specs.Hex.{encode_lower}
@@ -12,8 +13,8 @@ use Rattle.eden_objects.specs.Objects.{Held}
 abbrev pub object_limit : ℕ
 object_limit = 8388608
 
--- a header: an id, the word for a kind of object, and a number of bytes in decimal; behind the first two a space, and behind the last a
--- line feed
+-- a header: an id, the word for a kind of object, and a number of bytes in decimal; after the first
+-- two a space, and after the last a line feed
 unfoldable pub header : Id → Word → ℕ → List ℕ
 header id word size = (encode_lower id.0 ++ 32 ∷ []) ++ ((word_text word ++ 32 ∷ []) ++ (decimal size ++ 10 ∷ []))
 
@@ -21,7 +22,7 @@ header id word size = (encode_lower id.0 ++ 32 ∷ []) ++ ((word_text word ++ 32
 abbrev pub written : Held → List ℕ
 written object = header object.id object.word (length object.payload) ++ (object.payload ++ 10 ∷ [])
 
--- objects, one behind another
+-- objects, one after another
 abbrev pub batch : List Held → List ℕ
 batch objects = flat_map written objects
 
@@ -30,12 +31,12 @@ pub record IsObject (object : Held) : Type 0 where
   pub id : IsIdText object.id
   pub few : length object.payload ≤ object_limit
 
--- whatever bytes follow, no header stands at the front. A size in a header is below 2 ^ 64
+-- whatever bytes follow, they do not begin with a header. A size in a header is below 2 ^ 64
 abbrev pub HasNoHeader : List ℕ → Type 0
 HasNoHeader bytes = (id : Id) (word : Word) (size : ℕ) (rest more : List ℕ) → IsIdText id → size < 2 ^ 64
     → bytes ++ rest ≡ header id word size ++ more → ⊥
 
--- the header of an object within the limit, its bytes, and behind them another byte than a line feed
+-- the header of an object within the limit, its bytes, and after them another byte than a line feed
 pub record LacksLineFeed (bytes : List ℕ) : Type 0 where
   pub object : Held
   pub byte : ℕ
@@ -44,16 +45,18 @@ pub record LacksLineFeed (bytes : List ℕ) : Type 0 where
   pub other : byte ≢ 10
   pub cut : bytes ≡ header object.id object.word (length object.payload) ++ (object.payload ++ byte ∷ more)
 
--- a header that tells a size above the limit
+-- a header whose size is above the limit, and below 2 ^ 64 as in any header
 pub record HasLargeHeader (bytes : List ℕ) : Type 0 where
   pub id : Id
   pub word : Word
   pub size : ℕ
   pub more : List ℕ
+  pub is_id : IsIdText id
+  pub fits : size < 2 ^ 64
   pub large : object_limit < size
   pub cut : bytes ≡ header id word size ++ more
 
--- some first bytes of a header, and not all
+-- the beginning of a header, and not all of it
 pub record HasPartOfHeader (bytes : List ℕ) : Type 0 where
   pub id : Id
   pub word : Word
@@ -64,7 +67,7 @@ pub record HasPartOfHeader (bytes : List ℕ) : Type 0 where
   pub some : 0 < length more
   pub cut : bytes ++ more ≡ header id word size
 
--- some first bytes of an object within the limit, and not all
+-- the beginning of an object within the limit, and not all of it
 pub record HasPartOfObject (bytes : List ℕ) : Type 0 where
   pub object : Held
   pub more : List ℕ
@@ -72,6 +75,6 @@ pub record HasPartOfObject (bytes : List ℕ) : Type 0 where
   pub some : 0 < length more
   pub cut : bytes ++ more ≡ written object
 
--- less than an object within the limit, which the bytes may become; or less than a header
+-- the beginning of a header or of an object within the limit, and not all of it
 abbrev pub IsPartial : List ℕ → Type 0
 IsPartial bytes = HasPartOfHeader bytes ⊎ HasPartOfObject bytes

@@ -1,4 +1,5 @@
--- What is held after objects are put one after another, each by the put call of its kind, and under the id that its header tells.
+-- What is held after objects are put one after another, each by the put call of its kind, and under
+-- the id that its header says.
 use Rattle.std.specs.Prelude.{◌≡◌, ◌≢◌, ℕ, List, [], ◌∷◌, Ok, Err}
 use Rattle.eden_ids.specs.declared.id.Id.{Id}
 use Rattle.eden_objects.specs.Objects.{Held}

@@ -1,4 +1,4 @@
-//! The reading of a whole batch.
+//! Reads a whole batch of objects.
 ghost use Rattle.std.specs.Prelude.{◌≡◌, ◌≢◌, ℕ, ◌+◌, ◌≤◌, [], IsErrOf};
 ghost use Rattle.eden_stream.specs.Counts.{Rose, RoseBy};
 ghost use Rattle.eden_batch.specs.Ends.{Ends};
@@ -6,14 +6,15 @@ ghost use Rattle.eden_batch.specs.internal.Loads.{IsReadAs, with_ids};
 
 use crate::fault::{ObjectFault, ObjectsFault};
 use crate::framing::Printed;
-use crate::nowhere::Nowhere;
 use crate::putting::{Filling, Putting};
 use eden_ids::{Id, Sequence};
 use eden_objects::Importer;
-use eden_stream::{CountedRead, Stop, pump_items};
+use eden_stream::{CountedRead, Nowhere, Stop, pump_items};
 use std::alloc::Global;
 
-/// How a reading ended, by the pump, where the object behind those whose ids are noted has this number. The pump's writer never fails.
+/// Returns how a reading ended, given how the pump ended.
+///
+/// `number` is that of the object after those whose ids are noted. The pump's writer never fails.
 fn read_outcome(number: u64, outcome: Result<u64, Stop<ObjectFault>>) -> Result<(), ObjectsFault>
     requires { outcome ≢ Err Stop.Write }
     ensures { IsReadAs number outcome result }
@@ -28,7 +29,7 @@ fn read_outcome(number: u64, outcome: Result<u64, Stop<ObjectFault>>) -> Result<
     }
 }
 
-/// Puts the objects of a stream, and notes their ids.
+/// Puts the objects of a stream and notes their ids.
 fn fill<R: CountedRead, I: Importer>(
     alloc: Global,
     reader: &mut R,
@@ -55,41 +56,49 @@ fn fill<R: CountedRead, I: Importer>(
     read_outcome(filling.ids.len() as u64 + 1, outcome)
 }
 
-/// Reads objects to the end of a stream, as `git cat-file --batch` prints them, and puts them into a store, or another `Importer`, as a mount
-/// is. Gives their ids, in order.
+/// Reads objects to the end of a stream and puts them into a store.
 ///
-/// An object is a header, its bytes and a line feed. A header is an id in 40 lower-case hexadecimal digits, a space, `blob`, `tree` or
-/// `commit`, a space, the number of the bytes in decimal, with no sign and no zero in front, and a line feed: 69 bytes at the most. Each
-/// object is put by the call for its kind, `put_blob`, `put_tree` or `put_commit`, and must have the id of its header. So what an object
-/// names stands before it in the stream.
+/// The stream is what `git cat-file --batch` prints. The objects may also be put into another
+/// `Importer`, such as a mount. Returns their ids, in order.
 ///
-/// A read asks for 64 KiB. Beside the objects, memory is taken for one object, one read and the ids.
+/// An object is a header, its bytes and a line feed. A header is an id in 40 lower-case hexadecimal
+/// digits, a space, `blob`, `tree` or `commit`, a space, the number of bytes in decimal, and a line
+/// feed. The number has no sign and no leading zero, so a header has at most 69 bytes. Each object
+/// is put by the call for its kind, `put_blob`, `put_tree` or `put_commit`, and must have the id of
+/// its header. So what an object names comes before it in the stream.
+///
+/// A read asks for 64 KiB. Apart from the objects, memory is taken for one object, one read and the
+/// ids.
 ///
 /// # Errors
 ///
-/// The first fault ends the reading, and what was put before it stays put. Each comes with the number of the object that it ends at,
-/// which is 1 and the number of the objects before it. Of an object that has several faults, the first in this order is told:
+/// The first fault ends the reading, and what was put before it stays put. Each fault has the
+/// number of the object at which the reading ended, counted from 1. If an object has several
+/// faults, the first in this order is reported:
 ///
-/// - `BadHeader`: whatever bytes follow, they are no header. This is told as soon as it is so, at the latest after 69 bytes. A number of
-///   2^64 or more is no header's. It is also told where another byte than a line feed stands behind an object's bytes.
-/// - `TooLarge`: the header tells more than 8,388,608 bytes. This is told before they are read.
-/// - `CutShort`: the stream ends within a header or an object, or before the line feed behind it.
-/// - `Refused`: the put call refuses the object, for this cause, which is never `NoMemory`.
-/// - `OtherId`: the object has another id than its header tells. It is put, under its own id.
+/// - `BadHeader`: the bytes are not the beginning of any header. This is reported as soon as it is
+///   certain, after 69 bytes at the latest. A header's number is below 2^64. Also, the byte after
+///   an object is not a line feed.
+/// - `TooLarge`: the header's number is above 8,388,608. This is reported before the bytes are
+///   read.
+/// - `CutShort`: the stream ends within a header or an object, or before its line feed.
+/// - `Refused`: the put call refuses the object, for this cause. It is never `NoMemory`.
+/// - `OtherId`: the object has another id than its header says. It is put, under its own id.
 ///
 /// These come as `Object`. The others are:
 ///
-/// - `Read`: a read gave an error other than `Interrupted`, which only means that nothing came. All whole objects that were read are put.
-/// - `TurnsSpent`: 1,000,000 reads did not come to the end. All whole objects that were read are put.
-/// - `NoMemory`: a growth was refused. All objects before the one of that number are put, and at the most one more. It may stand in place
-///   of any other answer.
+/// - `Read`: a read returned an error other than `Interrupted`, which only means that nothing came.
+///   All whole objects that were read are put.
+/// - `TurnsSpent`: 1,000,000 reads did not reach the end. All whole objects that were read are put.
+/// - `NoMemory`: an allocation failed. All objects before the one of that number are put. That one
+///   may be put too, and no other. This may be returned instead of any other result.
 pub fn read_objects<R: CountedRead, I: Importer>(
     alloc: Global,
     reader: &mut R,
     into: &mut I,
 ) -> Result<Sequence<Id>, ObjectsFault>
     ensures ends { Ends I.name (R.remaining reader.old) (R.remaining reader.new) (I.held into.old) (I.held into.new) result }
-    // Nothing but the objects is changed.
+    // Only the objects are changed.
     ensures only { into.new ≡ I.over into.old (I.held into.new) }
     ensures read { (number : ℕ) → IsErrOf result (ObjectsFault.Read number) → Rose (R.failed reader.old) (R.failed reader.new) }
     ensures turns_spent { (number : ℕ) → IsErrOf result (ObjectsFault.TurnsSpent number)

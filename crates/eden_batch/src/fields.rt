@@ -1,4 +1,4 @@
-//! The fields of a header, which are read from the bytes that have come so far.
+//! Reads the fields of a header from the bytes that have come so far.
 ghost use Rattle.std.specs.Prelude.{◌≡◌, ◌-◌, ◌≤◌, ◌++◌, length, replicate, slice_index};
 ghost use Rattle.eden_git.specs.declared.word.Word.{Word};
 ghost use Rattle.eden_git.specs.Words.{word_text};
@@ -6,27 +6,26 @@ ghost use Rattle.eden_ids.specs.Texts.{IsIdText};
 ghost use Rattle.eden_batch.specs.internal.Fields.{IsAnyWord, IsSize, Reads, id_field, size_field, word_field};
 
 use bstr::ByteSlice;
-use eden_git::Word;
+use eden_git::{Word, number};
 use eden_ids::{Id, hex_law, hex_text_law, id_law};
-use eden_numbers::number;
 
-/// How many bytes an id's text has.
+/// The number of bytes of an id's text.
 const ID_BYTES: usize = 40;
 
-/// The most bytes of a size and its line feed.
+/// The most bytes that a size and its line feed have.
 const SIZE_BYTES: usize = 21;
 
-/// Why bytes don't begin with a field.
+/// Why bytes do not begin with a field.
 #[derive(Clone, Copy)]
 pub(crate) enum Lack {
-    /// They are a part of the field, and not all.
+    /// They are the beginning of a field, and not all of it.
     Partial,
 
-    /// Whatever follows them, they can't become it.
+    /// They are not the beginning of any field.
     Bad,
 }
 
-/// The digits, and zeros behind them, as many as an id's text has.
+/// Returns the digits with zeros after them, as many as an id's text has.
 fn padded(digits: &[u8]) -> [u8; ID_BYTES]
     requires { length digits.now ≤ 40 }
     ensures { result ≡ digits.now ++ replicate (40 - length digits.now) 48 }
@@ -36,13 +35,13 @@ fn padded(digits: &[u8]) -> [u8; ID_BYTES]
     text
 }
 
-/// Reads an id and the space behind it, and gives what stands behind that.
+/// Reads an id and the space after it, and returns the bytes after that.
 pub(crate) fn read_id(bytes: &[u8]) -> Result<(Id, &[u8]), Lack>
     ensures { Reads IsIdText id_field bytes.now result }
 {
     hex_law();
     hex_text_law();
-    // Of digits that are not there yet any will do.
+    // Any digits will do for those that have not come yet.
     let front = &bytes[..bytes.len().min(ID_BYTES)];
     let Ok(id) = Id::from_hex(&padded(front)) else {
         return Err(Lack::Bad);
@@ -58,7 +57,7 @@ pub(crate) fn read_id(bytes: &[u8]) -> Result<(Id, &[u8]), Lack>
     }
 }
 
-/// The word for a kind of object, and a space.
+/// Returns the word for a kind of object, and a space.
 fn word_field(word: Word) -> &'static [u8]
     ensures { result.now ≡ word_field word }
 {
@@ -69,7 +68,7 @@ fn word_field(word: Word) -> &'static [u8]
     }
 }
 
-/// The only word that may begin with a byte.
+/// Returns the only word that can begin with a byte.
 fn word_of(first: u8) -> Option<Word>
     ensures { (word : Word) → slice_index (word_text word) 0 ≡ first → result ≡ Some word }
 {
@@ -81,7 +80,7 @@ fn word_of(first: u8) -> Option<Word>
     }
 }
 
-/// Reads the word for a kind of object and the space behind it, and gives what stands behind that.
+/// Reads the word for a kind of object and a space, and returns the bytes after them.
 pub(crate) fn read_word(bytes: &[u8]) -> Result<(Word, &[u8]), Lack>
     ensures { Reads IsAnyWord word_field bytes.now result }
 {
@@ -102,7 +101,9 @@ pub(crate) fn read_word(bytes: &[u8]) -> Result<(Word, &[u8]), Lack>
     }
 }
 
-/// Reads a size in decimal and the line feed behind it, and gives what stands behind that. It looks at 21 bytes at the most.
+/// Reads a size in decimal and a line feed, and returns the bytes after them.
+///
+/// It looks at 21 bytes at most.
 pub(crate) fn read_size(bytes: &[u8]) -> Result<(u64, &[u8]), Lack>
     ensures { Reads IsSize size_field bytes.now result }
 {

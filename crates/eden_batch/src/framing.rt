@@ -1,4 +1,4 @@
-//! A stream cut into objects.
+//! Cuts a stream into objects.
 ghost use Rattle.std.specs.Prelude.{◌≡◌, ◌+◌};
 ghost use Rattle.eden_batch.specs.internal.Fronts.{Begins};
 ghost use Rattle.eden_batch.specs.internal.Grammar.{object_grammar};
@@ -7,25 +7,27 @@ ghost use Rattle.eden_batch.specs.internal.Laws.{object_laws};
 use crate::fault::ObjectFault;
 use crate::fields::Lack;
 use crate::header::read_header;
-use eden_stream::{Framing, Held, Next};
+use eden_stream::{Buffer, Framing, Next};
 
-/// The most bytes of an object: 8 MiB.
+/// The most bytes that an object has: 8 MiB.
 const OBJECT_LIMIT: u64 = 8_388_608;
 
-/// What some bytes begin with.
+/// What bytes begin with.
 #[derive(Clone, Copy)]
 enum Front {
-    /// An object, which has so many bytes with its header and its line feed.
+    /// An object that has this number of bytes, with its header and its line feed.
     Whole(usize),
 
-    /// No bytes, or a part of an object.
+    /// The beginning of an object, and not all of it, or no bytes.
     Partial,
 
-    /// What can't become an object.
+    /// Bytes that are not the beginning of any object.
     Faulty(ObjectFault),
 }
 
-/// What the bytes begin with. It looks at the header, and at the byte behind the object alone.
+/// Returns what bytes begin with.
+///
+/// It looks only at the header and at the byte after the object.
 fn measure_front(bytes: &[u8]) -> Front
     ensures { Begins bytes.now result }
 {
@@ -45,13 +47,13 @@ fn measure_front(bytes: &[u8]) -> Front
     }
 }
 
-/// A stream cut into objects, as `git cat-file --batch` prints them.
+/// The format of objects that `git cat-file --batch` prints.
 pub(crate) struct Printed;
 
 impl Framing<ObjectFault> for Printed {
     ghost grammar = { object_grammar };
 
-    fn next(held: &mut Held, ended: bool) -> Next<ObjectFault> {
+    fn next(held: &mut Buffer, ended: bool) -> Next<ObjectFault> {
         match measure_front(held.as_slice()) {
             Front::Whole(whole) => Next::Item {
                 place: 0,

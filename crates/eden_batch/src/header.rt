@@ -1,4 +1,4 @@
-//! The header of an object, and how much of the object stands behind it.
+//! Reads the header of an object.
 ghost use Rattle.std.specs.Prelude.{◌≡◌};
 ghost use Rattle.eden_batch.specs.internal.Fields.{IsHeader, Reads, header_field};
 
@@ -6,7 +6,7 @@ use crate::fields::{Lack, read_id, read_size, read_word};
 use eden_git::Word;
 use eden_ids::Id;
 
-/// What a header tells of its object.
+/// What a header says of its object.
 #[derive(Clone, Copy)]
 pub(crate) struct Header {
     pub(crate) id: Id,
@@ -14,7 +14,9 @@ pub(crate) struct Header {
     pub(crate) size: u64,
 }
 
-/// Reads a header, and gives what stands behind it. It looks at no byte further back than the longest header has: 69.
+/// Reads a header, and returns the bytes after it.
+///
+/// It looks at 69 bytes at most, which is the longest header's length.
 pub(crate) fn read_header(bytes: &[u8]) -> Result<(Header, &[u8]), Lack>
     ensures { Reads IsHeader header_field bytes.now result }
 {

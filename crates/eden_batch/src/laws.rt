@@ -1,7 +1,9 @@
-//! What holds of the format, as the contract of a function with no work to do.
+//! A property of the format, as the contract of a function that does nothing.
 ghost use Rattle.eden_batch.specs.BatchLaws.{IsPrefixFree};
 
-/// That no object's text is a front of another's. So a stream is read as objects in one way.
+/// Says that no object's text is the beginning of another's.
+///
+/// So there is one way to read a stream as objects.
 #[tactic(auto, using(crate::proofs::Headers::prefix_free))]
 pub fn objects_law()
     ensures { IsPrefixFree }

@@ -1,6 +1,7 @@
-//! Objects as `git cat-file --batch` prints them, read into a store, or into a mount: so whole repositories come in.
+//! Reads the objects that `git cat-file --batch` prints into a store or a mount.
 //!
-//! The definitions stand in `specs/`: the bytes of objects, what is held after they are put, and how a reading ends.
+//! A whole repository can be read in this way. The definitions are in `specs/`: the bytes of
+//! objects, what is held after they are put, and how a reading ends.
 //!
 //! ```rust
 //! use eden_batch::read_objects;
@@ -26,5 +27,4 @@ mod fields;
 mod framing;
 mod header;
 mod laws;
-mod nowhere;
 mod putting;

@@ -1,4 +1,4 @@
-//! The putting of objects into what takes them.
+//! Puts the objects of a stream into an importer.
 ghost use Rattle.std.specs.Prelude.{◌≡◌};
 ghost use Rattle.eden_batch.specs.internal.Loads.{put_laws, put_story, refusal_of};
 
@@ -7,26 +7,26 @@ use crate::framing::Printed;
 use crate::header::read_header;
 use eden_ids::Id;
 use eden_objects::{Importer, PutFault};
-use eden_stream::{Answer, Teller};
+use eden_stream::{Step, Teller};
 
-/// What is being filled, and the ids of the objects that were put so far.
+/// What is filled, and the ids of the objects that were put so far.
 #[derive(Drop)]
 pub(crate) struct Filling<'a, I> {
     pub(crate) into: &'a mut I,
     pub(crate) ids: &'a mut Vec<Id>,
 }
 
-/// What is answered where a put call refuses an object for a cause.
-fn refusal(cause: PutFault) -> Answer<ObjectFault>
+/// Returns the answer to a put call that refused an object for this cause.
+fn refusal(cause: PutFault) -> Step<ObjectFault>
     ensures { result ≡ refusal_of cause }
 {
     match cause {
-        PutFault::NoMemory => Answer::NoMemory,
-        _ => Answer::Fault(ObjectFault::Refused(cause)),
+        PutFault::NoMemory => Step::NoMemory,
+        _ => Step::Fault(ObjectFault::Refused(cause)),
     }
 }
 
-/// Has objects put.
+/// Puts objects.
 pub(crate) struct Putting;
 
 impl<'a, I: Importer> Teller<Printed, Filling<'a, I>, ObjectFault> for Putting {
@@ -37,17 +37,17 @@ impl<'a, I: Importer> Teller<Printed, Filling<'a, I>, ObjectFault> for Putting {
         filling: &mut Filling<'a, I>,
         item: &[u8],
         _text: &mut Vec<u8>,
-    ) -> Answer<ObjectFault> {
+    ) -> Step<ObjectFault> {
         let Ok((header, behind)) = read_header(item) else {
             // An item is a whole object.
             unreachable!();
         };
         let payload = &behind[..header.size as usize];
         match filling.into.put_object(header.word, payload) {
-            Ok(id) if id != header.id => Answer::Fault(ObjectFault::OtherId),
+            Ok(id) if id != header.id => Step::Fault(ObjectFault::OtherId),
             Ok(id) => match filling.ids.push(id) {
-                Ok(()) => Answer::Told,
-                Err(_) => Answer::NoMemory,
+                Ok(()) => Step::Told,
+                Err(_) => Step::NoMemory,
             },
             Err(cause) => refusal(cause),
         }

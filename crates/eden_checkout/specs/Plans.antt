@@ -5,6 +5,6 @@ use Rattle.eden_objects.specs.Objects.{Held}
 use Rattle.eden_objects.specs.Files.{commit_files}
 use Rattle.eden_workcopy.specs.declared.work.WorkCopy.{WorkCopy}
 
--- what the commit below a working copy holds
+-- the files of the commit below a working copy
 abbrev pub root_files : List Held → WorkCopy → FileMap
 root_files held work = commit_files held work.root

@@ -1,4 +1,4 @@
-//! What a checkout puts at each path.
+//! The files that a checkout puts at each path.
 
 ghost use Rattle.std.specs.Prelude.{◌≡◌, ◌≢◌, ℕ, List, if◌then◌else◌, IfOk, OnOk};
 ghost use Rattle.std.specs.List.{list_any};
@@ -11,7 +11,7 @@ use eden_ids::{Content, FileTree, Kind, Naming, NoMemory, Path, is_same_file};
 use eden_objects::Store;
 use eden_workcopy::WorkCopy;
 
-/// Sees to it that this file stands at a path, or none.
+/// Puts a file at a path, or removes the one there.
 #[tactic(auto, using(crate::proofs::Settling::put_same))]
 fn put<N: Naming + Drop>(
     store: &Store<N>,
@@ -31,7 +31,7 @@ fn put<N: Naming + Drop>(
     next.set(key, copy)
 }
 
-/// Puts at each of some paths what is to stand there after the checkout.
+/// Puts at some paths the files that a checkout leaves there.
 fn apply_rule<N: Naming + Drop, W: FileTree, R: FileTree, T: FileTree, D: FileTree>(
     store: &Store<N>,
     next: &mut WorkCopy,
@@ -52,8 +52,10 @@ fn apply_rule<N: Naming + Drop, W: FileTree, R: FileTree, T: FileTree, D: FileTr
     Ok(())
 }
 
-/// The working copy after a normal or a forced checkout, made of one that holds the target's files. The dirty paths and the conflicts are
-/// the only ones that become anything else than the target's.
+/// Returns the working copy after a normal or a forced checkout.
+///
+/// It begins with a working copy that holds the target's files. Only the dirty paths and
+/// the conflicts can get something else than the target's files.
 pub(crate) fn checked_out<N: Naming + Drop, W: FileTree, R: FileTree, T: FileTree, D: FileTree>(
     store: &Store<N>,
     start: WorkCopy,

@@ -18,18 +18,21 @@ use eden_treediff::diff;
 use eden_workcopy::WorkCopy;
 use std::alloc::Global;
 
-/// What a checkout would make of a working copy, and which paths it concerns.
+/// The result of a checkout, and the paths that it concerns.
 #[derive(Drop)]
 pub struct Planned {
     /// The working copy after the checkout.
     pub next: WorkCopy,
-    /// The paths that differed from the old commit before the checkout, and those that differ from the new one after it, in byte order.
+    /// The unclean paths, in byte order.
+    ///
+    /// They differed from the old commit before the checkout or differ from the new one
+    /// after it.
     pub unclean: Sequence<Path>,
-    /// The paths at which the working copy is in the way of the checkout, in byte order.
+    /// The conflicts of the checkout, in byte order.
     pub conflicts: Sequence<Path>,
 }
 
-/// The paths on which two commits differ, in byte order.
+/// Returns the paths at which two commits differ, in byte order.
 fn paths_between<N: Naming + Drop>(
     alloc: Global,
     store: &Store<N>,
@@ -48,8 +51,10 @@ fn paths_between<N: Naming + Drop>(
     }
 }
 
-/// What the working copy after a checkout is made of: one that holds the commit's files, or, where the checkout is only tried, the one
-/// that it began with.
+/// Returns the working copy with which a checkout begins.
+///
+/// It holds the commit's files or, if the checkout is only tried, is equal to the given
+/// one.
 #[tactic(auto, using(crate::proofs::Planning::root_moved))]
 fn start_of<N: Naming + Drop>(
     alloc: Global,
@@ -83,8 +88,10 @@ struct Judged {
     conflicts: Vec<Path>,
 }
 
-/// What becomes of each path, where a working copy is given to begin with. Each path on which the commits differ is searched for among the
-/// dirty ones, and only one of these, or one that clashes with one of them, is looked up in the trees.
+/// Decides what happens to each path of a working copy.
+///
+/// Each path at which the commits differ is searched for among the dirty ones. The trees
+/// are asked only for a path that is dirty or clashes with a dirty one.
 #[tactic(auto, using(crate::proofs::Planning::conflicts_listed))]
 fn judge<N: Naming + Drop, W: FileTree, R: FileTree, T: FileTree, D: FileTree>(
     store: &Store<N>,
@@ -120,7 +127,9 @@ fn judge<N: Naming + Drop, W: FileTree, R: FileTree, T: FileTree, D: FileTree>(
     }
 }
 
-/// The unclean paths, in byte order, where this is the working copy after the checkout.
+/// Returns the unclean paths, in byte order.
+///
+/// `next` is the working copy after the checkout.
 fn unclean_paths<N: Naming + Drop>(
     alloc: Global,
     store: &Store<N>,
@@ -144,17 +153,28 @@ fn unclean_paths<N: Naming + Drop>(
     }
 }
 
-/// What a checkout of a commit would make of a working copy.
+/// Returns what a checkout would do to a working copy.
 ///
-/// A path is clean where the working copy holds what its root's commit does, and else dirty. The conflicts, in every mode, are the dirty
-/// paths at which the commit has another file than the root and another than the working copy, and the clean paths of the commit that
-/// clash with a dirty path at which a file stands. In `Normal` a dirty path stays, and a clean one becomes the commit's, but a conflict is
-/// left absent. In `Force` a path of the root or of the commit becomes the commit's, and any other stays unless it clashes with a path of
-/// the commit. In `Dry` the next working copy is equal to this one, and no path is unclean.
+/// A path is clean if the working copy holds what its root's commit does, and else dirty.
+/// In every mode there are two kinds of conflict:
 ///
-/// Condition: the store has the working copy's root, and there root and changes make a file map. `NoCommit` comes where the id is no
-/// commit's; `NoMemory` may stand in place of any answer where a growth was refused. The time grows with the paths that were changed and
-/// those on which the two commits differ, not with the commits.
+/// - a dirty path at which the commit's file differs from both the root's and the working
+///   copy's;
+/// - a clean path of the commit that clashes with a dirty path that has a file.
+///
+/// In `Normal` a dirty path stays, a conflicting clean path has no file, and any other
+/// clean path gets the commit's file. In `Force` a path of the root or of the commit gets
+/// the commit's file. Any other stays unless it clashes with a path of the commit. In
+/// `Dry` the next working copy is equal to this one, and no path is unclean.
+///
+/// The store must have the working copy's root, and there root and changes must make a
+/// file map. The time grows with the paths that were changed and those at which the two
+/// commits differ, not with the size of the commits.
+///
+/// # Errors
+///
+/// - `NoCommit` if the id is not that of a commit.
+/// - `NoMemory` if an allocation fails; it may be returned instead of any other answer.
 #[tactic(auto, using(eden_history::proofs::DirtyFiles::dirty_listed, crate::proofs::Planning::root_moved))]
 pub fn plan<N: Naming + Drop>(
     alloc: Global,

@@ -1,4 +1,12 @@
-//! What a checkout of a commit would make of a working copy.
+//! The plan of a checkout: what it would do to a working copy.
+//!
+//! `plan` takes a store, a working copy and a commit, and returns the working copy after
+//! the checkout, the unclean paths and the conflicts. It changes nothing itself; a mount
+//! adopts the plan and records it in its journal. The modes are those of EdenFS's
+//! `CheckoutMode`: `Normal` keeps changed files, `Force` replaces them, and `Dry` reports
+//! the conflicts alone.
+//!
+//! The rules for single paths are in eden_history (`Sides`, `specs/Checkouts.antt`).
 //!
 //! ```rust
 //! use eden_checkout::plan;

@@ -1,44 +1,37 @@
 -- Requests that went out and replies that came in, one more after some.
-use Rattle.std.proofs.Common.{◌≡◌, ℕ, ◌+◌, ◌<◌, inl, inr, Bool, false, ◌||◌, List, [], ◌∷◌, ◌++◌, length, map, drop, Option, refl, sym, ap, ◌∙◌, subst, append_assoc, append-nil, arith, length-append}
-use Rattle.std.proofs.KnownBytes.{Appends-nil, Appends-trans, Consumes-nil, Consumes-trans}
+use Rattle.std.proofs.Common.{◌≡◌, ℕ, ◌+◌, ◌<◌, inl, inr, Bool, false, true, ◌||◌, List, [], ◌∷◌, ◌++◌, length, map, drop, Option, refl, sym, ap, ◌∙◌, subst, append_assoc, append-nil, arith, length-append}
+use Rattle.std.proofs.KnownBytes.{Appends-nil, Appends-trans, Consumes-trans}
 use Rattle.std.proofs.lemmas.Grind.{flat_map-append}
 use Rattle.std.proofs.lemmas.List.{length-map, map-append}
 use Rattle.std.specs.Int.{w32, to_be_bytes}
 use Rattle.std.specs.List.{flat_map}
 use Rattle.std.specs.Io.KnownBytes.{Appends, Consumes}
-use Rattle.eden_frames.specs.Frames.{frame}
+use Rattle.eden_stream.specs.Frames.{frame}
 use Rattle.eden_messages.specs.declared.message.Request.{Request}
 use Rattle.eden_messages.specs.declared.message.Reply.{Reply}
-use Rattle.eden_messages.specs.Mirrors.{MirrorState, delivered, outstanding_of}
-use Rattle.eden_messages.specs.Spells.{SpellsReply, request_bytes}
-use Rattle.eden_connect.specs.internal.Exchanges.{Exchanges, Gathers, IsGivenUp, Receives, Sends, SpellAll, Takes, frame_size, request_frame}
-use Rattle.eden_connect.specs.internal.Replies.{any_counts, counts}
-use Rattle.eden_connect.proofs.Following.{after-append, any_counts-snoc}
+use Rattle.eden_messages.specs.Mirrors.{MirrorState, delivered, is_idle, outstanding_of}
+use Rattle.eden_messages.specs.Spells.{request_bytes}
+use Rattle.eden_mirror.specs.Counting.{after}
+use Rattle.eden_connect.specs.Connections.{Receives}
+use Rattle.eden_connect.specs.Rounds.{any_counts, counts}
+use Rattle.eden_connect.specs.internal.Exchanges.{AsksInVain, Exchanges, Gathers, Sends, Takes, frame_size, request_frame}
+use Rattle.eden_connect.specs.internal.Talks.{Hears, HearsAll, HearsSome, ReceivesAll}
+use Rattle.eden_connect.proofs.Following.{after-append, any_counts-snoc, receives_append}
 
-spell_more : (bodies : List (List ℕ)) (replies : List Reply) (body : List ℕ) (reply : Reply)
-    → SpellAll bodies replies → SpellsReply body reply → SpellAll (bodies ++ body ∷ []) (replies ++ reply ∷ [])
-spell_more [] [] body reply all one = (one, tt)
-spell_more [] (r ∷ rs) body reply all one = absurd all
-spell_more (b ∷ bs) [] body reply all one = absurd all
-spell_more (b ∷ bs) (r ∷ rs) body reply all one = (all.0, spell_more bs rs body reply all.1 one)
-
-one_framed : (body : List ℕ) → flat_map frame (body ∷ []) ≡ frame body
-one_framed body = append-nil (frame body)
-
-framed_more : (bodies : List (List ℕ)) (body : List ℕ) → flat_map frame bodies ++ frame body ≡ flat_map frame (bodies ++ body ∷ [])
-framed_more bodies body = sym (flat_map-append frame bodies (body ∷ []) ∙ ap (λ l. flat_map frame bodies ++ l) (one_framed body))
+receives_snoc : (a b c : Option (List ℕ)) (replies : List Reply) (reply : Reply)
+    → ReceivesAll a b replies → Receives b c reply → ReceivesAll a c (replies ++ reply ∷ [])
+receives_snoc a b c [] reply none next = (c, subst (λ x. Receives x c reply) none next, refl)
+receives_snoc a b c (first ∷ replies) reply past next = (past.0, past.1, receives_snoc past.0 b c replies reply past.2 next)
 
 pub takes_none : (got : Option (List ℕ)) (m : MirrorState) → Takes got got m m [] false
-takes_none got m = record { bodies = []; spelled = tt; came = Consumes-nil got; taken = refl; told = refl }
+takes_none got m = record { came = refl; taken = refl; told = refl }
 
 -- one more reply comes, and the mirror takes it
 pub takes_more : (got1 got2 got3 : Option (List ℕ)) (m1 m2 m3 : MirrorState) (replies : List Reply) (reply : Reply) (before counted : Bool)
     → Takes got1 got2 m1 m2 replies before → Receives got2 got3 reply → m3 ≡ (delivered m2 reply).0 → counted ≡ counts (delivered m2 reply).1
     → Takes got1 got3 m1 m3 (replies ++ reply ∷ []) (before || counted)
 takes_more got1 got2 got3 m1 m2 m3 replies reply before counted past next e told = record {
-  bodies = past.bodies ++ next.0 ∷ [];
-  spelled = spell_more past.bodies replies next.0 reply past.spelled next.1;
-  came = subst (Consumes got1 got3) (framed_more past.bodies next.0) (Consumes-trans got1 got2 got3 _ _ past.came next.2);
+  came = receives_snoc got1 got2 got3 replies reply past.came next;
   taken = e ∙ ap (λ s. (delivered s reply).0) past.taken ∙ sym (after-append m1 replies (reply ∷ []));
   told = ap (λ b. b || counted) past.told ∙ ap (λ b. any_counts m1 replies || b) (told ∙ ap (λ s. counts (delivered s reply).1) past.taken)
       ∙ sym (any_counts-snoc m1 replies reply);
@@ -190,6 +183,12 @@ exchanging_all w i requests unsent sent sent' got got' m m' counted past end = r
     by [] none = sym (past.parted ∙ ap (λ l. past.first ++ l) none ∙ append-nil past.first)
     by (request ∷ l) e = absurd (omega (arith, all, end, past.unanswered, ap (λ l. length l) e))
 
+-- what has come so far
+pub exchanging_heard : (w : List ℕ) (i : ℕ) (requests unsent : List Request) (sent sent' got got' : Option (List ℕ)) (m m' : MirrorState) (counted : Bool)
+    → IsExchanging w i requests unsent sent sent' got got' m m' counted → HearsSome got m m'
+exchanging_heard w i requests unsent sent sent' got got' m m' counted past =
+    (got', record { replies = past.replies; came = past.came.came; taken = past.came.taken })
+
 -- where nothing of a window is free nothing is sent
 pub sends_none : (w : List ℕ) (requests : List Request) (sent : Option (List ℕ)) → ¬ (w ≡ []) → Sends w w requests requests sent sent
 sends_none w requests sent full = record {
@@ -201,10 +200,35 @@ sends_none w requests sent full = record {
 -- ---- the end of a round
 
 pub given_up : (requests : List Request) (sent sent' got got' : Option (List ℕ)) (before m' : MirrorState) (counted : Bool)
-    → Exchanges requests sent sent' got got' before m' counted → requests ≡ outstanding_of before → counted ≡ false → IsGivenUp sent' got' m'
+    → Exchanges requests sent sent' got got' before m' counted → requests ≡ outstanding_of before → counted ≡ false → AsksInVain sent' got' m'
 given_up requests sent sent' got got' before m' counted last all none = record {
   sent = sent;
   got = got;
   before = before;
   last = subst (λ l. Exchanges l sent sent' got got' before m' false) all (subst (λ b. Exchanges requests sent sent' got got' before m' b) none last);
 }
+
+pub exchanges_heard : (requests : List Request) (sent sent' got got' : Option (List ℕ)) (m m' : MirrorState) (counted : Bool)
+    → Exchanges requests sent sent' got got' m m' counted → Hears got got' m m'
+exchanges_heard requests sent sent' got got' m m' counted all = record { replies = all.replies; came = all.came.came; taken = all.came.taken }
+
+-- no reply counted of those that came for all that was outstanding
+pub ended_vain : (a b c : Option (List ℕ)) (m n o : MirrorState) (requests : List Request) (sent sent' : Option (List ℕ)) (counted : Bool)
+    → Hears a b m n → Exchanges requests sent sent' b c n o counted → requests ≡ outstanding_of n → counted ≡ false → HearsAll a c m o
+ended_vain a b c m n o requests sent sent' counted past last all none = record {
+  heard = record {
+    replies = past.replies ++ last.replies;
+    came = receives_append a b c past.replies last.replies past.came last.came.came;
+    taken = last.came.taken ∙ ap (λ s. after s last.replies) past.taken ∙ sym (after-append m past.replies last.replies);
+  };
+  ended = inr (record {
+    past = past.replies;
+    last = last.replies;
+    parted = refl;
+    each = last.each ∙ ap (λ l. length l) all ∙ ap (λ s. length (outstanding_of s)) past.taken;
+    none = ap (λ s. any_counts s last.replies) (sym past.taken) ∙ sym last.came.told ∙ none;
+  });
+}
+
+pub ended_idle : (a c : Option (List ℕ)) (m o : MirrorState) → Hears a c m o → is_idle o.round ≡ true → HearsAll a c m o
+ended_idle a c m o past idle = record { heard = past; ended = inl (subst (λ s. is_idle s.round ≡ true) past.taken idle) }

@@ -1,2 +1,3 @@
 pub mod Exchanging
 pub mod Following
+pub mod Leading

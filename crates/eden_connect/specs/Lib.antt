@@ -1,3 +1,4 @@
+pub mod Connections
 pub mod Reports
 pub mod Rounds
 pub mod internal

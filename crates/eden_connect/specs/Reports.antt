@@ -1,6 +1,7 @@
--- What is told of a mirror in the end. Bytes: 10 is LF, 32 a space.
-use Rattle.std.specs.Prelude.{ℕ, List, [], ◌∷◌, ◌++◌, length, codes, Option, Some, None}
+-- What is printed of a mirror in the end. Bytes: 10 is LF, 32 a space.
+use Rattle.std.specs.Prelude.{ℕ, List, [], ◌∷◌, ◌++◌, length, take, codes, Option, Some, None}
 use Rattle.std.specs.Fmt.{decimal}
+use Rattle.std.specs.Io.KnownBytes.{Appends}
 use Rattle.std.specs.List.{flat_map}
 use Rattle.hex.specs.Hex.{encode_lower}
 use Rattle.eden_ids.specs.declared.content.Content.{Content}
@@ -32,3 +33,7 @@ files_text files =
 
 abbrev pub report_text : MirrorState → List ℕ
 report_text m = place_text m.place ++ files_text m.files
+
+-- the first bytes of a text were written
+abbrev pub AppendsFront : Option (List ℕ) → Option (List ℕ) → List ℕ → Type 0
+AppendsFront old new text = (count : ℕ) × Appends old new (take count text)

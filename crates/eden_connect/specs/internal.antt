@@ -1,3 +1,3 @@
 -- What only the code of the client speaks of.
 pub mod Exchanges
-pub mod Replies
+pub mod Talks

@@ -2,7 +2,7 @@
 
 ghost use Rattle.std.specs.Prelude.{◌≡◌, true, IfOk, OnErr};
 ghost use Rattle.eden_messages.specs.Mirrors.{begun, delivered, has_number};
-ghost use Rattle.eden_connect.specs.internal.Replies.{counts};
+ghost use Rattle.eden_connect.specs.Rounds.{counts};
 
 use crate::progress::Progress;
 use eden_ids::NoMemory;
@@ -29,14 +29,14 @@ impl Model for Collector {
 }
 
 impl Collector {
-    /// A mirror for which nothing has come yet.
+    /// Returns a mirror for which nothing has come yet.
     pub(crate) fn new(mirror: Mirror) -> Collector
         ensures { result ≡ mirror }
     {
         Collector { mirror, came: 0 }
     }
 
-    /// The mirror.
+    /// Returns the mirror.
     pub(crate) fn mirror(&self) -> &Mirror
         ensures { result.now ≡ self.now }
     {
@@ -62,7 +62,8 @@ impl Collector {
         };
     }
 
-    /// How many contents the lists of the round have named so far, where these requests are those that are outstanding.
+    /// Returns how many contents the lists of the round have named so far, if these are the
+    /// outstanding requests.
     pub(crate) fn named(&self, requests: &[Request]) -> u64 {
         let fetches = requests
             .iter()
@@ -71,7 +72,9 @@ impl Collector {
         self.came.saturating_add(fetches as u64)
     }
 
-    /// Delivers a reply, and tells whether it counted. Of a content that counted `progress` is told, and of how many contents it is one.
+    /// Delivers a reply, and returns whether it counted.
+    ///
+    /// `progress` hears of each content that counted.
     pub(crate) fn deliver<P: Progress>(
         &mut self,
         reply: Reply,

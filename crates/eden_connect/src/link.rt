@@ -3,28 +3,29 @@
 ghost use Rattle.std.specs.Prelude.{◌≡◌, ℕ, List, length, IfOk, OnOk};
 ghost use Rattle.std.specs.Int.{w32, to_be_bytes};
 ghost use Rattle.std.specs.Io.KnownBytes.{Consumes};
-ghost use Rattle.eden_connect.specs.internal.Exchanges.{Exchanges, Gathers, Receives, Sends, request_frame};
-ghost use Rattle.eden_connect.specs.internal.Replies.{Hears};
+ghost use Rattle.eden_connect.specs.Connections.{Receives};
+ghost use Rattle.eden_connect.specs.internal.Exchanges.{Exchanges, Gathers, Sends, request_frame};
+ghost use Rattle.eden_connect.specs.internal.Talks.{HearsSome};
 
 use crate::collector::Collector;
 use crate::progress::Progress;
 use crate::window::Window;
-use eden_frames::BODY_LIMIT;
 use eden_ids::NoMemory;
 use eden_messages::{Reply, Request};
+use eden_stream::BODY_LIMIT;
 use eden_wire::{DecodeFault, EncodeFault, decode_reply, encode_request};
 use std::alloc::{AllocError, Global};
 use std::io::{Read, Write};
 
-/// How many bytes of a body are read at once, so that no memory is taken for a length that was only told: 64 KiB.
+/// How many bytes of a body are read at once: 64 KiB. So a length alone takes no memory.
 const PIECE: usize = 65_536;
 
-/// Why an exchange over a connection did not come to its end.
+/// Why an exchange over a connection did not end.
 #[derive(Clone, Copy, Debug, PartialEq, Eq)]
 pub(crate) enum LinkFault {
     /// The connection is lost, or what comes over it can't be read.
     Lost,
-    /// A growth was refused.
+    /// An allocation failed.
     NoMemory,
 }
 
@@ -58,8 +59,8 @@ pub(crate) struct Link<I: Read, O: Write> {
     pub(crate) writer: O,
 }
 
-/// The length that four bytes tell.
-fn told_by(bytes: [u8; 4]) -> usize
+/// Returns the length that four bytes spell.
+fn read_length(bytes: [u8; 4]) -> usize
     ensures { to_be_bytes w32 result ≡ bytes }
 {
     u32::from_be_bytes(bytes) as usize
@@ -75,7 +76,7 @@ fn read_piece<I: Read>(reader: &mut I, piece: &mut [u8]) -> Result<(), LinkFault
     }
 }
 
-/// So many bytes, which are read by pieces.
+/// Reads N bytes, a piece at a time.
 fn read_body<I: Read>(alloc: Global, reader: &mut I, len: usize) -> Result<Vec<u8>, LinkFault>
     ensures len { IfOk result (λ body. length body.items ≡ len) }
     ensures read { IfOk result (λ body. Consumes (I.remaining reader.old) (I.remaining reader.new) body.items) }
@@ -94,13 +95,13 @@ fn read_body<I: Read>(alloc: Global, reader: &mut I, len: usize) -> Result<Vec<u
     Ok(body)
 }
 
-/// The next reply.
+/// Reads the next reply.
 fn read_reply<I: Read>(alloc: Global, reader: &mut I) -> Result<Reply, LinkFault>
     ensures { IfOk result (λ reply. Receives (I.remaining reader.old) (I.remaining reader.new) reply) }
 {
     let mut told = [0; 4];
     read_piece(reader, &mut told)?;
-    let len = told_by(told);
+    let len = read_length(told);
     if len > BODY_LIMIT {
         return Err(LinkFault::Lost);
     }
@@ -112,7 +113,7 @@ fn read_reply<I: Read>(alloc: Global, reader: &mut I) -> Result<Reply, LinkFault
     }
 }
 
-/// The frame of a request.
+/// Returns the frame of a request.
 fn frame_of(alloc: Global, request: &Request) -> Result<Vec<u8>, NoMemory>
     ensures { IfOk result (λ bytes. bytes.items ≡ request_frame request.now) }
 {
@@ -123,7 +124,8 @@ fn frame_of(alloc: Global, request: &Request) -> Result<Vec<u8>, NoMemory>
     }
 }
 
-/// Puts the frames of the first of these requests behind a text, as many as the window takes, and gives the requests after them.
+/// Appends the frames of the first requests to a text, as many as the window takes. Returns the
+/// other requests.
 fn gather<'a>(
     alloc: Global,
     window: &mut Window,
@@ -146,7 +148,7 @@ fn gather<'a>(
 }
 
 impl<I: Read, O: Write> Link<I, O> {
-    /// A connection from which `reader` reads, and to which `writer` writes.
+    /// Returns the connection of a reader and a writer.
     pub(crate) fn new(alloc: Global, reader: I, writer: O) -> Link<I, O>
         ensures reader { result.reader ≡ reader }
         ensures writer { result.writer ≡ writer }
@@ -158,8 +160,9 @@ impl<I: Read, O: Write> Link<I, O> {
         }
     }
 
-    /// Sends the first of these requests, as many as the window takes, in one write; and none while less than half of the window is free. Gives
-    /// the requests that are left.
+    /// Sends the first of these requests in one write, and returns the others.
+    ///
+    /// It sends as many as the window takes, and none while less than half of the window is free.
     fn send<'a>(
         &mut self,
         window: &mut Window,
@@ -179,7 +182,7 @@ impl<I: Read, O: Write> Link<I, O> {
         }
     }
 
-    /// Sends requests, and delivers a reply for each as it comes. Tells whether one of them counted.
+    /// Sends requests, and delivers a reply for each as it comes. Returns whether one counted.
     pub(crate) fn exchange<P: Progress>(
         &mut self,
         requests: &[Request],
@@ -188,7 +191,7 @@ impl<I: Read, O: Write> Link<I, O> {
     ) -> Result<bool, LinkFault>
         ensures all { IfOk result (λ counted. Exchanges requests.now (O.contents self.old.writer) (O.contents self.new.writer)
             (I.remaining self.old.reader) (I.remaining self.new.reader) collector.old collector.new counted) }
-        ensures heard { Hears collector.old collector.new }
+        ensures heard { HearsSome (I.remaining self.old.reader) collector.old collector.new }
     {
         let named = collector.named(requests);
         let mut window = Window::new(self.alloc);

@@ -1,6 +1,6 @@
-//! How far the contents of a list have come, told while they come.
+//! How far the contents of a list have come, shown while they come.
 
-ghost use Rattle.std.specs.Prelude.{◌≡◌, ◌-◌, nat_le, true, IfSome, IfNone};
+ghost use Rattle.std.specs.Prelude.{◌≡◌, ◌-◌, ◌⊎◌, nat_le, true, IfSome, IfNone, IsSome, None};
 ghost use Rattle.std.specs.Time.{instant_nanos};
 
 use std::io::Write;
@@ -9,16 +9,20 @@ use std::time::{Clock, Duration, Instant};
 /// The least time between two lines, in milliseconds.
 const PAUSE: u64 = 100;
 
-/// Is told how far a round has come.
+/// Hears how far a round has come.
+///
+/// No clause binds these calls. What rounds return does not depend on them, and each implementation
+/// may do what it likes.
 pub trait Progress {
-    /// One more content has come: so many of those that the round's list named, and how many that list named.
+    /// Hears that one more content has come: the `came`-th of the `named` that the round's lists
+    /// have named.
     fn advance(&mut self, came: u64, named: u64);
 
-    /// No more will be told.
+    /// Hears that nothing more will come.
     fn finish(&mut self);
 }
 
-/// Tells nobody.
+/// Shows nothing.
 #[derive(Clone, Copy, Debug)]
 pub struct Quiet;
 
@@ -28,20 +32,25 @@ impl Progress for Quiet {
     fn finish(&mut self) {}
 }
 
-/// Shows a line on a terminal, as `follow: 1200 of 100000 paths`, which is written anew ten times a second at the most and is cleared in the end.
+/// Shows a line such as `follow: 1200 of 100000 paths` on a terminal.
 ///
-/// That it can't be written is told to nobody, and nothing is written where the clock can't be read.
+/// The line is written again at most ten times a second, and cleared in the end. Write errors are
+/// ignored. Nothing is written if the clock can't be read.
 #[derive(Drop)]
 pub struct Shown<E: Write, C: Clock> {
     errors: E,
     clock: C,
-    /// When the line was written last, if it stands there.
+    /// When the line was written last, if it is there.
     last: Option<Instant>,
 }
 
 impl<E: Write, C: Clock> Shown<E, C> {
-    /// Shows the line on a terminal, by a clock.
-    pub fn new(errors: E, clock: C) -> Shown<E, C> {
+    /// Returns what shows the line on a terminal, by a clock.
+    pub fn new(errors: E, clock: C) -> Shown<E, C>
+        ensures errors { result.errors ≡ errors }
+        ensures clock { result.clock ≡ clock }
+        ensures unshown { result.last ≡ None }
+    {
         Shown {
             errors,
             clock,
@@ -49,7 +58,7 @@ impl<E: Write, C: Clock> Shown<E, C> {
         }
     }
 
-    /// Whether the line may be written at a time.
+    /// Returns whether the line may be written at a time.
     fn is_due(&self, now: Instant) -> bool
         ensures later { IfSome self.now.last (λ last. result ≡ nat_le 100000000 (instant_nanos now - instant_nanos last)) }
         ensures first { IfNone self.now.last (result ≡ true) }
@@ -62,7 +71,10 @@ impl<E: Write, C: Clock> Shown<E, C> {
 }
 
 impl<E: Write, C: Clock> Progress for Shown<E, C> {
-    fn advance(&mut self, came: u64, named: u64) {
+    // When it writes depends on the clock, which no clause can name.
+    fn advance(&mut self, came: u64, named: u64)
+        ensures shown { (self.new ≡ self.old) ⊎ IsSome self.new.last }
+    {
         let Ok(now) = Instant::now(&self.clock) else {
             return;
         };
@@ -72,7 +84,10 @@ impl<E: Write, C: Clock> Progress for Shown<E, C> {
         }
     }
 
-    fn finish(&mut self) {
+    fn finish(&mut self)
+        ensures cleared { self.new.last ≡ None }
+        ensures unshown { self.old.last ≡ None → self.new ≡ self.old }
+    {
         if self.last.is_some() {
             self.last = None;
             let _ = write!(self.errors, "\r\x1b[K");

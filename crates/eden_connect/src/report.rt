@@ -1,21 +1,24 @@
-//! What is told of a mirror in the end.
+//! What is printed of a mirror in the end.
 
 ghost use Rattle.std.specs.Prelude.{◌≡◌, ◌++◌, ◌∷◌, [], ℕ, codes, IfOk, OnOk, OnErr, IsSome, IsNone, IsErrOf, decimal};
 ghost use Rattle.std.specs.List.{flat_map};
 ghost use Rattle.std.specs.Io.KnownBytes.{Appends, Keeps};
 ghost use Rattle.eden_ids.specs.FileMaps.{file_at};
-ghost use Rattle.eden_ids.specs.Fronts.{KeepsFront};
-ghost use Rattle.eden_connect.specs.Reports.{position_text, place_text, file_text, files_text, report_text};
+ghost use Rattle.std.specs.Bool.{OnFalse, OnTrue};
+ghost use Rattle.eden_connect.specs.Reports.{AppendsFront, position_text, place_text, file_text, files_text, report_text};
 
-use eden_command::ProgramFault;
+use crate::fault::ConnectFault;
 use eden_history::Position;
 use eden_ids::{Content, NoMemory, Path};
 use eden_mirror::Mirror;
 use eden_script::{kind_name, push_bytes, push_escaped, push_id, push_number};
 use std::alloc::{AllocError, Global};
-use std::io::Write;
+use std::io::{ErrorKind, Write};
 
-/// The line of a position.
+/// How often in a row an interrupted write is tried again.
+const MOST_TRIES: u32 = 1_000;
+
+/// Appends the line of a position.
 fn push_position(text: &mut Vec<u8>, position: &Position) -> Result<(), AllocError>
     ensures { OnOk result (text.new.items ≡ text.old.items ++ position_text position.now) }
 {
@@ -28,7 +31,7 @@ fn push_position(text: &mut Vec<u8>, position: &Position) -> Result<(), AllocErr
     push_bytes(text, b"\n".as_slice())
 }
 
-/// The line of where a mirror is.
+/// Appends the line that says where a mirror is.
 fn push_place(text: &mut Vec<u8>, place: Option<Position>) -> Result<(), AllocError>
     ensures { OnOk result (text.new.items ≡ text.old.items ++ place_text place) }
 {
@@ -38,7 +41,7 @@ fn push_place(text: &mut Vec<u8>, place: Option<Position>) -> Result<(), AllocEr
     }
 }
 
-/// The line of a file.
+/// Appends the line of a file.
 fn push_file(text: &mut Vec<u8>, path: &Path, file: &Content) -> Result<(), AllocError>
     ensures { OnOk result (text.new.items ≡ text.old.items ++ file_text path.now (Some file.now)) }
 {
@@ -50,7 +53,7 @@ fn push_file(text: &mut Vec<u8>, path: &Path, file: &Content) -> Result<(), Allo
     push_bytes(text, b"\n".as_slice())
 }
 
-/// The lines of the files that a mirror holds at these paths.
+/// Appends the lines of the files that a mirror holds at these paths.
 fn push_files(text: &mut Vec<u8>, mirror: &Mirror, paths: &[Path]) -> Result<(), AllocError>
     ensures { OnOk result (text.new.items ≡ text.old.items ++ flat_map (λ path. file_text path (file_at mirror.now.files path)) paths.now) }
 {
@@ -62,7 +65,7 @@ fn push_files(text: &mut Vec<u8>, mirror: &Mirror, paths: &[Path]) -> Result<(),
     Ok(())
 }
 
-/// The text that tells where a mirror is and which files it holds.
+/// Returns the text that says where a mirror is and which files it holds.
 pub(crate) fn report_text(alloc: Global, mirror: &Mirror) -> Result<Vec<u8>, NoMemory>
     ensures { IfOk result (λ text. text.items ≡ report_text mirror.now) }
 {
@@ -76,26 +79,53 @@ pub(crate) fn report_text(alloc: Global, mirror: &Mirror) -> Result<Vec<u8>, NoM
     Ok(text)
 }
 
-/// Writes that text. `Unplaced` comes after it, where the mirror is placed nowhere.
+/// Writes a text again and again while the output takes only a part. Returns whether it is all
+/// written.
+fn write_text<W: Write>(output: &mut W, text: &[u8]) -> bool
+    ensures written { OnTrue result (Appends (W.contents output.old) (W.contents output.new) text.now) }
+    ensures torn { OnFalse result (AppendsFront (W.contents output.old) (W.contents output.new) text.now) }
+{
+    let mut at = 0;
+    let mut tries = MOST_TRIES;
+    while at < text.len() {
+        match output.write(&text[at..]) {
+            Ok(0) => return false,
+            Ok(taken) => {
+                at += taken;
+                tries = MOST_TRIES;
+            }
+            Err(error) => {
+                if error.kind() != ErrorKind::Interrupted || tries == 0 {
+                    return false;
+                }
+                tries -= 1;
+            }
+        }
+    }
+    true
+}
+
+/// Writes that text. Returns `Unplaced` after it if the mirror has no position.
 pub(crate) fn tell<W: Write>(
     alloc: Global,
     output: &mut W,
     mirror: &Mirror,
-) -> Result<(), ProgramFault>
+) -> Result<(), ConnectFault>
     ensures ok { OnOk result (IsSome mirror.now.place × Appends (W.contents output.old) (W.contents output.new) (report_text mirror.now)) }
-    ensures unplaced { IsErrOf result ProgramFault.Unplaced
+    ensures unplaced { IsErrOf result ConnectFault.Unplaced
         → IsNone mirror.now.place × Appends (W.contents output.old) (W.contents output.new) (report_text mirror.now) }
-    ensures unwritten { IsErrOf result ProgramFault.NoMemory → Keeps (W.contents output.old) (W.contents output.new) }
-    ensures connected { ¬ IsErrOf result ProgramFault.NoConnection }
+    ensures torn { IsErrOf result ConnectFault.Write → AppendsFront (W.contents output.old) (W.contents output.new) (report_text mirror.now) }
+    ensures unwritten { IsErrOf result ConnectFault.NoMemory → Keeps (W.contents output.old) (W.contents output.new) }
+    ensures connected { ¬ IsErrOf result ConnectFault.NoConnection }
 {
     let Ok(text) = report_text(alloc, mirror) else {
-        return Err(ProgramFault::NoMemory);
+        return Err(ConnectFault::NoMemory);
     };
-    if output.write_all(text.as_slice()).is_err() || output.flush().is_err() {
-        return Err(ProgramFault::Write);
+    if !write_text(output, text.as_slice()) || output.flush().is_err() {
+        return Err(ConnectFault::Write);
     }
     match mirror.position() {
         Some(_) => Ok(()),
-        None => Err(ProgramFault::Unplaced),
+        None => Err(ConnectFault::Unplaced),
     }
 }

@@ -7,11 +7,13 @@ use std::alloc::Global;
 use std::collections::VecDeque;
 use std::marker::Model;
 
-/// The most bytes of unanswered requests. A socket takes as many though its peer reads none of them; so a write of them returns while the
-/// peer waits for its replies to be read.
+/// The most bytes of unanswered requests.
+///
+/// A socket takes that many even if its peer reads none. So a write of them returns while the peer
+/// waits for its replies to be read.
 const LIMIT: u32 = 16_384;
 
-/// The sizes of the frames of the requests that are sent and not answered, in bytes, in the order in which they were sent.
+/// The sizes in bytes of the frames that were sent and are not answered, oldest first.
 #[derive(Drop)]
 pub(crate) struct Window {
     sizes: VecDeque<u32>,
@@ -30,7 +32,7 @@ impl Model for Window {
 }
 
 impl Window {
-    /// All is answered.
+    /// Returns a window in which all is answered.
     pub(crate) fn new(alloc: Global) -> Window
         ensures { result ≡ [] }
     {
@@ -40,14 +42,14 @@ impl Window {
         }
     }
 
-    /// Whether half of the bytes are answered, so that it is worth a write to send more.
+    /// Returns whether half of the bytes are answered, so that more is worth a write.
     pub(crate) fn is_half_free(&self) -> bool
         ensures { result ≡ nat_le (sum self.now) 8192 }
     {
         self.bytes <= LIMIT / 2
     }
 
-    /// Whether one more frame may be sent.
+    /// Returns whether one more frame may be sent.
     pub(crate) fn fits(&self, size: u32) -> bool
         requires { size ≤ 16384 }
         ensures { result ≡ nat_le (sum self.now + size) 16384 }
@@ -55,7 +57,7 @@ impl Window {
         self.bytes + size <= LIMIT
     }
 
-    /// One more frame is sent.
+    /// Adds a frame that is sent.
     pub(crate) fn add(&mut self, size: u32) -> Result<(), NoMemory>
         requires { sum self.old + size ≤ 16384 }
         ensures ok { OnOk result (self.new ≡ self.old ++ size ∷ []) }
@@ -66,7 +68,7 @@ impl Window {
         Ok(())
     }
 
-    /// The request that was sent first is answered.
+    /// Removes the oldest frame, which is answered.
     pub(crate) fn remove_first(&mut self)
         ensures { self.new ≡ drop 1 self.old }
     {

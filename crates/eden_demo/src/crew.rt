@@ -1,4 +1,4 @@
-//! Who takes part: each with its desk, its view of the head word, and its line.
+//! The writers and the followers: each with its desk, its view of the head word, and its line.
 
 use crate::following::Following;
 use crate::line::open_line;
@@ -22,9 +22,9 @@ const LIFE: u64 = 1;
 /// Why nothing was done.
 #[derive(Clone, Copy, Debug, PartialEq, Eq)]
 pub(crate) enum CrewFault {
-    /// The lock has no pass left. It has 255, and four are asked for.
+    /// The lock has no pass left. It has 255, and four are needed.
     NoPass,
-    /// A growth was refused.
+    /// An allocation failed.
     NoMemory,
 }
 
@@ -46,6 +46,7 @@ impl<T: Drop> From<AllocFailed<T>> for CrewFault {
     }
 }
 
+/// Returns a desk with a pass of its own.
 fn open_desk<L: Ledger>(
     rt: &impl Wait,
     alloc: Global,
@@ -57,7 +58,7 @@ fn open_desk<L: Ledger>(
     }
 }
 
-/// A follower and its service, and where the follower is told what the last position is.
+/// Returns a follower with its service, and what says to the follower what the last position is.
 fn open_pair<L: Ledger>(
     rt: &impl Wait,
     alloc: Global,
@@ -80,7 +81,7 @@ fn open_pair<L: Ledger>(
     Ok((Pair { service, following }, tells))
 }
 
-/// Two writers, and two followers, over a mount at a position.
+/// Returns two writers and two followers, over a mount at a position.
 pub(crate) fn open_crew<L: Ledger>(
     rt: &impl Wait,
     alloc: Global,

@@ -2,17 +2,18 @@
 
 ghost use Rattle.std.specs.Prelude.{◌≡◌, [], IfOk, OnOk, IsErrOf, codes};
 ghost use Rattle.std.specs.Io.KnownBytes.{Appends, Keeps};
+ghost use Rattle.eden_demo.specs.Verdicts.{Prints, PrintsFront};
+ghost use Rattle.eden_logs.specs.declared.fault.AuditFault.{AuditFault};
 
 use crate::crew::{CrewFault, open_crew};
+use crate::fault::DemoFault;
 use crate::judging::judge;
 use crate::threads::{Behind, Ended, run_crew};
 use crate::verdict::Verdict;
 use eden_accumulate::Mount;
-use eden_audit::{AuditFault, Audited};
-use eden_command::ProgramFault;
 use eden_ids::{GitNaming, Id, NoMemory};
 use eden_objects::Store;
-use eden_shared::Shared;
+use eden_shared::{AuditFault, Audited, Shared};
 use std::alloc::Global;
 use std::io::Write;
 use std::marker::Brand;
@@ -24,10 +25,10 @@ use std::time::Clock;
 /// The generation of the mount.
 const GENERATION: u64 = 7;
 
-/// How many bytes its journal may hold.
+/// The most bytes that its journal may hold.
 const LIMIT: u64 = 1_000_000;
 
-/// A mount of the empty commit that stores its history.
+/// Returns a mount of the empty commit that stores its history.
 fn open_mount(alloc: Global) -> Result<Audited<GitNaming>, NoMemory>
     ensures { IfOk result (λ audited. audited.entries ≡ []) }
 {
@@ -43,7 +44,7 @@ fn open_mount(alloc: Global) -> Result<Audited<GitNaming>, NoMemory>
     }
 }
 
-/// Takes the mount back from the lock, and judges what is there in the end.
+/// Takes the mount back from the lock, and judges what it holds in the end.
 fn close<L: Ledger>(alloc: Global, shared: Behind<L>, ended: Ended<L>) -> Result<Verdict, NoMemory>
     requires { L.parts ≡ 256 }
 {
@@ -54,7 +55,7 @@ fn close<L: Ledger>(alloc: Global, shared: Behind<L>, ended: Ended<L>) -> Result
     } = ended;
     match shared.finish(passes) {
         Ok(mut audited) => judge(alloc, &mut audited, logs.as_slice(), followers.as_slice()),
-        // The calls of a pass that is missing stand in no log.
+        // No log has the calls of a pass that is missing.
         Err(_) => Ok(Verdict {
             audit: Err(AuditFault::CountsDiffer),
             agree: false,
@@ -62,7 +63,7 @@ fn close<L: Ledger>(alloc: Global, shared: Behind<L>, ended: Ended<L>) -> Result
     }
 }
 
-/// Runs all behind a lock with this ledger.
+/// Runs all over a lock with this ledger.
 fn run_behind<L: Ledger + Send + Sync, R: Threads + Wait + Clock + Sync>(
     rt: &R,
     alloc: Global,
@@ -80,33 +81,42 @@ fn run_behind<L: Ledger + Send + Sync, R: Threads + Wait + Clock + Sync>(
     Ok(close(alloc, shared, ended)?)
 }
 
-/// Mounts the empty commit, and has two writers make 50 changes each while two followers keep mirrors of it, each of them in a thread, and
-/// each follower with a service in a thread of its own, which it asks by frames. A follower polls where the head word has risen, which a writer
-/// raises to the ticket of each change; once the writers have ended it polls until it is where the mount is, 1,000 times at most.
+/// Runs two writers and two followers over a mount of the empty commit, and prints whether all went
+/// well.
 ///
-/// Then it writes `audit ok`, or `audit` and the name of the fault; and `followers agree` where both followers are vouched for and their mirrors
-/// hold what the mount holds, else `followers differ`.
+/// Each of the writers makes 50 changes in a thread, and raises the head word to the ticket of
+/// each. Each follower keeps a mirror in a thread. It has a service in a thread of its own, which
+/// it asks by frames. It polls whenever the head word has risen. Once the writers have ended it
+/// polls until it is where the mount is, at most 1,000 times.
+///
+/// Then it writes `audit ok`, or `audit` and the name of the fault. A second line is `followers
+/// agree` if both followers are vouched for and their mirrors hold what the mount holds, else
+/// `followers differ`.
 ///
 /// # Errors
 ///
-/// - `Write`, where the writer fails: a first part of that is written.
-/// - `NoMemory`, where a growth was refused, or no thread could be made: nothing is written.
-/// - `NoConnection`, where the mount's lock has no pass for one of the four: nothing is written. It has 255.
-/// - `Refused`, where the audit names a fault, and else `Differ`, where the followers differ: all is written.
+/// - `Write` if the writer fails: the first bytes of the text are written.
+/// - `NoMemory` if an allocation fails or no thread can be made: nothing is written.
+/// - `NoConnection` if the mount's lock has no pass for one of the four callers: nothing is
+///   written. It has 255.
+/// - `Refused` if the audit names a fault, and else `Differ` if the followers differ: all is
+///   written.
 pub fn demo<R: Threads + Wait + Clock + Sync, W: Write>(
     rt: &R,
     alloc: Global,
     writer: &mut W,
-) -> Result<(), ProgramFault>
+) -> Result<(), DemoFault>
     ensures agree { OnOk result (Appends (W.contents writer.old) (W.contents writer.new) (codes "audit ok\nfollowers agree\n")) }
-    ensures differ { IsErrOf result ProgramFault.Differ
+    ensures differ { IsErrOf result DemoFault.Differ
         → Appends (W.contents writer.old) (W.contents writer.new) (codes "audit ok\nfollowers differ\n") }
-    ensures unwritten { IsErrOf result ProgramFault.NoMemory → Keeps (W.contents writer.old) (W.contents writer.new) }
-    ensures unserved { IsErrOf result ProgramFault.NoConnection → Keeps (W.contents writer.old) (W.contents writer.new) }
+    ensures refused { (fault : AuditFault) → IsErrOf result (DemoFault.Refused fault) → Prints (W.contents writer.old) (W.contents writer.new) }
+    ensures torn { IsErrOf result DemoFault.Write → PrintsFront (W.contents writer.old) (W.contents writer.new) }
+    ensures unwritten { IsErrOf result DemoFault.NoMemory → Keeps (W.contents writer.old) (W.contents writer.new) }
+    ensures unserved { IsErrOf result DemoFault.NoConnection → Keeps (W.contents writer.old) (W.contents writer.new) }
 {
     match run_behind::<Brand, R>(rt, alloc, Blank::new(256)) {
         Ok(verdict) => verdict.tell(alloc, writer),
-        Err(CrewFault::NoMemory) => Err(ProgramFault::NoMemory),
-        Err(CrewFault::NoPass) => Err(ProgramFault::NoConnection),
+        Err(CrewFault::NoMemory) => Err(DemoFault::NoMemory),
+        Err(CrewFault::NoPass) => Err(DemoFault::NoConnection),
     }
 }

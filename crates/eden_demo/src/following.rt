@@ -18,18 +18,18 @@ const LAST_ROUNDS: u32 = 1_000;
 /// How many milliseconds a follower waits before it looks at the head word again.
 const PAUSE: u64 = 1;
 
-/// What the thread of a follower begins with.
+/// Holds what the thread of a follower begins with.
 #[derive(Drop)]
 pub(crate) struct Following {
     pub(crate) follower: Follower,
     pub(crate) line: Caller,
     pub(crate) watch: Watch,
-    /// Tells where the mount is after the last change.
+    /// Says where the mount is after the last change.
     pub(crate) last: Receiver<Position>,
 }
 
 impl Following {
-    /// Sends one request and delivers its reply. Tells whether that counted.
+    /// Sends one request and delivers its reply. Returns whether the reply counted.
     fn ask(&mut self, rt: &impl Wait, alloc: Global, request: &Request) -> Result<bool, NoMemory> {
         match self.line.ask(rt, alloc, request)? {
             Some((ticket, reply)) => {
@@ -40,7 +40,8 @@ impl Following {
         }
     }
 
-    /// Begins a round or goes on with one: sends what is outstanding, and delivers a reply to each. Tells whether one counted.
+    /// Begins a round or continues one: sends the outstanding requests, and delivers a reply to
+    /// each. Returns whether one counted.
     fn take_step(&mut self, rt: &impl Wait, alloc: Global) -> Result<bool, NoMemory> {
         let requests = match self.follower.step() {
             Ok(requests) => requests,
@@ -54,17 +55,19 @@ impl Following {
         Ok(counted)
     }
 
-    /// Runs a round, until it has ended or nothing that comes counts in it.
+    /// Runs a round until it has ended or no reply counts.
     fn run_round(&mut self, rt: &impl Wait, alloc: Global) -> Result<(), NoMemory> {
         for _ in rt.forever() {
             if !self.take_step(rt, alloc)? || self.follower.mirror().is_idle() {
-                return Ok(());
+                break;
             }
         }
-        unreachable!()
+        Ok(())
     }
 
-    /// Runs a round whenever the head word has risen, until the last change is told. Gives the position then, or none where it is not told.
+    /// Runs a round whenever the head word has risen, until the last change was made.
+    ///
+    /// Returns the position after that change, or `None` if nobody says it.
     fn keep_up<R: Wait + Clock>(
         &mut self,
         rt: &R,
@@ -72,6 +75,7 @@ impl Following {
     ) -> Result<Option<Position>, NoMemory> {
         let pause = Duration::from_millis(PAUSE);
         let mut seen = 0;
+        let mut last = None;
         for _ in rt.forever() {
             let head = self.watch.load();
             if seen < head {
@@ -79,12 +83,15 @@ impl Following {
                 self.run_round(rt, alloc)?;
             }
             match self.last.recv_timeout(rt, pause) {
-                Ok(position) => return Ok(Some(position)),
+                Ok(position) => {
+                    last = Some(position);
+                    break;
+                }
                 Err(RecvTimeoutError::Timeout) => {}
-                Err(RecvTimeoutError::Disconnected) => return Ok(None),
+                Err(RecvTimeoutError::Disconnected) => break,
             }
         }
-        unreachable!()
+        Ok(last)
     }
 
     /// Runs rounds until the mirror is at a position.
@@ -98,7 +105,7 @@ impl Following {
         Ok(())
     }
 
-    /// Follows to the last change.
+    /// Follows until the last change.
     pub(crate) fn run<R: Wait + Clock>(self, rt: &R, alloc: Global) -> Result<Follower, NoMemory> {
         let mut following = self;
         if let Some(head) = following.keep_up(rt, alloc)? {

@@ -7,19 +7,18 @@ ghost use Rattle.eden_history.specs.Worlds.{WorldState, now};
 ghost use Rattle.eden_ids.specs.FileMaps.{file_at};
 ghost use Rattle.eden_ids.specs.Naming.{git_name};
 ghost use Rattle.eden_logs.specs.Logs.{LogsAgree};
-ghost use Rattle.eden_workcopy.specs.Listings.{admitted};
+ghost use Rattle.eden_overlay.specs.Listings.{admitted};
 
 use crate::verdict::Verdict;
 use eden_accumulate::Mount;
-use eden_audit::{AuditFault, Audited, audit};
 use eden_follow::{Follower, VouchFault, vouch};
 use eden_ids::{GitNaming, NoMemory, Path};
 use eden_mirror::Mirror;
 use eden_objects::CommitFault;
-use eden_shared::CallLog;
+use eden_shared::{AuditFault, Audited, CallLog, audit};
 use std::alloc::Global;
 
-/// The paths of the files that a mount holds and a mirror's filter admits.
+/// Returns the paths of a mount's files that a mirror's filter admits.
 fn wanted(mirror: &Mirror, mount: &Mount<GitNaming>) -> Result<Vec<Path>, NoMemory>
     ensures { IfOk result (λ list. (world : WorldState) → StandsFor mount.now world → list.items ≡ admitted mirror.now.patterns (now world).files) }
 {
@@ -32,14 +31,14 @@ fn wanted(mirror: &Mirror, mount: &Mount<GitNaming>) -> Result<Vec<Path>, NoMemo
     }
 }
 
-/// Whether two lists of paths are equal.
+/// Returns whether two lists of paths are equal.
 fn same_paths(one: &[Path], other: &[Path]) -> bool
     ensures { IsTrue result ↔ (one.now ≡ other.now) }
 {
     one == other
 }
 
-/// Whether a mirror and a mount hold the same file at a path.
+/// Returns whether a mirror and a mount hold the same file at a path.
 fn is_same_at(mirror: &Mirror, mount: &Mount<GitNaming>, path: &Path) -> bool
     ensures { IsTrue result → (world : WorldState) → StandsFor mount.now world
         → file_at mirror.now.files path.now ≡ file_at (now world).files path.now }
@@ -52,7 +51,7 @@ fn is_same_at(mirror: &Mirror, mount: &Mount<GitNaming>, path: &Path) -> bool
     }
 }
 
-/// Whether they do at all these paths.
+/// Returns whether they do at each of these paths.
 fn are_same(mirror: &Mirror, mount: &Mount<GitNaming>, paths: &[Path]) -> bool
     ensures { IsTrue result → (world : WorldState) → StandsFor mount.now world
         → All (λ path. file_at mirror.now.files path ≡ file_at (now world).files path) paths.now }
@@ -65,7 +64,8 @@ fn are_same(mirror: &Mirror, mount: &Mount<GitNaming>, paths: &[Path]) -> bool
     true
 }
 
-/// Whether a mirror holds what a mount holds: files at the same paths, of those that it wants, and the same file at each.
+/// Returns whether a mirror holds what a mount holds of the paths that it wants: the same files at
+/// the same paths.
 fn holds_all(mirror: &Mirror, mount: &Mount<GitNaming>) -> Result<bool, NoMemory>
     ensures { IfOk result (λ held. held ≡ true → (world : WorldState) → StandsFor mount.now world → HoldsAll mirror.now (now world).files) }
 {
@@ -77,7 +77,7 @@ fn holds_all(mirror: &Mirror, mount: &Mount<GitNaming>) -> Result<bool, NoMemory
     Ok(are_same(mirror, mount, paths.as_slice()))
 }
 
-/// Whether the logs vouch for a follower, and its mirror holds what the mount holds.
+/// Returns whether the logs vouch for a follower, and its mirror holds what the mount holds.
 fn has_followed(
     alloc: Global,
     mount: &Mount<GitNaming>,
@@ -93,7 +93,7 @@ fn has_followed(
     }
 }
 
-/// Whether that is so of all followers.
+/// Returns whether that is so of all followers.
 fn have_followed(
     alloc: Global,
     mount: &Mount<GitNaming>,
@@ -110,7 +110,7 @@ fn have_followed(
     Ok(true)
 }
 
-/// Audits the logs, and judges the followers by what the mount holds.
+/// Audits the logs, and compares the followers with the mount.
 pub(crate) fn judge(
     alloc: Global,
     audited: &mut Audited<GitNaming>,

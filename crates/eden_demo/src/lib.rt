@@ -1,5 +1,7 @@
-//! `follow demo` as a library: two writers change a mount while two followers keep mirrors of it, each in a thread of its own; then the mount's
-//! history is audited, and the followers are vouched for.
+//! `follow demo` as a library.
+//!
+//! Two writers change a mount while two followers keep mirrors of it, each in a thread of its own.
+//! Then the mount's history is audited, and the followers are vouched for.
 //!
 //! ```rust
 //! use eden_demo::demo;
@@ -11,10 +13,11 @@
 #![tactic(auto)]
 
 pub use crate::demonstration::demo;
-pub use eden_command::ProgramFault;
+pub use crate::fault::DemoFault;
 
 mod crew;
 mod demonstration;
+mod fault;
 mod following;
 mod judging;
 mod line;

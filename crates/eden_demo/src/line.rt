@@ -1,4 +1,4 @@
-//! What a follower and its service say to each other: frames, through two channels.
+//! A line between a follower and its service: frames, through two channels.
 
 use crossbeam_channel::{Receiver, Sender};
 use eden_ids::NoMemory;
@@ -7,28 +7,28 @@ use eden_wire::{DecodeFault, EncodeFault, decode_reply, encode_request};
 use std::alloc::Global;
 use std::sync::Wait;
 
-/// The frame of a reply, with the ticket of its request beside it.
+/// Holds the frame of a reply, and the ticket of its request.
 #[derive(Drop)]
 pub(crate) struct Told {
     pub(crate) ticket: u64,
     pub(crate) frame: Vec<u8>,
 }
 
-/// The end of a follower.
+/// Holds the follower's end.
 #[derive(Drop)]
 pub(crate) struct Caller {
     requests: Sender<Vec<u8>>,
     replies: Receiver<Told>,
 }
 
-/// The end of its service.
+/// Holds the service's end.
 #[derive(Drop)]
 pub(crate) struct Callee {
     pub(crate) requests: Receiver<Vec<u8>>,
     pub(crate) replies: Sender<Told>,
 }
 
-/// A line between a follower and its service, on which one frame at a time stands each way.
+/// Returns a line between a follower and its service, with room for one frame each way.
 pub(crate) fn open_line(alloc: Global) -> Result<(Caller, Callee), NoMemory> {
     let (asks, asked) = crossbeam_channel::bounded(alloc, 1)?;
     let (tells, told) = crossbeam_channel::bounded(alloc, 1)?;
@@ -43,13 +43,15 @@ pub(crate) fn open_line(alloc: Global) -> Result<(Caller, Callee), NoMemory> {
     Ok((caller, callee))
 }
 
-/// What a frame holds behind the four bytes of its length.
+/// Returns what a frame has after the four bytes of its length.
 pub(crate) fn body_of(frame: &[u8]) -> &[u8] {
     frame.get(4..).unwrap_or(&[])
 }
 
 impl Caller {
-    /// Sends a request, and waits for its reply with the ticket. There is none where the service has ended, or tells no reply.
+    /// Sends a request, and waits for its reply with the ticket.
+    ///
+    /// Returns `None` if the service has ended, or sends no reply.
     pub(crate) fn ask(
         &self,
         rt: &impl Wait,

@@ -4,19 +4,19 @@ use crate::line::{Callee, Told, body_of};
 use crate::threads::Behind;
 use eden_ids::NoMemory;
 use eden_shared::{CallLog, Desk, OpenGate, Pass};
-use eden_wire::{DecodeFault, EncodeFault, decode_request, encode_reply};
+use eden_wire::{DecodeFault, append_reply, decode_request};
 use std::alloc::Global;
 use std::sync::Wait;
 use std::sync::ledger::Ledger;
 
-/// What the thread of a service begins with.
+/// Holds what the thread of a service begins with.
 #[derive(Drop)]
 pub(crate) struct Service<L: Ledger> {
     pub(crate) desk: Desk<L>,
     pub(crate) line: Callee,
 }
 
-/// Has the desk ask what a frame spells. There is no answer to one that spells no request.
+/// Asks the desk what a frame spells. Returns `None` if the frame spells no request.
 fn answer_frame<L: Ledger>(
     rt: &impl Wait,
     alloc: Global,
@@ -30,16 +30,12 @@ fn answer_frame<L: Ledger>(
         Err(_) => return Ok(None),
     };
     let (ticket, reply) = desk.ask(rt, shared, &request, &OpenGate)?;
-    let frame = match encode_reply(alloc, &reply) {
-        Ok(frame) => frame,
-        Err(EncodeFault::NoMemory) => return Err(NoMemory),
-        // A desk tells replies that have a spelling.
-        Err(EncodeFault::TooLarge) => unreachable!(),
-    };
+    let mut frame = Vec::new(alloc);
+    append_reply(&mut frame, &reply)?;
     Ok(Some(Told { ticket, frame }))
 }
 
-/// Answers the frames that come, until none can come any more.
+/// Answers frames until no more can come.
 fn answer_frames<L: Ledger>(
     rt: &impl Wait,
     alloc: Global,
@@ -58,7 +54,7 @@ fn answer_frames<L: Ledger>(
     Ok(())
 }
 
-/// Serves a follower to its end.
+/// Serves a follower until it ends.
 pub(crate) fn serve<L: Ledger>(
     rt: &impl Wait,
     alloc: Global,

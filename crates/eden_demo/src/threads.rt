@@ -15,17 +15,17 @@ use std::thread;
 use std::thread::{JoinHandle, Threads};
 use std::time::Clock;
 
-/// A mount that stores its history, behind a lock.
+/// Holds a mount that stores its history behind a lock.
 pub(crate) type Behind<L> = Shared<GitNaming, Audited<GitNaming>, L>;
 
-/// A follower and its service.
+/// Holds a follower and its service.
 #[derive(Drop)]
 pub(crate) struct Pair<L: Ledger> {
     pub(crate) service: Service<L>,
     pub(crate) following: Following,
 }
 
-/// What the two end with.
+/// Holds what the two end with.
 #[derive(Drop)]
 struct Followed<L: Ledger> {
     follower: Follower,
@@ -33,16 +33,16 @@ struct Followed<L: Ledger> {
     log: CallLog,
 }
 
-/// Who begins.
+/// Holds those that begin.
 #[derive(Drop)]
 pub(crate) struct Crew<L: Ledger> {
     pub(crate) writers: Vec<Writer<L>>,
     pub(crate) pairs: Vec<Pair<L>>,
-    /// Where the followers are told what the last position is.
+    /// Says to the followers what the last position is.
     pub(crate) last: Vec<Sender<Position>>,
 }
 
-/// What all threads end with.
+/// Holds what all threads end with.
 #[derive(Drop)]
 pub(crate) struct Ended<L: Ledger> {
     pub(crate) passes: Vec<Pass<L>>,
@@ -51,7 +51,7 @@ pub(crate) struct Ended<L: Ledger> {
 }
 
 impl<L: Ledger> Ended<L> {
-    /// Takes what the writers end with.
+    /// Adds what the writers end with.
     fn add_writers(&mut self, wrote: Vec<Wrote<L>>) -> Result<(), NoMemory> {
         for Wrote { pass, log, .. } in wrote {
             self.passes.push(pass)?;
@@ -60,7 +60,7 @@ impl<L: Ledger> Ended<L> {
         Ok(())
     }
 
-    /// Joins the followers, and takes what they and their services end with.
+    /// Joins the followers, and adds what they and their services end with.
     fn join_followers(
         &mut self,
         rt: &impl Threads,
@@ -95,7 +95,7 @@ fn write_all<L: Ledger + Send + Sync, R: Threads + Wait + Sync>(
     Ok(wrote)
 }
 
-/// Tells the followers where the mount is after the last change.
+/// Says to the followers where the mount is after the last change.
 fn tell_last<L: Ledger>(rt: &impl Wait, wrote: &[Wrote<L>], followers: &[Sender<Position>]) {
     let Some(last) = wrote
         .iter()
@@ -135,7 +135,8 @@ fn follow_served<L: Ledger + Send + Sync, R: Threads + Wait + Clock + Sync>(
     )
 }
 
-/// Runs all, and joins every thread: the writers first, and then the followers, which are told where the last change has led.
+/// Runs all, and joins the writers and then the followers, which hear where the last change has
+/// led.
 pub(crate) fn run_crew<L: Ledger + Send + Sync, R: Threads + Wait + Clock + Sync>(
     rt: &R,
     alloc: Global,

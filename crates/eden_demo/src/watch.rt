@@ -3,12 +3,12 @@
 ghost use Rattle.std.specs.Prelude.{◌≡◌};
 ghost use Rattle.std.specs.Arc.{arc_value};
 
-use eden_head::{HeadSeat, HeadWord};
 use eden_ids::NoMemory;
+use eden_shared::{HeadSeat, HeadWord};
 use std::alloc::Global;
 use std::sync::Arc;
 
-/// The head word, with a seat of its own.
+/// Holds the head word, with a seat of its own.
 #[derive(Drop)]
 pub(crate) struct Watch {
     word: Arc<HeadWord, Global>,
@@ -18,21 +18,21 @@ pub(crate) struct Watch {
 }
 
 impl Watch {
-    /// A new head word, and its first view.
+    /// Returns the first view of a new head word.
     pub(crate) fn new(alloc: Global) -> Result<Watch, NoMemory> {
         let (word, seat) = HeadWord::new(alloc)?;
         let word = Arc::new(alloc, word)?;
         Ok(Watch { word, seat })
     }
 
-    /// One more view, for another thread.
+    /// Returns one more view, for another thread.
     pub(crate) fn split(&mut self) -> Result<Watch, NoMemory> {
         let word = Arc::try_clone(&self.word)?;
         let seat = self.word.split(&mut self.seat);
         Ok(Watch { word, seat })
     }
 
-    /// The head word's number.
+    /// Returns the head word's number.
     pub(crate) fn load(&mut self) -> u64 {
         self.word.load(&mut self.seat)
     }

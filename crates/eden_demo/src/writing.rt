@@ -9,10 +9,10 @@ use std::alloc::Global;
 use std::sync::Wait;
 use std::sync::ledger::Ledger;
 
-/// How many changes a writer makes.
+/// The number of changes that a writer makes.
 const CHANGES: u64 = 50;
 
-/// What the thread of a writer begins with.
+/// Holds what the thread of a writer begins with.
 #[derive(Drop)]
 pub(crate) struct Writer<L: Ledger> {
     pub(crate) number: u64,
@@ -22,7 +22,7 @@ pub(crate) struct Writer<L: Ledger> {
     pub(crate) opened: Position,
 }
 
-/// What it ends with.
+/// Holds what it ends with.
 #[derive(Drop)]
 pub(crate) struct Wrote<L: Ledger> {
     pub(crate) pass: Pass<L>,
@@ -31,18 +31,18 @@ pub(crate) struct Wrote<L: Ledger> {
     pub(crate) last: Position,
 }
 
-/// The path `d/` and the last digit of a number.
+/// Returns the path `d/` and the last digit of a number.
 fn path_of(alloc: Global, number: u64) -> Result<Path, NoMemory> {
     let digit = b'0' + (number % 10) as u8;
     match Path::parse(alloc, &[b'd', b'/', digit]) {
         Ok(path) => Ok(path),
         Err(PathFault::NoMemory) => Err(NoMemory),
-        // That is a path.
+        // These bytes are a path.
         Err(_) => unreachable!(),
     }
 }
 
-/// A change of a writer: at the path of the change's last digit, a text of both numbers.
+/// Returns a change of a writer, which writes both numbers at the path of the change's last digit.
 fn change_of(alloc: Global, writer: u64, change: u64) -> Result<Change, NoMemory> {
     let path = path_of(alloc, change)?;
     let text = format!(in alloc; "{writer}-{change}")?;
@@ -51,7 +51,9 @@ fn change_of(alloc: Global, writer: u64, change: u64) -> Result<Change, NoMemory
 }
 
 impl<L: Ledger> Writer<L> {
-    /// Makes a change, and raises the head word to its ticket. Gives where the mount was then, which a refused change does not tell.
+    /// Makes a change, and raises the head word to its ticket.
+    ///
+    /// Returns where the mount was then, or `None` if the change was refused.
     fn make(
         &mut self,
         rt: &impl Wait,
@@ -66,7 +68,7 @@ impl<L: Ledger> Writer<L> {
         }
     }
 
-    /// Makes all changes. Gives where the mount was after the last one.
+    /// Makes all changes, and returns where the mount was after the last.
     fn make_all(
         &mut self,
         rt: &impl Wait,
@@ -81,7 +83,7 @@ impl<L: Ledger> Writer<L> {
         Ok(last)
     }
 
-    /// Writes to the last change.
+    /// Writes until the last change.
     pub(crate) fn run(
         self,
         rt: &impl Wait,

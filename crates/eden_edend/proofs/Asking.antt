@@ -7,7 +7,7 @@ use Rattle.eden_objects.specs.Objects.{Held}
 use Rattle.eden_objects.specs.Commits.{commit_map}
 use Rattle.eden_objects.specs.Files.{commit_files}
 use Rattle.eden_workcopy.specs.declared.work.WorkCopy.{WorkCopy}
-use Rattle.eden_workcopy.specs.Listings.{admitted}
+use Rattle.eden_overlay.specs.Listings.{admitted}
 use Rattle.eden_workcopy.specs.Meanings.{means}
 use Rattle.eden_history.specs.declared.position.Position.{Position}
 use Rattle.eden_history.specs.Worlds.{WorldState, now, position_of}

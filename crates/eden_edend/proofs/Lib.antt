@@ -6,6 +6,6 @@ mod Asking
 mod LineAnswers
 mod FirstLemmas
 mod OwnBindings
-mod ChangeLines
+mod ChangingEnds
 mod OpeningEnds
 mod Giving

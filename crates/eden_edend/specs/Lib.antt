@@ -1,3 +1,4 @@
+pub mod Changings
 pub mod Openings
 pub mod OwnLabels
 pub mod internal

@@ -1,7 +1,6 @@
 -- What the implementation uses alone.
 pub mod BoundMaps
-pub mod ChangeScript
-pub mod Changing
+pub mod ChangeStory
 pub mod Firsts
 pub mod SessionScript
 pub mod Standing

@@ -9,7 +9,7 @@ use eden_history::Change;
 use eden_ids::{Id, Path, Sequence};
 use eden_script::{ChangeLine, Label, Refusal, Word};
 
-/// The path that a word is, or why it is none.
+/// Returns the path that a word is, or why it is not a path.
 pub(crate) fn path_of(word: Word) -> Result<Path, Refusal>
     ensures accepts { IfOk result (λ path. (path ≡ word) × (path_refusal word ≡ None)) }
     ensures refuses { IfErr result (λ cause. path_refusal word ≡ Some cause) }
@@ -31,8 +31,9 @@ fn commit_of(labels: &Labels, label: &Label) -> Result<Id, Refusal>
     }
 }
 
-/// What a line changes, or why it changes nothing: `Path` where a word is no path, of two words for the first that is none, and `NoLabel`
-/// where its label is bound to nothing. Whether the mount makes the change is not asked. This takes no memory: the bytes are moved.
+/// Returns what a line changes, or why it changes nothing: `Path` for the first word that is not a
+/// path, and `NoLabel` where its label is bound to nothing. Whether the mount makes the change is
+/// not asked. This takes no memory: the bytes are moved.
 pub fn change_of(labels: &Labels, line: ChangeLine) -> Result<Change, Refusal>
     ensures { result ≡ change_of labels.now line }
 {

@@ -1,17 +1,16 @@
-//! An input of lines that others read on behind the line `listen`.
+//! An input of lines that others read on after the line `listen`.
 
 ghost use Rattle.std.specs.Prelude.{◌≡◌, ◌≤◌, ◌<◌, length, IfOk};
 ghost use Rattle.std.specs.Io.{ReadsAtMost};
 ghost use Rattle.std.specs.Io.KnownBytes.{ReadConsumes};
 
-use bstr::ByteSlice;
 use eden_ids::NoMemory;
 use std::alloc::Global;
 use std::io;
 use std::io::Read;
 use std::marker::Model;
 
-/// The line behind which others read on.
+/// The line after which others read on.
 pub(crate) const LISTEN: &[u8] = b"listen";
 
 /// How many bytes are held, and asked of the device at once: 64 KiB.
@@ -20,14 +19,14 @@ const BUFFER_SIZE: usize = 65_536;
 /// What is there of the line that is being read.
 #[derive(Clone, Copy)]
 enum Front {
-    /// The first so many bytes of `listen` and a carriage return, and no other.
+    /// The first N bytes of `listen` and a carriage return, and no other.
     Listen(usize),
     /// Anything else.
     Other,
 }
 
 impl Front {
-    /// What is there with one byte more, which ends no line.
+    /// Returns what is there with one byte more, which ends no line.
     fn grow(self, byte: u8) -> Front {
         match self {
             Front::Listen(count) if count < LISTEN.len() && LISTEN[count] == byte => {
@@ -40,7 +39,9 @@ impl Front {
         }
     }
 
-    /// Goes on over these bytes, up to the end of the first line that is `listen`, and gives how many they are.
+    /// Goes on over these bytes, up to the end of the first line `listen`.
+    ///
+    /// Returns how many they are.
     fn pass(&mut self, bytes: &[u8]) -> usize
         ensures most { result ≤ length bytes.now }
         ensures some { 0 < length bytes.now → 0 < result }
@@ -82,7 +83,7 @@ impl Held {
     ghost use Rattle.std.specs.Prelude.{◌≡◌, ◌≤◌, ◌<◌, [], ◌++◌, length, take, OnOk, IfOk};
     ghost use Rattle.std.specs.Io.KnownBytes.{Keeps, IsAtEnd, prepend_known};
 
-    /// No bytes.
+    /// Returns a buffer with no bytes.
     fn new(alloc: Global) -> Result<Held, NoMemory>
         ensures { IfOk result (λ held. held ≡ []) }
     {
@@ -96,7 +97,7 @@ impl Held {
         }
     }
 
-    /// The first bytes, so many at the most.
+    /// Returns the first bytes, at most N.
     fn front(&self, most: usize) -> &[u8]
         ensures { result.now ≡ take most self.now }
     {
@@ -116,7 +117,7 @@ impl Held {
         self.start += count;
     }
 
-    /// Where nothing is held, reads of the device once.
+    /// Reads of the device once if nothing is held.
     fn fill<I: Read>(&mut self, device: &mut I) -> io::Result<()>
         ensures kept { Keeps (prepend_known self.old (I.remaining device.old)) (prepend_known self.new (I.remaining device.new)) }
         ensures ended { OnOk result (length self.new ≡ 0 → IsAtEnd (I.remaining device.new)) }
@@ -131,10 +132,10 @@ impl Held {
     }
 }
 
-/// A script's input that is read in two parts: up to the line `listen`, and behind it.
+/// A script's input that is read in two parts: up to the line `listen`, and after it.
 ///
-/// As a reader it gives what is there, but no byte behind a line that is exactly `listen` in the read in which that line ends. So whoever
-/// stops at that line has read no byte behind it.
+/// As a reader it gives what is there, but no byte after a line that is exactly `listen` in the
+/// read in which that line ends. So whoever stops at that line has read no byte after it.
 #[derive(Drop)]
 pub struct LineInput<I: Read + Drop> {
     device: I,
@@ -153,7 +154,7 @@ impl<I: Read + Drop> Model for LineInput<I> {
 }
 
 impl<I: Read + Drop> LineInput<I> {
-    /// The input of a device. It holds up to 64 KiB of it.
+    /// Returns the input of a device, of which it holds up to 64 KiB.
     pub fn new(alloc: Global, device: I) -> Result<LineInput<I>, NoMemory>
         ensures { IfOk result (λ input. input ≡ I.remaining device) }
     {
@@ -163,21 +164,6 @@ impl<I: Read + Drop> LineInput<I> {
             held,
             front: Front::Listen(0),
         })
-    }
-
-    /// Reads no more than the rest of a line, its end included.
-    pub(crate) fn read_line_part(&mut self, buf: &mut [u8]) -> io::Result<usize>
-        ensures bound { ReadsAtMost result buf.new }
-        ensures bytes { ReadConsumes self.old self.new result buf.new }
-    {
-        self.held.fill(&mut self.device)?;
-        let front = self.held.front(buf.len());
-        let taken = match front.find_byte(b'\n') {
-            Some(place) => place + 1,
-            None => front.len(),
-        };
-        self.held.give(taken, buf);
-        Ok(taken)
     }
 }
 

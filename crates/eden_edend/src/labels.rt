@@ -61,7 +61,7 @@ impl Bound {
     }
 }
 
-/// Where the first binding to each id stands among those that were made.
+/// Finds the first binding to each id among those that were made.
 #[derive(Drop)]
 struct Firsts {
     places: IndexMap<Id, usize>,
@@ -85,7 +85,8 @@ impl Firsts {
         }
     }
 
-    /// Notes the place of a binding to an id, unless that of an earlier one is noted. With no memory nothing is.
+    /// Notes the place of a binding to an id, unless that of an earlier one is noted. With no
+    /// memory nothing is.
     fn note(&mut self, id: Id, at: usize) -> Result<(), AllocError>
         ensures ok { OnOk result (IsNoted self.old.places.entries self.new.places.entries id at) }
         ensures err { OnErr result (self.new.places.entries ≡ self.old.places.entries) }
@@ -100,7 +101,8 @@ impl Firsts {
     }
 }
 
-/// What each label of a script is bound to. It is found in a time that grows with the logarithm of the number of bindings.
+/// What each label of a script is bound to. It is found in a time that grows with the logarithm of
+/// the number of bindings.
 ///
 /// Its value is the list of the bindings that were made, the newest first.
 #[derive(Drop)]
@@ -136,7 +138,7 @@ fn is_id(found: Option<Id>, id: Id) -> bool
 }
 
 impl Labels {
-    /// No binding. It takes no memory.
+    /// No binding. Does not allocate.
     pub fn new(alloc: Global) -> Labels
         ensures { result ≡ [] }
     {
@@ -157,7 +159,7 @@ impl Labels {
         }
     }
 
-    /// What the label is bound to. This takes no memory.
+    /// What the label is bound to. Does not allocate.
     pub fn get(&self, label: &Label) -> Option<Id>
         ensures { result ≡ bound self.now label.now }
     {
@@ -168,8 +170,8 @@ impl Labels {
         }
     }
 
-    /// Binds the label to the id, from now on. One that `Label::read_to_bind` read is not `empty`, which `get` answers as the empty commit
-    /// whatever it is bound to.
+    /// Binds the label to the id, from now on. One that `Label::read_to_bind` read is not `empty`,
+    /// which `get` answers as the empty commit whatever it is bound to.
     ///
     /// `AllocError` comes where a growth was refused.
     #[tactic(auto, using(crate::proofs::LabelLemmas::bound_map_more, crate::proofs::LabelLemmas::reverse_one))]
@@ -203,8 +205,8 @@ impl Labels {
         }
     }
 
-    /// The first label that was ever bound to the id and still is. The search begins at the first binding to the id, and goes on only
-    /// where that label was bound to another one since.
+    /// The first label that was ever bound to the id and still is. The search begins at the first
+    /// binding to the id, and goes on only where that label was bound to another one since.
     pub fn first_bound(&self, id: Id) -> Option<&Label>
         ensures { option_copied result ≡ label_of self.now id }
     {

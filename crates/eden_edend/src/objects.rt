@@ -15,7 +15,8 @@ use eden_script::{Label, PutLine, Refusal, Told, TreeEntry, push_bytes, push_id}
 use std::alloc::{AllocError, Global};
 use std::mem;
 
-/// The bytes that an entry puts into a tree: its mode, a space, its name, NUL and the bytes of the id.
+/// The bytes that an entry puts into a tree: its mode, a space, its name, NUL and the bytes of the
+/// id.
 fn push_entry(payload: &mut Vec<u8>, entry: &TreeEntry, id: Id) -> Result<(), AllocError>
     ensures { OnOk result (payload.new.items ≡ payload.old.items ++ (entry.now.mode ++ 32 ∷ entry.now.name ++ 0 ∷ id.0)) }
 {
@@ -72,7 +73,8 @@ fn object_with(word: Word, payload: Option<Vec<u8>>) -> Option<Object>
     }
 }
 
-/// The label that a line binds, and the object that it names; no object where a label in it is not bound.
+/// The label that a line binds, and the object that it names; no object where a label in it is not
+/// bound.
 pub(crate) fn object_of(
     alloc: Global,
     labels: &Labels,
@@ -117,7 +119,8 @@ pub(crate) fn bind_put(
     }
 }
 
-/// The objects, and the labels that are bound to them. A mount takes the store: the one that is left has no object.
+/// The objects, and the labels that are bound to them. A mount takes the store: the one that is
+/// left has no object.
 #[derive(Drop)]
 pub struct Objects {
     /// The objects.
@@ -129,7 +132,7 @@ pub struct Objects {
 impl Objects {
     ghost use Rattle.std.specs.Prelude.{[]};
 
-    /// No object and no binding. It takes no memory.
+    /// No object and no binding. Does not allocate.
     pub fn new(alloc: Global) -> Objects
         ensures store { result.store ≡ [] }
         ensures labels { result.labels ≡ [] }

@@ -1,6 +1,6 @@
 //! The lines of a script up to `listen`.
 
-ghost use Rattle.std.specs.Prelude.{◌≡◌, ◌+◌, ◌≤◌, ◌↔◌, true, codes, IfOk, IfErr, IsErrOf, IsTrue, OnOk};
+ghost use Rattle.std.specs.Prelude.{◌≡◌, ◌+◌, ◌≤◌, ◌↔◌, true, codes, Some, IfOk, IfErr, IsErrOf, IsTrue, OnOk};
 ghost use Rattle.eden_stream.specs.Counts.{Rose, RoseBy};
 ghost use Rattle.eden_script.specs.ScriptText.{script_text};
 ghost use Rattle.eden_script.specs.Sessions.{session_over};
@@ -15,7 +15,7 @@ use eden_ids::GitNaming;
 use eden_stream::{Answered, CountedRead, CountedWrite, LineMachine, RunFault, run_lines};
 use std::alloc::Global;
 
-/// What a script leaves to who listens.
+/// What a script has opened at the line `listen`.
 #[derive(Drop)]
 pub struct Opened {
     /// The number of the line `listen`, from 1.
@@ -26,14 +26,14 @@ pub struct Opened {
     pub labels: Labels,
 }
 
-/// Whether a line is `listen`.
+/// Returns whether a line is `listen`.
 fn is_listen(line: &[u8]) -> bool
     ensures { IsTrue result ↔ (line.now ≡ codes "listen") }
 {
     line == LISTEN
 }
 
-/// A session, and whether the line that it was given last was `listen`.
+/// A session, and whether it has refused the line `listen`.
 #[derive(Drop)]
 struct Opening {
     session: Session,
@@ -41,24 +41,35 @@ struct Opening {
 }
 
 impl LineMachine for Opening {
+    ghost use Rattle.std.specs.Prelude.{◌≡◌, true, false, codes};
     ghost use Rattle.eden_edend.specs.internal.Standing.{SessionStands};
     ghost use Rattle.eden_edend.specs.internal.SessionScript.{session_script};
 
-    ghost stands_for = { λ opening script. SessionStands opening.session.mount opening.session.objects script };
+    ghost stands_for = { λ opening script. SessionStands opening.session.mount opening.session.objects script × (opening.listens ≡ false) };
+
+    ghost refused = { λ opening script line. SessionStands opening.session.mount opening.session.objects script × (opening.listens ≡ true → line ≡ codes "listen") };
 
     fn answer(&mut self, line: &[u8], text: &mut Vec<u8>) -> Answered {
-        self.listens = is_listen(line);
-        self.session.answer(line, text)
+        match self.session.answer(line, text) {
+            Answered::Done => Answered::Done,
+            Answered::BadLine => {
+                self.listens = is_listen(line);
+                Answered::BadLine
+            }
+            Answered::NoMemory => Answered::NoMemory,
+        }
     }
 
-    ghost lawful = { λ opening script stands. session_script opening.session.mount opening.session.objects script stands };
+    ghost lawful = { λ opening script stands. session_script opening.session.mount opening.session.objects script stands.0 };
 }
 
 impl Opening {
-    /// What is opened at the line of this number, which can't be read as one of a script.
+    /// Returns what is opened at the line of this number, which the session has refused.
     fn open(self, line: u64) -> Result<Opened, RunFault>
         ensures listens { OnOk result (self.listens ≡ true) }
-        ensures opened { IfOk result (λ opened. opened.line ≡ line) }
+        ensures line { IfOk result (λ opened. opened.line ≡ line) }
+        ensures mount { IfOk result (λ opened. self.session.mount ≡ Some opened.mount) }
+        ensures labels { IfOk result (λ opened. opened.labels ≡ self.session.objects.labels) }
         ensures refused { IfErr result (λ fault. fault ≡ RunFault.BadLine line) }
     {
         let Opening { session, listens } = self;
@@ -75,15 +86,17 @@ impl Opening {
     }
 }
 
-/// Runs the lines of a script as `run_over` does, up to the first line that is `listen`, and gives that line's number, the mount and the labels.
-/// What the lines before it print is written.
+/// Runs the lines of a script as `run_over` does, up to `listen`.
 ///
-/// As much is read as the reader gives; one that gives no byte behind that line, as a `LineInput`, is left at the line's end.
+/// Returns the number of that line, the mount and the labels. What the lines before it print is
+/// written. As much is read as the reader gives. One that gives no byte after that line, as a
+/// `LineInput`, is left at the line's end.
 ///
 /// # Errors
 ///
-/// - `BadLine`: with the number of the first line that no row of the table reads, or of `listen` where no mount was made before it; or with
-///   that of the line behind the last, where the script ends before `listen`. What the lines before it print is written.
+/// - `BadLine`: no row of the table reads the line of this number, or it is `listen` and no mount
+///   was made before it. If the script ends before `listen`, the number is that of the line after
+///   its last. What the lines before it print is written.
 /// - `Read`, `Write`, `TurnsSpent` and `NoMemory` as those of `run`.
 pub fn run_to_listen<R: CountedRead, W: CountedWrite>(
     alloc: Global,

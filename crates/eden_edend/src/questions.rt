@@ -42,7 +42,7 @@ fn listed(mount: &Mount<GitNaming>, wanted: &Filter) -> Result<Vec<Path>, NoMemo
     }
 }
 
-/// The present position. This takes no memory.
+/// The present position. Does not allocate.
 fn position(mount: &Mount<GitNaming>) -> Told<'_>
     ensures { (world : WorldState) → StandsFor mount.now world → result ≡ asked world AskLine.Position }
 {

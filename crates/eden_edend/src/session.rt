@@ -1,4 +1,5 @@
-//! A session of a script: the objects, the mount once there is one, and what each line makes of them.
+//! A session of a script: the objects, the mount once there is one, and what each line makes of
+//! them.
 
 ghost use Rattle.std.specs.Prelude.{◌≡◌, IfOk, IsSome, OnOk, option_and_then};
 ghost use Rattle.eden_ids.specs.Fronts.{KeepsFront};
@@ -73,7 +74,7 @@ pub(crate) struct Session {
 }
 
 impl Session {
-    /// A session with these objects and no mount. It takes no memory.
+    /// A session with these objects and no mount. Does not allocate.
     pub(crate) fn new(alloc: Global, objects: Objects) -> Session
         ensures { SessionStands result.mount result.objects (script_text (session_over objects.store objects.labels)) }
     {
@@ -154,7 +155,8 @@ impl Session {
         }
     }
 
-    /// Does what a line asks for, and adds what it prints to the text. Where memory runs out some of that may stand there.
+    /// Does what a line asks for, and adds what it prints to the text. If memory runs out, part of
+    /// it may have been added.
     fn tell(&mut self, command: Command, text: &mut Vec<u8>) -> Result<(), NoMemory>
         ensures told { OnOk result (Tells self.old.mount self.old.objects command self.new.mount self.new.objects text.old.items text.new.items) }
         ensures front { KeepsFront text.old.items text.new.items }
@@ -189,6 +191,8 @@ impl LineMachine for Session {
     ghost use Rattle.eden_edend.specs.internal.SessionScript.{session_script};
 
     ghost stands_for = { λ session script. SessionStands session.mount session.objects script };
+
+    ghost refused = { λ session script _. SessionStands session.mount session.objects script };
 
     fn answer(&mut self, line: &[u8], text: &mut Vec<u8>) -> Answered {
         let command = match read_line(self.alloc, line) {

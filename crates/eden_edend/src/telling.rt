@@ -64,7 +64,8 @@ fn push_answer(text: &mut Vec<u8>, labels: &Labels, answer: &Answer) -> Result<(
     }
 }
 
-/// The lines of the directories that were renamed, where there are some: how many, and then each of them.
+/// The lines of the directories that were renamed, where there are some: how many, and then each of
+/// them.
 fn push_prefixes(text: &mut Vec<u8>, prefixes: &[Path]) -> Result<(), AllocError>
     ensures told { OnOk result (text.new.items ≡ text.old.items ++ prefixes_text prefixes.now) }
     ensures front { KeepsFront text.old.items text.new.items }
@@ -75,7 +76,8 @@ fn push_prefixes(text: &mut Vec<u8>, prefixes: &[Path]) -> Result<(), AllocError
     push_listed(text, b"prefixes ".as_slice(), prefixes)
 }
 
-/// The lines of what changed since a position: how many paths up to which position, and then each of them.
+/// The lines of what changed since a position: how many paths up to which position, and then each
+/// of them.
 fn push_changes(
     text: &mut Vec<u8>,
     labels: &Labels,
@@ -95,7 +97,8 @@ fn push_changes(
     push_prefixes(text, prefixes)
 }
 
-/// Prints what a line came to, by the labels after it. Where memory runs out a part may stand behind what stood there.
+/// Prints what a line came to, by the labels after it. If memory runs out, part of it may have been
+/// added.
 pub(crate) fn push_told(
     text: &mut Vec<u8>,
     labels: &Labels,

@@ -5,10 +5,10 @@ use Rattle.std.proofs.lemmas.Bool.Decides.{leb_tells}
 use Rattle.std.specs.List.Sorted.{IsPermutation}
 use Rattle.std.proofs.lemmas.List.Sorted.{Contains-permutation, IsPermutation-map, IsPermutation-sym}
 use Rattle.std.proofs.lemmas.List.Elements.{All-contains, All-weaker, Contains-append_cases, Contains-append_left, Contains-append_right, Contains-push, Contains-push_cases}
-use Rattle.eden_messages.specs.declared.call.Answer.{Answer}
-use Rattle.eden_messages.specs.declared.call.Answer.TheVariants as answer
-use Rattle.eden_messages.specs.declared.call.Call.{Call}
-use Rattle.eden_messages.specs.declared.call.Call.TheVariants as call
+use Rattle.eden_logs.specs.declared.call.Answer.{Answer}
+use Rattle.eden_logs.specs.declared.call.Answer.TheVariants as answer
+use Rattle.eden_logs.specs.declared.call.Call.{Call}
+use Rattle.eden_logs.specs.declared.call.Call.TheVariants as call
 use Rattle.eden_messages.specs.declared.message.Reply.{Reply}
 use Rattle.eden_messages.specs.declared.message.Request.{Request}
 use Rattle.eden_messages.specs.Mirrors.{MirrorState}

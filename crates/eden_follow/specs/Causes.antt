@@ -1,4 +1,4 @@
--- Why logs do not vouch for a follower: the first cause that stands.
+-- Why logs do not vouch for a follower: the first cause that applies.
 use Rattle.std.specs.Prelude.{◌≤◌, ◌≡◌, ◌⊎◌, ℕ, true, List, [], ◌∷◌, ◌++◌, Contains}
 use Rattle.eden_messages.specs.declared.message.Request.{Request}
 use Rattle.eden_messages.specs.Mirrors.{MirrorState}
@@ -12,7 +12,8 @@ use Rattle.eden_headline.specs.Vouched.{AreVouched, IsAnswered, IsAsked, IsVouch
 use Rattle.eden_follow.specs.declared.fault.VouchFault.{VouchFault}
 use Rattle.eden_follow.specs.declared.fault.VouchFault.TheVariants.{StrangeReply, BeforeCause, StrangeRequest, NoMemory}
 
--- the request is sent for the first time, and was taken no later than a request whose reply had come
+-- the request is sent for the first time, and was taken no later than a request whose
+-- reply had come
 pub record IsLate (entries : List LogEntry) (earlier : List Note) (request : Request) : Type 0 where
   pub first : Contains (sent_in earlier) request → ⊥
   pub ticket : ℕ
@@ -21,19 +22,19 @@ pub record IsLate (entries : List LogEntry) (earlier : List Note) (request : Req
   pub before : Contains (came_in earlier) came
   pub late : ticket ≤ came
 
--- the cause that stands at a note behind these
+-- the cause at a note that comes after these
 abbrev pub IsCause : List LogEntry → List Note → Note → VouchFault → Type 0
 IsCause entries earlier (Came ticket reply) StrangeReply = IsAnswered entries ticket reply → ⊥
 IsCause entries earlier (Sent requests) BeforeCause = (request : Request) × (Contains requests request × IsLate entries earlier request)
 IsCause entries earlier note fault = ⊥
 
--- along notes the first with a cause has this one
+-- the first of these notes with a cause has this one
 abbrev pub FirstCause : List LogEntry → List Note → List Note → VouchFault → Type 0
 FirstCause entries earlier [] fault = ⊥
 FirstCause entries earlier (note ∷ notes) fault = IsCause entries earlier note fault
     ⊎ (IsVouchedNote entries earlier note × FirstCause entries (earlier ++ note ∷ []) notes fault)
 
--- no note has a cause, and a request is noted as the follower's that was never sent
+-- no note has a cause, and an entry has a request of the follower that was never sent
 pub record HasStrangeRequest (entries : List LogEntry) (id life : ℕ) (notes : List Note) : Type 0 where
   pub along : AreVouched entries [] notes
   pub ticket : ℕ
@@ -42,7 +43,7 @@ pub record HasStrangeRequest (entries : List LogEntry) (id life : ℕ) (notes : 
   pub own : is_own id life request ≡ true
   pub never : Contains (sent_in notes) request → ⊥
 
--- what stands against a mirror with these notes
+-- why logs do not vouch for a mirror with these notes
 abbrev pub IsAgainst : List CallLog → MirrorState → List Note → VouchFault → Type 0
 IsAgainst logs m notes StrangeReply = FirstCause (entries_in logs) [] notes StrangeReply
 IsAgainst logs m notes BeforeCause = FirstCause (entries_in logs) [] notes BeforeCause

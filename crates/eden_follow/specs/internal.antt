@@ -1,4 +1,4 @@
--- What only the code of vouching speaks of.
+-- Definitions that only the code of vouching uses.
 pub mod Rows
 pub mod Judged
 pub mod Orders

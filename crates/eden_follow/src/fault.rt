@@ -3,13 +3,14 @@
 use eden_ids::NoMemory;
 use thiserror::Error;
 
-/// Why a follower took no step. The first cause in this order is told, and nothing has changed.
+/// Why a follower took no step. The first cause in this order is reported; nothing
+/// changes.
 #[derive(Clone, Copy, Debug, PartialEq, Eq, Error)]
 pub enum StepFault {
-    /// No round is under way, and the numbers of rounds are spent.
+    /// No round is under way, and round numbers are used up.
     #[error("NumbersExhausted")]
     NumbersExhausted,
-    /// A growth was refused.
+    /// An allocation failed.
     #[error("NoMemory")]
     NoMemory,
 }
@@ -25,20 +26,27 @@ impl From<NoMemory> for StepFault {
     }
 }
 
-/// Why logs do not vouch for a follower. Its notes are judged in their order, and the first with a cause decides; after them come the
-/// requests of the logs.
+/// Why logs do not vouch for a follower.
+///
+/// Its notes are checked in their order, and the first with a cause decides. The requests
+/// of the logs are checked after them.
 #[derive(Clone, Copy, Debug, PartialEq, Eq, Error)]
 pub enum VouchFault {
-    /// No log has a reply that came as the answer under its ticket.
+    /// A reply came that no log has under its ticket.
     #[error("StrangeReply")]
     StrangeReply,
-    /// A log has a request under a ticket that is not above that of a reply which came before the request was sent first.
+    /// A log has a request under too low a ticket.
+    ///
+    /// The request was sent after a reply came, and its ticket is not above that reply's.
+    /// The request had not been sent before that reply.
     #[error("BeforeCause")]
     BeforeCause,
-    /// No note has a cause, and a log has a request under the follower's id and life that it never sent.
+    /// A log has a request of the follower that it never sent.
+    ///
+    /// No note has a cause. A request is the follower's if it is under its id and life.
     #[error("StrangeRequest")]
     StrangeRequest,
-    /// A growth was refused.
+    /// An allocation failed.
     #[error("NoMemory")]
     NoMemory,
 }

@@ -1,4 +1,4 @@
-//! The notes of a follower, judged in their order beside the rows of logs.
+//! The check of a follower's notes, in their order, against the rows of logs.
 
 ghost use Rattle.std.specs.Prelude.{◌≡◌, ℕ, ◌++◌, ◌∷◌, [], List, map, All, true, IfOk, IfErr, OnOk};
 ghost use Rattle.std.specs.List.Sorted.{IsNonDecreasingBy};
@@ -22,7 +22,7 @@ use crate::rows::{Asked, Told};
 use eden_headline::Note;
 use eden_messages::Request;
 
-/// The higher of a ticket and the highest so far.
+/// Returns the higher of a ticket and the highest so far.
 fn higher(highest: Option<u64>, ticket: u64) -> Option<u64>
     ensures { (tickets : List ℕ) → IsHighest tickets highest → IsHighest (tickets ++ ticket ∷ []) result }
 {
@@ -32,8 +32,9 @@ fn higher(highest: Option<u64>, ticket: u64) -> Option<u64>
     highest
 }
 
-/// Judges a note that stands behind others, after which replies came under tickets up to the highest one, and gives the highest one
-/// after it.
+/// Checks a note, and returns the highest ticket after it.
+///
+/// `highest` is the highest ticket of the replies that came before.
 fn judge_note(
     replies: &[Told],
     rows: &mut [Asked],
@@ -64,7 +65,7 @@ fn judge_note(
     }
 }
 
-/// Judges notes in their order, and marks what was sent.
+/// Checks notes in their order, and marks what was sent.
 fn judge_notes(replies: &[Told], rows: &mut [Asked], notes: &[Note]) -> Result<(), VouchFault>
     requires replies { IsNonDecreasingBy (λ (row : Told). row.ticket) replies.now }
     requires requests { AreInOrder rows.old }
@@ -81,7 +82,7 @@ fn judge_notes(replies: &[Told], rows: &mut [Asked], notes: &[Note]) -> Result<(
     Ok(())
 }
 
-/// Whether a request is under an id and a life.
+/// Returns true if a request is under an id and a life.
 fn is_own(request: &Request, id: u64, life: u64) -> bool
     ensures { result ≡ is_own id life request.now }
 {
@@ -89,7 +90,9 @@ fn is_own(request: &Request, id: u64, life: u64) -> bool
     query.mirror == id && query.life == life
 }
 
-/// Judges the requests of the logs that are under an id and a life: all are to be marked.
+/// Checks that the logs' requests of a follower are marked.
+///
+/// They are those under its id and its life.
 fn judge_requests(rows: &[Asked], id: u64, life: u64) -> Result<(), VouchFault>
     ensures all { OnOk result (All (λ (row : Asked). is_own id life row.request.now ≡ true → row.sent ≡ true) rows.now) }
     ensures strange { IfErr result (λ fault. HasStrange rows.now id life fault) }
@@ -102,7 +105,9 @@ fn judge_requests(rows: &[Asked], id: u64, life: u64) -> Result<(), VouchFault>
     Ok(())
 }
 
-/// Judges notes beside rows of logs, and then the requests of the logs that are under an id and a life.
+/// Checks notes against rows of logs, and then the logs' requests.
+///
+/// The requests are those under an id and a life.
 pub(crate) fn judge(
     replies: &[Told],
     rows: &mut [Asked],

@@ -1,7 +1,12 @@
-//! Followers: a mirror that notes what it asks and what comes to it, and the check of those notes against what callers noted.
+//! Followers: mirrors that note what they ask and receive, and the check of these notes.
 //!
-//! A follower needs no part of a mount. Where `vouch` says that the logs of a mount's callers vouch for it, its notes and the mount's history
-//! make one schedule, so that what eden_headline's `schedule_law` says of each mirror is true of this one.
+//! A `Follower` is a mirror with notes. `step` returns the requests to send, and
+//! `deliver` takes a reply with the ticket under which the mount took its request. It
+//! needs no part of a mount.
+//!
+//! `vouch` checks a follower's notes against the logs of a mount's callers. If it
+//! accepts, the notes make one schedule with each history with which the logs agree. So
+//! what eden_headline's `schedule_law` says of each mirror is true of this one.
 //!
 //! ```rust
 //! use eden_follow::{Follower, VouchFault, vouch};

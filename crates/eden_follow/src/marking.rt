@@ -13,21 +13,23 @@ use crate::ordering::{rows_of, rows_under};
 use crate::rows::{Asked, Told};
 use eden_messages::{Reply, Request};
 
-/// Whether two replies are equal.
+/// Returns true if two replies are equal.
 fn same_reply(one: &Reply, other: &Reply) -> bool
     ensures { IsTrue result ↔ (one.now ≡ other.now) }
 {
     one == other
 }
 
-/// Whether two requests are equal.
+/// Returns true if two requests are equal.
 fn same_request(one: &Request, other: &Request) -> bool
     ensures { IsTrue result ↔ (one.now ≡ other.now) }
 {
     one == other
 }
 
-/// Whether a ticket is above the highest one, if there is one.
+/// Returns true if a ticket is above the highest one.
+///
+/// It also is if there is no highest one.
 pub(crate) fn is_above(ticket: u64, highest: Option<u64>) -> bool
     ensures { IsTrue result ↔ IsAbove highest ticket }
 {
@@ -37,7 +39,7 @@ pub(crate) fn is_above(ticket: u64, highest: Option<u64>) -> bool
     }
 }
 
-/// Whether one of these rows has the reply under the ticket.
+/// Returns true if a row has the reply under the ticket.
 fn has_reply(rows: &[Told], ticket: u64, reply: &Reply) -> bool
     ensures told { result ≡ true → Contains (map told rows.now) (ticket, reply.now) }
     ensures untold { result ≡ false → All (λ (row : Told). row.ticket ≡ ticket → row.reply.now ≡ reply.now → ⊥) rows.now }
@@ -50,7 +52,9 @@ fn has_reply(rows: &[Told], ticket: u64, reply: &Reply) -> bool
     false
 }
 
-/// Whether a row has the reply under the ticket, where the rows are in the order of their tickets.
+/// Returns true if a row has the reply under the ticket.
+///
+/// The rows are in the order of their tickets.
 pub(crate) fn is_told(rows: &[Told], ticket: u64, reply: &Reply) -> bool
     requires { IsNonDecreasingBy (λ (row : Told). row.ticket) rows.now }
     ensures told { result ≡ true → Contains (map told rows.now) (ticket, reply.now) }
@@ -60,7 +64,7 @@ pub(crate) fn is_told(rows: &[Told], ticket: u64, reply: &Reply) -> bool
     has_reply(&rows[start..end], ticket, reply)
 }
 
-/// Whether the request was sent, as the rows that have it are marked.
+/// Returns true if the request was sent, by its rows' marks.
 fn was_sent(rows: &[Asked], request: &Request) -> bool
     ensures sent { result ≡ true → (sent : List Request) → All (IsMarked sent) rows.now → Contains sent request.now }
     ensures unsent { result ≡ false → All (λ (row : Asked). row.request.now ≡ request.now → row.sent ≡ false) rows.now }
@@ -73,7 +77,7 @@ fn was_sent(rows: &[Asked], request: &Request) -> bool
     false
 }
 
-/// Whether all rows of the request are above the highest ticket.
+/// Returns true if the request's rows are above the highest ticket.
 fn are_above(rows: &[Asked], request: &Request, highest: Option<u64>) -> bool
     ensures above { result ≡ true → All (λ (row : Asked). row.request.now ≡ request.now → IsAbove highest row.ticket) rows.now }
     ensures low { result ≡ false → HasLow rows.now request.now highest }
@@ -86,7 +90,7 @@ fn are_above(rows: &[Asked], request: &Request, highest: Option<u64>) -> bool
     true
 }
 
-/// Marks a row that has the request.
+/// Marks a row if it has the request.
 fn mark_row(row: &mut Asked, request: &Request)
     ensures row { asked row.new ≡ asked row.old }
     ensures marked { (sent : List Request) → IsMarked sent row.old → IsMarked (sent ++ request.now ∷ []) row.new }
@@ -96,7 +100,7 @@ fn mark_row(row: &mut Asked, request: &Request)
     }
 }
 
-/// Marks the rows of a request, which are all between two places.
+/// Marks the rows of a request, which are all between two indexes.
 fn mark(rows: &mut [Asked], start: usize, end: usize, request: &Request)
     requires { IsGroup (λ (row : Asked). row.request.now ≡ request.now) rows.old start end }
     ensures rows { map asked rows.new ≡ map asked rows.old }
@@ -107,8 +111,10 @@ fn mark(rows: &mut [Asked], start: usize, end: usize, request: &Request)
     }
 }
 
-/// Notes that a request is sent, where replies came under tickets up to the highest one. Its rows are searched for by halves; where it was
-/// sent before, the first that is marked tells so.
+/// Notes that a request is sent.
+///
+/// Replies came before under tickets up to the highest one. Its rows are found by binary
+/// search. If it was sent before, the first of them is marked.
 fn send(rows: &mut [Asked], request: &Request, highest: Option<u64>) -> Result<(), VouchFault>
     requires { AreInOrder rows.old }
     ensures rows { map asked rows.new ≡ map asked rows.old }

@@ -1,4 +1,4 @@
-//! Rows put in order, and found by halves.
+//! Rows in order, and binary search of them.
 
 ghost use Rattle.std.specs.Prelude.{◌≡◌, map, All, OnOk};
 ghost use Rattle.std.specs.List.Sorted.{IsNonDecreasingBy, IsPermutation};
@@ -12,7 +12,7 @@ use eden_ids::NoMemory;
 use eden_messages::Request;
 use std::cmp::Ordering;
 
-/// The path of which a content is asked, or what stands below it.
+/// Returns the path whose content or list is requested.
 fn path_of(request: &Request) -> &[u8]
     ensures { result.now ≡ path_in request.now }
 {
@@ -24,7 +24,7 @@ fn path_of(request: &Request) -> &[u8]
     }
 }
 
-/// The order of two requests by their questions: by mirror, life and number, and then by path.
+/// Compares two requests by their questions: mirror, life and number, and then path.
 fn by_question(one: &Request, other: &Request) -> Ordering
     ensures { result ≡ question_cmp one.now other.now }
 {
@@ -37,7 +37,7 @@ fn by_question(one: &Request, other: &Request) -> Ordering
         .then(path_of(one).cmp(path_of(other)))
 }
 
-/// Puts rows in the order of their tickets.
+/// Sorts rows by their tickets.
 pub(crate) fn sort_replies(rows: &mut Vec<Told>) -> Result<(), NoMemory>
     ensures same { IsPermutation rows.old.items rows.new.items }
     ensures sorted { OnOk result (IsNonDecreasingBy (λ (row : Told). row.ticket) rows.new.items) }
@@ -46,7 +46,7 @@ pub(crate) fn sort_replies(rows: &mut Vec<Told>) -> Result<(), NoMemory>
     Ok(())
 }
 
-/// Puts rows in the order of their questions.
+/// Sorts rows by their questions.
 pub(crate) fn sort_requests(rows: &mut Vec<Asked>) -> Result<(), NoMemory>
     ensures same { IsPermutation rows.old.items rows.new.items }
     ensures sorted { OnOk result (AreInOrder rows.new.items) }
@@ -56,7 +56,7 @@ pub(crate) fn sort_requests(rows: &mut Vec<Asked>) -> Result<(), NoMemory>
     Ok(())
 }
 
-/// Where the rows of a ticket begin and end.
+/// Returns where the rows of a ticket begin and end.
 pub(crate) fn rows_under(rows: &[Told], ticket: u64) -> (usize, usize)
     requires { IsNonDecreasingBy (λ (row : Told). row.ticket) rows.now }
     ensures { IsGroup (λ (row : Told). row.ticket ≡ ticket) rows.now result.0 result.1 }
@@ -66,7 +66,7 @@ pub(crate) fn rows_under(rows: &[Told], ticket: u64) -> (usize, usize)
     (start, end)
 }
 
-/// Where the rows of a request's question begin and end.
+/// Returns where the rows of a request's question begin and end.
 pub(crate) fn rows_of(rows: &[Asked], request: &Request) -> (usize, usize)
     requires { AreInOrder rows.now }
     ensures { IsGroup (λ (row : Asked). row.request.now ≡ request.now) rows.now result.0 result.1 }

@@ -1,12 +1,12 @@
-//! What logs note of replies and of requests, row by row.
+//! The replies and requests of logs, row by row.
 
 ghost use Rattle.std.specs.Prelude.{◌≡◌, ◌++◌, map, All, IfOk, OnOk};
 ghost use Rattle.eden_logs.specs.Logs.{entries_in};
 ghost use Rattle.eden_follow.specs.internal.Rows.{IsUnsent, asked, asked_by, asked_in, told, told_by, told_in};
 
 use eden_ids::NoMemory;
-use eden_logs::{CallLog, LogEntry};
-use eden_messages::{Answer, Call, Reply, Request};
+use eden_logs::{Answer, Call, CallLog, LogEntry};
+use eden_messages::{Reply, Request};
 use std::alloc::Global;
 
 /// A reply that a log has as the answer under a ticket.
@@ -16,7 +16,7 @@ pub(crate) struct Told<'a> {
     pub(crate) reply: &'a Reply,
 }
 
-/// A request that a log has under a ticket, and whether it was sent so far.
+/// A request in a log, its ticket, and whether it was sent.
 #[derive(Clone, Copy)]
 pub(crate) struct Asked<'a> {
     pub(crate) ticket: u64,
@@ -24,7 +24,7 @@ pub(crate) struct Asked<'a> {
     pub(crate) sent: bool,
 }
 
-/// Adds a row for the reply of an entry, if it has one.
+/// Adds a row for the reply of an entry, if any.
 fn add_reply<'a>(rows: &mut Vec<Told<'a>>, entry: &'a LogEntry) -> Result<(), NoMemory>
     ensures { OnOk result (map told rows.new.items ≡ map told rows.old.items ++ told_by entry.now.ticket entry.now.answer) }
 {
@@ -51,7 +51,7 @@ fn add_replies<'a>(rows: &mut Vec<Told<'a>>, entries: &'a [LogEntry]) -> Result<
     Ok(())
 }
 
-/// A row for each reply of the logs.
+/// Returns a row for each reply of the logs.
 #[tactic(auto, using(crate::proofs::RowLists::told_next))]
 pub(crate) fn list_replies<'a>(
     alloc: Global,
@@ -66,7 +66,7 @@ pub(crate) fn list_replies<'a>(
     Ok(rows)
 }
 
-/// Adds a row for the request of an entry, if it has one.
+/// Adds a row for the request of an entry, if any.
 fn add_request<'a>(rows: &mut Vec<Asked<'a>>, entry: &'a LogEntry) -> Result<(), NoMemory>
     ensures rows { OnOk result (map asked rows.new.items ≡ map asked rows.old.items ++ asked_by entry.now.ticket entry.now.call) }
     ensures unsent { OnOk result (All IsUnsent rows.old.items → All IsUnsent rows.new.items) }
@@ -86,7 +86,7 @@ fn add_request<'a>(rows: &mut Vec<Asked<'a>>, entry: &'a LogEntry) -> Result<(),
     }
 }
 
-/// Adds a row for each request of a log, which is not sent.
+/// Adds a row for each request of a log, as not sent.
 fn add_requests<'a>(rows: &mut Vec<Asked<'a>>, entries: &'a [LogEntry]) -> Result<(), NoMemory>
     ensures rows { OnOk result (map asked rows.new.items ≡ map asked rows.old.items ++ asked_in entries.now) }
     ensures unsent { OnOk result (All IsUnsent rows.old.items → All IsUnsent rows.new.items) }
@@ -97,7 +97,7 @@ fn add_requests<'a>(rows: &mut Vec<Asked<'a>>, entries: &'a [LogEntry]) -> Resul
     Ok(())
 }
 
-/// A row for each request of the logs, none of which is sent.
+/// Returns a row for each request of the logs, as not sent.
 #[tactic(auto, using(crate::proofs::RowLists::asked_next))]
 pub(crate) fn list_requests<'a>(
     alloc: Global,

@@ -7,3 +7,4 @@ mod Noting
 mod Searching
 mod Naming
 mod Placing
+pub mod NumberLemmas

@@ -1,5 +1,5 @@
--- The entries of a tree by columns: in the order in which they stand, the place where each begins (and where the last one ends), its id,
--- its kind as a byte, and its name. In bytes 47 is the slash, which no name has.
+-- The entries of a tree as columns, in their order: the place where each begins (and where the last
+-- one ends), its id, its kind as a byte, and its name. Byte 47 is the slash, which no name has.
 use Rattle.std.specs.Prelude.{◌≡◌, ℕ, List, [], ◌∷◌, ◌++◌, map, Option, Some, None}
 use Rattle.std.specs.List.{flat_map}
 use Rattle.eden_ids.specs.declared.id.Id.{Id}
@@ -25,7 +25,7 @@ kinds_of es = map (λ e. kind_byte e.kind) es
 abbrev pub names_of : List Entry → List (List ℕ)
 names_of es = map (λ e. e.name) es
 
--- the names in one text, a slash behind each
+-- the names in one text, each followed by a slash
 abbrev pub text_of : List Entry → List ℕ
 text_of es = flat_map (λ e. e.name ++ 47 ∷ []) es
 

@@ -1,4 +1,4 @@
--- What is read of one directory: its entries one by one, and what it says of a name.
+-- The entries of one directory, read one by one and found by name.
 use Rattle.std.specs.Prelude.{ℕ, Bool, if◌then◌else◌, List, [], ◌∷◌, Option, Some, None}
 use Rattle.std.specs.Borrow.{Bor}
 use Rattle.eden_ids.specs.declared.id.Id.{Id}
@@ -8,7 +8,7 @@ use Rattle.eden_git.specs.declared.entry.RawEntry.{RawEntry}
 use Rattle.eden_git.specs.Entries.{plain}
 use Rattle.eden_git.specs.Trees.{Entry, entries_of}
 
--- the entries of some bytes, of which the first was read
+-- the entries of bytes whose first entry was read
 abbrev pub entries_read : Option (RawEntry × Bor (List ℕ)) → List Entry
 entries_read None = []
 entries_read (Some read) = plain read.0 ∷ entries_of read.1.now

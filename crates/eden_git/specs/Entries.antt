@@ -1,4 +1,4 @@
--- What the readers of entries give, as the lists that they stand for.
+-- The results of the readers of entries, as values of the specification.
 use Rattle.std.specs.Prelude.{ℕ, List, Option, Some, None, Result, Ok, Err}
 use Rattle.std.specs.Borrow.{Bor}
 use Rattle.eden_git.specs.declared.entry.RawEntry.{RawEntry}

@@ -5,4 +5,5 @@ pub mod Starts
 pub mod Columns
 pub mod Directories
 pub mod Commits
+pub mod Numbers
 pub mod internal

@@ -1,4 +1,4 @@
--- Where the entries of a tree's payload begin and end. Entries stand in the order of their keys.
+-- The places at which the entries of a tree's payload begin and end, and the order of their keys.
 use Rattle.std.specs.Prelude.{◌≡◌, ◌+◌, ℕ, List, [], ◌∷◌, ◌++◌, map, length, codes, Option, Some, None}
 use Rattle.std.specs.Ordering.{nat_cmp}
 use Rattle.std.specs.Cmp.Lexicographic.{slice_cmp}
@@ -18,11 +18,12 @@ mode_of (Some Link) = codes "120000"
 abbrev pub written : Entry → List ℕ
 written e = mode_of e.kind ++ 32 ∷ (e.name ++ 0 ∷ e.id.0)
 
--- how many they are: an id is 20 bytes
+-- their number: an id has 20 bytes
 abbrev pub breadth : Entry → ℕ
 breadth e = length (mode_of e.kind) + length e.name + 22
 
--- the places at which entries begin, of which the first is given, and behind them the place at which the last one ends
+-- the places at which entries begin, of which the first is given, and after them the place at which
+-- the last one ends
 abbrev pub places : ℕ → List Entry → List ℕ
 places start [] = start ∷ []
 places start (e ∷ es) = start ∷ places (start + breadth e) es

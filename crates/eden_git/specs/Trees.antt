@@ -1,6 +1,6 @@
--- Git's tree format, as `git cat-file tree` writes it out and decode_tree_entry of Git's tree-walk.c reads it. A tree's payload is its
--- entries, one behind the other: a mode in octal digits, a space, a name, NUL, and the twenty bytes of an id. In bytes 32 is the space,
--- 0 NUL and 47 the slash.
+-- Git's tree format, as `git cat-file tree` prints it and decode_tree_entry of Git's tree-walk.c
+-- reads it. A tree's payload is its entries, one after another: a mode in octal digits, a space, a
+-- name, NUL, and the twenty bytes of an id. Byte 32 is the space, 0 is NUL and 47 is the slash.
 use Rattle.std.specs.Prelude.{ℕ, zero, suc, Bool, not, ◌&&◌, nat_eq, nat_lt, if◌then◌else◌, List, [], ◌∷◌, ◌++◌, length, take, drop, codes, Option, Some, None, Result, Ok, Err}
 use Rattle.std.specs.List.{list_any}
 use Rattle.eden_ids.specs.declared.id.Id.{Id}
@@ -26,8 +26,8 @@ abbrev pub cut : ℕ → List ℕ → Option (List ℕ × List ℕ)
 cut b [] = None
 cut b (x ∷ rest) = if nat_eq x b then Some ([], rest) else before_more x (cut b rest)
 
--- what a mode says: a directory, or the kind of a file (`git help fast-import` tells the modes; a commit of another repository, 160000, is
--- none of them here)
+-- what a mode says: a directory, or the kind of a file (`git help fast-import` lists the modes; a
+-- commit of another repository, 160000, is refused here)
 abbrev pub kind_of_mode : List ℕ → Option (Option Kind)
 kind_of_mode mode =
     if same_bytes mode (codes "40000") then Some None else
@@ -35,11 +35,11 @@ kind_of_mode mode =
     if same_bytes mode (codes "100755") then Some (Some Exec) else
     if same_bytes mode (codes "120000") then Some (Some Link) else None
 
--- a component of a path, which has no slash
+-- a component of a path, without a slash
 abbrev pub is_name : List ℕ → Bool
 is_name name = is_component name && not (list_any (λ b. nat_eq b 47) name)
 
--- the first entry and the bytes behind it, or why there is none
+-- the first entry and the bytes after it, or why there is none
 abbrev pub read_id : Option Kind → List ℕ → List ℕ → Result (Entry × List ℕ) EntryFault
 read_id kind name rest =
     if not (is_name name) then Err BadName else
@@ -61,7 +61,7 @@ read_mode (Some parts) = read_kind (kind_of_mode parts.0) parts.1
 abbrev pub read_entry : List ℕ → Result (Entry × List ℕ) EntryFault
 read_entry bytes = read_mode (cut 32 bytes)
 
--- the entries at the front of some bytes, n at the most
+-- the entries at the beginning of some bytes, at most n
 abbrev pub entries_after : (List ℕ → List Entry) → Result (Entry × List ℕ) EntryFault → List Entry
 entries_after more (Err fault) = []
 entries_after more (Ok read) = read.0 ∷ more read.1
@@ -70,11 +70,12 @@ abbrev pub entries : ℕ → List ℕ → List Entry
 entries zero bytes = []
 entries (suc n) bytes = entries_after (entries n) (read_entry bytes)
 
--- the entries of a payload; each takes at least one byte, so that no more of them are there than bytes
+-- the entries of a payload; each has at least one byte, so there are at most as many as bytes
 abbrev pub entries_of : List ℕ → List Entry
 entries_of payload = entries (length payload) payload
 
--- entries stand in the order of their keys: a directory is compared as if a slash followed its name (base_name_compare of Git)
+-- entries are in the order of their keys: a directory is compared as if a slash followed its name
+-- (base_name_compare of Git)
 abbrev pub key_of : List ℕ → Option Kind → List ℕ
 key_of name None = name ++ 47 ∷ []
 key_of name (Some kind) = name

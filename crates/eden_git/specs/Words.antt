@@ -1,9 +1,9 @@
--- What an object is, in Git's words.
+-- Git's words for the types of objects.
 use Rattle.std.specs.Prelude.{ℕ, Bool, true, false, List, codes}
 use Rattle.eden_git.specs.declared.word.Word.{Word}
 use Rattle.eden_git.specs.declared.word.Word.TheVariants.{Blob, Tree, Commit}
 
--- the word by which Git calls a kind of object (`git help hash-object`)
+-- Git's word for a type of object (`git help hash-object`)
 abbrev pub word_text : Word → List ℕ
 word_text Blob = codes "blob"
 word_text Tree = codes "tree"

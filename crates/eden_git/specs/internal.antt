@@ -1,3 +1,3 @@
--- Words that the code alone uses.
+-- Words that only the implementation uses.
 pub mod Parts
 pub mod Searched

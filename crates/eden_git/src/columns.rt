@@ -1,4 +1,4 @@
-//! The entries of a tree as columns, so that those of two trees are compared column by column.
+//! The entries of a tree as columns, so that two trees are compared column by column.
 ghost use Rattle.std.specs.Prelude.{◌≡◌, ◌≤◌, ◌++◌, ◌∷◌, [], length, IfOk, OnOk, Option};
 ghost use Rattle.eden_ids.specs.declared.content.Kind.{Kind};
 ghost use Rattle.eden_git.specs.Columns.{AreColumns, kind_byte};
@@ -7,21 +7,23 @@ use crate::entry::{RawEntry, read_entry};
 use eden_ids::{IdColumn, Kind, NoMemory};
 use std::alloc::Global;
 
-/// What is kept of the entries of a tree's payload, each in a column of its own.
+/// The places, ids, kinds and names of a tree's entries, each in a column of its own.
 ///
-/// Beside the payload this takes some 26 bytes for each entry and the bytes of its name, up to twice that as the columns grow.
+/// This takes some 26 bytes for each entry and the bytes of its name, and up to twice that as the
+/// columns grow. The payload is kept elsewhere.
 #[derive(Drop)]
 pub struct Columns {
-    /// The place in the payload at which each entry begins, and the place at which the last one ends.
+    /// The place in the payload at which each entry begins, and the place at which the last one
+    /// ends.
     pub(crate) starts: Vec<u32>,
     pub(crate) ids: IdColumn,
     /// The kinds as bytes, 0 for a directory.
     pub(crate) kinds: Vec<u8>,
-    /// The names one behind the other, a slash behind each.
+    /// The names, one after another, each followed by a slash.
     pub(crate) names: Vec<u8>,
 }
 
-/// A kind as a byte, 0 for a directory.
+/// Returns a kind as a byte, 0 for a directory.
 fn kind_byte(kind: Option<Kind>) -> u8
     ensures { result ≡ kind_byte kind }
 {
@@ -33,7 +35,7 @@ fn kind_byte(kind: Option<Kind>) -> u8
     }
 }
 
-/// The kind for which a byte stands.
+/// Returns the kind for a byte.
 pub(crate) fn kind_of(byte: u8) -> Option<Kind>
     ensures { (kind : Option Kind) → byte ≡ kind_byte kind → result ≡ kind }
 {
@@ -60,7 +62,7 @@ impl Columns {
         }
     }
 
-    /// Puts an entry below the others.
+    /// Appends an entry to the columns.
     fn push(&mut self, start: u32, entry: &RawEntry<'_>) -> Result<(), NoMemory>
         ensures starts { OnOk result (self.new.starts.items ≡ self.old.starts.items ++ start ∷ []) }
         ensures ids { OnOk result (self.new.ids ≡ self.old.ids ++ entry.now.id ∷ []) }
@@ -75,9 +77,9 @@ impl Columns {
         Ok(())
     }
 
-    /// The columns of the entries of a payload, which is read once.
+    /// Reads a payload once and returns the columns of its entries.
     ///
-    /// `NoMemory` comes where a growth was refused.
+    /// `NoMemory` if an allocation fails.
     pub fn of(alloc: Global, payload: &[u8]) -> Result<Columns, NoMemory>
         requires { length payload.now ≤ 8388608 }
         ensures { IfOk result (λ columns. AreColumns payload.now columns) }

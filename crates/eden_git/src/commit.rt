@@ -4,7 +4,9 @@ ghost use Rattle.eden_git.specs.Commits.{tree_named};
 
 use eden_ids::Id;
 
-/// The tree that a commit's payload names, if it begins as a commit does. This takes no memory.
+/// Returns the tree that a commit's payload names, if it begins like a commit.
+///
+/// Does not allocate.
 #[tactic(auto, using(crate::proofs::Reading::no_tree_in))]
 pub fn tree_named(payload: &[u8]) -> Option<Id>
     ensures { result ≡ tree_named payload.now }

@@ -1,4 +1,4 @@
-//! The entries of a payload one after another, and those of a directory by their names.
+//! Reads the entries of a payload one after another, and finds those of a directory by name.
 ghost use Rattle.std.specs.Prelude.{◌≡◌, ◌<◌, length, IfSome};
 ghost use Rattle.eden_ids.specs.Sameness.{same_bytes};
 ghost use Rattle.eden_git.specs.Starts.{AreInOrder};
@@ -9,8 +9,10 @@ use crate::entry::{RawEntry, read_entry};
 use crate::rows::Rows;
 use eden_ids::{Id, Kind};
 
-/// The first entry of some bytes and what stands behind it, if there is one. So the entries of a tree's payload are read one after
-/// another, and no name is copied. This takes no memory.
+/// Returns the first entry of some bytes and the bytes after it, if there is one.
+///
+/// The entries of a tree's payload are read one after another in this way. No name is copied. This
+/// takes no memory.
 #[tactic(auto, using(crate::proofs::Fuel::all_read, crate::proofs::Fuel::still_shorter))]
 pub fn next_entry(bytes: &[u8]) -> Option<(RawEntry<'_>, &[u8])>
     ensures entries { entries_of bytes.now ≡ entries_read result }
@@ -19,7 +21,7 @@ pub fn next_entry(bytes: &[u8]) -> Option<(RawEntry<'_>, &[u8])>
     read_entry(bytes).ok()
 }
 
-/// The file that the entry is, if it has this name.
+/// Returns the file of an entry, if it is a file with this name.
 fn file_if_named(entry: &RawEntry<'_>, name: &[u8]) -> Option<(Kind, Id)>
     ensures { result ≡ file_if entry.now.kind entry.now.id (same_bytes entry.now.name.now name.now) }
 {
@@ -35,7 +37,7 @@ fn file_if_named(entry: &RawEntry<'_>, name: &[u8]) -> Option<(Kind, Id)>
     }
 }
 
-/// The tree of the directory that the entry is, if it has this name.
+/// Returns the tree of an entry, if it is a directory with this name.
 fn directory_if_named(entry: &RawEntry<'_>, name: &[u8]) -> Option<Id>
     ensures { result ≡ dir_if entry.now.kind entry.now.id (same_bytes entry.now.name.now name.now) }
 {
@@ -52,7 +54,7 @@ fn directory_if_named(entry: &RawEntry<'_>, name: &[u8]) -> Option<Id>
 }
 
 impl<'a> Rows<'a> {
-    /// The file with a name, which is found by a search.
+    /// Returns the file with a name, found by a binary search.
     #[tactic(auto, using(crate::proofs::Searching::file_first, crate::proofs::Searching::file_none))]
     pub fn file(&self, name: &[u8]) -> Option<(Kind, Id)>
         requires { AreInOrder self.now }
@@ -69,7 +71,7 @@ impl<'a> Rows<'a> {
         }
     }
 
-    /// The tree of the directory with a name, which is found by a search.
+    /// Returns the tree of the directory with a name, found by a binary search.
     #[tactic(auto, using(crate::proofs::Searching::dir_first, crate::proofs::Searching::dir_none))]
     pub fn directory(&self, name: &[u8]) -> Option<Id>
         requires { AreInOrder self.now }

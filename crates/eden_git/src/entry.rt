@@ -1,4 +1,4 @@
-//! One entry of a tree, read from the bytes where it stands.
+//! Reads one entry of a tree, without copying its name.
 ghost use Rattle.std.specs.Prelude.{◌≡◌, ◌<◌, length, IfOk};
 ghost use Rattle.eden_git.specs.Trees.{cut, is_name, kind_of_mode, read_entry, read_id, read_kind};
 ghost use Rattle.eden_git.specs.Entries.{plain, parts_of, reading_of};
@@ -8,18 +8,20 @@ use crate::fault::EntryFault;
 use bstr::ByteSlice;
 use eden_ids::{Id, Kind, is_component};
 
-/// An entry of a tree, whose name stands in the payload.
+/// An entry of a tree, whose name is borrowed from the payload.
 #[derive(Clone, Copy)]
 pub struct RawEntry<'a> {
     /// The name, which has no slash.
     pub name: &'a [u8],
-    /// What the file is; `None` for a directory.
+    /// The kind of the file, or `None` for a directory.
     pub kind: Option<Kind>,
     /// The file's blob, or the directory's tree.
     pub id: Id,
 }
 
-/// The bytes before the first that is `byte`, and those after it. None where it does not come. This takes no memory.
+/// Returns the bytes before and after the first `byte`, or `None` without one.
+///
+/// Does not allocate.
 pub fn cut(bytes: &[u8], byte: u8) -> Option<(&[u8], &[u8])>
     ensures { parts_of result ≡ cut byte bytes.now }
 {
@@ -27,7 +29,7 @@ pub fn cut(bytes: &[u8], byte: u8) -> Option<(&[u8], &[u8])>
     Some((&bytes[..at], &bytes[at + 1..]))
 }
 
-/// What a mode says: `None` inside for a directory.
+/// Returns what a mode says, which is `Some(None)` for a directory.
 fn kind_of_mode(mode: &[u8]) -> Option<Option<Kind>>
     ensures { result ≡ kind_of_mode mode.now }
 {
@@ -44,14 +46,14 @@ fn kind_of_mode(mode: &[u8]) -> Option<Option<Kind>>
     }
 }
 
-/// Whether the bytes may be a name of a tree.
+/// Returns whether the bytes may be a name in a tree.
 fn is_name(name: &[u8]) -> bool
     ensures { result ≡ is_name name.now }
 {
     is_component(name) && !name.contains(&b'/')
 }
 
-/// The id in the first twenty bytes.
+/// Returns the id in the first twenty bytes, and the bytes after it.
 fn id_at(bytes: &[u8]) -> Option<(Id, &[u8])>
     ensures { id_of_parts result ≡ id_front bytes.now }
 {
@@ -61,7 +63,7 @@ fn id_at(bytes: &[u8]) -> Option<(Id, &[u8])>
     }
 }
 
-/// The id behind a name, which ends the entry.
+/// Reads the id after a name, which ends the entry.
 fn read_id<'a>(
     kind: Option<Kind>,
     name: &'a [u8],
@@ -78,7 +80,9 @@ fn read_id<'a>(
     }
 }
 
-/// The first entry of some bytes and what stands behind it, or why there is none. This takes no memory.
+/// Reads the first entry, and returns it with the bytes after it.
+///
+/// Does not allocate.
 pub fn read_entry(bytes: &[u8]) -> Result<(RawEntry<'_>, &[u8]), EntryFault>
     ensures read { reading_of result ≡ read_entry bytes.now }
     ensures shorter { IfOk result (λ read. length read.1.now < length bytes.now) }

@@ -1,16 +1,20 @@
-//! Git's format: the words of objects, the entries of trees and their order, and the tree that a commit names.
+//! Git's format: the words for objects, the entries of trees and their order, and the tree of a
+//! commit.
 //!
 //! ```rust
-//! use eden_git::tree_named;
+//! use eden_git::{number, tree_named};
 //!
 //! let commit = b"tree 4b825dc642cb6eb9a060e54bf8d69288fbee4904\n".as_slice();
 //! let tree = tree_named(commit);
 //! assert!(rt; tree.is_some());
+//! assert_eq!(rt; number(b"65536".as_slice()), Some(65_536));
+//! assert_eq!(rt; number(b"065536".as_slice()), None);
 //! ```
 #![tactic(auto)]
 
 pub use crate::columns::Columns;
 pub use crate::commit::tree_named;
+pub use crate::decimal::number;
 pub use crate::directory::next_entry;
 pub use crate::entry::{RawEntry, cut, read_entry};
 pub use crate::fault::EntryFault;
@@ -20,6 +24,7 @@ pub use crate::word::{Word, same_word};
 
 mod columns;
 mod commit;
+mod decimal;
 mod directory;
 mod entry;
 mod fault;

@@ -1,4 +1,4 @@
-//! The order in which the entries of a tree stand.
+//! The order of the entries of a tree.
 ghost use Rattle.std.specs.Prelude.{◌≡◌};
 ghost use Rattle.std.specs.Ordering.{nat_cmp};
 ghost use Rattle.std.specs.Cmp.Lexicographic.{slice_cmp};
@@ -9,7 +9,7 @@ ghost use Rattle.eden_git.specs.internal.Parts.{ending_of};
 use crate::entry::RawEntry;
 use std::cmp::Ordering;
 
-/// What follows a name where entries are compared.
+/// Returns what follows a name when entries are compared.
 fn behind_name(entry: &RawEntry<'_>) -> &'static [u8]
     ensures { result.now ≡ ending_of entry.now.kind }
 {
@@ -19,7 +19,10 @@ fn behind_name(entry: &RawEntry<'_>) -> &'static [u8]
     }
 }
 
-/// How two entries stand in Git's order: by the bytes of their names, a directory's with a slash behind it. This takes no memory.
+/// Compares two entries in Git's order.
+///
+/// It compares the bytes of their names. A directory's name is followed by a slash. This takes no
+/// memory.
 pub fn key_order(first: &RawEntry<'_>, second: &RawEntry<'_>) -> Ordering
     ensures { result ≡ slice_cmp nat_cmp (key (plain first.now)) (key (plain second.now)) }
 {

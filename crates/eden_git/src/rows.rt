@@ -1,4 +1,4 @@
-//! The entries of a tree, lent.
+//! The entries of a tree, borrowed.
 ghost use Rattle.std.specs.Prelude.{◌≡◌, ◌≢◌, length, slice_get, MatchBool};
 ghost use Rattle.eden_git.specs.Trees.{entries_of};
 ghost use Rattle.eden_git.specs.Entries.{option_plain};
@@ -10,10 +10,10 @@ use crate::search::entry_in;
 use eden_ids::IdColumn;
 use std::marker::Model;
 
-/// The entries of a tree, by its payload and the columns that are kept of it.
+/// The entries of a tree, by its payload and the columns of its entries.
 ///
-/// Its value is the list of the entries; a row is the place of an entry in it, counted from 0. It borrows both, and takes no memory,
-/// nor does any of its calls.
+/// Its value is the list of the entries. A row is the place of an entry in the list, counted from
+/// 0. It borrows the payload and the columns. Neither it nor any of its calls takes memory.
 #[derive(Drop)]
 pub struct Rows<'a> {
     pub(crate) payload: &'a [u8],
@@ -33,7 +33,7 @@ impl<'a> Model for Rows<'a> {
 }
 
 impl<'a> Rows<'a> {
-    /// The entries of a payload, of which these are the columns.
+    /// Returns the entries of a payload that has these columns.
     pub fn new(payload: &'a [u8], columns: &'a Columns) -> Rows<'a>
         requires { AreColumns payload.now columns.now }
         ensures { result ≡ entries_of payload.now }
@@ -41,14 +41,14 @@ impl<'a> Rows<'a> {
         Rows { payload, columns }
     }
 
-    /// The number of entries.
+    /// Returns the number of entries.
     pub fn len(&self) -> usize
         ensures { result ≡ length self.now }
     {
         self.columns.kinds.len()
     }
 
-    /// The entry at a row, or `None` where there are no more.
+    /// Returns the entry at a row, or `None` after the last one.
     pub fn entry(&self, row: usize) -> Option<RawEntry<'a>>
         ensures { option_plain result ≡ slice_get self.now row }
     {
@@ -62,21 +62,25 @@ impl<'a> Rows<'a> {
         }
     }
 
-    /// The ids of the entries.
+    /// Returns the ids of the entries.
     pub fn ids(&self) -> &'a IdColumn
         ensures { result.now ≡ ids_of self.now }
     {
         &self.columns.ids
     }
 
-    /// The kinds of the entries as bytes: 0 for a directory, 1 for a plain file, 2 for an executable one, 3 for a link.
+    /// Returns the kinds of the entries as bytes.
+    ///
+    /// A directory is 0, a plain file 1, an executable one 2 and a link 3.
     pub fn kinds(&self) -> &'a [u8]
         ensures { result.now ≡ kinds_of self.now }
     {
         self.columns.kinds.as_slice()
     }
 
-    /// Whether the names are the same as those of other entries, row for row. All of them are compared at once.
+    /// Returns whether these entries have the same names as others, row for row.
+    ///
+    /// All names are compared at once.
     pub fn has_names_of(&self, other: &Rows<'_>) -> bool
         ensures { MatchBool result (names_of self.now ≡ names_of other.now) (names_of self.now ≢ names_of other.now) }
     {

@@ -1,4 +1,4 @@
-//! An entry that is read between two places that are kept, and a search among the entries of a tree.
+//! Reads an entry between two known places, and searches the entries of a tree.
 ghost use Rattle.std.specs.Prelude.{◌≡◌, ◌≤◌, ◌+◌, length, slice_get};
 ghost use Rattle.eden_git.specs.Entries.{option_plain, plain};
 ghost use Rattle.eden_git.specs.Starts.{AreInOrder, mode_of, written};
@@ -11,7 +11,7 @@ use crate::rows::Rows;
 use eden_ids::{Id, Kind};
 use std::cmp::Ordering;
 
-/// The number of digits in the mode of a kind.
+/// Returns the number of digits in the mode of a kind.
 fn mode_length(kind: Option<Kind>) -> usize
     ensures { result ≡ length (mode_of kind) }
 {
@@ -21,7 +21,9 @@ fn mode_length(kind: Option<Kind>) -> usize
     }
 }
 
-/// The entry of a kind that is written as these bytes. Nothing is sought in them.
+/// Returns the entry of a kind that is written as these bytes.
+///
+/// The bytes are not searched.
 pub(crate) fn entry_in(bytes: &[u8], kind: Option<Kind>) -> RawEntry<'_>
     requires { length (mode_of kind) + 22 ≤ length bytes.now }
     ensures { (e : Entry) → bytes.now ≡ written e → kind ≡ e.kind → length e.id.0 ≡ 20 → plain result ≡ e }
@@ -32,13 +34,13 @@ pub(crate) fn entry_in(bytes: &[u8], kind: Option<Kind>) -> RawEntry<'_>
             kind,
             id: Id(*id),
         },
-        // An id is there.
+        // The bytes end with an id.
         None => unreachable!(),
     }
 }
 
 impl<'a> Rows<'a> {
-    /// Whether the entry at a row stands before another.
+    /// Returns whether the entry at a row comes before another one.
     fn is_before(&self, row: usize, wanted: &RawEntry<'_>) -> bool
         ensures { result ≡ is_before (key (plain wanted.now)) (slice_get self.now row) }
     {
@@ -48,7 +50,7 @@ impl<'a> Rows<'a> {
         }
     }
 
-    /// The first entry that doesn't stand before another one, by a search.
+    /// Returns the first entry that does not come before another one, by a binary search.
     pub(crate) fn first_from(&self, wanted: &RawEntry<'_>) -> Option<RawEntry<'a>>
         requires { AreInOrder self.now }
         ensures { option_plain result ≡ first_from (key (plain wanted.now)) self.now }

@@ -1,20 +1,20 @@
-//! The words of objects.
+//! The words for objects.
 ghost use Rattle.std.specs.Prelude.{◌≡◌};
 ghost use Rattle.eden_git.specs.Words.{word_text, same_word};
 
-/// What an object is.
+/// The type of an object.
 #[derive(Clone, Copy, Debug, PartialEq, Eq)]
 pub enum Word {
     /// The bytes of a file, or the target of a link.
     Blob,
     /// The entries of a directory.
     Tree,
-    /// A tree, with a text about it that is kept and not read.
+    /// A tree and a text about it, which is kept and not read.
     Commit,
 }
 
 impl Word {
-    /// The word by which Git calls such an object, and which stands first in the text that names it.
+    /// Returns Git's word for such an object, which begins the text that is hashed.
     pub fn text(self) -> &'static [u8]
         ensures { result.now ≡ word_text self }
     {
@@ -26,7 +26,7 @@ impl Word {
     }
 }
 
-/// Whether the two words are the same.
+/// Returns whether two words are the same.
 pub fn same_word(first: Word, second: Word) -> bool
     ensures { result ≡ same_word first second }
 {

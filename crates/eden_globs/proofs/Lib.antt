@@ -1,8 +1,8 @@
-mod Copies
 mod Splitting
 mod Rows
 mod Tokens
 mod Parts
+mod Ends
 mod Entering
 mod Plain
 pub mod FilterLemmas

@@ -12,7 +12,7 @@ here b bytes e = ap (λ c. cond c ([] ∷ components bytes) (onto_first b (compo
 pub later : (b : ℕ) (bytes : List ℕ) → nat_eq b 47 ≡ false → components (b ∷ bytes) ≡ onto_first b (components bytes)
 later b bytes e = ap (λ c. cond c ([] ∷ components bytes) (onto_first b (components bytes))) e
 
-drop_none : (bytes : List ℕ) → drop 0 bytes ≡ bytes
+pub drop_none : (bytes : List ℕ) → drop 0 bytes ≡ bytes
 drop_none [] = refl
 drop_none (b ∷ bytes) = refl
 

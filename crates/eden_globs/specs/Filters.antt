@@ -1,5 +1,6 @@
--- What a filter is, and which paths it admits. A pattern is read as `git help gitignore` reads one, but that it is held against a whole
--- path. Bytes are numbers: 42 is `*`, 47 is `/`, 63 is `?`, 91 is `[`, 92 is a backslash and 123 is `{`.
+-- Filters, and which paths they admit. A pattern is read as `git help gitignore` says,
+-- but it must match the whole path. Bytes are numbers: 42 is `*`, 47 is `/`, 63 is `?`,
+-- 91 is `[`, 92 is a backslash and 123 is `{`.
 use Rattle.std.specs.Prelude.{◌≡◌, ℕ, ◌+◌, Bool, true, false, not, ◌&&◌, ◌||◌, ◌==◌, nat_lt, if◌then◌else◌, List, [], ◌∷◌, length, map, codes, Option, Some, None}
 use Rattle.std.specs.List.{list_all, list_any}
 use Rattle.std.specs.Option.{option_or}
@@ -13,30 +14,31 @@ use Rattle.eden_globs.specs.declared.filter.FilterFault.TheVariants.{TooMany, Pa
 abbrev pub lists : List (Vec ℕ) → List (List ℕ)
 lists vectors = map (λ v. v.items) vectors
 
--- ---- what is a pattern
+-- ---- patterns
 
--- no `[` or `{` stands without a backslash before it, and no backslash at the end; `escaped` says that one stands before the bytes
+-- no `[` or `{` without a backslash before it, and no backslash at the end; `escaped`
+-- says that a backslash precedes the bytes
 abbrev pub is_spelled : Bool → List ℕ → Bool
 is_spelled escaped [] = not escaped
 is_spelled true (b ∷ part) = is_spelled false part
 is_spelled false (b ∷ part) = if b == 92 then is_spelled true part else not (b == 91 || b == 123) && is_spelled false part
 
--- what may stand between two slashes of a pattern
+-- the bytes may be between two slashes of a pattern
 abbrev pub is_part : List ℕ → Bool
 is_part part = nat_lt 0 (length part) && is_spelled false part
 
--- why the bytes at a place of the list are no pattern
+-- why the bytes at a position in the list are not a pattern
 abbrev pub pattern_fault : ℕ → List ℕ → Option FilterFault
 pattern_fault place bytes =
     if nat_lt 256 (length bytes) then Some PatternTooLong else
     if list_all is_part (components bytes) then None else Some (BadPattern place)
 
--- the first fault of patterns of which the first stands at this place
+-- the first fault of these patterns, the first of which is at this position
 abbrev pub patterns_fault : ℕ → List (List ℕ) → Option FilterFault
 patterns_fault place [] = None
 patterns_fault place (bytes ∷ patterns) = option_or (pattern_fault place bytes) (patterns_fault (place + 1) patterns)
 
--- the first reason for which a list of patterns is no filter
+-- the first reason why a list of patterns is not a filter
 abbrev pub filter_fault : List (List ℕ) → Option FilterFault
 filter_fault patterns = if nat_lt 32 (length patterns) then Some TooMany else patterns_fault 0 patterns
 
@@ -45,12 +47,12 @@ IsFilter patterns = filter_fault patterns ≡ None
 
 -- ---- what a pattern admits
 
--- a list passes, or what is left of it behind some of its items
+-- the list passes the test, or some suffix of it does
 abbrev pub some_rest : {X : Type 0} → (List X → Bool) → List X → Bool
 some_rest test [] = test []
 some_rest test (x ∷ xs) = test (x ∷ xs) || some_rest test xs
 
--- there is a first item that passes one test, and what is left behind it passes another
+-- there is a first item that passes one test, and the rest after it passes the other
 abbrev pub first_then : {X : Type 0} → (X → Bool) → (List X → Bool) → List X → Bool
 first_then first rest [] = false
 first_then first rest (x ∷ xs) = first x && rest xs
@@ -59,8 +61,9 @@ abbrev pub is_none_left : {X : Type 0} → List X → Bool
 is_none_left [] = true
 is_none_left (x ∷ xs) = false
 
--- a name matches a part of a pattern: `*` is any run of bytes, `?` any one byte, a backslash and a byte that byte, and any other byte
--- itself; `escaped` says that a backslash stands before the part
+-- a name matches a part of a pattern: `*` matches any run of bytes, `?` any one byte, a
+-- backslash and a byte that byte, and any other byte itself; `escaped` says that a
+-- backslash precedes the part
 abbrev pub name_matches : Bool → List ℕ → List ℕ → Bool
 name_matches escaped [] name = is_none_left name
 name_matches true (c ∷ part) name = first_then (λ b. c == b) (name_matches false part) name
@@ -69,7 +72,7 @@ name_matches false (c ∷ part) name =
     if c == 42 then some_rest (name_matches false part) name else
     if c == 63 then first_then (λ b. true) (name_matches false part) name else first_then (λ b. c == b) (name_matches false part) name
 
--- the part that stands for any number of names
+-- the part that matches any number of names
 abbrev pub is_any_names : List ℕ → Bool
 is_any_names part = same_bytes part (codes "**")
 
@@ -82,20 +85,20 @@ path_matches (part ∷ parts) names =
 abbrev pub pattern_admits : List ℕ → List ℕ → Bool
 pattern_admits pattern path = path_matches (components pattern) (components path)
 
--- whether some pattern admits the path, or there is none
+-- some pattern admits the path, or there are no patterns
 abbrev pub admits : List (List ℕ) → List ℕ → Bool
 admits [] path = true
 admits (bytes ∷ patterns) path = list_any (λ pattern. pattern_admits pattern path) (bytes ∷ patterns)
 
--- ---- where what a filter admits may lie
+-- ---- below which directories a filter admits something
 
--- the names of a directory, of which the root, no bytes, has none
+-- the names of a directory; the root, the empty byte string, has none
 abbrev pub names_of : List ℕ → List (List ℕ)
 names_of [] = []
 names_of (b ∷ directory) = components (b ∷ directory)
 
--- the names of a directory match the first parts of a pattern, and a part is left for what lies below; or they match up to a part that
--- stands for any number of names
+-- the names of a directory match the first parts of a pattern and a part is left for what
+-- is below it, or they match up to a `**`
 abbrev pub parts_enter : List (List ℕ) → List (List ℕ) → Bool
 parts_enter [] names = false
 parts_enter (part ∷ parts) [] = true
@@ -104,13 +107,13 @@ parts_enter (part ∷ parts) (name ∷ names) = is_any_names part || (name_match
 abbrev pub pattern_enters : List ℕ → List ℕ → Bool
 pattern_enters pattern directory = parts_enter (components pattern) (names_of directory)
 
--- whether some pattern enters the directory, or there is none
+-- some pattern enters the directory, or there are no patterns
 abbrev pub enters : List (List ℕ) → List ℕ → Bool
 enters [] directory = true
 enters (bytes ∷ patterns) directory = list_any (λ pattern. pattern_enters pattern directory) (bytes ∷ patterns)
 
--- ---- patterns that name a path
+-- ---- patterns that name one path
 
--- each byte of the pattern stands for itself
+-- each byte of the pattern matches itself alone
 abbrev pub is_plain : List ℕ → Bool
 is_plain pattern = not (list_any (λ b. b == 42 || b == 63 || b == 92) pattern)

@@ -1,3 +1,4 @@
--- What only the matching speaks of.
+-- Definitions that only the matching uses.
 pub mod Rows
 pub mod Compiled
+pub mod Sharing

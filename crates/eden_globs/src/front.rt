@@ -1,6 +1,6 @@
-//! The directory that a walk reads, by the bytes that stand before each of its names.
+//! The directory that a walk reads, by the bytes that come before each of its names.
 
-ghost use Rattle.std.specs.Prelude.{◌≡◌, ◌≤◌, ◌++◌, ℕ, [], length, take, if◌then◌else◌, None, Some, IfOk, IsSome, OnOk};
+ghost use Rattle.std.specs.Prelude.{◌≡◌, ◌≤◌, ◌++◌, ℕ, [], length, take, if◌then◌else◌, None, Some, IfOk, IsSome, OnErr, OnOk};
 ghost use Rattle.eden_globs.specs.Filters.{admits};
 ghost use Rattle.eden_globs.specs.Fronts.{Enters};
 ghost use Rattle.eden_ids.specs.Paths.{IsPath};
@@ -10,7 +10,8 @@ use eden_ids::{NoMemory, Path};
 use std::alloc::Global;
 use std::marker::Model;
 
-/// What stands before each name of the directory that is read: nothing at the root, and below it the directory's path and a slash.
+/// The bytes before each name of the directory that is read: none at the root, and below it the
+/// directory's path and a slash.
 #[derive(Drop)]
 pub struct Front {
     bytes: Vec<u8>,
@@ -25,7 +26,7 @@ impl Model for Front {
 }
 
 impl Front {
-    /// The root's. It takes no memory.
+    /// Returns that of the root. Does not allocate.
     pub fn new(alloc: Global) -> Front
         ensures { result ≡ [] }
     {
@@ -34,13 +35,13 @@ impl Front {
         }
     }
 
-    /// The path of a file of the directory, if the filter admits it. A path is made only then.
+    /// Returns the path of a file of the directory, if the filter admits it.
     ///
-    /// `NoMemory` comes where a growth was refused.
+    /// No other path is made. `NoMemory` if an allocation fails. Nothing is changed.
     pub fn path_if_wanted(&mut self, filter: &Filter, name: &[u8]) -> Result<Option<Path>, NoMemory>
         requires { IsPath (self.old ++ name.now) }
         ensures path { IfOk result (λ path. path ≡ (if admits filter.now (self.old ++ name.now) then Some (self.old ++ name.now) else None)) }
-        ensures front { OnOk result (self.new ≡ self.old) }
+        ensures front { self.new ≡ self.old }
     {
         let length = self.bytes.len();
         self.bytes.extend_from_slice(name)?;
@@ -53,13 +54,14 @@ impl Front {
         Ok(Some(path))
     }
 
-    /// Goes on to a directory of the one that is read, unless the filter admits nothing below it, and tells what `leave` goes back to.
-    /// A filter without patterns lets every directory be entered.
+    /// Enters a subdirectory, unless the filter admits nothing below it.
     ///
-    /// `NoMemory` comes where a growth was refused; then the name may stand there already.
+    /// Returns the length with which `leave` goes back. A filter without patterns lets every
+    /// directory be entered. `NoMemory` if an allocation fails; then nothing is changed.
     pub fn enter(&mut self, filter: &Filter, name: &[u8]) -> Result<Option<usize>, NoMemory>
         ensures entered { IfOk result (λ entered. Enters filter.now name.now self.old self.new entered) }
         ensures all { IfOk result (λ entered. filter.now ≡ [] → IsSome entered) }
+        ensures err { OnErr result (self.new ≡ self.old) }
     {
         let length = self.bytes.len();
         self.bytes.extend_from_slice(name)?;
@@ -67,15 +69,20 @@ impl Front {
             self.bytes.truncate(length);
             return Ok(None);
         }
-        self.bytes.push(b'/')?;
+        if self.bytes.push(b'/').is_err() {
+            self.bytes.truncate(length);
+            return Err(NoMemory);
+        }
         Ok(Some(length))
     }
 
-    /// Puts a name behind what stands before it, for who asks more of the path than a filter, and tells what `leave` goes back to.
+    /// Appends a name, for a caller that asks more of the path than a filter does.
     ///
-    /// `NoMemory` comes where a growth was refused.
+    /// Returns the length with which `leave` goes back. `NoMemory` if an allocation fails; then
+    /// nothing is changed.
     pub fn add(&mut self, name: &[u8]) -> Result<usize, NoMemory>
         ensures added { OnOk result (self.new ≡ self.old ++ name.now) }
+        ensures err { OnErr result (self.new ≡ self.old) }
         ensures length { IfOk result (λ long. long ≡ length self.old) }
     {
         let length = self.bytes.len();
@@ -83,14 +90,14 @@ impl Front {
         Ok(length)
     }
 
-    /// The bytes. It takes no memory.
+    /// Returns the bytes. Does not allocate.
     pub fn as_bytes(&self) -> &[u8]
         ensures { result.now ≡ self.now }
     {
         self.bytes.as_slice()
     }
 
-    /// Goes back to the directory of which a length was told.
+    /// Goes back to the directory for which `enter` or `add` returned the length.
     pub fn leave(&mut self, length: usize)
         ensures { self.new ≡ take length self.old }
     {

@@ -1,4 +1,14 @@
-//! Filters: which paths a client wants to hear of.
+//! Filters: which paths a client is interested in.
+//!
+//! A `Filter` is a list of patterns, such as `src/**` or `*.md`. It admits a path if one
+//! of its patterns matches the whole path; a filter without patterns admits every path.
+//! Patterns are read once, when the filter is made, and are then matched in a time that
+//! grows with the pattern's length times the path's, without allocating.
+//!
+//! A walk over a tree asks `Filter::admits_below` before it reads a directory. `Front`
+//! does this for it: it keeps the path of the directory that is read, and makes a `Path`
+//! only of a file that the filter admits. `filter_law` states what the common patterns
+//! admit.
 //!
 //! ```rust
 //! use eden_globs::Filter;
@@ -20,3 +30,4 @@ mod front;
 mod laws;
 mod matching;
 mod pattern;
+mod stored;

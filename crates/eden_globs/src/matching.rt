@@ -1,26 +1,32 @@
-//! Whether a path's names match the parts of a pattern, in time that grows with the one's length times the other's, and without memory.
+//! Matching the names of a path with the parts of a pattern.
 //!
-//! Both levels, the parts of a pattern against the names of a path and the tokens of a part against the bytes of a name, are done
-//! alike. A row says of each rest of the path (or name) whether it matches what is left of the pattern (or part). The row of the empty
-//! rest of a pattern is known, and from the row of a rest follows that of the rest that is longer by one part (or token). The parts up
-//! to the first that stands for any number of names need no row: each is held against the one name at its place.
+//! The time grows with the pattern's length times the path's; nothing is allocated.
+//!
+//! There are two levels: the parts of a pattern with the names of a path, and the tokens
+//! of a part with the bytes of a name. Both are done in the same way. A row says of each
+//! suffix of the path (or name) whether it matches what is left of the pattern (or part).
+//! The row of an empty pattern is known. The row of a pattern follows from the row of
+//! what is left of it after its first part (or token). The parts before the first `**`
+//! need no row: each is compared with the one name at its position.
 
 ghost use Rattle.std.specs.Prelude.{◌≡◌, ◌<◌, ◌≤◌, ◌+◌, ◌||◌, ◌&&◌, ◌∷◌, ℕ, List, Bool, true, false, [], length, take};
 ghost use Rattle.std.specs.List.{slice_index_or};
 ghost use Rattle.eden_ids.specs.Paths.{components};
 ghost use Rattle.eden_globs.specs.Filters.{parts_enter, path_matches};
-ghost use Rattle.eden_globs.specs.internal.Compiled.{AreParts, AreShort, IsPartOf, lent, part_matches, tokens_match};
+ghost use Rattle.eden_globs.specs.internal.Compiled.{AreParts, AreShort, EndsIn, IsPartOf, lent, part_matches, tokens_match};
 ghost use Rattle.eden_globs.specs.internal.Rows.{IsRow, is_wanted};
 
 use crate::pattern::{Part, Token, cut};
 
-/// A row as long as that of the longest name.
+/// The length of the row of the longest name.
 const CELLS: usize = 1025;
 
-/// A row as long as that of most names, which is the sooner made.
+/// The length of a row for most names, made faster.
 const FEW_CELLS: usize = 64;
 
-/// Whether a byte is the one that is wanted, where `None` is any.
+/// Returns true if a byte is the wanted one.
+///
+/// Any byte is if `wanted` is `None`.
 fn is_wanted(wanted: Option<u8>, byte: u8) -> bool
     ensures { result ≡ is_wanted wanted byte }
 {
@@ -30,7 +36,7 @@ fn is_wanted(wanted: Option<u8>, byte: u8) -> bool
     }
 }
 
-/// The row of a pattern with nothing left: only the empty rest matches.
+/// Sets the row of an empty pattern: only the empty suffix matches.
 fn none_left(row: &mut [bool], last: usize)
     requires { last < length row.old }
     ensures size { length row.new ≡ length row.old }
@@ -43,7 +49,7 @@ fn none_left(row: &mut [bool], last: usize)
     row[last] = true;
 }
 
-/// The row where any number of bytes (or names) may come first.
+/// Sets the row of a pattern that begins with any run.
 fn any_before(row: &mut [bool], last: usize)
     requires { last < length row.old }
     ensures size { length row.new ≡ length row.old }
@@ -57,7 +63,9 @@ fn any_before(row: &mut [bool], last: usize)
     }
 }
 
-/// The row where a byte, this one or any, comes first.
+/// Sets the row of a pattern that begins with one byte.
+///
+/// The byte is `wanted`, or any byte.
 fn byte_before(row: &mut [bool], name: &[u8], wanted: Option<u8>)
     requires { length name.now < length row.old }
     ensures size { length row.new ≡ length row.old }
@@ -70,7 +78,7 @@ fn byte_before(row: &mut [bool], name: &[u8], wanted: Option<u8>)
     row[name.len()] = false;
 }
 
-/// The row where what a token asks for comes first.
+/// Sets the row of a pattern with a token before the rest.
 #[tactic(auto, using(crate::proofs::Rows::run_first, crate::proofs::Rows::any_first, crate::proofs::Rows::byte_first))]
 fn token_before(row: &mut [bool], name: &[u8], token: Token)
     requires { length name.now < length row.old }
@@ -84,7 +92,7 @@ fn token_before(row: &mut [bool], name: &[u8], token: Token)
     }
 }
 
-/// Whether a name matches the tokens. What the row holds before and after is of no meaning.
+/// Returns true if a name matches the tokens. `row` is scratch space.
 #[tactic(auto, using(crate::proofs::Rows::first_cell))]
 fn is_row_matched(row: &mut [bool], tokens: &[Token], name: &[u8]) -> bool
     requires { length name.now < length row.old }
@@ -97,7 +105,7 @@ fn is_row_matched(row: &mut [bool], tokens: &[Token], name: &[u8]) -> bool
     row[0]
 }
 
-/// Whether a name matches the tokens.
+/// Returns true if a name matches the tokens.
 fn has_tokens(tokens: &[Token], name: &[u8]) -> bool
     requires { length name.now ≤ 1024 }
     ensures { result ≡ tokens_match tokens.now name.now }
@@ -111,7 +119,7 @@ fn has_tokens(tokens: &[Token], name: &[u8]) -> bool
 }
 
 impl Part {
-    /// Whether a name matches it.
+    /// Returns true if a name matches this part.
     fn matches(&self, name: &[u8]) -> bool
         requires { length name.now ≤ 1024 }
         ensures { result ≡ part_matches self.now name.now }
@@ -125,7 +133,9 @@ impl Part {
         }
     }
 
-    /// Whether a name matches it and what comes later matches too. The name is not looked at where what comes later does not.
+    /// Returns true if a name matches this part and `later` is true.
+    ///
+    /// The name is not looked at if `later` is false.
     fn matches_before(&self, name: &[u8], later: bool) -> bool
         requires { length name.now ≤ 1024 }
         ensures { result ≡ (part_matches self.now name.now && later) }
@@ -134,7 +144,7 @@ impl Part {
     }
 }
 
-/// The row where a name that matches a part comes first.
+/// Sets the row of a pattern that begins with a one-name part.
 fn name_before(row: &mut [bool], names: &[&[u8]], part: &Part)
     requires room { length names.now < length row.old }
     requires short { AreShort (lent names.now) }
@@ -148,7 +158,7 @@ fn name_before(row: &mut [bool], names: &[&[u8]], part: &Part)
     row[names.len()] = false;
 }
 
-/// The row of a pattern and a part before it.
+/// Sets the row of a pattern with a part before the rest.
 fn part_before(row: &mut [bool], names: &[&[u8]], part: &Part)
     requires room { length names.now < length row.old }
     requires short { AreShort (lent names.now) }
@@ -162,7 +172,7 @@ fn part_before(row: &mut [bool], names: &[&[u8]], part: &Part)
     }
 }
 
-/// Whether the names of a path match the parts, in whatever ways these may stand for them.
+/// Returns true if a path's names match parts with a `**`.
 fn is_path_matched(parts: &[Part], names: &[&[u8]]) -> bool
     requires few { length names.now ≤ 64 }
     requires short { AreShort (lent names.now) }
@@ -176,9 +186,10 @@ fn is_path_matched(parts: &[Part], names: &[&[u8]]) -> bool
     row[0]
 }
 
-/// Whether the names of a path match the parts of a pattern.
+/// Returns true if a path's names match the parts of a pattern.
 ///
-/// It takes at most a constant times the pattern's length times the path's, whatever the pattern, and no memory.
+/// The time is at most a constant times the pattern's length times the path's. Does not
+/// allocate.
 pub(crate) fn is_admitted(parts: &[Part], names: &[&[u8]]) -> bool
     requires few { length names.now ≤ 64 }
     requires short { AreShort (lent names.now) }
@@ -198,10 +209,24 @@ pub(crate) fn is_admitted(parts: &[Part], names: &[&[u8]]) -> bool
     parts.len() == names.len()
 }
 
-/// Whether the names of a directory match the first parts of a pattern, and a part is left; or they do up to a part that stands for any
-/// number of names.
+/// Returns false only if the parts match no path that ends in this name.
 ///
-/// It takes at most a constant times the pattern's length times the directory's, whatever the pattern, and no memory.
+/// They match none if their last is not `**` and does not match the name. Does not allocate.
+pub(crate) fn may_end(parts: &[Part], name: &[u8]) -> bool
+    requires { length name.now ≤ 1024 }
+    ensures { result ≡ false → (texts names : List (List ℕ)) → AreParts parts.now texts → EndsIn names name.now → path_matches texts names ≡ false }
+{
+    match parts.split_last() {
+        Some((part, _)) => part.matches(name),
+        None => true,
+    }
+}
+
+/// Returns true if a pattern may match something below a directory.
+///
+/// It may if the directory's names match the pattern's first parts and a part is left, or
+/// if they match up to a `**`. The time is at most a constant times the pattern's length
+/// times the directory's. Does not allocate.
 pub(crate) fn is_entered(parts: &[Part], directory: &[u8]) -> bool
     requires { length directory.now ≤ 1024 }
     ensures { (texts : List (List ℕ)) → AreParts parts.now texts → result ≡ parts_enter texts (components directory.now) }
@@ -223,7 +248,7 @@ pub(crate) fn is_entered(parts: &[Part], directory: &[u8]) -> bool
     false
 }
 
-/// Cuts a path into its names, from first to last, and tells how many they are.
+/// Cuts a path into its names, and returns their number.
 pub(crate) fn cut_names<'a>(names: &mut [&'a [u8]], path: &'a [u8]) -> usize
     requires { length (components path.now) ≤ length names.old }
     ensures fits { result ≤ length names.new }
@@ -238,4 +263,17 @@ pub(crate) fn cut_names<'a>(names: &mut [&'a [u8]], path: &'a [u8]) -> usize
         left = behind;
     }
     count
+}
+
+/// Returns the last name of a path.
+pub(crate) fn last_name(path: &[u8]) -> &[u8]
+    ensures last { EndsIn (components path.now) result.now }
+    ensures short { length result.now ≤ length path.now }
+{
+    for at in (0..path.len()).rev() {
+        if path[at] == b'/' {
+            return &path[at + 1..];
+        }
+    }
+    path
 }

@@ -1,4 +1,5 @@
-//! Patterns as a filter keeps them: cut into parts once, of which each is of the plainest kind that it can be.
+//! Patterns as a filter keeps them: cut into parts once, each in the simplest form it can
+//! have.
 
 ghost use Rattle.std.specs.Prelude.{◌≡◌, ◌<◌, ◌≤◌, ◌∷◌, ◌++◌, ℕ, List, Bool, [], true, false, length, map, IfOk, IfSome, MatchOption};
 ghost use Rattle.eden_ids.specs.Paths.{components};
@@ -7,10 +8,10 @@ ghost use Rattle.eden_globs.specs.internal.Rows.{left_of};
 
 use std::alloc::{AllocError, Global};
 
-/// What a part asks of a name, from first to last.
+/// What a part requires of a name, from first to last.
 #[derive(Clone, Copy)]
 pub(crate) enum Token {
-    /// Any run of bytes, none included.
+    /// Any run of bytes, also an empty one.
     Run,
     /// Any one byte.
     Any,
@@ -18,12 +19,12 @@ pub(crate) enum Token {
     Byte(u8),
 }
 
-/// A part of a pattern, by what it takes to tell the names that match it.
+/// A part of a pattern, as it is matched.
 #[derive(Drop)]
 pub(crate) enum Part {
-    /// It stands for any number of names, none included.
+    /// `**`: any number of names, also zero.
     AnyNames,
-    /// The name of these bytes.
+    /// The name with these bytes.
     Name(Vec<u8>),
     /// Each name that begins with these bytes.
     Prefix(Vec<u8>),
@@ -33,7 +34,7 @@ pub(crate) enum Part {
     Tokens(Vec<Token>),
 }
 
-/// The bytes before the first slash, and those behind it, if there is one.
+/// Returns the bytes before and after the first slash.
 pub(crate) fn cut(bytes: &[u8]) -> (&[u8], Option<&[u8]>)
     ensures parts { components bytes.now ≡ result.0.now ∷ left_of result.1 }
     ensures first_short { length result.0.now ≤ length bytes.now }
@@ -47,7 +48,10 @@ pub(crate) fn cut(bytes: &[u8]) -> (&[u8], Option<&[u8]>)
     (bytes, None)
 }
 
-/// What a byte of a part asks for, but for a backslash that stands for none. `escaped` says that such a one stands before it.
+/// Returns the token of a byte, if it is one.
+///
+/// A backslash that escapes the next byte has none. `escaped` says that such a backslash
+/// precedes the byte.
 #[tactic(auto, using(crate::proofs::Tokens::escaped_stands, crate::proofs::Tokens::run_stands, crate::proofs::Tokens::any_stands, crate::proofs::Tokens::byte_stands))]
 fn token_of(escaped: bool, byte: u8) -> Option<Token>
     ensures { MatchOption result ((escaped ≡ false) × (byte ≡ 92)) (λ token. StandsFor token escaped byte) }
@@ -63,7 +67,7 @@ fn token_of(escaped: bool, byte: u8) -> Option<Token>
     }
 }
 
-/// What the bytes of a part ask for.
+/// Returns the tokens of a part.
 fn tokens_of(alloc: Global, text: &[u8]) -> Result<Vec<Token>, AllocError>
     ensures { IfOk result (λ tokens. AreTokensOf tokens.items false text.now) }
 {
@@ -81,7 +85,7 @@ fn tokens_of(alloc: Global, text: &[u8]) -> Result<Vec<Token>, AllocError>
     Ok(tokens)
 }
 
-/// The bytes that the tokens ask for, if each asks for one.
+/// Returns the bytes that the tokens require, if each requires one.
 fn bytes_of(alloc: Global, tokens: &[Token]) -> Result<Option<Vec<u8>>, AllocError>
     ensures { IfOk result (λ found. IfSome found (λ bytes. tokens.now ≡ map Token.Byte bytes.items)) }
 {
@@ -95,7 +99,7 @@ fn bytes_of(alloc: Global, tokens: &[Token]) -> Result<Option<Vec<u8>>, AllocErr
     Ok(Some(bytes))
 }
 
-/// The bytes behind any run of others, if nothing else is asked for.
+/// Returns the bytes after a leading run, if nothing else is required.
 fn ending_of(alloc: Global, tokens: &[Token]) -> Result<Option<Vec<u8>>, AllocError>
     ensures { IfOk result (λ found. IfSome found (λ bytes. tokens.now ≡ Token.Run ∷ map Token.Byte bytes.items)) }
 {
@@ -105,7 +109,7 @@ fn ending_of(alloc: Global, tokens: &[Token]) -> Result<Option<Vec<u8>>, AllocEr
     }
 }
 
-/// The bytes before any run of others, if nothing else is asked for.
+/// Returns the bytes before a trailing run, if nothing else is required.
 fn beginning_of(alloc: Global, tokens: &[Token]) -> Result<Option<Vec<u8>>, AllocError>
     ensures { IfOk result (λ found. IfSome found (λ bytes. tokens.now ≡ map Token.Byte bytes.items ++ Token.Run ∷ [])) }
 {
@@ -116,7 +120,7 @@ fn beginning_of(alloc: Global, tokens: &[Token]) -> Result<Option<Vec<u8>>, Allo
 }
 
 impl Part {
-    /// The plainest part that matches the names that the tokens do.
+    /// Returns the simplest part that matches the same names as the tokens.
     fn from_tokens(alloc: Global, tokens: Vec<Token>) -> Result<Part, AllocError>
         ensures one { IfOk result (λ part. is_any_names_part part ≡ false) }
         ensures names { IfOk result (λ part. (name : List ℕ) → part_matches part name ≡ tokens_match tokens.items name) }
@@ -133,7 +137,7 @@ impl Part {
         Ok(Part::Tokens(tokens))
     }
 
-    /// The part of a pattern that is spelled so.
+    /// Returns the part of a pattern with this text.
     fn compile(alloc: Global, text: &[u8]) -> Result<Part, AllocError>
         ensures { IfOk result (λ part. IsPartOf part text.now) }
     {
@@ -144,7 +148,7 @@ impl Part {
         Part::from_tokens(alloc, tokens)
     }
 
-    /// Whether it stands for any number of names.
+    /// Returns true if this part is `**`.
     pub(crate) fn is_any_names(&self) -> bool
         ensures { result ≡ is_any_names_part self.now }
     {
@@ -155,7 +159,7 @@ impl Part {
     }
 }
 
-/// The parts of a pattern, in their order.
+/// Returns the parts of a pattern, in their order.
 pub(crate) fn parts_of(alloc: Global, pattern: &[u8]) -> Result<Vec<Part>, AllocError>
     ensures { IfOk result (λ parts. AreParts parts.items (components pattern.now)) }
 {

@@ -8,12 +8,12 @@ use Rattle.eden_history.specs.declared.answer.Answer as made
 use Rattle.eden_history.specs.declared.answer.Answer.TheVariants as of_change
 use Rattle.eden_history.specs.Worlds.{Namer, WorldState}
 use Rattle.eden_history.specs.Outcome.{answer_of}
-use Rattle.eden_messages.specs.declared.call.Answer.TheVariants.{Replied}
-use Rattle.eden_messages.specs.declared.call.Call.{Call}
-use Rattle.eden_messages.specs.declared.call.Call.TheVariants.{Change, Ask}
+use Rattle.eden_logs.specs.declared.call.Answer.TheVariants.{Replied}
+use Rattle.eden_logs.specs.declared.call.Call.{Call}
+use Rattle.eden_logs.specs.declared.call.Call.TheVariants.{Change, Ask}
 use Rattle.eden_messages.specs.declared.message.Reply.{Reply}
 use Rattle.eden_messages.specs.declared.message.Request.{Request}
-use Rattle.eden_messages.specs.Calls.{answer_made}
+use Rattle.eden_logs.specs.Calls.{answer_made}
 use Rattle.eden_messages.specs.Mirrors.{MirrorState, begun, delivered, query_of}
 use Rattle.eden_messages.specs.Replies.{reply_of}
 use Rattle.eden_logs.specs.declared.history.Entry.{Entry}

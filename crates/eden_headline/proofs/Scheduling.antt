@@ -33,7 +33,7 @@ use Rattle.eden_history.specs.Rows.{Stands}
 use Rattle.eden_headline.specs.Schedules.{IsFresh, IsSchedule, IsStrange, MayHappen, Mirrors, OnFreshRuns, Scene, Step, asked_by, happens, moved, run_schedule}
 use Rattle.eden_headline.specs.Schedules.Step.{Begins, Changes, Comes, Nothing, Refilters, Restarts, Sends, Serves, Strange}
 use Rattle.eden_messages.specs.Spells.{reply_bytes}
-use Rattle.eden_frames.specs.Frames.{body_limit}
+use Rattle.eden_stream.specs.Frames.{body_limit}
 use Rattle.eden_history.specs.Status.{status_of}
 use Rattle.eden_history.proofs.Following.{IsNotAfter, none_said}
 use Rattle.eden_history.proofs.Growing.{world_changes}

@@ -35,7 +35,7 @@ use Rattle.eden_history.specs.Marks.{admitted}
 use Rattle.eden_messages.specs.Replies.{admitted_paths, bounded, polled, reply_of}
 use Rattle.eden_history.specs.Rows.{IsPlace, IsRow, Stands}
 use Rattle.eden_messages.specs.Spells.{paths_of, reply_bytes}
-use Rattle.eden_frames.specs.Frames.{body_limit}
+use Rattle.eden_stream.specs.Frames.{body_limit}
 use Rattle.eden_history.specs.Status.{status, status_of}
 use Rattle.eden_messages.proofs.Replying.{admitted_listed, marked_paths}
 use Rattle.eden_history.proofs.Following.{Follows, event_follows}

@@ -6,8 +6,8 @@ use Rattle.std.proofs.lemmas.List.Elements.{Contains-append_cases, Contains-appe
 use Rattle.std.proofs.lemmas.Option.{same_Some}
 use Rattle.eden_history.specs.Worlds.{Namer, WorldState}
 use Rattle.eden_history.specs.Legal.{IsWorld}
-use Rattle.eden_messages.specs.declared.call.Answer.TheVariants.{Replied, Unanswered}
-use Rattle.eden_messages.specs.declared.call.Call.TheVariants.{Ask}
+use Rattle.eden_logs.specs.declared.call.Answer.TheVariants.{Replied, Unanswered}
+use Rattle.eden_logs.specs.declared.call.Call.TheVariants.{Ask}
 use Rattle.eden_messages.specs.declared.message.Reply.{Reply}
 use Rattle.eden_messages.specs.declared.message.Request.{Request}
 use Rattle.eden_messages.specs.Mirrors.{MirrorState, new_mirror}

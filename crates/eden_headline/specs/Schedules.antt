@@ -1,6 +1,7 @@
--- A schedule: what happens to a mount, to mirrors of it and to the messages between them, one step after another. Nothing orders the
--- steps: requests are served late, twice or never, and replies come late, twice, to whomever or never. What is lost is what no later step
--- takes.
+-- A schedule: what happens to a mount, to mirrors of it and to the messages between them,
+-- one step after another. Nothing orders the steps: requests are served late, twice or
+-- never, and replies come late, twice, to any mirror or never. A message is lost if no
+-- later step takes it.
 use Rattle.std.specs.Prelude.{◌≡◌, ◌≢◌, ◌<◌, ℕ, ◌==◌, if◌then◌else◌, List, [], ◌∷◌, ◌++◌, Contains, Option, Some, None}
 use Rattle.std.specs.Option.{option_map}
 use Rattle.eden_history.specs.declared.change.Change.{Change}
@@ -28,33 +29,33 @@ pub record Scene : Type 0 where
 pub data Step : Type 0 where
   -- the mount is changed, or its store gets more objects, or the change is refused
   Changes : Change → Step
-  -- the mirror of this id begins a round
+  -- the mirror with this id begins a round
   Begins : (id : ℕ) → Step
-  -- it sends all that is outstanding in its round, first or again
+  -- it sends all that is outstanding in its round, for the first time or again
   Sends : (id : ℕ) → Step
   -- the mount answers a request
   Serves : Request → Step
-  -- a reply comes to the mirror of this id
+  -- a reply comes to the mirror with this id
   Comes : Reply → (id : ℕ) → Step
   -- the mirror gets another filter
   Refilters : (id : ℕ) → (patterns : List (List ℕ)) → Step
-  -- the mirror begins anew, with nothing but a life and a filter
+  -- the mirror starts again, with nothing but a life and a filter
   Restarts : (id : ℕ) → (life : ℕ) → (patterns : List (List ℕ)) → Step
-  -- a client that is no mirror sends a request
+  -- a client that is not a mirror sends a request
   Strange : Request → Step
-  -- something is refused for want of memory
+  -- something is refused because memory ran out
   Nothing : Step
 
--- the mirrors where the one of this id has moved
+-- the mirrors after the one with this id has moved
 abbrev pub moved : Mirrors → ℕ → (MirrorState → MirrorState) → Mirrors
 moved mirrors id move other = if other == id then option_map move (mirrors other) else mirrors other
 
--- what a mirror asks, if it is there
+-- what a mirror asks, if it exists
 abbrev pub asked_by : Option MirrorState → List Request
 asked_by None = []
 asked_by (Some m) = outstanding_of m
 
--- the naming is that of the objects that the changes import
+-- the scene after a step; the naming is that of the objects that the changes import
 unfoldable pub happens : Namer → Scene → Step → Scene
 happens name s (Changes change) = record s { world = world_after name s.world change }
 happens name s (Begins id) = record s { mirrors = moved s.mirrors id begun }
@@ -73,7 +74,7 @@ pub record IsNewLife (s : Scene) (id : ℕ) (life : ℕ) : Type 0 where
   pub above : (m : MirrorState) → s.mirrors id ≡ Some m → m.life < life
   pub unused : (request : Request) → Contains s.sent request → (query_of request).mirror ≡ id → (query_of request).life ≢ life
 
--- the request is under no mirror's id and life
+-- the request is not under the id and life of a mirror
 abbrev pub IsStrange : Scene → Request → Type 0
 IsStrange s request = (m : MirrorState) → s.mirrors (query_of request).mirror ≡ Some m → m.life ≢ (query_of request).life
 
@@ -85,7 +86,7 @@ MayHappen s (Restarts id life patterns) = IsNewLife s id life
 MayHappen s (Strange request) = IsStrange s request
 MayHappen s step = Unit {0}
 
--- each step may happen where it stands
+-- each step may happen at its place
 abbrev pub IsSchedule : Namer → Scene → List Step → Type 0
 IsSchedule name s [] = Unit {0}
 IsSchedule name s (step ∷ steps) = MayHappen s step × IsSchedule name (happens name s step) steps
@@ -96,7 +97,8 @@ run_schedule name s (step ∷ steps) = run_schedule name (happens name s step) s
 
 -- ---- beginnings
 
--- a world with the history that it has had so far, mirrors that are new, each under its own id, and nothing sent
+-- a world with the history that it has had so far, mirrors that are new, each under its
+-- own id, and nothing sent
 pub record IsFresh (name : Namer) (s : Scene) : Type 0 where
   pub world : IsWorld name s.world
   pub sent : s.sent ≡ []

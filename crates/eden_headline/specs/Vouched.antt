@@ -1,7 +1,7 @@
 -- When logs vouch for what a follower noted.
 use Rattle.std.specs.Prelude.{◌≡◌, ◌<◌, ◌⊎◌, ℕ, ◌==◌, Bool, true, ◌&&◌, List, [], ◌∷◌, ◌++◌, Contains}
-use Rattle.eden_messages.specs.declared.call.Answer.TheVariants.{Replied}
-use Rattle.eden_messages.specs.declared.call.Call.TheVariants.{Ask}
+use Rattle.eden_logs.specs.declared.call.Answer.TheVariants.{Replied}
+use Rattle.eden_logs.specs.declared.call.Call.TheVariants.{Ask}
 use Rattle.eden_messages.specs.declared.message.Reply.{Reply}
 use Rattle.eden_messages.specs.declared.message.Request.{Request}
 use Rattle.eden_messages.specs.Mirrors.{MirrorState, query_of}
@@ -31,7 +31,7 @@ abbrev pub IsTimely : List LogEntry → List Note → Request → Type 0
 IsTimely entries earlier request = Contains (sent_in earlier) request
     ⊎ ((ticket : ℕ) → IsAsked entries ticket request → (came : ℕ) → Contains (came_in earlier) came → came < ticket)
 
--- of a note that stands behind these
+-- the logs vouch for a note that comes after these
 abbrev pub IsVouchedNote : List LogEntry → List Note → Note → Type 0
 IsVouchedNote entries earlier Began = Unit {0}
 IsVouchedNote entries earlier (Sent requests) = (request : Request) → Contains requests request → IsTimely entries earlier request
@@ -45,11 +45,12 @@ AreVouched entries earlier (note ∷ notes) = IsVouchedNote entries earlier note
 abbrev pub is_own : ℕ → ℕ → Request → Bool
 is_own id life request = (query_of request).mirror == id && (query_of request).life == life
 
--- each request that is noted as its was sent
+-- each request under this id and life that an entry has was sent
 abbrev pub AllSent : List LogEntry → ℕ → ℕ → List Note → Type 0
 AllSent entries id life notes = (ticket : ℕ) (request : Request) → IsAsked entries ticket request → is_own id life request ≡ true → Contains (sent_in notes) request
 
--- each reply that came is an answer that the logs have, and each request of the follower that they have was sent in time
+-- each reply that came is an answer in the logs, and each request of the follower in them
+-- was sent in time
 pub record IsVouched (logs : List CallLog) (m : MirrorState) (notes : List Note) : Type 0 where
   pub along : AreVouched (entries_in logs) [] notes
   pub sent : AllSent (entries_in logs) m.id m.life notes

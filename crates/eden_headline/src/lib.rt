@@ -1,13 +1,16 @@
-//! What is true of a mount and its mirrors after whatever happened between them: where a mirror with a position does not hold what the
-//! working copy does, the mount tells it so.
+//! The theorem about a mount and its mirrors, after any schedule of steps.
 //!
-//! Two files of definitions say it, and are all that one has to read of it beside what a mount, a reply and a mirror are:
-//! `specs/Schedules.antt` what may happen, one step after another, and `specs/Headline.antt` what holds at the end. `schedule_law` does
-//! nothing: its contract is that it holds after every schedule.
+//! Suppose that a mirror with a position differs from the working copy at a path that it
+//! wants. Then its next poll lists that path or a renamed directory above it, or is
+//! refused. `schedule_law` does nothing at run time: its contract is that this holds
+//! after every schedule. It needs two files of definitions, besides what a mount, a reply
+//! and a mirror are: `specs/Schedules.antt` says what can happen, step by step, and
+//! `specs/Headline.antt` what holds at the end.
 //!
-//! What has really happened is such a schedule where what was noted of it fits together. `specs/Notes.antt` says what a follower notes,
-//! `specs/Vouched.antt` when the logs of a mount's callers vouch for its notes, and `specs/Merges.antt` how a history and the notes merge
-//! into one schedule and what that comes to; this is the contract of `merge_law`.
+//! A real run was such a schedule if the notes of it fit together. `specs/Notes.antt`
+//! says what a follower notes, and `specs/Vouched.antt` when the logs of a mount's
+//! callers vouch for its notes. `specs/Merges.antt` says how a history and the notes
+//! merge into one schedule, and what follows. This is the contract of `merge_law`.
 //!
 //! ```rust
 //! use eden_headline::{merge_law, schedule_law};

@@ -2,7 +2,6 @@ pub mod CheckoutLaws
 pub mod DirtyFiles
 mod SortedPaths
 pub mod RenameLaws
-pub mod CarriedLemmas
 pub mod DirRenameLaws
 pub mod Committed
 pub mod Steps

@@ -38,12 +38,12 @@ use Rattle.eden_history.specs.Changes.{events_in, is_in_range, prefixes_since, p
 use Rattle.eden_history.specs.Outcome.{Outcome, change_fault, event_at, extended, is_event, judged, next_files, next_generation, next_root, next_row, outcome, refusal, row_after, world_after}
 use Rattle.eden_history.specs.Outcome.Outcome.{Refuses, NoEvent, Next}
 use Rattle.eden_history.specs.Renames.{moved, place_fault, renamed, write_fault}
-use Rattle.eden_history.specs.Carried.{carried, carried_files}
+use Rattle.eden_overlay.specs.Carried.{carried, carried_files}
 use Rattle.eden_history.specs.DirRenames.{breaks_a_path, dir_renamed, rename_dir_fault, source_fault, target_fault}
 use Rattle.eden_history.specs.Legal.{AreMade, IsWorld}
 use Rattle.eden_history.specs.Imports.{over_held, world_imported}
 use Rattle.eden_history.specs.Spellable.{AreObjects, IsChange, IsRowText, IsSpellable}
-use Rattle.eden_history.proofs.CarriedLemmas.{carried-back, carried-below, file_at-carried}
+use Rattle.eden_overlay.proofs.CarriedLemmas.{carried-back, carried-below, file_at-carried}
 use Rattle.eden_history.proofs.CheckoutLaws.{file_at-checked_out}
 use Rattle.eden_history.proofs.DirRenameLaws.{carried_path, is_allowed}
 use Rattle.eden_history.proofs.Growing.{after_by, imported_by}

@@ -4,6 +4,6 @@ use Rattle.std.specs.FinMap as fin
 use Rattle.eden_ids.specs.FileMaps.{FileMap}
 use Rattle.eden_history.specs.Checkouts.{is_clean}
 
--- the files of the working copy at the paths that are not clean
+-- the files of the working copy at the dirty paths
 abbrev pub dirty_files : FileMap → FileMap → FileMap
 dirty_files work root = fin.retain_keys work (λ p. not (is_clean work root p))

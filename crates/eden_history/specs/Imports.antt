@@ -1,5 +1,7 @@
--- What an import makes of a world: its store has more objects, or, where one of them is refused, nothing has changed. The rows and the
--- events stay as they are: each was judged by the objects of its time.
+-- What an import does to a world: its store has more objects or, if one of them is
+-- refused, nothing changes. The rows and the events stay as they are. A world keeps the
+-- objects of now alone, so after an import its earlier events are judged over the grown
+-- store.
 use Rattle.std.specs.Prelude.{List, Ok, Err}
 use Rattle.eden_objects.specs.declared.import.Object.{Object}
 use Rattle.eden_objects.specs.Objects.{Held}

@@ -1,6 +1,5 @@
 pub mod Worlds
 pub mod Renames
-pub mod Carried
 pub mod DirRenames
 pub mod Checkouts
 pub mod DirtyFiles

@@ -1,4 +1,4 @@
--- What a change does to a row: it is refused, or makes no event, or makes the next row.
+-- What a change does to a row: it is refused, makes no event, or makes the next row.
 use Rattle.std.specs.Prelude.{ℕ, ◌+◌, ◌-◌, ◌^◌, Bool, true, false, not, ◌&&◌, nat_lt, if◌then◌else◌, ◌∷◌, Option, Some, None, Ok, Err}
 use Rattle.std.specs.Option.{option_or}
 use Rattle.std.specs.FinMap as fin
@@ -22,12 +22,13 @@ use Rattle.eden_ids.specs.Sameness.{same_bytes}
 use Rattle.eden_history.specs.Checkouts.{checked_out, conflicts, is_dry}
 use Rattle.eden_history.specs.Named.{moved_prefixes, named, unclean_paths}
 
--- a commit has to be there
+-- the commit must exist
 abbrev pub commit_fault : Option FileMap → Option ChangeFault
 commit_fault None = Some NoCommit
 commit_fault (Some files) = None
 
--- why the files, the commits or the generation refuse a change. What refuses an import are its objects, by the store: see `answer_of`
+-- why the files, the commits or the generation refuse a change; an import can be refused
+-- only for its objects, by the store (see `answer_of`)
 abbrev pub change_fault : Commits → Row → Change → Option ChangeFault
 change_fault commits row (Write path kind bytes) = write_fault row.files path bytes
 change_fault commits row (Remove path) = absent_fault row.files path
@@ -39,8 +40,8 @@ change_fault commits row Flush = None
 change_fault commits row (Remount generation) = if nat_lt row.generation generation then None else Some GenerationNotNew
 change_fault commits row (Import objects) = None
 
--- whether the change, where nothing refuses it, makes an event: all do but the rename of a file or a directory to itself, a checkout that
--- is tried and an import
+-- the change makes an event unless it is refused; all do but the rename of a file or a
+-- directory to itself, a checkout that is only tried, and an import
 abbrev pub is_event : Change → Bool
 is_event (Rename old new) = not (same_bytes old new)
 is_event (RenameDir old new) = not (same_bytes old new)
@@ -48,12 +49,13 @@ is_event (Checkout commit mode) = not (is_dry mode)
 is_event (Import objects) = false
 is_event change = true
 
--- whether the change, where nothing refuses it, takes the next number: a remount begins anew with number 1
+-- the change takes the next number unless it is refused; a remount begins again at number
+-- 1
 abbrev pub takes_number : Change → Bool
 takes_number (Remount generation) = false
 takes_number change = is_event change
 
--- the first cause of a refusal that stands. Sequence numbers end at 2 ^ 64 - 1
+-- the first cause of refusal that applies; sequence numbers end at 2 ^ 64 - 1
 unfoldable pub refusal : Commits → Row → Change → Option ChangeFault
 refusal commits row change =
     option_or (change_fault commits row change)
@@ -115,7 +117,7 @@ judged commits row change None = if is_event change then Next (event_at commits 
 abbrev pub outcome : Commits → Row → Change → Outcome
 outcome commits row change = judged commits row change (refusal commits row change)
 
--- a checkout, also one that is only tried, is answered with its conflicts
+-- the answer to a checkout, also to one that is only tried, gives its conflicts
 abbrev pub answer_at : Commits → Row → Change → Position → Answer
 answer_at commits row (Checkout commit mode) position =
     Checked position (listing (conflicts row.files (files_of (commits row.root)) (files_of (commits commit))))
@@ -126,7 +128,7 @@ answered commits row change (Refuses fault) = Refused fault
 answered commits row change NoEvent = answer_at commits row change (position_of row)
 answered commits row change (Next event) = answer_at commits row change (position_of event.row)
 
--- the answer to a change that is no import, by the rows
+-- the answer to a change that is not an import, by the rows
 abbrev pub row_answer : WorldState → Change → Answer
 row_answer world change = answered (commits_of world) (now world) change (outcome (commits_of world) (now world) change)
 
@@ -139,7 +141,7 @@ extended world (Next event) = record world { past = event ∷ world.past }
 abbrev pub row_after : WorldState → Change → WorldState
 row_after world change = extended world (outcome (commits_of world) (now world) change)
 
--- an import is answered with the present position, also where all objects were there already
+-- the answer to an import is the present position, even if all objects were there already
 abbrev pub import_answer : Position → Imported → Answer
 import_answer position (Ok held) = At position
 import_answer position (Err (imports.BadObject place fault)) = Refused (BadObject place fault)

@@ -1,4 +1,5 @@
--- Reading, writing, removing and renaming single files: why each is refused, and the files after a rename.
+-- Reading, writing, removing and renaming single files: why each is refused, and the
+-- files after a rename.
 use Rattle.std.specs.Prelude.{ℕ, nat_lt, if◌then◌else◌, List, length, Option, Some, None, is_some}
 use Rattle.std.specs.Option.{option_or}
 use Rattle.std.specs.FinMap as fin
@@ -8,7 +9,8 @@ use Rattle.eden_ids.specs.Sameness.{same_bytes}
 use Rattle.eden_history.specs.declared.change.ChangeFault.{ChangeFault}
 use Rattle.eden_history.specs.declared.change.ChangeFault.TheVariants.{NotADirectory, IsADirectory, NoEntry, TooLarge}
 
--- why no file can stand at a path: one of its directories is a file, or it is a directory itself
+-- why there can be no file at a path: one of its directories is a file, or it is a
+-- directory itself
 abbrev pub place_fault : FileMap → List ℕ → Option ChangeFault
 place_fault files path =
     if has_file_above files path then Some NotADirectory else
@@ -18,12 +20,12 @@ place_fault files path =
 abbrev pub absent_fault : FileMap → List ℕ → Option ChangeFault
 absent_fault files path = option_or (place_fault files path) (if is_some (file_at files path) then None else Some NoEntry)
 
--- why these bytes can't be written at a path; a file holds 8 MiB at the most
+-- why these bytes cannot be written at a path; a file holds at most 8 MiB
 abbrev pub write_fault : FileMap → List ℕ → List ℕ → Option ChangeFault
 write_fault files path bytes = option_or (place_fault files path) (if nat_lt 8388608 (length bytes) then Some TooLarge else None)
 
--- why a file can't be renamed: what stands against the old path comes first. A file may be renamed to itself; else the new path has to
--- be one where a file can stand, over the files before the change
+-- why a file cannot be renamed: the old path is checked first. A file may be renamed to
+-- itself; else a file must be possible at the new path, by the files before the change
 abbrev pub rename_fault : FileMap → List ℕ → List ℕ → Option ChangeFault
 rename_fault files old new = option_or (absent_fault files old) (if same_bytes old new then None else place_fault files new)
 

@@ -1,11 +1,11 @@
--- Which rows a world has had, and what stood at a path in them.
+-- The rows that a world has had, and the files in them.
 use Rattle.std.specs.Prelude.{◌≡◌, ◌≤◌, ◌⊎◌, ℕ, List, [], ◌∷◌, Option}
 use Rattle.eden_ids.specs.declared.content.Content.{Content}
 use Rattle.eden_ids.specs.FileMaps.{file_at}
 use Rattle.eden_history.specs.declared.position.Position.{Position}
 use Rattle.eden_history.specs.Worlds.{Row, Event, WorldState, position_of}
 
--- the row is the opening one, or stands after one of these events
+-- the row is the opening one, or the row after one of these events
 abbrev pub IsRowOf : Row → List Event → Row → Type 0
 IsRowOf opening [] row = row ≡ opening
 IsRowOf opening (event ∷ past) row = (row ≡ event.row) ⊎ IsRowOf opening past row
@@ -20,7 +20,8 @@ pub record IsPlace (world : WorldState) (position : Position) : Type 0 where
   pub is_row : IsRow world row
   pub is : position_of row ≡ position
 
--- in some row of a generation, at a number or after it, this stands at the path
+-- some row of a generation, at this number or a later one, has this file (or none) at the
+-- path
 pub record Stands (world : WorldState) (generation : ℕ) (number : ℕ) (path : List ℕ) (file : Option Content) : Type 0 where
   pub row : Row
   pub is_row : IsRow world row

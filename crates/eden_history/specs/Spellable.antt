@@ -1,5 +1,5 @@
--- What makes everything that a mount replies one that bytes can say: its numbers have eight bytes, its roots twenty, its paths are paths and
--- its files have 8 MiB at the most.
+-- Why everything that a mount replies can be written as bytes: its numbers have eight
+-- bytes, its roots twenty, its paths are valid and its files have at most 8 MiB.
 use Rattle.std.specs.Prelude.{◌<◌, ◌^◌, List}
 use Rattle.std.specs.List.{AllByRecursion}
 use Rattle.eden_ids.specs.Texts.{AreBytes, AreTexts, IsIdText, IsPathText}
@@ -15,11 +15,12 @@ pub record IsRowText (row : Row) : Type 0 where
   pub root : IsIdText row.root
   pub files : AreTexts row.files
 
--- objects that values can be
+-- objects that values can be: their payloads are bytes
 abbrev pub AreObjects : List Object → Type 0
 AreObjects objects = AllByRecursion (λ object. AreBytes object.payload) objects
 
--- a change that a value can be. A write may name a file of any size, and an import an object of any: one that is too large is refused
+-- a change that a value can be; a write may have a file of any size, and an import an
+-- object of any size: one that is too large is refused
 abbrev pub IsChange : Change → Type 0
 IsChange (Write path kind bytes) = IsPathText path × AreBytes bytes
 IsChange (Remove path) = IsPathText path
@@ -31,7 +32,8 @@ IsChange Flush = Unit {0}
 IsChange (Remount generation) = generation < 2 ^ 64
 IsChange (Import objects) = AreObjects objects
 
--- The objects, the opening row and the changes that were made suffice: each later row and each name comes from these.
+-- The objects, the opening row and the changes that were made suffice: each later row and
+-- each name comes from these.
 pub record IsSpellable (world : WorldState) : Type 0 where
   pub small : AreSmall world.held
   pub opening : IsRowText world.opening

@@ -1,4 +1,4 @@
-//! What a change is answered with, and why what changed since a position can't be told.
+//! The answer to a change, and why the changes since a position are not known.
 
 ghost use Rattle.std.specs.Prelude.{◌≡◌, IfOk};
 
@@ -7,24 +7,28 @@ use crate::position::Position;
 use eden_ids::{NoMemory, Path, Sequence};
 use thiserror::Error;
 
-/// What a change is answered with.
+/// The answer to a change.
 #[derive(Clone, Debug, PartialEq, Drop)]
 pub enum Answer {
-    /// It was made, or there was nothing to make: the position after it.
+    /// The change was made, or there was nothing to do: the position after it.
     At(Position),
-    /// A checkout was made or, where that was asked for, only tried.
+    /// A checkout was made, or in mode `Dry` only tried.
     Checked {
         /// The position after it.
         position: Position,
-        /// The paths at which files that were changed stood against files of the new commit, ascending.
+        /// The paths of changed files that conflict with the commit, ascending.
         conflicts: Sequence<Path>,
     },
-    /// It was refused, and nothing has changed.
+    /// The change was refused, and nothing changed.
     Refused(ChangeFault),
 }
 
 impl Answer {
-    /// An answer that is equal to this one. `NoMemory` comes where a growth was refused.
+    /// Returns a copy of this answer.
+    ///
+    /// # Errors
+    ///
+    /// - `NoMemory` if an allocation fails.
     pub fn copy(&self) -> Result<Answer, NoMemory>
         ensures { IfOk result (λ answer. answer ≡ self.now) }
     {
@@ -32,19 +36,22 @@ impl Answer {
     }
 }
 
-/// Why the paths that changed since a position can't be told. The first cause in this order is told.
+/// Why the changes since a position cannot be listed.
+///
+/// The first cause in this order is reported.
 #[derive(Clone, Copy, Debug, PartialEq, Eq, Error)]
 pub enum SinceFault {
-    /// The position is of another generation than the mount's, which is told.
+    /// The position is of another generation than the mount's, which is given.
     #[error("Stale {0}")]
     Stale(u64),
-    /// The position's number is above the head's, which is told.
+    /// The position's number is above the head, which is given.
     #[error("Ahead {0}")]
     Ahead(u64),
-    /// The position's number is below the floor, which is told: changes after it aren't held any more.
+    /// The position's number is below the floor, which is given: older changes are no
+    /// longer held.
     #[error("Truncated {0}")]
     Truncated(u64),
-    /// A growth was refused.
+    /// An allocation failed.
     #[error("NoMemory")]
     NoMemory,
 }

@@ -1,4 +1,4 @@
-//! What is done to a mount, and why it is refused.
+//! Changes of a mount, and why one is refused.
 
 ghost use Rattle.std.specs.Prelude.{◌≡◌, IfOk};
 
@@ -6,79 +6,94 @@ use eden_ids::{Id, Kind, NoMemory, Path, Sequence};
 use eden_objects::{Object, PutFault};
 use thiserror::Error;
 
-/// How a checkout treats files that were changed since the commit that it leaves.
+/// How a checkout treats files that were changed.
 #[derive(Clone, Copy, Debug, PartialEq, Eq)]
 pub enum Mode {
-    /// They stay, and a file of the new commit that can't stand beside them is left out.
+    /// They stay, and files of the commit that clash are left out.
     Normal,
-    /// Nothing is changed: only the conflicts are told.
+    /// Nothing is changed; only the conflicts are reported.
     Dry,
-    /// They give way to the files of the new commit.
+    /// They are replaced by the files of the new commit.
     Force,
 }
 
-/// What is done to a mount.
+/// A change that a client asks of a mount.
 #[derive(Clone, Debug, PartialEq, Drop)]
 pub enum Change {
-    /// Sets the kind and the bytes of the file at a path, whether or not one stands there.
+    /// Sets the kind and the bytes of the file at a path.
+    ///
+    /// There need not be a file before.
     Write {
-        /// Where.
+        /// The file's path.
         path: Path,
-        /// What the file is to be.
+        /// The file's new kind.
         kind: Kind,
-        /// What it is to hold, 8 MiB at the most.
+        /// The file's new bytes, at most 8 MiB.
         bytes: Sequence<u8>,
     },
-    /// Takes the file at a path away.
+    /// Removes the file at a path.
     Remove {
-        /// Where.
+        /// The file's path.
         path: Path,
     },
-    /// Takes the file at one path away and puts it at another, in place of the one that stands there. A file may be renamed to itself:
-    /// that changes nothing and takes no number.
+    /// Moves a file to another path, replacing any file there.
+    ///
+    /// A file may be renamed to itself; this changes nothing and takes no number.
     Rename {
-        /// Where the file stands.
+        /// The file's path now.
         old: Path,
-        /// Where it is to stand.
+        /// The file's new path.
         new: Path,
     },
-    /// Moves each file below one path to the same place below another, below which none stands. It names neither path, nor any path below
-    /// them: the two are told as they are. A directory may be renamed to itself: that changes nothing and takes no number.
+    /// Moves each file below one path to below another.
+    ///
+    /// Each keeps its place there. There must be no files below the new path. It names no
+    /// paths: a poll lists the two directories instead. A directory may be renamed to
+    /// itself; this changes nothing and takes no number.
     RenameDir {
-        /// Below which path the files stand.
+        /// The directory's path now.
         old: Path,
-        /// Below which they are to stand.
+        /// The directory's new path.
         new: Path,
     },
-    /// Goes over to another commit, and makes the files those of that commit as far as the mode says.
+    /// Checks out another commit, and changes the files as the mode says.
     Checkout {
         /// The commit.
         commit: Id,
-        /// What becomes of files that were changed.
+        /// How files that were changed are treated.
         mode: Mode,
     },
-    /// Goes over to another commit, and leaves the files as they are.
+    /// Moves the root to another commit, and leaves the files.
     Reset {
         /// The commit.
         commit: Id,
     },
-    /// Forgets what changed so far: since an earlier position it can't be told any more.
+    /// Drops what the journal holds, so earlier positions are truncated.
     Flush,
-    /// Begins anew under another generation, with the same commit and the same files, as number 1.
+    /// Begins another generation, at number 1.
+    ///
+    /// It has the same commit and the same files.
     Remount {
-        /// The generation, above the present one.
+        /// The generation; it must be above the present one.
         generation: u64,
     },
-    /// Puts objects into the store below the mount, one after another: all of them or, where one is refused, none. It takes no number, and
-    /// leaves the root, the files and what is told of earlier changes as they are.
+    /// Puts objects into the store below the mount, in order: all of them, or none if one
+    /// is refused.
+    ///
+    /// It takes no number. The root, the files and the reported changes stay as they are.
     Import {
-        /// The objects, each behind those that it names. One that is there already stays as it is.
+        /// The objects, each after those that it refers to. One that is there already
+        /// stays as it is.
         objects: Sequence<Object>,
     },
 }
 
 impl Change {
-    /// A change that is equal to this one. `NoMemory` comes where a growth was refused.
+    /// Returns a copy of this change.
+    ///
+    /// # Errors
+    ///
+    /// - `NoMemory` if an allocation fails.
     pub fn copy(&self) -> Result<Change, NoMemory>
         ensures { IfOk result (λ change. change ≡ self.now) }
     {
@@ -86,46 +101,55 @@ impl Change {
     }
 }
 
-/// Why a change was refused. The first cause in this order is told, of a rename those at the old path before those at the new one, and
-/// nothing has changed.
+/// Why a change was refused; nothing has changed.
+///
+/// The first cause in this order is reported. For a rename the causes at the old path
+/// come before those at the new one.
 #[derive(Clone, Copy, Debug, PartialEq, Eq, Error)]
 pub enum ChangeFault {
-    /// A file stands at a proper prefix of the path's components or, where a directory is renamed, at the path itself.
+    /// There is a file at a proper prefix of the path's components.
+    ///
+    /// If a directory is renamed, also if there is a file at the path itself.
     #[error("NotADirectory")]
     NotADirectory,
-    /// Files stand below the path.
+    /// There are files below the path.
     #[error("IsADirectory")]
     IsADirectory,
-    /// No file stands there or, where a directory is renamed, below it.
+    /// There is no file at the path.
+    ///
+    /// If a directory is renamed: none below it.
     #[error("NoEntry")]
     NoEntry,
     /// The file would hold more than 8 MiB.
     #[error("TooLarge")]
     TooLarge,
-    /// The new path of a directory lies below its old one. This is told before what stands at the new path.
+    /// The new path of a directory is below its old one.
+    ///
+    /// This is reported before any other cause at the new path.
     #[error("IntoItself")]
     IntoItself,
-    /// Below the new path of a directory a file would stand at what is no path.
+    /// A file of a renamed directory would get an invalid path.
     #[error("PathTooLong")]
     PathTooLong,
-    /// The id is no commit's.
+    /// The id is not that of a commit.
     #[error("NoCommit")]
     NoCommit,
-    /// The sequence number is the greatest that there is, 2^64 - 1.
+    /// The sequence number is the greatest, 2^64 - 1.
     #[error("SequenceExhausted")]
     SequenceExhausted,
     /// The generation is not above the present one.
     #[error("GenerationNotNew")]
     GenerationNotNew,
-    /// An object of an import is refused: the first one that is, each put into the store that has those before it.
+    /// The store refuses an object of an import: the first that it does, after those
+    /// before it are put.
     #[error("BadObject")]
     BadObject {
-        /// Where it stands among the objects, the first at 0.
+        /// The object's position in the list, counted from 0.
         place: u64,
         /// The first cause for which the store refuses it.
         fault: PutFault,
     },
-    /// A growth was refused.
+    /// An allocation failed.
     #[error("NoMemory")]
     NoMemory,
 }

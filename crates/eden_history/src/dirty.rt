@@ -7,12 +7,13 @@ ghost use Rattle.eden_history.specs.DirtyFiles.{dirty_files};
 use crate::listed::is_listed;
 use eden_ids::{FileTree, Kind, Path, has_path_below};
 
-/// The dirty files: those of a working copy at the paths at which it holds something else than the commit below it.
+/// The files of a working copy at the dirty paths: those that differ from the commit
+/// below it.
 #[derive(Drop)]
 pub struct Dirty<'a, W: FileTree, R: FileTree> {
     /// The files of the working copy.
     pub work: &'a W,
-    /// Those of the commit below it.
+    /// The files of the commit below it.
     pub root: &'a R,
     /// The paths of the dirty files, in byte order.
     pub listed: &'a [Path],

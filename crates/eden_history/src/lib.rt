@@ -1,6 +1,16 @@
-//! What a mount means: its rows and events, what each change does, and what has changed since a position.
+//! The meaning of a mount: its history of changes, and what has changed since a position.
 //!
-//! The definitions stand in `specs/`, one to a file, and every other crate proves its code against them.
+//! A mount is modelled as a world (`specs/Worlds.antt`): the objects of a store, an
+//! opening row and the events since. A `Change` is what a client asks for;
+//! `specs/Outcome.antt` says whether it is refused and which event it makes, and with
+//! which `Answer`. A `Position` names a row by its generation and sequence number, as
+//! EdenFS's `JournalPosition` does. `specs/Changes.antt` and `specs/Marks.antt` say which
+//! paths changed since a position, and how (`Mark`).
+//!
+//! The definitions are in `specs/`, one subject to a file. The other crates are proved
+//! against them. The code here is the values of this vocabulary, and questions that do
+//! not depend on how files are kept: why a change is refused (`write_fault`,
+//! `rename_fault` ..) and what a checkout does at a path (`Sides`).
 //!
 //! ```rust
 //! use eden_history::Change;
@@ -14,7 +24,6 @@
 #![tactic(auto)]
 
 pub use crate::answer::{Answer, SinceFault};
-pub use crate::carried_laws::carried_law;
 pub use crate::change::{Change, ChangeFault, Mode};
 pub use crate::checkout_laws::checkout_law;
 pub use crate::dir_rename_laws::dir_rename_law;
@@ -31,7 +40,6 @@ pub use crate::tree_faults::{
 };
 
 mod answer;
-mod carried_laws;
 mod change;
 mod checkout_laws;
 mod dir_rename_laws;

@@ -1,4 +1,4 @@
-//! Whether a path is one of some paths in byte order.
+//! Look-up of a path in a sorted list.
 
 ghost use Rattle.std.specs.Prelude.{◌≡◌};
 ghost use Rattle.std.specs.Ordering.{nat_cmp};
@@ -9,7 +9,9 @@ ghost use Rattle.eden_ids.specs.FileMaps.{same_path};
 
 use eden_ids::Path;
 
-/// Whether a path is one of some paths in byte order. It is searched for by halves, and takes no memory.
+/// Returns true if a path is in a sorted list.
+///
+/// It is found by binary search. Does not allocate.
 pub fn is_listed(paths: &[Path], path: &[u8]) -> bool
     requires { IsStrictlySortedBy (slice_cmp nat_cmp) paths.now }
     ensures { result ≡ list_any (λ p. same_path path.now p) paths.now }

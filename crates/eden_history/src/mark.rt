@@ -1,4 +1,4 @@
-//! What became of a path between two positions.
+//! What happened to a path between two positions.
 
 ghost use Rattle.std.specs.Prelude.{◌≡◌, IfOk};
 ghost use Rattle.eden_history.specs.Marks.{mark_told};
@@ -6,21 +6,23 @@ ghost use Rattle.eden_history.specs.Marks.{mark_told};
 use crate::touches::Touch;
 use eden_ids::{NoMemory, Path};
 
-/// What became of a path between two positions.
+/// What happened to a path between two positions.
 #[derive(Clone, Copy, Debug, PartialEq, Eq)]
 pub enum Mark {
-    /// No file stood there before the first change of it, and one stands there after the last.
+    /// Absent before the first change of files, present after the last.
     Created,
-    /// A file stood there before the first change of it, and none stands there after the last.
+    /// Present before the first change of files, absent after the last.
     Removed,
-    /// A file was changed: one stands there before and after, or neither before nor after.
+    /// A file changed: there is one both before and after, or neither before nor after.
     Changed,
-    /// No change of files named it: the root that is checked out changed.
+    /// No change of files named it: the root that is checked out moved.
     Root,
 }
 
 impl Mark {
-    /// What became of a path by what changes of files did there; where none was made, the root named it.
+    /// Returns the mark of a path, by its changes of files.
+    ///
+    /// It is `Root` if there were none.
     pub fn of(touch: Option<Touch>) -> Mark
         ensures { result ≡ mark_told touch }
     {
@@ -31,17 +33,21 @@ impl Mark {
     }
 }
 
-/// A path that changed, and what became of it.
+/// A path that changed, with its mark.
 #[derive(Clone, Debug, PartialEq, Drop)]
 pub struct Marked {
-    /// What became of the path.
+    /// What happened to the path.
     pub mark: Mark,
     /// The path.
     pub path: Path,
 }
 
 impl Marked {
-    /// A value that is equal to this one. `NoMemory` comes where a growth was refused.
+    /// Returns a copy of this value.
+    ///
+    /// # Errors
+    ///
+    /// - `NoMemory` if an allocation fails.
     pub fn copy(&self) -> Result<Marked, NoMemory>
         ensures { IfOk result (λ marked. marked ≡ self.now) }
     {

@@ -1,16 +1,16 @@
-//! Why a commit can't be mounted.
+//! Why a commit cannot be mounted.
 
 use eden_ids::Naming;
 use eden_objects::{CommitFault, Store};
 use std::error::Error;
 use std::fmt;
 
-/// Why a commit can't be mounted, and the store that was handed in for it.
+/// Why a commit cannot be mounted, with the store passed in.
 #[derive(Drop)]
 pub struct MountFault<N: Naming + Drop> {
-    /// The store, as it was.
+    /// The store, unchanged.
     pub store: Store<N>,
-    /// That the id is no commit's, or that a growth was refused.
+    /// The cause: the id is not that of a commit, or an allocation failed.
     pub cause: CommitFault,
 }
 

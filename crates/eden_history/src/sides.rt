@@ -1,4 +1,4 @@
-//! What a checkout makes of a path, and whether it is a conflict there.
+//! What a checkout does at a path, and whether there is a conflict.
 
 ghost use Rattle.std.specs.Prelude.{◌≡◌};
 ghost use Rattle.eden_ids.specs.FileMaps.{differ, lent, listing, paths};
@@ -9,28 +9,31 @@ use crate::change::Mode;
 use crate::listed::is_listed;
 use eden_ids::{FileTree, Kind, Path, clashes_any, has_file, is_same_at};
 
-/// What a checkout is judged by: what a working copy holds, the commit below it, the commit that is checked out, the paths that are not
-/// clean, and the files that the working copy holds at these.
+/// The trees from which a checkout is decided.
 ///
-/// Each question is answered without memory.
+/// They are the working copy, the commit below it and the commit that is checked out.
+/// With them are the dirty paths and the files of the working copy at these. No method
+/// allocates.
 #[derive(Drop)]
 pub struct Sides<'a, W: FileTree, R: FileTree, T: FileTree, D: FileTree> {
     /// The files of the working copy.
     pub work: &'a W,
-    /// Those of the commit below it.
+    /// The files of the commit below it.
     pub root: &'a R,
-    /// Those of the commit that is checked out.
+    /// The files of the commit that is checked out.
     pub target: &'a T,
-    /// The files of the working copy at the paths that are not clean.
+    /// The files of the working copy at the dirty paths.
     pub dirty: &'a D,
-    /// The paths that are not clean, in byte order.
+    /// The dirty paths, in byte order.
     pub changed: &'a [Path],
     ghost differs: { paths (D.files dirty.now) ≡ paths (dirty_files (W.files work.now) (R.files root.now)) },
     ghost each: { changed.now ≡ listing (differ (W.files work.now) (R.files root.now)) },
 }
 
 impl<'a, W: FileTree, R: FileTree, T: FileTree, D: FileTree> Sides<'a, W, R, T, D> {
-    /// Whether the working copy holds at a path what the commit below it does.
+    /// Returns true if a path is clean.
+    ///
+    /// It is if the working copy holds there what the commit below it does.
     #[tactic(auto, using(crate::proofs::DirtyFiles::clean_unless_listed))]
     pub fn is_clean(&self, path: &[u8]) -> bool
         ensures { result ≡ is_clean (W.files self.now.work.now) (R.files self.now.root.now) path.now }
@@ -38,23 +41,25 @@ impl<'a, W: FileTree, R: FileTree, T: FileTree, D: FileTree> Sides<'a, W, R, T, 
         !is_listed(self.changed, path)
     }
 
-    /// Whether a path clashes with a dirty path at which the working copy holds a file.
+    /// Returns true if a path clashes with a dirty file.
     #[tactic(auto, using(crate::proofs::DirtyFiles::dirty_clashes, crate::proofs::DirtyFiles::none_clashes))]
     pub fn clashes_dirty(&self, path: &Path) -> bool
         ensures { result ≡ clashes_dirty (W.files self.now.work.now) (R.files self.now.root.now) path.now }
     {
-        // Where every path is clean, the path's slashes are not looked for.
+        // If no path is dirty, the path's slashes are not looked for.
         !self.changed.is_empty() && clashes_any(self.dirty, path)
     }
 
-    /// Whether a path is the target's and clashes with a dirty path at which the working copy holds a file.
+    /// Returns true if a target's path clashes with a dirty file.
     pub fn is_blocked(&self, path: &Path) -> bool
         ensures { result ≡ is_blocked (W.files self.now.work.now) (R.files self.now.root.now) (T.files self.now.target.now) path.now }
     {
         self.clashes_dirty(path) && has_file(self.target, path.as_bytes())
     }
 
-    /// Whether a path is a conflict. It is looked up in the trees only where it is not clean, or clashes with a dirty file.
+    /// Returns true if a path is a conflict.
+    ///
+    /// The trees are asked for it only if it is dirty or clashes with a dirty file.
     pub fn is_conflict(&self, path: &Path) -> bool
         ensures { result ≡ is_conflict (W.files self.now.work.now) (R.files self.now.root.now) (T.files self.now.target.now) path.now }
     {
@@ -66,7 +71,7 @@ impl<'a, W: FileTree, R: FileTree, T: FileTree, D: FileTree> Sides<'a, W, R, T, 
         }
     }
 
-    /// What is to stand at a path after a normal checkout.
+    /// Returns the file at a path after a normal checkout.
     fn normal_file(&self, path: &Path) -> Option<(Kind, &'a [u8])>
         ensures { lent result ≡ normal_rule (W.files self.now.work.now) (R.files self.now.root.now) (T.files self.now.target.now) path.now }
     {
@@ -79,7 +84,7 @@ impl<'a, W: FileTree, R: FileTree, T: FileTree, D: FileTree> Sides<'a, W, R, T, 
         self.target.file(path.as_bytes())
     }
 
-    /// What is to stand at a path after a forced checkout.
+    /// Returns the file at a path after a forced checkout.
     fn force_file(&self, path: &Path) -> Option<(Kind, &'a [u8])>
         ensures { lent result ≡ force_rule (W.files self.now.work.now) (R.files self.now.root.now) (T.files self.now.target.now) path.now }
     {
@@ -93,7 +98,7 @@ impl<'a, W: FileTree, R: FileTree, T: FileTree, D: FileTree> Sides<'a, W, R, T, 
         self.work.file(at)
     }
 
-    /// What is to stand at a path after the checkout.
+    /// Returns the file at a path after the checkout.
     pub fn file_after(&self, mode: Mode, path: &Path) -> Option<(Kind, &'a [u8])>
         ensures { lent result ≡ rule_of mode (W.files self.now.work.now) (R.files self.now.root.now) (T.files self.now.target.now) path.now }
     {

@@ -1,4 +1,4 @@
-//! What the type of a change says of its value, as the contract of a function with no work to do.
+//! Laws of the type of changes, as the contract of a function that does nothing.
 
 ghost use Rattle.eden_history.specs.Spellable.{AreObjects, IsChange};
 
@@ -6,7 +6,7 @@ use crate::change::Change;
 use eden_ids::{bytes_law, id_law, path_law};
 use eden_objects::Object;
 
-/// What holds of all objects: their payloads are bytes.
+/// States that the payloads of objects are bytes.
 fn objects_law(objects: &[Object])
     ensures { AreObjects objects.now }
 {
@@ -15,7 +15,10 @@ fn objects_law(objects: &[Object])
     }
 }
 
-/// What holds of every change: its paths are paths, its ids are twenty bytes, its number has eight, and its objects' payloads are bytes.
+/// States the limits of every change.
+///
+/// Its paths are valid, its ids have twenty bytes, its generation has eight, and its
+/// objects' payloads are bytes.
 pub fn change_law(change: &Change)
     ensures { IsChange change.now }
 {

@@ -1,4 +1,4 @@
-//! What changes of files at one path come to.
+//! What several changes of files at one path amount to.
 
 ghost use Rattle.std.specs.Prelude.{◌≡◌};
 ghost use Rattle.eden_history.specs.Marks.{mark_by};
@@ -6,17 +6,17 @@ ghost use Rattle.eden_history.specs.Said.{joined};
 
 use crate::mark::Mark;
 
-/// Whether a file was at a path before the first of some changes, and after the last.
+/// Whether a file was there before some changes, and is after them.
 #[derive(Clone, Copy, Debug, PartialEq, Eq)]
 pub struct Touch {
-    /// A file was there before the first.
+    /// Whether there was a file before the first.
     pub before: bool,
-    /// A file is there after the last.
+    /// Whether there is a file after the last.
     pub after: bool,
 }
 
 impl Touch {
-    /// What became of the path.
+    /// Returns the mark of the path.
     pub fn mark(self) -> Mark
         ensures { result ≡ mark_by self.before self.after }
     {
@@ -26,7 +26,9 @@ impl Touch {
             _ => Mark::Changed,
         }
     }
-    /// What two changes at one path come to, the earlier one first, where there were both.
+    /// Returns what two changes at one path amount to.
+    ///
+    /// The earlier one comes first. If there was only one, it is returned.
     pub fn joined(earlier: Option<Touch>, later: Option<Touch>) -> Option<Touch>
         ensures { result ≡ joined earlier later }
     {

@@ -1,4 +1,4 @@
-//! Why a file can't be read, written, removed or renamed, nor a directory renamed, in whatever holds the files.
+//! Why a change of a file or a directory is refused, in any tree of files.
 
 ghost use Rattle.std.specs.Prelude.{◌≡◌, None, Some, if◌then◌else◌, nat_lt, is_some, length};
 ghost use Rattle.eden_ids.specs.FileMaps.{file_at};
@@ -9,7 +9,9 @@ ghost use Rattle.eden_history.specs.DirRenames.{free_fault, has_file_upward, sou
 use crate::change::ChangeFault;
 use eden_ids::{Content, FileTree, Path, has_file, has_file_above};
 
-/// Why no file can stand at a path: a file stands above it, or files stand below it. This takes no memory.
+/// Returns why there can be no file at a path, if so.
+///
+/// There is a file above it, or there are files below it. Does not allocate.
 pub fn place_fault<T: FileTree>(files: &T, path: &Path) -> Option<ChangeFault>
     ensures { result ≡ place_fault (T.files files.now) path.now }
 {
@@ -22,7 +24,7 @@ pub fn place_fault<T: FileTree>(files: &T, path: &Path) -> Option<ChangeFault>
     }
 }
 
-/// That no file stands at a path.
+/// Returns `NoEntry` if there is no file at a path.
 fn missing_fault<T: FileTree>(files: &T, path: &Path) -> Option<ChangeFault>
     ensures { result ≡ (if is_some (file_at (T.files files.now) path.now) then None else Some ChangeFault.NoEntry) }
 {
@@ -33,7 +35,7 @@ fn missing_fault<T: FileTree>(files: &T, path: &Path) -> Option<ChangeFault>
     }
 }
 
-/// Why no file at a path can be read, removed or renamed. This takes no memory.
+/// Returns why no file can be read, removed or renamed. Does not allocate.
 pub fn absent_fault<T: FileTree>(files: &T, path: &Path) -> Option<ChangeFault>
     ensures { result ≡ absent_fault (T.files files.now) path.now }
 {
@@ -43,7 +45,7 @@ pub fn absent_fault<T: FileTree>(files: &T, path: &Path) -> Option<ChangeFault>
     }
 }
 
-/// Why a file can't hold these bytes.
+/// Returns `TooLarge` if a file cannot hold these bytes.
 fn size_fault(bytes: &[u8]) -> Option<ChangeFault>
     ensures { result ≡ (if nat_lt 8388608 (length bytes.now) then Some ChangeFault.TooLarge else None) }
 {
@@ -54,7 +56,7 @@ fn size_fault(bytes: &[u8]) -> Option<ChangeFault>
     }
 }
 
-/// Why bytes can't be written at a path. This takes no memory.
+/// Returns why bytes cannot be written at a path. Does not allocate.
 pub fn write_fault<T: FileTree>(files: &T, path: &Path, bytes: &[u8]) -> Option<ChangeFault>
     ensures { result ≡ write_fault (T.files files.now) path.now bytes.now }
 {
@@ -64,7 +66,7 @@ pub fn write_fault<T: FileTree>(files: &T, path: &Path, bytes: &[u8]) -> Option<
     }
 }
 
-/// Why no file can be put at the new path of a rename.
+/// Returns why no file can be put at a rename's new path.
 fn target_fault<T: FileTree>(files: &T, old: &Path, new: &Path) -> Option<ChangeFault>
     ensures { result ≡ (if same_bytes old.now new.now then None else place_fault (T.files files.now) new.now) }
 {
@@ -75,7 +77,9 @@ fn target_fault<T: FileTree>(files: &T, old: &Path, new: &Path) -> Option<Change
     }
 }
 
-/// Why a file can't be renamed: the old path is judged first, and where the two are one, the new one is not. This takes no memory.
+/// Returns why a file cannot be renamed. Does not allocate.
+///
+/// The old path is checked first. The new one is not checked if it is equal to it.
 pub fn rename_fault<T: FileTree>(files: &T, old: &Path, new: &Path) -> Option<ChangeFault>
     ensures { result ≡ rename_fault (T.files files.now) old.now new.now }
 {
@@ -85,14 +89,16 @@ pub fn rename_fault<T: FileTree>(files: &T, old: &Path, new: &Path) -> Option<Ch
     }
 }
 
-/// Whether a file stands at a path or above it.
+/// Returns true if a file is at a path or above it.
 fn has_file_upward<T: FileTree>(files: &T, path: &Path) -> bool
     ensures { result ≡ has_file_upward (T.files files.now) path.now }
 {
     has_file(files, path.as_bytes()) || has_file_above(files, path.as_bytes())
 }
 
-/// Why a path is no directory whose files can be moved: a file stands there or above it, or none stands below it. This takes no memory.
+/// Returns why a path is not a directory that can be moved. Does not allocate.
+///
+/// There is a file at it or above it, or there is none below it.
 pub fn source_fault<T: FileTree>(files: &T, old: &Path) -> Option<ChangeFault>
     ensures { result ≡ source_fault (T.files files.now) old.now }
 {
@@ -105,7 +111,9 @@ pub fn source_fault<T: FileTree>(files: &T, old: &Path) -> Option<ChangeFault>
     }
 }
 
-/// Why the files of a directory can't be moved below a path: a file stands there or above it, or files stand below it. This takes no memory.
+/// Returns why a directory's files cannot be moved below a path. Does not allocate.
+///
+/// There is a file at it or above it, or there are files below it.
 pub fn free_fault<T: FileTree>(files: &T, new: &Path) -> Option<ChangeFault>
     ensures { result ≡ free_fault (T.files files.now) new.now }
 {

@@ -21,3 +21,8 @@ pub kept : (old new : List ℕ) → KeepsFront old new → (extra : List ℕ) ×
 kept old new keeps =
     let begins = keeps old (take_all (length old) old (omega arith)) in
     (drop (length old) new, sym (ap (λ front. front ++ drop (length old) new) (sym begins) ∙ take-append-drop (length old) new))
+
+-- what holds always holds on a refusal
+pub on_err : {A E P : Type 0} (result : Result A E) → P → OnErr result P
+on_err (Ok value) p = tt
+on_err (Err fault) p = p

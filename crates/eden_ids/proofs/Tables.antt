@@ -25,6 +25,12 @@ union-more p ps t = same_path_set _ _ (λ q.
 pub union-none : (t : PathSet) → union (path_set []) t ≡ t
 union-none t = same_path_set _ _ (λ q. has-union (path_set []) t q ∙ ap (λ b. b || has t q) (has-path_set [] q))
 
+-- and the last of some
+pub union-last : (ps : List (List ℕ)) (p : List ℕ) (t : PathSet) → union (path_set (ps ++ p ∷ [])) t ≡ fin.insert (union (path_set ps) t) p tt
+union-last [] p t = sym (union-more p [] t) ∙ union-none (fin.insert t p tt) ∙ ap (λ s. fin.insert s p tt) (sym (union-none t))
+union-last (q ∷ ps) p t =
+    sym (union-more q (ps ++ p ∷ []) t) ∙ union-last ps p (fin.insert t q tt) ∙ ap (λ s. fin.insert s p tt) (union-more q ps t)
+
 or-assoc : (a b c d : Bool) → (a || (b || (c || d))) ≡ ((a || (b || c)) || d)
 or-assoc true b c d = refl
 or-assoc false true c d = refl

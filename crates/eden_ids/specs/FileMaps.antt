@@ -1,4 +1,5 @@
--- File maps, which say what a working copy or a commit holds, and sets of paths. Both are finite and listed in byte order.
+-- File maps, which say what a working copy or a commit holds, and sets of paths. Both are
+-- finite and listed in byte order.
 use Rattle.std.specs.Prelude.{◌≡◌, ℕ, Bool, true, false, not, ◌&&◌, List, [], ◌∷◌, ◌++◌, map, Option, Some, None, IsSome}
 use Rattle.std.specs.Ordering.{nat_cmp, eq_by_cmp}
 use Rattle.std.specs.Cmp.Lexicographic.{slice_cmp}
@@ -18,11 +19,11 @@ FileMap = fin.FinMap (slice_cmp nat_cmp) Content
 abbrev pub no_files : FileMap
 no_files = fin.empty
 
--- the file at a path, or none: an absent file counts as a value
+-- the file at a path, or `None` if there is none
 abbrev pub file_at : FileMap → List ℕ → Option Content
 file_at files path = fin.get files path
 
--- a file whose bytes are lent
+-- the file of borrowed bytes
 abbrev pub lent : Option (Kind × Bor (List ℕ)) → Option Content
 lent None = None
 lent (Some seen) = Some (record { kind = seen.0; bytes = seen.1.now })
@@ -31,19 +32,19 @@ lent (Some seen) = Some (record { kind = seen.0; bytes = seen.1.now })
 abbrev pub paths : FileMap → List (List ℕ)
 paths files = fin.keys files
 
--- a file map is one that a directory tree can hold: no two of its paths clash
+-- a directory tree can hold these files: no two of their paths clash
 abbrev pub IsFileMap : FileMap → Type 0
 IsFileMap files = (p q : List ℕ) → IsSome (file_at files p) → IsSome (file_at files q) → clashes p q ≡ false
 
--- a file stands at a proper prefix of the path's components
+-- there is a file at a proper prefix of the path's components
 abbrev pub has_file_above : FileMap → List ℕ → Bool
 has_file_above files path = list_any (λ top. lies_below path top) (paths files)
 
--- files stand below the path: it is a directory
+-- there are files below the path: it is a directory
 abbrev pub has_file_below : FileMap → List ℕ → Bool
 has_file_below files path = list_any (λ p. lies_below p path) (paths files)
 
--- the path clashes with one at which a file stands
+-- the path clashes with the path of some file
 abbrev pub clashes_any : FileMap → List ℕ → Bool
 clashes_any files path = list_any (λ q. clashes path q) (paths files)
 
@@ -67,6 +68,10 @@ path_set ps = fin.from_entries (map (λ p. (p, tt)) ps)
 unfoldable pub union : PathSet → PathSet → PathSet
 union s t = path_set (listing s ++ listing t)
 
+-- the new set is the old one and some first ones of these paths
+abbrev pub AddsSomePaths : List (List ℕ) → PathSet → PathSet → Type 0
+AddsSomePaths ps old new = (added : List (List ℕ)) × (left : List (List ℕ)) × (ps ≡ added ++ left) × (new ≡ union (path_set added) old)
+
 abbrev pub same_path : List ℕ → List ℕ → Bool
 same_path p q = eq_by_cmp (slice_cmp nat_cmp) p q
 
@@ -81,16 +86,16 @@ same_file None None = true
 same_file (Some f) (Some g) = same_kind f.kind g.kind && same_bytes f.bytes g.bytes
 same_file _ _ = false
 
--- the paths on which two file maps differ
+-- the paths at which two file maps differ
 unfoldable pub differ : FileMap → FileMap → PathSet
 differ f g = fin.retain_keys (path_set (paths f ++ paths g)) (λ p. not (same_file (file_at f p) (file_at g p)))
 
--- the map with this value at one path, and none there where the value is none
+-- the map with this file at one path, or with no file there
 abbrev pub put_option : FileMap → List ℕ → Option Content → FileMap
 put_option files path None = fin.remove files path
 put_option files path (Some file) = fin.insert files path file
 
--- the map that a rule gives at each of these paths, with no file elsewhere
+-- the map with the file that a rule gives at each of these paths, and no file elsewhere
 unfoldable pub tabulate : List (List ℕ) → (List ℕ → Option Content) → FileMap
 tabulate [] rule = no_files
 tabulate (p ∷ ps) rule = put_option (tabulate ps rule) p (rule p)

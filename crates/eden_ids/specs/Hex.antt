@@ -1,4 +1,5 @@
--- An id's text: forty hexadecimal digits in lower case, two a byte, the high four bits first.
+-- The text of an id: forty lowercase hexadecimal digits, two for each byte, high four
+-- bits first.
 use Rattle.std.specs.Prelude.{◌≡◌, ℕ, Bool, not, ◌&&◌, ◌||◌, ◌==◌, nat_le, if◌then◌else◌, List, [], length, Option, Some, None, Result, Ok, Err}
 use Rattle.std.specs.List.{list_all}
 use Rattle.hex.specs.Hex.{encode_lower, decode_of, IsBytes}
@@ -11,7 +12,7 @@ use Rattle.eden_ids.specs.declared.id.Id.{Id}
 abbrev pub is_lower_digit : ℕ → Bool
 is_lower_digit b = nat_le 48 b && nat_le b 57 || nat_le 97 b && nat_le b 102
 
--- the first reason for which bytes are no id's text
+-- the first reason why bytes are not an id's text
 abbrev pub hex_fault : List ℕ → Option HexFault
 hex_fault text =
     if not (length text == 40) then Some WrongLength else
@@ -29,10 +30,10 @@ read_unless None text = Ok (record { 0 = ok_or_none (decode_of text) })
 abbrev pub id_of_hex : List ℕ → Result Id HexFault
 id_of_hex text = read_unless (hex_fault text) text
 
--- an id's text spells the id
+-- the text of an id spells this id
 abbrev pub TextIsReadBack : Type 0
 TextIsReadBack = (bytes : List ℕ) → length bytes ≡ 20 → IsBytes bytes → id_of_hex (encode_lower bytes) ≡ Ok (record { 0 = bytes })
 
--- what spells an id is the id's text
+-- a text that spells an id is the text of this id
 abbrev pub TextIsTheOnlyOne : Type 0
 TextIsTheOnlyOne = (text : List ℕ) (id : Id) → id_of_hex text ≡ Ok id → encode_lower id.0 ≡ text

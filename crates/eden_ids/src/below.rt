@@ -1,4 +1,4 @@
-//! The part of a list, in byte order of its paths, that lies below a path.
+//! The part of a sorted list that is below a path.
 
 ghost use Rattle.std.specs.Prelude.{◌≡◌, ◌++◌, ◌∷◌, ◌≤◌, [], filter, length, map};
 ghost use Rattle.std.specs.Ordering.{nat_cmp, is_lt};
@@ -9,7 +9,7 @@ ghost use Rattle.eden_ids.specs.Paths.{lies_below};
 
 use crate::path::Path;
 
-/// What is kept under a path, in a list in byte order of the paths.
+/// An entry kept under a path, in a sorted list.
 pub trait AtPath {
     ghost use Rattle.std.specs.Prelude.{ℕ, List};
 
@@ -37,7 +37,7 @@ impl<X> AtPath for (Path, X) {
     }
 }
 
-/// Whether a path comes, in byte order, before another one with a byte behind it.
+/// Returns true if `path` sorts before `top` followed by this byte.
 #[tactic(auto, using(crate::proofs::ByteOrder::before_short, crate::proofs::ByteOrder::before_long))]
 fn precedes_edge(path: &[u8], top: &[u8], byte: u8) -> bool
     ensures { result ≡ is_lt (slice_cmp nat_cmp path.now (top.now ++ byte ∷ [])) }
@@ -51,10 +51,11 @@ fn precedes_edge(path: &[u8], top: &[u8], byte: u8) -> bool
         .is_lt()
 }
 
-/// What is kept under the paths below a path, of a list in byte order: these stand together, from the path with a slash behind it to
-/// the path with the next byte behind it.
+/// Returns the entries whose paths are below a path.
 ///
-/// The two ends are searched for by halves. It takes no memory.
+/// The list is in byte order of its paths, so these entries are consecutive: they run
+/// from `top/` up to, but not including, `top0` (`0` is the byte after `/`). Both ends
+/// are found by binary search. Does not allocate.
 pub fn paths_below<'a, X: AtPath>(items: &'a [X], top: &[u8]) -> &'a [X]
     requires { IsStrictlySortedBy (slice_cmp nat_cmp) (map X.path items.now) }
     ensures { result.now ≡ filter (λ x. lies_below (X.path x) top.now) items.now }
@@ -64,7 +65,9 @@ pub fn paths_below<'a, X: AtPath>(items: &'a [X], top: &[u8]) -> &'a [X]
     &items[start..end]
 }
 
-/// Whether something is kept under a path below a path, in a list in byte order.
+/// Returns true if an entry's path is below a path.
+///
+/// The list is in byte order of its paths.
 #[tactic(auto, using(crate::proofs::ByteOrder::any_filter))]
 pub fn has_path_below<X: AtPath>(items: &[X], top: &[u8]) -> bool
     requires { IsStrictlySortedBy (slice_cmp nat_cmp) (map X.path items.now) }

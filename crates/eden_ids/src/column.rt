@@ -1,4 +1,4 @@
-//! A column of ids, twenty bytes each.
+//! A list of ids that takes twenty bytes for each.
 
 ghost use Rattle.std.specs.Prelude.{◌≡◌, ◌+◌, ◌<◌, ◌≤◌, [], ◌∷◌, ◌++◌, length, map, OnOk, OnErr, slice_get};
 ghost use Rattle.std.specs.List.{All};
@@ -12,8 +12,9 @@ use std::marker::Model;
 
 /// A list of ids, kept as five columns of words.
 ///
-/// A row is the place of an id in the list, counted from 0. An id is five words of four bytes each, the first byte the
-/// highest. A column holds as many ids as memory allows, and takes some twenty bytes for each.
+/// A row is the position of an id in the list, counted from 0. An id is five words of
+/// four bytes each, highest byte first. The list has no limit but memory, and takes about
+/// twenty bytes for each id.
 #[derive(Drop)]
 pub struct IdColumn {
     first: Vec<u32>,
@@ -36,7 +37,7 @@ impl Model for IdColumn {
         c.first.items c.second.items c.third.items c.fourth.items c.fifth.items };
 }
 
-/// The id of five words.
+/// Returns the id with these five words.
 fn id_from(first: u32, second: u32, third: u32, fourth: u32, fifth: u32) -> Id
     ensures { result ≡ id_of_words first second third fourth fifth }
 {
@@ -52,7 +53,7 @@ fn id_from(first: u32, second: u32, third: u32, fourth: u32, fifth: u32) -> Id
     Id(id)
 }
 
-/// Makes room for one more word in each of five columns.
+/// Makes room for one more word in each of the five columns.
 fn make_room(
     first: &mut Vec<u32>,
     second: &mut Vec<u32>,
@@ -75,7 +76,7 @@ fn make_room(
     Ok(())
 }
 
-/// Puts a word below the others, where there is room.
+/// Adds a word after the others. There must be room for it.
 fn put(words: &mut Vec<u32>, added: u32)
     requires { vec_len words.old < vec_capacity words.old }
     ensures { words.new.items ≡ words.old.items ++ added ∷ [] }
@@ -87,7 +88,7 @@ fn put(words: &mut Vec<u32>, added: u32)
 }
 
 impl IdColumn {
-    /// A column of no ids. It takes no memory.
+    /// Returns an empty column. Does not allocate.
     pub fn new(alloc: Global) -> Self
         ensures { result ≡ [] }
     {
@@ -100,8 +101,13 @@ impl IdColumn {
         }
     }
 
-    /// Puts an id below the others. `NoMemory` comes where a growth was refused, and changes nothing: all five columns
-    /// grow before a word is written.
+    /// Adds an id after the others.
+    ///
+    /// All five columns make room before a word is written.
+    ///
+    /// # Errors
+    ///
+    /// - `NoMemory` if an allocation fails; nothing changes.
     #[tactic(auto, using(crate::proofs::ColumnLemmas::columns))]
     pub fn push(&mut self, id: Id) -> Result<(), NoMemory>
         ensures ok { OnOk result (self.new ≡ self.old ++ id ∷ []) }
@@ -122,7 +128,7 @@ impl IdColumn {
         Ok(())
     }
 
-    /// The number of ids. This takes no memory.
+    /// Returns the number of ids. Does not allocate.
     #[tactic(auto, using(crate::proofs::ColumnLemmas::columns))]
     pub fn len(&self) -> usize
         ensures { result ≡ length self.now }
@@ -130,7 +136,9 @@ impl IdColumn {
         self.first.len()
     }
 
-    /// The id at a row, or `None` where the column ends before it. This takes no memory.
+    /// Returns the id at a row, or `None`.
+    ///
+    /// It is `None` if there is no such row. Does not allocate.
     #[tactic(auto, using(crate::proofs::ColumnLemmas::columns))]
     pub fn get(&self, row: usize) -> Option<Id>
         ensures { result ≡ slice_get self.now row }
@@ -148,8 +156,10 @@ impl IdColumn {
         }
     }
 
-    /// One of the five columns of words, counted from 0: the word of each id in its order. The five words of an id
-    /// make it up. This takes no memory.
+    /// Returns one of the five columns of words, counted from 0.
+    ///
+    /// It has one word for each id, in the order of the ids; the five words of a row make
+    /// up its id. `place` must be below 5. Does not allocate.
     #[tactic(auto, using(crate::proofs::ColumnLemmas::columns))]
     pub fn words(&self, place: usize) -> &[u32]
         requires { place < 5 }

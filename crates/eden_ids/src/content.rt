@@ -6,23 +6,24 @@ use crate::memory::NoMemory;
 use crate::sequence::Sequence;
 use std::alloc::Global;
 
-/// What stands at a path. Git's tree entries have one mode for each: 100644, 100755 and 120000.
+/// The kind of a file. Git's tree entries have one mode for each: 100644, 100755 and
+/// 120000.
 #[derive(Clone, Copy, Debug, PartialEq, Eq)]
 pub enum Kind {
-    /// A file.
+    /// A regular file.
     Plain,
-    /// A file that may be run.
+    /// An executable file.
     Exec,
-    /// A symbolic link, whose bytes are its target.
+    /// A symbolic link; its bytes are its target.
     Link,
 }
 
 /// A file: its kind and its bytes.
 #[derive(Clone, Debug, PartialEq, Drop)]
 pub struct Content {
-    /// What the file is.
+    /// The file's kind.
     pub kind: Kind,
-    /// What it holds; for a link, its target.
+    /// The file's bytes; for a link, its target.
     pub bytes: Sequence<u8>,
 }
 
@@ -32,7 +33,11 @@ impl Content {
     /// The most bytes that a file may hold: 8 MiB.
     pub const LIMIT: usize = 8_388_608;
 
-    /// A file of this kind that holds a copy of these bytes. `NoMemory` comes where a growth was refused.
+    /// Returns a file with a copy of these bytes.
+    ///
+    /// # Errors
+    ///
+    /// - `NoMemory` if an allocation fails.
     pub fn from_bytes(alloc: Global, kind: Kind, bytes: &[u8]) -> Result<Content, NoMemory>
         ensures { IfOk result (λ content. content ≡ record { kind = kind; bytes = bytes.now }) }
     {
@@ -40,14 +45,22 @@ impl Content {
         Ok(Content { kind, bytes })
     }
 
-    /// A file that is equal to this one. `NoMemory` comes where a growth was refused.
+    /// Returns a copy of this file.
+    ///
+    /// # Errors
+    ///
+    /// - `NoMemory` if an allocation fails.
     pub fn copy(&self) -> Result<Content, NoMemory>
         ensures { IfOk result (λ content. content ≡ self.now) }
     {
         Ok(self.clone()?)
     }
 
-    /// A file that is equal to this one, or none where there is none. `NoMemory` comes where a growth was refused.
+    /// Returns a copy of a file, or `None` if there is none.
+    ///
+    /// # Errors
+    ///
+    /// - `NoMemory` if an allocation fails.
     pub fn copy_of(content: &Option<Content>) -> Result<Option<Content>, NoMemory>
         ensures { IfOk result (λ copy. copy ≡ content.now) }
     {
@@ -57,7 +70,11 @@ impl Content {
         }
     }
 
-    /// A file in memory of its own that is equal to one that is lent, or none where none is. `NoMemory` comes where a growth was refused.
+    /// Returns an owned copy of a borrowed file, if any.
+    ///
+    /// # Errors
+    ///
+    /// - `NoMemory` if an allocation fails.
     pub fn of_lent(alloc: Global, file: Option<(Kind, &[u8])>) -> Result<Option<Content>, NoMemory>
         ensures { IfOk result (λ copy. copy ≡ lent file.entry) }
     {

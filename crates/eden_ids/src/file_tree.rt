@@ -1,4 +1,4 @@
-//! What can tell which file stands at each path, and the questions that all such trees answer.
+//! Trees of files, and the questions that can be asked of each.
 
 ghost use Rattle.std.specs.Prelude.{◌≡◌, ◌<◌, ◌&&◌, is_some, length, nat_eq, take};
 ghost use Rattle.std.specs.List.{slice_index_or};
@@ -7,25 +7,26 @@ ghost use Rattle.eden_ids.specs.FileMaps.{clashes_any, file_at, has_file_above, 
 use crate::content::Kind;
 use crate::path::Path;
 
-/// What can tell which file stands at each path: a commit, a working copy over its commit, a list of files in byte order.
+/// A tree that can be asked for the file at each path.
 ///
-/// Each question is answered without memory.
+/// Examples are a commit, a working copy over its commit, and a sorted list of files. No
+/// method allocates.
 pub trait FileTree {
     ghost use Rattle.eden_ids.specs.FileMaps.{FileMap, file_at, has_file_below, lent};
 
     /// The files, by their paths.
     ghost files: { Self → FileMap };
 
-    /// The kind and the bytes of the file at a path, if one stands there.
+    /// Returns the kind and the bytes of the file at a path.
     fn file(&self, path: &[u8]) -> Option<(Kind, &[u8])>
         ensures { lent result ≡ file_at (files self.now) path.now };
 
-    /// Whether files stand below a path: it is a directory.
+    /// Returns true if there are files below a path: it is a directory.
     fn has_file_below(&self, path: &Path) -> bool
         ensures { result ≡ has_file_below (files self.now) path.now };
 }
 
-/// Whether a file stands at a path.
+/// Returns true if there is a file at a path.
 #[tactic(auto, using(crate::proofs::TreeQuestions::some_lent))]
 pub fn has_file<T: FileTree>(files: &T, path: &[u8]) -> bool
     ensures { result ≡ is_some (file_at (T.files files.now) path.now) }
@@ -33,7 +34,7 @@ pub fn has_file<T: FileTree>(files: &T, path: &[u8]) -> bool
     files.file(path).is_some()
 }
 
-/// Whether a slash stands at a place of the path, and a file at what is before it.
+/// Returns true if `at` is a slash after a file's path.
 fn stands_before<T: FileTree>(files: &T, path: &[u8], at: usize) -> bool
     requires { at < length path.now }
     ensures { result ≡ (nat_eq (slice_index_or path.now at 0) 47 && is_some (file_at (T.files files.now) (take at path.now))) }
@@ -41,7 +42,10 @@ fn stands_before<T: FileTree>(files: &T, path: &[u8], at: usize) -> bool
     path[at] == b'/' && has_file(files, &path[..at])
 }
 
-/// Whether a file stands at a proper prefix of the path's components: it takes one look-up for each slash of the path.
+/// Returns true if there is a file above a path.
+///
+/// That is at a proper prefix of the path's components. It takes one look-up for each
+/// slash of the path.
 pub fn has_file_above<T: FileTree>(files: &T, path: &[u8]) -> bool
     ensures { result ≡ has_file_above (T.files files.now) path.now }
 {
@@ -53,7 +57,9 @@ pub fn has_file_above<T: FileTree>(files: &T, path: &[u8]) -> bool
     false
 }
 
-/// Whether the path clashes with one at which a file stands: a file stands above it, or files stand below it.
+/// Returns true if the path clashes with the path of some file.
+///
+/// It does if there is a file above it, or files below it.
 #[tactic(auto, using(crate::proofs::TreeQuestions::clashes_either))]
 pub fn clashes_any<T: FileTree>(files: &T, path: &Path) -> bool
     ensures { result ≡ clashes_any (T.files files.now) path.now }
@@ -61,7 +67,7 @@ pub fn clashes_any<T: FileTree>(files: &T, path: &Path) -> bool
     has_file_above(files, path.as_bytes()) || files.has_file_below(path)
 }
 
-/// Whether two kinds are one.
+/// Returns true if two kinds are equal.
 pub fn is_same_kind(kind: Kind, other: Kind) -> bool
     ensures { result ≡ same_kind kind other }
 {
@@ -72,7 +78,7 @@ pub fn is_same_kind(kind: Kind, other: Kind) -> bool
     }
 }
 
-/// Whether two files are of one kind and hold the same bytes, where an absent file is the same as an absent one alone.
+/// Returns true if two optional files are equal: both absent, or same kind and bytes.
 pub fn is_same_file(file: Option<(Kind, &[u8])>, other: Option<(Kind, &[u8])>) -> bool
     ensures { result ≡ same_file (lent file.entry) (lent other.entry) }
 {
@@ -85,7 +91,9 @@ pub fn is_same_file(file: Option<(Kind, &[u8])>, other: Option<(Kind, &[u8])>) -
     }
 }
 
-/// Whether two trees hold the same file at a path, or neither holds one.
+/// Returns true if two trees hold the same file at a path.
+///
+/// It is also the same if both hold none.
 pub fn is_same_at<S: FileTree, T: FileTree>(files: &S, others: &T, path: &[u8]) -> bool
     ensures { result ≡ same_file (file_at (S.files files.now) path.now) (file_at (T.files others.now) path.now) }
 {

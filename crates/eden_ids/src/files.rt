@@ -1,10 +1,10 @@
-//! Whole file maps: paths, each with a file, in byte order of the paths.
+//! File maps: paths, each with a file, in byte order of the paths.
 
 ghost use Rattle.std.specs.Prelude.{◌≡◌, IfOk, OnOk, OnErr};
 ghost use Rattle.std.specs.Option.{option_copied};
 ghost use Rattle.std.specs.FinMap as fin;
 ghost use Rattle.std.specs.Map.Iter.{deref, ShowsInOrder};
-ghost use Rattle.eden_ids.specs.FileMaps.{file_at, no_files, path_set, paths, put_option, union};
+ghost use Rattle.eden_ids.specs.FileMaps.{AddsSomePaths, file_at, no_files, path_set, paths, put_option, union};
 
 use crate::content::{Content, Kind};
 use crate::file_tree::FileTree;
@@ -16,9 +16,9 @@ use std::collections::BTreeMap;
 use std::collections::btree_map::Keys;
 use std::marker::Model;
 
-/// What a working copy or a commit holds: paths, each with a file, in byte order of the paths.
+/// The files of a working copy or a commit, in path order.
 ///
-/// It holds any paths. That no two of them clash is up to those who put them in.
+/// Any paths can be added; the caller must see to it that no two of them clash.
 #[derive(Drop)]
 pub struct Files {
     entries: BTreeMap<Path, Content>,
@@ -38,7 +38,7 @@ impl Model for Files {
 }
 
 impl Files {
-    /// A map of no file. It takes no memory.
+    /// Returns an empty map. Does not allocate.
     pub fn new(alloc: Global) -> Self
         ensures { result ≡ no_files }
     {
@@ -47,14 +47,18 @@ impl Files {
         }
     }
 
-    /// The file at a path, if there is one. This takes no memory.
+    /// Returns the file at a path, if there is one. Does not allocate.
     pub fn get(&self, path: &Path) -> Option<&Content>
         ensures { option_copied result ≡ file_at self.now path.now }
     {
         self.entries.get(path)
     }
 
-    /// Puts a file at a path, in place of the one that stands there. `NoMemory` changes nothing.
+    /// Puts a file at a path, replacing any other.
+    ///
+    /// # Errors
+    ///
+    /// - `NoMemory` if an allocation fails; nothing changes.
     pub fn insert(&mut self, path: Path, content: Content) -> Result<(), NoMemory>
         ensures ok { OnOk result (self.new ≡ fin.insert self.old path content) }
         ensures err { OnErr result (self.new ≡ self.old) }
@@ -65,7 +69,11 @@ impl Files {
         }
     }
 
-    /// Puts a file at a path, or takes the one there away. `NoMemory` changes nothing.
+    /// Puts a file at a path, or removes the one there.
+    ///
+    /// # Errors
+    ///
+    /// - `NoMemory` if an allocation fails; nothing changes.
     pub fn put(&mut self, path: &Path, file: Option<Content>) -> Result<(), NoMemory>
         ensures ok { OnOk result (self.new ≡ put_option self.old path.now file) }
         ensures err { OnErr result (self.new ≡ self.old) }
@@ -79,14 +87,14 @@ impl Files {
         }
     }
 
-    /// Takes the file at a path away, if there is one. This takes no memory.
+    /// Removes the file at a path, if there is one. Does not allocate.
     pub fn remove(&mut self, path: &Path)
         ensures { self.new ≡ fin.remove self.old path.now }
     {
         let _ = self.entries.remove(path);
     }
 
-    /// The paths that hold a file, in byte order. This takes no memory.
+    /// Returns the paths that hold a file, in byte order. Does not allocate.
     pub fn paths(&self) -> Keys<'_, Path, Content>
         ensures rest { result ≡ paths self.now }
         ensures runs { ShowsInOrder (deref {X = Path}) }
@@ -96,8 +104,13 @@ impl Files {
     }
 
     /// Adds the paths that hold a file to a table.
+    ///
+    /// # Errors
+    ///
+    /// - `NoMemory` if an allocation fails; then some first ones were added.
     pub fn add_paths(&self, table: &mut PathTable) -> Result<(), NoMemory>
-        ensures { OnOk result (table.new ≡ union (path_set (paths self.now)) table.old) }
+        ensures ok { OnOk result (table.new ≡ union (path_set (paths self.now)) table.old) }
+        ensures err { OnErr result (AddsSomePaths (paths self.now) table.old table.new) }
     {
         for path in self.paths() {
             table.add(path)?;
@@ -105,7 +118,11 @@ impl Files {
         Ok(())
     }
 
-    /// A map that is equal to this one. `NoMemory` comes where a growth was refused.
+    /// Returns a copy of this map.
+    ///
+    /// # Errors
+    ///
+    /// - `NoMemory` if an allocation fails.
     pub fn copy(&self) -> Result<Files, NoMemory>
         ensures { IfOk result (λ files. files ≡ self.now) }
     {
@@ -119,7 +136,10 @@ impl Files {
 impl FileTree for Files {
     ghost files = { λ f. f };
 
-    /// The time grows with the map: it is asked for a path that is no `Path` of its own. Where there is one, `get` is quicker.
+    /// Returns the kind and the bytes of the file at a path.
+    ///
+    /// The time grows with the number of files, since the bytes need not be a `Path`. If
+    /// you have a `Path`, `get` is faster.
     fn file(&self, path: &[u8]) -> Option<(Kind, &[u8])> {
         for at in self.paths() {
             if at.as_bytes() == path {
@@ -130,7 +150,8 @@ impl FileTree for Files {
         None
     }
 
-    /// The time grows with the map.
+    /// Returns true if there are files below a path. The time grows with the number of
+    /// files.
     fn has_file_below(&self, path: &Path) -> bool {
         self.entries.keys().any(|p| p.is_below(path))
     }

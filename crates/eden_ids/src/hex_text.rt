@@ -9,13 +9,15 @@ use crate::id::Id;
 use hex::FromHex;
 use thiserror::Error;
 
-/// Why bytes are no id's text. The first cause in this order is told.
+/// Why bytes do not spell an id. The first cause in this order is reported.
 #[derive(Clone, Copy, Debug, PartialEq, Eq, Error)]
 pub enum HexFault {
-    /// There are not just 40 bytes.
+    /// The length is not 40 bytes.
     #[error("WrongLength")]
     WrongLength,
-    /// A byte is none of `0` to `9` and `a` to `f`. Capital letters are refused too.
+    /// A byte is not a lowercase hexadecimal digit.
+    ///
+    /// Capital letters are refused too.
     #[error("BadDigit")]
     BadDigit,
 }
@@ -33,9 +35,16 @@ fn has_lower_digits_alone(text: &[u8]) -> bool
 }
 
 impl Id {
-    /// Reads an id from its 40 lowercase hexadecimal digits, the first two of which spell the first byte.
+    /// Reads an id from its 40 lowercase hexadecimal digits.
     ///
-    /// Refused, in this order, as `WrongLength` or `BadDigit`. This takes no memory.
+    /// The first two digits spell the first byte. Does not allocate.
+    ///
+    /// # Errors
+    ///
+    /// The first of these that applies:
+    ///
+    /// - `WrongLength` if there are not exactly 40 bytes.
+    /// - `BadDigit` if a byte is not a lowercase hexadecimal digit.
     #[tactic(auto, using(crate::proofs::HexTexts::reads, crate::proofs::HexTexts::no_other_fault))]
     pub fn from_hex(text: &[u8]) -> Result<Id, HexFault>
         ensures { result ≡ id_of_hex text.now }
@@ -52,7 +61,7 @@ impl Id {
         }
     }
 
-    /// The id's text: 40 lowercase hexadecimal digits. This takes no memory.
+    /// Returns the id's 40 lowercase hexadecimal digits. Does not allocate.
     pub fn to_hex(self) -> [u8; 40]
         ensures { result ≡ encode_lower self.0 }
     {
@@ -62,13 +71,13 @@ impl Id {
     }
 }
 
-/// The text that `to_hex` writes is read by `from_hex` as the id that it was written from.
+/// States that `from_hex` reads back the text that `to_hex` returns.
 #[tactic(auto, using(crate::proofs::HexTexts::text_is_read_back))]
 pub fn hex_law()
     ensures { TextIsReadBack }
 {}
 
-/// What `from_hex` reads is the text that `to_hex` writes of the id: an id has one text.
+/// States that `from_hex` reads an id from one text alone: that of `to_hex`.
 #[tactic(auto, using(crate::proofs::HexTexts::text_is_the_only_one))]
 pub fn hex_text_law()
     ensures { TextIsTheOnlyOne }

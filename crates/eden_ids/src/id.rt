@@ -3,9 +3,10 @@
 ghost use Rattle.std.specs.Prelude.{◌≡◌, ◌<◌};
 ghost use Rattle.eden_ids.specs.Columns.{word};
 
-/// The name of an object: twenty bytes, in Git the SHA-1 of the object's kind and payload.
+/// The name of an object: twenty bytes.
 ///
-/// Ids are compared byte by byte, and all of `Id` takes no memory.
+/// In Git it is the SHA-1 of the object's type and payload. Ids are compared byte by
+/// byte. No function of `Id` allocates.
 #[derive(Clone, Copy, Debug, PartialEq, Eq, PartialOrd, Ord, Hash)]
 pub struct Id(pub [u8; 20]);
 
@@ -13,7 +14,9 @@ impl Id {
     /// The id of the empty commit, which holds no file. No object has this id.
     pub const ZERO: Id = Id([0; 20]);
 
-    /// One of the five words of an id, counted from 0: four of its bytes, the first byte the highest.
+    /// Returns one of the five words of an id, counted from 0.
+    ///
+    /// A word is four bytes, highest byte first. `place` must be below 5.
     pub fn word(&self, place: usize) -> u32
         requires { place < 5 }
         ensures { result ≡ word place self.now }

@@ -1,4 +1,17 @@
-//! The ids, paths, contents and whole file maps that every other crate speaks of.
+//! Ids, paths, file contents and file maps: the values that all other crates share.
+//!
+//! An `Id` names an object by twenty bytes, and a `Naming` gives the id of an object's
+//! type and payload; `GitNaming` does so as Git does. A `Path` holds the bytes of a path
+//! in a working copy, checked once when it is made. A `Content` is one file: its kind and
+//! its bytes.
+//!
+//! `Files` maps paths to files: what a commit or a working copy holds. Whatever else can
+//! look up the file at a path implements `FileTree`, and the functions beside it
+//! (`has_file`, `clashes_any`, `is_same_at` ..) take any such tree. `PathTable` is a set
+//! of paths, `IdColumn` a compact list of ids, and `Sequence` a `Vec` that is compared by
+//! its items alone.
+//!
+//! Paths are ordered by their bytes everywhere.
 //!
 //! ```rust
 //! use eden_ids::{Content, Files, GitNaming, Kind, Naming, Path, Sequence};

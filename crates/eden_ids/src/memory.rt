@@ -1,9 +1,9 @@
-//! Why a call that wants memory may be refused.
+//! The error of a failed allocation.
 
 use std::alloc::{AllocError, AllocFailed};
 use thiserror::Error;
 
-/// Memory ran out: a growth was refused. The call changed nothing.
+/// An allocation failed. Each call says what it leaves unchanged in this case.
 #[derive(Clone, Copy, Debug, PartialEq, Eq, Error)]
 #[error("out of memory")]
 pub struct NoMemory;

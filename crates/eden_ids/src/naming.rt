@@ -6,23 +6,25 @@ use crate::id::Id;
 use itoa::Buffer;
 use sha1::Sha1;
 
-/// A rule that gives each object its id, from the word for its kind (`blob`, `tree` or `commit`) and its payload.
+/// A rule that gives each object its id.
 ///
-/// The id is a function of these two alone: two calls with the same bytes answer the same id.
+/// The id depends on the object type's word (`blob`, `tree` or `commit`) and the payload
+/// alone: calls with the same bytes return the same id.
 pub trait Naming: Copy {
     ghost use Rattle.std.specs.Prelude.{ℕ, List};
     ghost use Rattle.eden_ids.specs.declared.id.Id.{Id};
 
     ghost id: { List ℕ → List ℕ → Id };
 
-    /// The id of an object. This takes no memory.
+    /// Returns the id of an object. Does not allocate.
     fn id_of(&self, word: &[u8], payload: &[u8]) -> Id
         ensures { result ≡ id word.now payload.now };
 }
 
-/// Git's naming: the SHA-1 of the kind's word, a space, the payload's length in decimal, a NUL byte and the payload.
+/// Git's rule, for repositories whose object format is SHA-1.
 ///
-/// The rule is that of Git's object format (`git help hash-object`), for repositories whose object format is SHA-1.
+/// The id is the SHA-1 of the object type's word, a space, the payload's length in
+/// decimal, a NUL byte and the payload (see `git help hash-object`).
 #[derive(Clone, Copy, Debug, PartialEq, Eq)]
 pub struct GitNaming;
 

@@ -18,22 +18,24 @@ use std::hash::{Hash, Hasher};
 use std::marker::Model;
 use thiserror::Error;
 
-/// Why bytes are no path. The first cause in this order is told.
+/// Why bytes are not a path. The first cause in this order is reported.
 #[derive(Clone, Copy, Debug, PartialEq, Eq, Error)]
 pub enum PathFault {
-    /// There is no byte.
+    /// There are no bytes.
     #[error("Empty")]
     Empty,
     /// There are more than 1,024 bytes.
     #[error("TooLong")]
     TooLong,
-    /// A component is empty, longer than 255 bytes, `.` or `..`, or holds a NUL byte.
+    /// A component is invalid.
+    ///
+    /// It is empty, longer than 255 bytes, `.` or `..`, or holds a NUL byte.
     #[error("BadComponent")]
     BadComponent,
     /// There are more than 64 components.
     #[error("TooDeep")]
     TooDeep,
-    /// A growth was refused.
+    /// An allocation failed.
     #[error("NoMemory")]
     NoMemory,
 }
@@ -49,19 +51,20 @@ impl From<AllocError> for PathFault {
     }
 }
 
-/// Bytes that are no path: they are given back as they were.
+/// Bytes that are not a path, given back unchanged.
 #[derive(Drop, Debug)]
 pub struct NoPath {
-    /// The first cause that stands; it is never `NoMemory`.
+    /// The first cause that applies; it is never `NoMemory`.
     pub cause: PathFault,
     /// The bytes.
     pub bytes: Vec<u8>,
 }
 
-/// A path in a working copy: 1 to 64 components, joined by `/`, of 1,024 bytes at the most.
+/// A path in a working copy: 1 to 64 components joined by `/`, at most 1,024 bytes.
 ///
-/// A component has 1 to 255 bytes, is neither `.` nor `..`, and holds no NUL byte. Any other byte may stand in a path: it
-/// needs not be text. Paths are compared, ordered and hashed as their bytes.
+/// A component has 1 to 255 bytes, is neither `.` nor `..`, and holds no NUL byte. Any
+/// other byte is allowed; a path need not be text. Paths are compared, ordered and hashed
+/// as their bytes.
 #[derive(Drop)]
 pub struct Path {
     bytes: Vec<u8>,
@@ -78,9 +81,10 @@ impl Model for Path {
     ghost invariant = { λ p. IsPath p.bytes.items };
 }
 
-/// Whether the bytes may stand between two slashes of a path: 1 to 255 bytes, neither `.` nor `..`, and no NUL byte.
+/// Returns true if the bytes can be a component of a path.
 ///
-/// A slash is not looked for. This takes no memory.
+/// A component has 1 to 255 bytes, is neither `.` nor `..`, and holds no NUL byte.
+/// Slashes are not looked for. Does not allocate.
 pub fn is_component(name: &[u8]) -> bool
     ensures { result ≡ is_component name.now }
 {
@@ -119,7 +123,9 @@ fn fault_of(bytes: &[u8]) -> Option<PathFault>
     }
 }
 
-/// Whether bytes are a path: those that `Path::parse` takes. Unlike that it takes no memory.
+/// Returns true if the bytes are a path: if `Path::parse` accepts them.
+///
+/// Unlike `Path::parse`, it does not allocate.
 pub fn is_path(bytes: &[u8]) -> bool
     ensures { result ≡ is_none (path_fault bytes.now) }
 {
@@ -127,10 +133,18 @@ pub fn is_path(bytes: &[u8]) -> bool
 }
 
 impl Path {
-    /// Reads a path, and keeps its bytes.
+    /// Reads a path and keeps a copy of its bytes.
     ///
-    /// Refused, in this order, as `Empty`, `TooLong`, `BadComponent` or `TooDeep`; `NoMemory` may stand in place of any
-    /// answer where a growth was refused.
+    /// # Errors
+    ///
+    /// The first of these that applies:
+    ///
+    /// - `Empty` if there are no bytes.
+    /// - `TooLong` if there are more than 1,024 bytes.
+    /// - `BadComponent` if a component is invalid.
+    /// - `TooDeep` if there are more than 64 components.
+    ///
+    /// `NoMemory` if an allocation fails; it may be returned instead of any other answer.
     pub fn parse(alloc: Global, bytes: &[u8]) -> Result<Path, PathFault>
         ensures accepts { IfOk result (λ _. path_fault bytes.now ≡ None) }
         ensures keeps { IfOk result (λ path. path ≡ bytes.now) }
@@ -143,9 +157,13 @@ impl Path {
         Ok(Path { bytes })
     }
 
-    /// The path that a vector of bytes is: the vector is kept, so no byte is copied.
+    /// Makes a path from a vector of bytes, which is kept: no byte is copied.
     ///
-    /// Refused as by `parse`, with the bytes given back. This takes no memory.
+    /// Does not allocate.
+    ///
+    /// # Errors
+    ///
+    /// As of `parse`, but never `NoMemory`; the bytes are given back.
     pub fn from_vec(bytes: Vec<u8>) -> Result<Path, NoPath>
         ensures accepts { IfOk result (λ path. (path ≡ bytes.items) × (path_fault bytes.items ≡ None)) }
         ensures refuses { IfErr result (λ fault. path_fault bytes.items ≡ Some fault.cause) }
@@ -157,9 +175,14 @@ impl Path {
         }
     }
 
-    /// The path of two parts that stand one behind the other, such as a directory's, which ends with a slash, and a name.
+    /// Returns the path that two parts make one after the other.
     ///
-    /// Condition: together they are a path; that isn't judged again. `NoMemory` comes where a growth was refused.
+    /// The first part may be a directory with its slash, and the second a name. The two
+    /// together must be a path; this is not checked again.
+    ///
+    /// # Errors
+    ///
+    /// - `NoMemory` if an allocation fails.
     pub fn joined(alloc: Global, front: &[u8], name: &[u8]) -> Result<Path, NoMemory>
         requires { IsPath (front.now ++ name.now) }
         ensures { IfOk result (λ path. path ≡ front.now ++ name.now) }
@@ -170,7 +193,7 @@ impl Path {
         Ok(Path { bytes })
     }
 
-    /// The path's bytes. This takes no memory.
+    /// Returns the path's bytes. Does not allocate.
     pub fn as_bytes(&self) -> &[u8]
         ensures bytes { result.now ≡ self.now }
         ensures legal { path_fault self.now ≡ None }
@@ -178,7 +201,10 @@ impl Path {
         self.bytes.as_slice()
     }
 
-    /// Whether this path stands below the other, as a file stands below a directory: it begins with the other and a slash.
+    /// Returns true if this path is below the other.
+    ///
+    /// It is if it begins with the other path and a slash, as a file below a directory
+    /// does.
     #[tactic(auto, using(crate::proofs::BelowLemmas::below_in_steps))]
     pub fn is_below(&self, top: &Path) -> bool
         ensures { result ≡ lies_below self.now top.now }
@@ -188,14 +214,18 @@ impl Path {
         bytes.starts_with(top) && bytes[top.len()..].starts_with(b"/".as_slice())
     }
 
-    /// Whether no tree can hold both paths, since one of them stands below the other.
+    /// Returns true if no tree can hold both paths: one of them is below the other.
     pub fn clashes(&self, other: &Path) -> bool
         ensures { result ≡ clashes self.now other.now }
     {
         self.is_below(other) || other.is_below(self)
     }
 
-    /// A path that is equal to this one. `NoMemory` comes where a growth was refused.
+    /// Returns a copy of this path.
+    ///
+    /// # Errors
+    ///
+    /// - `NoMemory` if an allocation fails.
     pub fn copy(&self) -> Result<Path, NoMemory>
         ensures { IfOk result (λ path. path ≡ self.now) }
     {

@@ -3,7 +3,7 @@
 ghost use Rattle.std.specs.Prelude.{◌≡◌, ◌++◌, IfOk, OnOk, OnErr};
 ghost use Rattle.std.specs.Map.Iter.{deref, ShowsInOrder};
 ghost use Rattle.std.specs.FinMap as fin;
-ghost use Rattle.eden_ids.specs.FileMaps.{listing, no_paths, path_set, union};
+ghost use Rattle.eden_ids.specs.FileMaps.{AddsSomePaths, listing, no_paths, path_set, union};
 
 use crate::memory::NoMemory;
 use crate::path::Path;
@@ -11,9 +11,7 @@ use std::alloc::Global;
 use std::collections::BTreeMap;
 use std::marker::Model;
 
-/// A set of paths, told in byte order.
-///
-/// A call that wants memory answers `NoMemory` where a growth was refused; then the table may hold some of the paths that it was to add.
+/// A set of paths, listed in byte order.
 #[derive(Drop)]
 pub struct PathTable {
     paths: BTreeMap<Path, ()>,
@@ -33,7 +31,7 @@ impl Model for PathTable {
 }
 
 impl PathTable {
-    /// The set of no path. It takes no memory.
+    /// Returns an empty set. Does not allocate.
     pub fn new(alloc: Global) -> PathTable
         ensures { result ≡ no_paths }
     {
@@ -42,18 +40,20 @@ impl PathTable {
         }
     }
 
-    /// Adds a path.
+    /// Adds a path. `NoMemory` if an allocation fails; then nothing is changed.
     pub fn add(&mut self, path: &Path) -> Result<(), NoMemory>
-        ensures { OnOk result (self.new ≡ fin.insert self.old path.now tt) }
+        ensures ok { OnOk result (self.new ≡ fin.insert self.old path.now tt) }
+        ensures err { OnErr result (self.new ≡ self.old) }
     {
         let path = path.copy()?;
         self.paths.insert(path, ())?;
         Ok(())
     }
 
-    /// Adds these paths.
+    /// Adds paths. `NoMemory` if an allocation fails; then some first ones were added.
     pub fn add_all(&mut self, paths: &[Path]) -> Result<(), NoMemory>
-        ensures { OnOk result (self.new ≡ union (path_set paths.now) self.old) }
+        ensures ok { OnOk result (self.new ≡ union (path_set paths.now) self.old) }
+        ensures err { OnErr result (AddsSomePaths paths.now self.old self.new) }
     {
         for path in paths {
             self.add(path)?;
@@ -61,7 +61,7 @@ impl PathTable {
         Ok(())
     }
 
-    /// The paths, in byte order.
+    /// Returns the paths, in byte order. `NoMemory` if an allocation fails.
     pub fn list(&self, alloc: Global) -> Result<Vec<Path>, NoMemory>
         ensures { IfOk result (λ paths. paths.items ≡ listing self.now) }
     {

@@ -1,4 +1,4 @@
-//! Lists that are not changed any more.
+//! Lists that no longer change.
 
 ghost use Rattle.std.specs.Prelude.{◌≡◌, ℕ, [], length, nat_eq};
 ghost use Rattle.std.specs.List.{AllZip};
@@ -8,10 +8,10 @@ use std::alloc::{AllocError, Global};
 use std::fmt;
 use std::marker::Model;
 
-/// A list of values that is not changed any more.
+/// A list that no longer changes.
 ///
-/// It is a `Vec` that says its items alone: two sequences are equal where their items are, whatever room either holds.
-/// So an enum that holds one can be compared as a value.
+/// It is a `Vec` that is seen as its items alone: two sequences are equal if their items
+/// are, whatever their capacities. So an enum that holds one can be compared by value.
 #[derive(Drop)]
 pub struct Sequence<T> {
     items: Vec<T>,
@@ -26,7 +26,7 @@ impl<T> Model for Sequence<T> {
 }
 
 impl<T> Sequence<T> {
-    /// A sequence of no items. It takes no memory.
+    /// Returns an empty sequence. Does not allocate.
     pub fn new(alloc: Global) -> Self
         ensures { result ≡ [] }
     {
@@ -35,35 +35,35 @@ impl<T> Sequence<T> {
         }
     }
 
-    /// The items of a `Vec`, in its order.
+    /// Makes a sequence of the items of a `Vec`, in its order.
     pub fn from_vec(items: Vec<T>) -> Self
         ensures { result ≡ items.items }
     {
         Sequence { items }
     }
 
-    /// The items as a `Vec`, in their order.
+    /// Returns the items as a `Vec`, in their order.
     pub fn into_vec(self) -> Vec<T>
         ensures { result.items ≡ self }
     {
         self.items
     }
 
-    /// The items, in their order.
+    /// Returns the items, in their order.
     pub fn as_slice(&self) -> &[T]
         ensures { result.now ≡ self.now }
     {
         self.items.as_slice()
     }
 
-    /// The number of items.
+    /// Returns the number of items.
     pub fn len(&self) -> usize
         ensures { result ≡ length self.now }
     {
         self.items.len()
     }
 
-    /// Whether there is no item.
+    /// Returns true if there are no items.
     pub fn is_empty(&self) -> bool
         ensures { result ≡ nat_eq (length self.now) 0 }
     {

@@ -1,11 +1,12 @@
--- What the rows at which two columns differ are, whatever the columns hold.
+-- What the rows at which two columns differ are, no matter what the columns hold.
 use Rattle.std.specs.Prelude.{◌≡◌, ◌≢◌, ℕ, List, length, nat_eq, slice_get, MatchBool}
 use Rattle.std.specs.List.{list_any}
 use Rattle.std.specs.List.Sorted.{IsStrictlyIncreasing}
 use Rattle.eden_ids.specs.declared.id.Id.{Id}
 use Rattle.eden_lanes.specs.Rows.{differing_ids, differing_kinds}
 
--- these rows are those at which two lists differ: a row that is among them differs, any other is the same
+-- these rows are those at which two lists differ: a row among them differs, any other is
+-- the same
 abbrev pub AreThoseApart : {A : Type 0} → List ℕ → List A → List A → Type 0
 AreThoseApart rows a b = (row : ℕ) → MatchBool (list_any (nat_eq row) rows) (slice_get a row ≢ slice_get b row) (slice_get a row ≡ slice_get b row)
 
@@ -13,7 +14,7 @@ AreThoseApart rows a b = (row : ℕ) → MatchBool (list_any (nat_eq row) rows) 
 abbrev pub IdRowsAreThoseApart : Type 0
 IdRowsAreThoseApart = (a b : List Id) → length a ≡ length b → AreThoseApart (differing_ids a b) a b
 
--- each is named once, in ascending order
+-- each is listed once, in ascending order
 abbrev pub IdRowsAscend : Type 0
 IdRowsAscend = (a b : List Id) → IsStrictlyIncreasing (differing_ids a b)
 

@@ -1,4 +1,4 @@
-//! Which row of a column holds an id.
+//! Search for an id in a column.
 ghost use Rattle.std.specs.Prelude.{◌≡◌, ◌+◌, ◌*◌, ◌/◌, ◌^◌, ◌<◌, ◌≤◌, length, take, None};
 ghost use Rattle.std.specs.List.{position, position_from};
 ghost use Rattle.eden_ids.specs.Sameness.{same_id};
@@ -6,7 +6,9 @@ ghost use Rattle.eden_ids.specs.Sameness.{same_id};
 use crate::vectors::{holds, holds_some};
 use eden_ids::{Id, IdColumn};
 
-/// The first row before `to` that holds the id, where no row before `from` does.
+/// Returns the first row before `to` that holds the id.
+///
+/// No row before `from` may hold it.
 #[tactic(auto, using(crate::proofs::Finding::found))]
 fn find_between(id: Id, column: &IdColumn, from: usize, to: usize) -> Option<usize>
     requires column { to ≤ length column.now }
@@ -22,7 +24,9 @@ fn find_between(id: Id, column: &IdColumn, from: usize, to: usize) -> Option<usi
     None
 }
 
-/// The first row before `row + 8` that holds the id, where no row before `row` does.
+/// Returns the first row before `row + 8` that holds the id.
+///
+/// No row before `row` may hold it.
 #[tactic(auto, using(crate::proofs::Finding::found))]
 fn find_in_eight(id: Id, column: &IdColumn, row: usize) -> Option<usize>
     requires column { row + 8 ≤ length column.now }
@@ -37,7 +41,9 @@ fn find_in_eight(id: Id, column: &IdColumn, row: usize) -> Option<usize>
     }
 }
 
-/// The first row that holds the id, of all whole eights before `to`.
+/// Returns the first row with the id, in whole blocks of eight.
+///
+/// The blocks are those before `to`.
 #[tactic(auto, using(crate::proofs::Finding::found))]
 fn find_in_eights(id: Id, column: &IdColumn, to: usize) -> Option<usize>
     requires { to ≤ length column.now }
@@ -51,9 +57,10 @@ fn find_in_eights(id: Id, column: &IdColumn, to: usize) -> Option<usize>
     None
 }
 
-/// The first row that holds the id, or `None` where no row does.
+/// Returns the first row that holds the id, if any.
 ///
-/// Ids are compared eight at a time, by their first words and then by the others. This takes no memory.
+/// Ids are compared eight at a time, first by their first words and then by the others.
+/// Does not allocate.
 #[tactic(auto, using(crate::proofs::Finding::found))]
 pub fn find_row(column: &IdColumn, id: Id) -> Option<usize>
     ensures { result ≡ position (same_id id) column.now }

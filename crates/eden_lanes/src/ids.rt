@@ -1,4 +1,4 @@
-//! The rows at which two columns of ids differ, and how many they are.
+//! The rows at which two columns of ids differ, and their number.
 ghost use Rattle.std.specs.Prelude.{◌≡◌, ◌+◌, ◌*◌, ◌/◌, ◌^◌, ◌<◌, ◌≤◌, ◌++◌, ◌∷◌, [], if◌then◌else◌, length, take, OnOk, IfOk};
 ghost use Rattle.std.specs.Simd.Lanes.{chunk};
 ghost use Rattle.eden_lanes.specs.Rows.{differing_ids};
@@ -7,7 +7,7 @@ use crate::vectors::{same_eight, same_row};
 use eden_ids::{IdColumn, NoMemory};
 use std::alloc::Global;
 
-/// Puts a row below the others, unless it is the same.
+/// Adds a row after the others, unless `same` is true.
 pub(crate) fn push_unless(found: &mut Vec<usize>, same: bool, row: usize) -> Result<(), NoMemory>
     ensures { OnOk result (found.new.items ≡ found.old.items ++ (if same then [] else row ∷ [])) }
 {
@@ -18,7 +18,7 @@ pub(crate) fn push_unless(found: &mut Vec<usize>, same: bool, row: usize) -> Res
     Ok(())
 }
 
-/// Puts the rows from `from` on and before `to` at which the ids differ below the others.
+/// Adds the rows from `from` to `to`, exclusive, that differ.
 #[tactic(auto, using(crate::proofs::Growing::grows))]
 fn push_between(
     found: &mut Vec<usize>,
@@ -39,7 +39,7 @@ fn push_between(
     Ok(())
 }
 
-/// Puts the rows of eight ids at which they differ below the others.
+/// Adds the rows that differ, in a block of eight.
 #[tactic(auto, using(crate::proofs::Growing::grows))]
 fn push_eight(
     found: &mut Vec<usize>,
@@ -58,7 +58,7 @@ fn push_eight(
         return Ok(());
     }
     if same == 0 {
-        // Where eight rows differ, many may: there is room for all of them at once.
+        // If eight rows differ, many may: this makes room for all of them at once.
         found.reserve(a.len() - row)?;
         found.extend_from_slice(&[
             row,
@@ -78,7 +78,9 @@ fn push_eight(
     Ok(())
 }
 
-/// Puts the rows at which the ids differ into `found`, of all whole eights before `to`.
+/// Adds the rows that differ, in whole blocks of eight.
+///
+/// The blocks are those before `to`.
 fn push_eights(
     found: &mut Vec<usize>,
     a: &IdColumn,
@@ -96,10 +98,14 @@ fn push_eights(
     Ok(())
 }
 
-/// The rows at which two columns of one length differ, ascending.
+/// Returns the rows at which two columns differ, ascending.
 ///
-/// Ids are compared eight at a time, word by word. `NoMemory` comes where a growth of the answer was refused; only the
-/// answer takes memory.
+/// The columns must have the same length. Ids are compared eight at a time, word by word.
+/// Only the result is allocated.
+///
+/// # Errors
+///
+/// - `NoMemory` if an allocation fails.
 pub fn differ_rows(alloc: Global, a: &IdColumn, b: &IdColumn) -> Result<Vec<usize>, NoMemory>
     requires { length a.now ≡ length b.now }
     ensures { IfOk result (λ found. found.items ≡ differing_ids a.now b.now) }
@@ -111,14 +117,16 @@ pub fn differ_rows(alloc: Global, a: &IdColumn, b: &IdColumn) -> Result<Vec<usiz
     Ok(found)
 }
 
-/// One, unless a row is the same.
+/// Returns 0 if a row is the same, else 1.
 fn one_unless(same: bool) -> usize
     ensures { result ≡ (if same then 0 else 1) }
 {
     if same { 0 } else { 1 }
 }
 
-/// The number of rows before `to` at which the ids differ, where `before` rows before `from` do.
+/// Returns the number of rows before `to` at which the ids differ.
+///
+/// `before` is the number of those before `from`.
 #[tactic(auto, using(crate::proofs::Growing::counts))]
 fn count_between(before: usize, a: &IdColumn, b: &IdColumn, from: usize, to: usize) -> usize
     requires first { to ≤ length a.now }
@@ -134,7 +142,7 @@ fn count_between(before: usize, a: &IdColumn, b: &IdColumn, from: usize, to: usi
     count
 }
 
-/// The number of rows of eight at which the ids differ.
+/// Returns the number of rows that differ, in a block of eight.
 #[tactic(auto, using(crate::proofs::Growing::counts))]
 fn count_eight(a: &IdColumn, b: &IdColumn, row: usize) -> usize
     requires first { row + 8 ≤ length a.now }
@@ -144,7 +152,9 @@ fn count_eight(a: &IdColumn, b: &IdColumn, row: usize) -> usize
     8 - same_eight(a, b, row).count_ones() as usize
 }
 
-/// The number of rows at which the ids differ, of all whole eights before `to`.
+/// Returns the number of rows that differ, in whole blocks of eight.
+///
+/// The blocks are those before `to`.
 #[tactic(auto, using(crate::proofs::Growing::counts))]
 fn count_eights(a: &IdColumn, b: &IdColumn, to: usize) -> usize
     requires first { to ≤ length a.now }
@@ -158,9 +168,10 @@ fn count_eights(a: &IdColumn, b: &IdColumn, to: usize) -> usize
     count
 }
 
-/// The number of rows at which two columns of one length differ.
+/// Returns the number of rows at which two columns differ.
 ///
-/// Ids are compared eight at a time, word by word. This takes no memory.
+/// The columns must have the same length. Ids are compared eight at a time, word by word.
+/// Does not allocate.
 pub fn count_differing(a: &IdColumn, b: &IdColumn) -> usize
     requires { length a.now ≡ length b.now }
     ensures { result ≡ length (differing_ids a.now b.now) }

@@ -7,7 +7,7 @@ use crate::vectors::same_thirty_two;
 use eden_ids::NoMemory;
 use std::alloc::Global;
 
-/// Puts the rows from `from` on and before `to` at which the kinds differ below the others.
+/// Adds the rows from `from` to `to`, exclusive, that differ.
 fn push_between(
     found: &mut Vec<usize>,
     a: &[u8],
@@ -27,7 +27,7 @@ fn push_between(
     Ok(())
 }
 
-/// Puts the rows of thirty-two kinds at which they differ below the others.
+/// Adds the rows that differ, in a block of thirty-two.
 #[tactic(auto, using(crate::proofs::KindLemmas::next_kinds))]
 fn push_thirty_two(found: &mut Vec<usize>, a: &[u8], b: &[u8], row: usize) -> Result<(), NoMemory>
     requires first { row + 32 ≤ length a.now }
@@ -42,7 +42,7 @@ fn push_thirty_two(found: &mut Vec<usize>, a: &[u8], b: &[u8], row: usize) -> Re
     }
 }
 
-/// Puts the rows of the first blocks of thirty-two at which the kinds differ into `found`.
+/// Adds the rows that differ, in the first blocks of thirty-two.
 fn push_blocks(found: &mut Vec<usize>, a: &[u8], b: &[u8], blocks: usize) -> Result<(), NoMemory>
     requires first { 32 * blocks ≤ length a.now }
     requires second { 32 * blocks ≤ length b.now }
@@ -55,10 +55,14 @@ fn push_blocks(found: &mut Vec<usize>, a: &[u8], b: &[u8], blocks: usize) -> Res
     Ok(())
 }
 
-/// The rows at which two columns of kinds, of one length, differ, ascending. A kind is a byte.
+/// Returns the rows at which two columns of kinds differ, ascending.
 ///
-/// Kinds are compared thirty-two at a time. `NoMemory` comes where a growth of the answer was refused; only the answer
-/// takes memory.
+/// The columns must have the same length. A kind is a byte. Kinds are compared thirty-two
+/// at a time. Only the result is allocated.
+///
+/// # Errors
+///
+/// - `NoMemory` if an allocation fails.
 pub fn differ_kinds(alloc: Global, a: &[u8], b: &[u8]) -> Result<Vec<usize>, NoMemory>
     requires { length a.now ≡ length b.now }
     ensures { IfOk result (λ found. found.items ≡ differing_kinds a.now b.now) }

@@ -1,14 +1,16 @@
-//! What the definitions of differing rows promise, each as the contract of a function with no work to do.
+//! Laws of differing rows, each as the contract of a function that does nothing.
 ghost use Rattle.eden_lanes.specs.Laws.{IdRowsAreThoseApart, IdRowsAscend, KindRowsAreThoseApart, KindRowsAscend};
 
-/// The rows that `differ_rows` gives, and `count_differing` counts: a row is among them just where the two columns
-/// differ at it, and they ascend strictly, so that each is named once.
+/// States what the rows of `differ_rows` are, which `count_differing` counts.
+///
+/// A row is among them exactly if the two columns differ at it. They ascend strictly, so
+/// each is listed once.
 pub fn rows_law()
     ensures apart { IdRowsAreThoseApart }
     ensures ascend { IdRowsAscend }
 {}
 
-/// The same of the rows that `differ_kinds` gives.
+/// States the same of the rows of `differ_kinds`.
 pub fn kinds_law()
     ensures apart { KindRowsAreThoseApart }
     ensures ascend { KindRowsAscend }

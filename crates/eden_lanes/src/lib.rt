@@ -1,7 +1,13 @@
-//! Comparisons of whole columns: which rows of two columns differ, how many do, and which row holds an id.
+//! Comparisons of whole columns: which rows differ, how many do, and which row holds an
+//! id.
 //!
-//! Ids are compared eight at a time, word by word, and kinds thirty-two at a time; what is left over is compared one by
-//! one. The answers are the same as one by one, at every length. A column is read once and never copied.
+//! `differ_rows`, `count_differing` and `find_row` work on columns of ids (`IdColumn`),
+//! and `differ_kinds` on columns of kinds, one byte each. Ids are compared eight at a
+//! time, word by word, and kinds thirty-two at a time; the rest is compared one by one.
+//! The results are the same as one by one, at every length. A column is read once and
+//! never copied.
+//!
+//! `rows_law` and `kinds_law` state what the rows are.
 //!
 //! ```rust
 //! use eden_ids::{Id, IdColumn};

@@ -10,7 +10,8 @@ ghost use Rattle.eden_lanes.specs.internal.Masks.{same_word};
 use eden_ids::{Id, IdColumn};
 use std::simd::prelude::*;
 
-/// A bit for each of eight rows, the first the lowest, which is set where the ids are the same.
+/// Returns a bit for each of eight rows, the first the lowest: set if the ids are the
+/// same.
 pub fn same_eight(a: &IdColumn, b: &IdColumn, row: usize) -> u64
     requires first { row + 8 ≤ length a.now }
     requires second { row + 8 ≤ length b.now }
@@ -24,9 +25,10 @@ pub fn same_eight(a: &IdColumn, b: &IdColumn, row: usize) -> u64
     same.to_bitmask()
 }
 
-/// Whether one of eight rows holds an id.
+/// Returns true if one of eight rows holds an id.
 ///
-/// The other words are looked at only where the first one is there, which a row that holds another id seldom has.
+/// The other words are compared only if the first one is found, which is rare in a row
+/// with another id.
 pub fn holds_some(id: Id, column: &IdColumn, row: usize) -> bool
     requires { row + 8 ≤ length column.now }
     ensures { result ≡ list_any (same_id id) (chunk row 8 column.now) }
@@ -43,7 +45,9 @@ pub fn holds_some(id: Id, column: &IdColumn, row: usize) -> bool
     same.to_bitmask() != 0
 }
 
-/// Whether a row has the same word at one of the five places.
+/// Returns true if a row has the same word in both columns.
+///
+/// `place` says which of the five words.
 #[tactic(auto, using(crate::proofs::Words::read))]
 fn same_word_at(a: &IdColumn, b: &IdColumn, place: usize, row: usize) -> bool
     requires place { place < 5 }
@@ -56,7 +60,7 @@ fn same_word_at(a: &IdColumn, b: &IdColumn, place: usize, row: usize) -> bool
     a.words(place)[row] == b.words(place)[row]
 }
 
-/// Whether the ids of a row are the same.
+/// Returns true if the ids of a row are the same.
 pub fn same_row(a: &IdColumn, b: &IdColumn, row: usize) -> bool
     requires first { row < length a.now }
     requires second { row < length b.now }
@@ -69,7 +73,9 @@ pub fn same_row(a: &IdColumn, b: &IdColumn, row: usize) -> bool
         & same_word_at(a, b, 4, row)
 }
 
-/// Whether a row has the word of an id at one of the five places.
+/// Returns true if a row has the same word as an id.
+///
+/// `place` says which of the five words.
 #[tactic(auto, using(crate::proofs::Words::read))]
 fn has_word(id: Id, column: &IdColumn, place: usize, row: usize) -> bool
     requires place { place < 5 }
@@ -80,7 +86,7 @@ fn has_word(id: Id, column: &IdColumn, place: usize, row: usize) -> bool
     id.word(place) == column.words(place)[row]
 }
 
-/// Whether a row holds an id.
+/// Returns true if a row holds an id.
 pub fn holds(id: Id, column: &IdColumn, row: usize) -> bool
     requires { row < length column.now }
     ensures { (d : Id) → result ≡ same_id id (slice_index_or column.now row d) }
@@ -92,7 +98,7 @@ pub fn holds(id: Id, column: &IdColumn, row: usize) -> bool
         & has_word(id, column, 4, row)
 }
 
-/// Whether thirty-two bytes are the same.
+/// Returns true if thirty-two bytes are the same.
 pub fn same_thirty_two(a: &[u8], b: &[u8], at: usize) -> bool
     requires first { at + 32 ≤ length a.now }
     requires second { at + 32 ≤ length b.now }

@@ -1,22 +1,16 @@
--- When `==` says that two messages are the same, two calls, or two answers: where they are one.
+-- When `==` says that two messages are the same: if they are one.
 use Rattle.std.proofs.Common.{◌≡◌, rules}
 use Rattle.std.specs.Bool.{Decides}
 use Rattle.std.specs.Cmp.Lexicographic.{bytes_decides}
 use Rattle.std.proofs.lemmas.Bool.Decides.{Decides-and, Decides-like}
 use Rattle.eden_ids.proofs.Alike.{found_decides, paths_decide}
 use Rattle.eden_history.proofs.Alike.{change_decides, marks_decide, position_decides}
-use Rattle.eden_messages.specs.declared.call.Answer.{Answer}
-use Rattle.eden_messages.specs.declared.call.Answer.TheVariants as answer
-use Rattle.eden_messages.specs.declared.call.Call.{Call}
-use Rattle.eden_messages.specs.declared.call.Call.TheVariants.{Change, Ask}
 use Rattle.eden_messages.specs.declared.message.Cause.{Cause}
 use Rattle.eden_messages.specs.declared.message.Query.{Query}
 use Rattle.eden_messages.specs.declared.message.Reply.{Reply}
 use Rattle.eden_messages.specs.declared.message.Reply.TheVariants.{BasisIs, ChangesAre, ContentIs, Refused, ListIs}
 use Rattle.eden_messages.specs.declared.message.Request.{Request}
 use Rattle.eden_messages.specs.declared.message.Request.TheVariants.{Basis, Poll, Fetch, List as Below}
-use Rattle.eden_messages.specs.contracts.call.AnswerPartialEq.TheImpl as answers
-use Rattle.eden_messages.specs.contracts.call.CallPartialEq.TheImpl as call
 use Rattle.eden_messages.specs.contracts.message.CausePartialEq.TheImpl as cause
 use Rattle.eden_messages.specs.contracts.message.QueryPartialEq.TheImpl as query
 use Rattle.eden_messages.specs.contracts.message.ReplyPartialEq.TheImpl as reply
@@ -56,17 +50,3 @@ reply_decides (ListIs q p a ps) (ListIs r o b os) =
     Decides-like _ (λ (h : (q ≡ r) × ((p ≡ o) × ((a ≡ b) × (ps ≡ os)))). λ i. ListIs (h.0 i) (h.1.0 i) (h.1.1.0 i) (h.1.1.1 i)) (λ e. ((cc), ((cc), ((cc), (cc)))))
     (Decides-and _ _ (query_decides q r) (Decides-and _ _ (position_decides p o) (Decides-and _ _ (bytes_decides a b) (paths_decide ps os))))
 reply_decides a b = search rules
-
-pub call_decides : (a b : Call) → Decides (call.ghosts.eq a b) (a ≡ b)
-call_decides (Change c) (Change d) = Decides-like _ (λ (h : c ≡ d). λ i. Change (h i)) (λ e. (cc)) (change_decides c d)
-call_decides (Ask q) (Ask r) = Decides-like _ (λ (h : q ≡ r). λ i. Ask (h i)) (λ e. (cc)) (request_decides q r)
-call_decides a b = search rules
-
-pub answer_decides : (a b : Answer) → Decides (answers.ghosts.eq a b) (a ≡ b)
-answer_decides (answer.At p) (answer.At q) = search (rules, position_decides)
-answer_decides (answer.Checked p ps) (answer.Checked q qs) =
-    Decides-like _ (λ (h : (p ≡ q) × (ps ≡ qs)). λ i. answer.Checked (h.0 i) (h.1 i)) (λ e. ((cc), (cc))) (Decides-and _ _ (position_decides p q) (paths_decide ps qs))
-answer_decides (answer.Refused f) (answer.Refused g) = search rules
-answer_decides (answer.Replied r) (answer.Replied s) = search (rules, reply_decides)
-answer_decides answer.Unanswered answer.Unanswered = search rules
-answer_decides a b = search rules

@@ -14,7 +14,7 @@ use Rattle.eden_messages.specs.declared.message.Reply.{Reply}
 use Rattle.eden_messages.specs.declared.message.Reply.TheVariants.{BasisIs, ChangesAre, ContentIs, Refused, ListIs}
 use Rattle.eden_messages.specs.Replies.{bounded}
 use Rattle.eden_messages.specs.Spells.{position_bytes, text_bytes, marked_bytes, filter_bytes, content_bytes, request_bytes, reply_bytes, if_small}
-use Rattle.eden_frames.specs.Frames.{body_limit}
+use Rattle.eden_stream.specs.Frames.{body_limit}
 
 -- a list whose bytes are too many up to a place has too many
 front_small : {A : Type 0} (bytes : A → List ℕ) (i : ℕ) (list : List A) (x : A) → i < length list → x ≡ get_or list i x

@@ -15,7 +15,7 @@ use Rattle.eden_ids.specs.Texts.{AreTexts, IsPathText}
 use Rattle.eden_ids.proofs.ByteOrder.{fin_keys_rise, order}
 use Rattle.eden_ids.proofs.TextLemmas.{paths_texts}
 use Rattle.eden_globs.specs.Filters.{admits}
-use Rattle.eden_frames.specs.Frames.{body_limit}
+use Rattle.eden_stream.specs.Frames.{body_limit}
 use Rattle.eden_history.specs.declared.answer.SinceFault.{SinceFault}
 use Rattle.eden_history.specs.declared.answer.SinceFault.TheVariants as since
 use Rattle.eden_history.specs.declared.mark.Marked.{Marked}

@@ -1,4 +1,3 @@
 pub mod Spells
 pub mod Replies
-pub mod Calls
 pub mod Mirrors

@@ -1,7 +1,9 @@
--- A mirror: a client's copy of the files that its filter admits. It follows a mount by rounds: it asks what changed since its place, and
--- then for what stands below each directory that files were moved from or to, and for the content of each path that was named or listed.
--- Requests and replies may be lost, come twice or in any order; so a reply counts only where it answers the round that is under way, and
--- the place moves with the last of them alone.
+-- A mirror: a client's copy of the files that its filter admits. It follows a mount in
+-- rounds. It asks what changed since its place. Then it asks for the paths below each
+-- directory that files were moved from or to, and for the content of each path that was
+-- named or listed. Requests and replies may be lost, repeated or reordered. So a reply
+-- counts only if it answers the round under way, and the place moves only with the last
+-- reply of a round.
 use Rattle.std.specs.Prelude.{ℕ, ◌+◌, ◌-◌, ◌^◌, ◌==◌, Bool, true, false, not, ◌&&◌, ◌||◌, nat_lt, nat_le, if◌then◌else◌, List, [], ◌∷◌, ◌++◌, map, filter, Option, Some, None}
 use Rattle.std.specs.FinMap.{retain_keys}
 use Rattle.std.specs.List.{list_any}
@@ -20,15 +22,17 @@ use Rattle.eden_messages.specs.declared.outcome.Outcome.{Outcome}
 use Rattle.eden_messages.specs.declared.outcome.Outcome.TheVariants.{Taken, Placed, Unplaced, Ended, Ignored}
 use Rattle.eden_messages.specs.Spells.{paths_of}
 
--- where a round is: there is none; its list was asked for; or the list has come, and the contents of these paths are awaited, and the lists
--- of what stands below these directories, each in the order in which they became so. The mirror will be placed at the target, the position
--- that the list was told at
+-- the state of a round: there is none; its list was asked for; or the list has come. In
+-- the last state the mirror waits for the contents of these paths and for the lists of
+-- these directories, each in the order in which they came to be awaited. At the end its
+-- place is the target, the position of the list
 pub data Round : Type 0 where
   Idle : Round
   Asked : (request : Request) → Round
   Gathering : (query : Query) (target : Position) (awaited : List (List ℕ)) (prefixes : List (List ℕ)) → Round
 
--- who it is, which paths it wants, the number of its last round, the files that it holds, the position that they are of, and its round
+-- its id and its life, the patterns of its filter, the number of its last round, the
+-- files that it holds, the position that they are of, and its round
 pub record MirrorState : Type 0 where
   pub id : ℕ
   pub life : ℕ
@@ -47,7 +51,8 @@ new_mirror id life patterns = record { id = id; life = life; patterns = patterns
 abbrev pub has_number : MirrorState → Bool
 has_number m = nat_lt m.last (2 ^ 64 - 1)
 
--- the list that is asked for: what changed since a place, or all paths without one
+-- the request that begins a round: what changed since a place, or all paths if there is
+-- none
 abbrev pub list_request : Query → Option Position → List (List ℕ) → Request
 list_request query None patterns = Basis query patterns
 list_request query (Some place) patterns = Poll query place patterns
@@ -55,18 +60,18 @@ list_request query (Some place) patterns = Poll query place patterns
 abbrev pub query_numbered : MirrorState → ℕ → Query
 query_numbered m number = record { mirror = m.id; life = m.life; number = number }
 
--- the next round, which gives up the one under way
+-- the next round; the one under way is given up
 abbrev pub next_round : MirrorState → MirrorState
 next_round m = record m { last = m.last + 1; round = Asked (list_request (query_numbered m (m.last + 1)) m.place m.patterns) }
 
--- a mirror whose numbers are spent stays as it is
+-- a mirror whose numbers are used up stays as it is
 unfoldable pub begun : MirrorState → MirrorState
 begun m = if has_number m then next_round m else m
 
 -- ---- what it asks
 
--- what is still to be answered in a round: its list; or a list for each directory that is awaited, under the mirror's filter, and a
--- content for each path that is
+-- the requests that a round still waits for: its list; or a list for each awaited
+-- directory, under the mirror's filter, and a content for each awaited path
 abbrev pub requests_in : List (List ℕ) → Round → List Request
 requests_in patterns Idle = []
 requests_in patterns (Asked request) = request ∷ []
@@ -81,11 +86,11 @@ is_idle Idle = true
 is_idle (Asked request) = false
 is_idle (Gathering query target awaited prefixes) = false
 
--- with a round under way: the one there is, or the next
+-- with a round under way: the present one, or the next
 unfoldable pub stepped : MirrorState → MirrorState
 stepped m = if is_idle m.round then begun m else m
 
--- what will be asked once a round is under way
+-- the requests that are outstanding when a round is under way
 abbrev pub next_requests : MirrorState → List Request
 next_requests m = outstanding_of (stepped m)
 
@@ -98,7 +103,7 @@ same_query q r = q.mirror == r.mirror && q.life == r.life && q.number == r.numbe
 abbrev pub without : List ℕ → List (List ℕ) → List (List ℕ)
 without path paths = filter (λ p. not (same_path p path)) paths
 
--- each path once, where it stands first
+-- each path once, at its first occurrence
 abbrev pub distinct : List (List ℕ) → List (List ℕ)
 distinct [] = []
 distinct (path ∷ paths) = path ∷ without path (distinct paths)
@@ -111,13 +116,14 @@ abbrev pub taken_if : Bool → MirrorState → MirrorState × Outcome → Mirror
 taken_if true m taken = taken
 taken_if false m taken = (m, Ignored)
 
--- these paths and directories are awaited; where there is none of either the mirror is placed, and the round is over
+-- the mirror waits for these paths and directories; if there are none of either, it is
+-- placed and the round is over
 abbrev pub gathers : MirrorState → Query → Position → List (List ℕ) → List (List ℕ) → MirrorState × Outcome
 gathers m query target [] [] = (record m { place = Some target; round = Idle }, Placed)
 gathers m query target [] (prefix ∷ prefixes) = (record m { round = Gathering query target [] (prefix ∷ prefixes) }, Taken)
 gathers m query target (path ∷ paths) prefixes = (record m { round = Gathering query target (path ∷ paths) prefixes }, Taken)
 
--- a whole list takes the place of all that was held
+-- a whole list replaces all that was held
 abbrev pub emptied : MirrorState → MirrorState
 emptied m = record m { files = no_files; place = None }
 
@@ -134,7 +140,8 @@ changed m (Poll asked since patterns) query target paths prefixes =
 changed m (Fetch asked path) query target paths prefixes = (m, Ignored)
 changed m (Below asked prefix patterns) query target paths prefixes = (m, Ignored)
 
--- a position from which changes can't be told is given up, with what is held left as it is; a list that is too long leaves it
+-- a position that cannot be followed is given up, and the files stay; a list that is too
+-- long leaves the position
 abbrev pub refused : MirrorState → Cause → MirrorState × Outcome
 refused m (Stale generation) = (record m { place = None; round = Idle }, Unplaced)
 refused m (Ahead head) = (record m { place = None; round = Idle }, Unplaced)
@@ -147,27 +154,28 @@ query_of (Poll query since patterns) = query
 query_of (Fetch query path) = query
 query_of (Below query prefix patterns) = query
 
--- whether a content counts, or a list of what stands below a directory: of the round's query, of the target's generation and no older than
--- the target, and at a path, or of a directory, that is awaited
+-- a content, or a list of a directory, counts: it has the round's query, it is of the
+-- target's generation and not older than the target, and its path or directory is awaited
 abbrev pub counts : Query → Position → List (List ℕ) → Query → Position → List ℕ → Bool
 counts asked target awaited query position path =
     same_query query asked && position.generation == target.generation && nat_le target.sequence position.sequence && is_among path awaited
 
--- the content stands at its path, which is no longer awaited
+-- the content is put at its path, which is no longer awaited
 abbrev pub fetched : MirrorState → Query → Position → List (List ℕ) → List (List ℕ) → List ℕ → Option Content → MirrorState × Outcome
 fetched m asked target awaited prefixes path content =
     gathers (record m { files = put_option m.files path content }) asked target (without path awaited) prefixes
 
--- the files, but those below a directory that aren't among these paths
+-- the files, without those below a directory that are not among these paths
 abbrev pub listed_files : FileMap → List ℕ → List (List ℕ) → FileMap
 listed_files files prefix paths = retain_keys files (λ path. not (lies_below path prefix) || is_among path paths)
 
--- what isn't listed below the directory leaves the map, what is becomes awaited where it isn't, and the directory is no longer awaited
+-- files below the directory that are not listed are removed; each listed path is awaited
+-- if it was not yet; and the directory is no longer awaited
 abbrev pub listed_below : MirrorState → Query → Position → List (List ℕ) → List (List ℕ) → List ℕ → List (List ℕ) → MirrorState × Outcome
 listed_below m asked target awaited prefixes prefix paths =
     gathers (record m { files = listed_files m.files prefix paths }) asked target (distinct (awaited ++ paths)) (without prefix prefixes)
 
--- a list that would be too long ends the round that awaits one, and leaves the place
+-- a list that would be too long ends the round that waits for one, and leaves the place
 abbrev pub ends_round : List (List ℕ) → Cause → Bool
 ends_round (prefix ∷ prefixes) TooLarge = true
 ends_round prefixes cause = false
@@ -190,6 +198,7 @@ delivered m reply = delivered_in m m.round reply
 
 -- ---- another filter
 
--- what is held was of the old filter; the number stays, so that no later round is taken for an earlier one
+-- the files were those of the old filter; the number stays, so that no later round is
+-- taken for an earlier one
 unfoldable pub refiltered : MirrorState → List (List ℕ) → MirrorState
 refiltered m patterns = record m { patterns = patterns; files = no_files; place = None; round = Idle }

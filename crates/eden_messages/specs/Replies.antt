@@ -1,4 +1,4 @@
--- What a mount replies to a request.
+-- A mount's reply to a request.
 use Rattle.std.specs.Prelude.{ℕ, nat_lt, if◌then◌else◌, List, length, Option, Some, None, filter}
 use Rattle.eden_ids.specs.declared.id.Id.{Id}
 use Rattle.eden_ids.specs.FileMaps.{FileMap, file_at, paths}
@@ -18,10 +18,10 @@ use Rattle.eden_history.specs.Spellable.{IsSpellable}
 use Rattle.eden_history.specs.Changes.{below, prefixes_since}
 use Rattle.eden_history.specs.Status.{status_of}
 use Rattle.eden_history.specs.Marks.{admitted, marked_since}
-use Rattle.eden_frames.specs.Frames.{body_limit}
+use Rattle.eden_stream.specs.Frames.{body_limit}
 use Rattle.eden_messages.specs.Spells.{IsRequest, SpellsReply, reply_bytes}
 
--- the cause with its number; no status is a want of memory
+-- the cause with its number; `NoMemory` is never a status
 abbrev pub cause_of : SinceFault → Cause
 cause_of (since.Stale generation) = Stale generation
 cause_of (since.Ahead head) = Ahead head
@@ -32,7 +32,7 @@ cause_of since.NoMemory = TooLarge
 abbrev pub admitted_paths : List (List ℕ) → FileMap → List (List ℕ)
 admitted_paths patterns files = filter (admits patterns) (paths files)
 
--- a reply whose body would be longer than a frame's may be is a refusal
+-- a reply whose body would be longer than a frame's may be becomes a refusal
 unfoldable pub bounded : Query → Reply → Reply
 bounded query reply = if nat_lt body_limit (length (reply_bytes reply)) then Refused query TooLarge else reply
 
@@ -41,7 +41,7 @@ abbrev pub basis_reply : WorldState → Query → List (List ℕ) → Reply
 basis_reply world query patterns =
     bounded query (BasisIs query (position_of (now world)) (admitted_paths patterns (now world).files))
 
--- what stands at the path now
+-- the file at the path now
 abbrev pub content_reply : WorldState → Query → List ℕ → Reply
 content_reply world query path =
     bounded query (ContentIs query (position_of (now world)) path (file_at (now world).files path))
@@ -51,7 +51,8 @@ abbrev pub list_reply : WorldState → Query → List ℕ → List (List ℕ) �
 list_reply world query prefix patterns =
     bounded query (ListIs query (position_of (now world)) prefix (below prefix (admitted_paths patterns (now world).files)))
 
--- what changed since a number: the paths that the patterns admit, and all directories between which files were moved
+-- what changed since a number: the paths that the patterns admit, and all directories
+-- between which files were moved
 abbrev pub changes_reply : WorldState → Query → ℕ → List (List ℕ) → Reply
 changes_reply world query since patterns =
     bounded query (ChangesAre query (position_of (now world)) (admitted patterns (marked_since world since)) (prefixes_since world since))
@@ -67,7 +68,7 @@ reply_of world (Below query prefix patterns) = list_reply world query prefix pat
 reply_of world (Poll query since patterns) =
     polled world query since.sequence patterns (status_of world since)
 
--- whatever may be asked of a spellable world, the reply has a spelling
+-- every reply to a well-formed request of a spellable world has an encoding
 abbrev pub RepliesAreSpelled : Type 0
 RepliesAreSpelled = (name : List ℕ → List ℕ → Id) (world : WorldState) (request : Request) → IsWorld name world → IsSpellable world → IsRequest request
     → SpellsReply (reply_bytes (reply_of world request)) (reply_of world request)

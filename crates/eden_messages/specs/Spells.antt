@@ -1,5 +1,6 @@
--- Which bytes spell which message. All numbers are unsigned and big-endian. A body is the version 2, a tag, the query and what the
--- tag calls for; it stands in a frame (`Rattle.eden_frames.specs.Frames`).
+-- The bytes of each message. All numbers are unsigned and big-endian. A body is the
+-- version 2, a tag, the query and the fields of the tag; it is sent in a frame
+-- (`Rattle.eden_stream.specs.Frames`).
 use Rattle.std.specs.Prelude.{◌≡◌, true, ℕ, ◌<◌, ◌≤◌, ◌^◌, List, [], ◌∷◌, ◌++◌, length, map, nat_lt, if◌then◌else◌, Option, Some, None}
 use Rattle.std.specs.Int.{w16, w32, w64, to_be_bytes}
 use Rattle.std.specs.List.{flat_map, AllByRecursion}
@@ -12,7 +13,7 @@ use Rattle.eden_ids.specs.declared.content.Kind.TheVariants.{Plain, Exec, Link}
 use Rattle.eden_ids.specs.Paths.{lies_below}
 use Rattle.eden_ids.specs.Texts.{AreBytes, IsContentText, IsPathText}
 use Rattle.eden_globs.specs.Filters.{IsFilter}
-use Rattle.eden_frames.specs.Frames.{body_limit}
+use Rattle.eden_stream.specs.Frames.{body_limit}
 use Rattle.eden_history.specs.declared.mark.Mark.{Mark}
 use Rattle.eden_history.specs.declared.mark.Mark.TheVariants.{Created, Removed, Changed, Root}
 use Rattle.eden_history.specs.declared.mark.Marked.{Marked}
@@ -57,7 +58,8 @@ pub record IsFilterText (patterns : List (List ℕ)) : Type 0 where
   pub filter : IsFilter patterns
   pub bytes : AllByRecursion AreBytes patterns
 
--- the path is above each one of the list that it stands before, so it is enough to look at the next
+-- the path sorts before each of the list that follows it; since that ascends, it is
+-- enough to compare the first
 abbrev pub IsBelowFirst : List ℕ → List (List ℕ) → Type 0
 IsBelowFirst path [] = Unit {0}
 IsBelowFirst path (next ∷ paths) = slice_cmp nat_cmp path next ≡ Less
@@ -67,13 +69,13 @@ abbrev pub Ascends : List (List ℕ) → Type 0
 Ascends [] = Unit {0}
 Ascends (path ∷ paths) = IsBelowFirst path paths × Ascends paths
 
--- paths that may stand in a list
+-- paths that may be in a list
 pub record IsListing (paths : List (List ℕ)) : Type 0 where
   pub count : length paths < 2 ^ 32
   pub texts : AllByRecursion IsPathText paths
   pub ascends : Ascends paths
 
--- each path lies below the directory
+-- each path is below the directory
 abbrev pub AreBelow : List ℕ → List (List ℕ) → Type 0
 AreBelow prefix paths = AllByRecursion (λ path. lies_below path prefix ≡ true) paths
 
@@ -104,7 +106,8 @@ kind_byte Plain = 1
 kind_byte Exec = 2
 kind_byte Link = 3
 
--- an absent file is one byte; another is its kind, four bytes of length, and that many bytes
+-- an absent file is one byte; any other is its kind, four bytes of length, and that many
+-- bytes
 abbrev pub content_bytes : Option Content → List ℕ
 content_bytes None = 0 ∷ []
 content_bytes (Some content) = kind_byte content.kind ∷ to_be_bytes w32 (length content.bytes) ++ content.bytes
@@ -113,7 +116,7 @@ abbrev pub IsValue : Option Content → Type 0
 IsValue None = Unit {0}
 IsValue (Some content) = IsContentText content
 
--- a cause and its number, which is 0 where it has none
+-- a cause and its number, which is 0 if it has none
 abbrev pub cause_bytes : Cause → List ℕ
 cause_bytes (Stale generation) = 1 ∷ to_be_bytes w64 generation
 cause_bytes (Ahead head) = 2 ∷ to_be_bytes w64 head
@@ -128,7 +131,7 @@ IsCause TooLarge = Unit {0}
 
 -- ---- bodies
 
--- the bytes of a request's body, if it has a spelling
+-- the bytes of a request's body, if it has an encoding
 abbrev pub request_bytes : Request → List ℕ
 request_bytes (Basis query filter) = 2 ∷ 1 ∷ query_bytes query ++ filter_bytes filter
 request_bytes (Poll query since filter) = 2 ∷ 2 ∷ query_bytes query ++ (position_bytes since ++ filter_bytes filter)
@@ -155,17 +158,17 @@ IsReply (ContentIs query position path content) = IsQuery query × IsPosition po
 IsReply (Refused query cause) = IsQuery query × IsCause cause
 IsReply (ListIs query position prefix paths) = IsQuery query × IsPosition position × IsPathText prefix × IsListing paths × AreBelow prefix paths
 
--- a number of bytes, if a body may have so many
+-- this number of bytes, if a body may have that many
 abbrev pub if_small : ℕ → Option ℕ
 if_small count = if nat_lt body_limit count then None else Some count
 
--- the body spells the request
+-- the body encodes the request
 pub record SpellsRequest (body : List ℕ) (request : Request) : Type 0 where
   pub fields : IsRequest request
   pub bytes : body ≡ request_bytes request
   pub limit : length body ≤ body_limit
 
--- the body spells the reply
+-- the body encodes the reply
 pub record SpellsReply (body : List ℕ) (reply : Reply) : Type 0 where
   pub fields : IsReply reply
   pub bytes : body ≡ reply_bytes reply

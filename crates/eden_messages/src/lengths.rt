@@ -1,16 +1,16 @@
-//! How long the bodies of messages are, before a byte of them is written.
+//! The lengths of message bodies, known before a byte of them is written.
 
 ghost use Rattle.std.specs.Prelude.{◌≡◌, ◌≤◌, length};
 ghost use Rattle.std.specs.List.{flat_map};
 ghost use Rattle.eden_messages.specs.Spells.{position_bytes, text_bytes, filter_bytes, marked_bytes, content_bytes, request_bytes, reply_bytes, if_small};
 
 use crate::message::{Reply, Request};
-use eden_frames::BODY_LIMIT;
 use eden_globs::Filter;
 use eden_history::{Marked, Position};
 use eden_ids::{Content, Path};
+use eden_stream::BODY_LIMIT;
 
-/// The bytes of a root.
+/// Returns the length of a root.
 fn len_of_root(root: &[u8; 20]) -> usize
     ensures len { result ≡ length root.now }
     ensures fixed { result ≡ 20 }
@@ -18,7 +18,7 @@ fn len_of_root(root: &[u8; 20]) -> usize
     root.len()
 }
 
-/// The bytes of a position.
+/// Returns the length of a position.
 fn len_of_position(position: &Position) -> usize
     ensures len { result ≡ length (position_bytes position.now) }
     ensures fixed { result ≡ 36 }
@@ -26,7 +26,7 @@ fn len_of_position(position: &Position) -> usize
     16 + len_of_root(&position.root.0)
 }
 
-/// The bytes of a path and its length.
+/// Returns the length of a path with its two bytes of length.
 #[tactic(auto, using(crate::proofs::Spelling::path_few))]
 fn len_of_path(path: &Path) -> usize
     ensures len { result ≡ length (text_bytes path.now) }
@@ -35,7 +35,9 @@ fn len_of_path(path: &Path) -> usize
     2 + path.as_bytes().len()
 }
 
-/// How many bytes the paths take, without their count, where they are no more than a body may have.
+/// Returns the length of paths, without their count.
+///
+/// It is `None` if a body cannot be that long.
 #[tactic(auto, using(crate::proofs::BodyLengths::paths_front_small))]
 fn len_of_paths(paths: &[Path]) -> Option<usize>
     ensures { result ≡ if_small (length (flat_map text_bytes paths.now)) }
@@ -50,7 +52,9 @@ fn len_of_paths(paths: &[Path]) -> Option<usize>
     Some(len)
 }
 
-/// How many bytes the marked paths take, without their count, where they are no more than a body may have.
+/// Returns the length of marked paths, without their count.
+///
+/// It is `None` if a body cannot be that long.
 #[tactic(auto, using(crate::proofs::BodyLengths::list_front_small))]
 fn len_of_list(list: &[Marked]) -> Option<usize>
     ensures { result ≡ if_small (length (flat_map marked_bytes list.now)) }
@@ -65,7 +69,9 @@ fn len_of_list(list: &[Marked]) -> Option<usize>
     Some(len)
 }
 
-/// How many bytes a file takes, or the lack of one, where they are no more than a body may have.
+/// Returns the length of a file, or of its absence.
+///
+/// It is `None` if a body cannot be that long.
 fn len_of_content(content: &Option<Content>) -> Option<usize>
     ensures { result ≡ if_small (length (content_bytes content.now)) }
 {
@@ -79,7 +85,7 @@ fn len_of_content(content: &Option<Content>) -> Option<usize>
     Some(5 + len)
 }
 
-/// The bytes of a filter: its count, and each pattern with its length.
+/// Returns the length of a filter: its count, and each pattern with its length.
 #[tactic(auto, using(crate::proofs::Filters::patterns_few, crate::proofs::Filters::patterns_short))]
 fn len_of_filter(filter: &Filter) -> usize
     ensures len { result ≡ length (filter_bytes filter.now) }
@@ -94,7 +100,7 @@ fn len_of_filter(filter: &Filter) -> usize
 }
 
 impl Request {
-    /// How many bytes the body that spells the request has: 9,344 at the most. This takes no memory.
+    /// Returns the length of the request's body: at most 9,344 bytes. Does not allocate.
     #[tactic(auto, using(crate::proofs::BodyLengths::basis_request_len, crate::proofs::BodyLengths::poll_len, crate::proofs::BodyLengths::fetch_len, crate::proofs::BodyLengths::list_request_len))]
     pub fn body_len(&self) -> u32
         ensures len { result ≡ length (request_bytes self.now) }
@@ -114,8 +120,10 @@ impl Request {
 }
 
 impl Reply {
-    /// How many bytes the body that spells the reply has, or `None` where that is more than the 16,777,216 of a body. It is known
-    /// before any byte of the body is written, and takes no memory.
+    /// Returns the length of the reply's body, or `None`.
+    ///
+    /// It is `None` if the body would be too long. A body has at most 16,777,216 bytes.
+    /// The length is known before a byte of the body is written. Does not allocate.
     #[tactic(auto, using(crate::proofs::BodyLengths::basis_len, crate::proofs::BodyLengths::changes_len, crate::proofs::BodyLengths::content_len, crate::proofs::BodyLengths::list_len))]
     pub fn body_len(&self) -> Option<u32>
         ensures { result ≡ if_small (length (reply_bytes self.now)) }

@@ -1,8 +1,16 @@
-//! How a client asks what changed, and what a mount replies: the messages, how they are spelled, and the mirrors that follow it.
+//! The messages between a mount and its clients: requests, replies, and how they are
+//! encoded.
 //!
-//! The definitions stand in `specs/`: `Spells.antt` the bytes of a message, `Replies.antt` what a mount replies, `Calls.antt` what a
-//! caller is told of a change, and `Mirrors.antt` what a mirror does. What may happen between them, and what is true after it, stands in
-//! eden_headline.
+//! A client asks with a `Request`: which paths there are (`Basis`), which changed since a
+//! position (`Poll`), the file at a path (`Fetch`) or the paths below a directory
+//! (`List`). Each carries a `Query`, which identifies the question, and a mount answers
+//! with a `Reply` that carries the same query. A caller inside the process uses a `Call`,
+//! which is a request or a change, and gets an `Answer`.
+//!
+//! The definitions are in `specs/`: `Spells.antt` gives the bytes of a message,
+//! `Replies.antt` the reply of a mount, `Calls.antt` the answer to a change, and
+//! `Mirrors.antt` what a mirror does with replies. What can happen between them, and what
+//! is true after it, is in eden_headline.
 //!
 //! ```rust
 //! use eden_globs::Filter;
@@ -22,14 +30,12 @@
 //! ```
 #![tactic(auto)]
 
-pub use crate::call::{Answer, Call};
 pub use crate::message::{Cause, Query, Reply, Request};
 pub use crate::outcome::Outcome;
 pub use crate::replies::admitted;
 pub use crate::spelling_law::{one_message_law, one_spelling_law, reply_spelling_law};
 pub use crate::text_laws::request_text_law;
 
-mod call;
 mod lengths;
 mod message;
 mod outcome;

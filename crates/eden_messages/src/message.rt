@@ -7,56 +7,56 @@ use eden_globs::Filter;
 use eden_history::{Marked, Position};
 use eden_ids::{Content, NoMemory, Path, Sequence};
 
-/// Which question of which client a request asks and a reply answers.
+/// The identity of a question: which one a request asks and a reply answers.
 #[derive(Clone, Copy, Debug, PartialEq, Eq)]
 pub struct Query {
     /// The client, a mirror of the mount.
     pub mirror: u64,
-    /// Which life of it: a client that begins anew takes another one.
+    /// The client's life; a client that starts again takes another one.
     pub life: u64,
-    /// Which of its questions, counted by itself.
+    /// The number of the question, counted by the client.
     pub number: u64,
 }
 
 /// What a client asks of a mount.
 #[derive(Clone, Debug, PartialEq, Eq, Drop)]
 pub enum Request {
-    /// Which paths hold a file.
+    /// Asks which paths hold a file.
     Basis {
-        /// Whose question it is.
+        /// The identity of the question.
         query: Query,
-        /// Which paths are wanted.
+        /// The filter of the paths that are wanted.
         filter: Filter,
     },
-    /// Which paths changed since a position.
+    /// Asks which paths changed since a position.
     Poll {
-        /// Whose question it is.
+        /// The identity of the question.
         query: Query,
-        /// Since when.
+        /// The position.
         since: Position,
-        /// Which paths are wanted.
+        /// The filter of the paths that are wanted.
         filter: Filter,
     },
-    /// What stands at a path.
+    /// Asks for the file at a path.
     Fetch {
-        /// Whose question it is.
+        /// The identity of the question.
         query: Query,
         /// The path.
         path: Path,
     },
-    /// Which paths below a directory hold a file.
+    /// Asks which paths below a directory hold a file.
     List {
-        /// Whose question it is.
+        /// The identity of the question.
         query: Query,
         /// The directory.
         prefix: Path,
-        /// Which paths are wanted.
+        /// The filter of the paths that are wanted.
         filter: Filter,
     },
 }
 
 impl Request {
-    /// Which question it is. This takes no memory.
+    /// Returns the identity of the question. Does not allocate.
     pub fn query(&self) -> Query
         ensures { result ≡ query_of self.now }
     {
@@ -68,7 +68,11 @@ impl Request {
         }
     }
 
-    /// A request that is equal to this one. `NoMemory` comes where a growth was refused.
+    /// Returns a copy of this request.
+    ///
+    /// # Errors
+    ///
+    /// - `NoMemory` if an allocation fails.
     pub fn copy(&self) -> Result<Request, NoMemory>
         ensures { IfOk result (λ request. request ≡ self.now) }
     {
@@ -76,66 +80,69 @@ impl Request {
     }
 }
 
-/// Why a request is refused. The first cause in this order is told.
+/// Why a request is refused. The first cause in this order is reported.
 #[derive(Clone, Copy, Debug, PartialEq, Eq)]
 pub enum Cause {
-    /// The position is of another generation than the mount's, which is told.
+    /// The position is of another generation than the mount's, which is given.
     Stale(u64),
-    /// The position's number is above the head's, which is told.
+    /// The position's number is above the head, which is given.
     Ahead(u64),
-    /// The position's number is below the floor, which is told: changes after it aren't held any more.
+    /// The position's number is below the floor, which is given: older changes are no
+    /// longer held.
     Truncated(u64),
-    /// The reply would be longer than a frame's body may be.
+    /// The reply would be longer than a body may be.
     TooLarge,
 }
 
-/// What a mount answers.
+/// A mount's reply to a request.
 #[derive(Clone, Debug, PartialEq, Drop)]
 pub enum Reply {
     /// The paths that hold a file at a position.
     BasisIs {
-        /// Whose question is answered.
+        /// The question that is answered.
         query: Query,
-        /// The position at which they hold one.
+        /// The position at which they hold a file.
         position: Position,
         /// The paths, ascending in byte order.
         paths: Sequence<Path>,
     },
     /// The paths that changed up to a position.
     ChangesAre {
-        /// Whose question is answered.
+        /// The question that is answered.
         query: Query,
-        /// The position up to which the changes are told.
+        /// The position up to which changes are listed.
         target: Position,
-        /// The paths, ascending in byte order, and what became of each.
+        /// The paths with their marks, ascending in byte order.
         marked: Sequence<Marked>,
-        /// The directories between which files were moved, whatever the filter admits; ascending in byte order. What became of the files
-        /// below them is not told path by path.
+        /// The directories that files were moved from or to.
+        ///
+        /// They are listed regardless of the filter. They ascend in byte order. Changes
+        /// of the files below them are not listed by path.
         prefixes: Sequence<Path>,
     },
-    /// What stands at a path.
+    /// The file at a path.
     ContentIs {
-        /// Whose question is answered.
+        /// The question that is answered.
         query: Query,
-        /// The position at which it stands there.
+        /// The position at which the file is there.
         position: Position,
         /// The path.
         path: Path,
-        /// The file there, or none.
+        /// The file, or `None` if there is none.
         content: Option<Content>,
     },
-    /// The question can't be answered.
+    /// The question cannot be answered.
     Refused {
-        /// Whose question it is.
+        /// The question.
         query: Query,
-        /// Why.
+        /// The cause.
         cause: Cause,
     },
     /// The paths below a directory that hold a file at a position.
     ListIs {
-        /// Whose question is answered.
+        /// The question that is answered.
         query: Query,
-        /// The position at which they hold one.
+        /// The position at which they hold a file.
         position: Position,
         /// The directory.
         prefix: Path,
@@ -145,7 +152,11 @@ pub enum Reply {
 }
 
 impl Reply {
-    /// A reply that is equal to this one. `NoMemory` comes where a growth was refused.
+    /// Returns a copy of this reply.
+    ///
+    /// # Errors
+    ///
+    /// - `NoMemory` if an allocation fails.
     pub fn copy(&self) -> Result<Reply, NoMemory>
         ensures { IfOk result (λ reply. reply ≡ self.now) }
     {

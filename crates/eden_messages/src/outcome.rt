@@ -1,16 +1,17 @@
-//! What became of a reply that came to a mirror.
+//! The effect of a reply on a mirror.
 
-/// What became of a reply that came to a mirror.
+/// The effect of a reply on a mirror.
 #[derive(Clone, Copy, Debug, PartialEq, Eq)]
 pub enum Outcome {
-    /// It counted, and contents are awaited.
+    /// The reply counted, and the mirror waits for contents.
     Taken,
-    /// It was the last that was awaited: the mirror is placed.
+    /// The reply was the last that was awaited: the mirror now has the target's position.
     Placed,
-    /// The mirror's position can't be followed any more: it has none, and the round is over.
+    /// The mirror's position cannot be followed any more: it has none now, and the round
+    /// is over.
     Unplaced,
-    /// The round is over, and the mirror stays where it was.
+    /// The round is over, and the mirror's position stays.
     Ended,
-    /// It was not awaited, and nothing changed.
+    /// The reply was not awaited, and nothing changed.
     Ignored,
 }

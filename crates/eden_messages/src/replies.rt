@@ -1,4 +1,4 @@
-//! What a mount's reply to a request is made of.
+//! Parts of a mount's reply to a request.
 
 ghost use Rattle.std.specs.Prelude.{◌≡◌, ◌≢◌, IfOk, OnOk, OnErr};
 ghost use Rattle.eden_history.specs.Marks.{admitted};
@@ -11,8 +11,13 @@ use eden_ids::{NoMemory, Sequence};
 use std::alloc::Global;
 
 impl Cause {
-    /// The cause that a client is told of a fault, with its number. Of a want of memory there is none: that alone stays `NoMemory`. This
-    /// takes no memory.
+    /// Returns the cause, with its number, that a client is sent.
+    ///
+    /// Does not allocate.
+    ///
+    /// # Errors
+    ///
+    /// - `NoMemory` if the fault is `NoMemory`, which clients are not sent.
     pub fn of(fault: SinceFault) -> Result<Cause, NoMemory>
         ensures cause { IfOk result (λ cause. cause ≡ cause_of fault) }
         ensures known { OnOk result (fault ≢ SinceFault.NoMemory) }
@@ -27,7 +32,11 @@ impl Cause {
     }
 }
 
-/// The marked paths that the filter admits, in their order. `NoMemory` comes where a growth was refused.
+/// Returns the marked paths that the filter admits, in their order.
+///
+/// # Errors
+///
+/// - `NoMemory` if an allocation fails.
 pub fn admitted(
     alloc: Global,
     marked: Sequence<Marked>,
@@ -43,8 +52,10 @@ pub fn admitted(
 }
 
 impl Reply {
-    /// The reply; or, where its body would be longer than 16,777,216 bytes, that the question's reply is `TooLarge`. This takes no
-    /// memory.
+    /// Returns the reply, or a refusal if it is too long.
+    ///
+    /// The refusal is `TooLarge`; it is returned if the body would have more than
+    /// 16,777,216 bytes. Does not allocate.
     #[tactic(auto, using(crate::proofs::BodyLengths::kept_small, crate::proofs::BodyLengths::refused_large))]
     pub fn bounded(self, query: Query) -> Reply
         ensures { result ≡ bounded query self }

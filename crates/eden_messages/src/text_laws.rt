@@ -1,4 +1,5 @@
-//! What the types of queries, positions, filters and requests say of their values, each as the contract of a function that changes nothing.
+//! Laws of the types of messages, each as the contract of a function that changes
+//! nothing.
 
 ghost use Rattle.std.specs.List.{AllByRecursion};
 ghost use Rattle.eden_globs.specs.Filters.{lists};
@@ -10,19 +11,19 @@ use eden_globs::Filter;
 use eden_history::Position;
 use eden_ids::{bytes_law, id_law, path_law};
 
-/// What holds of every query: its numbers have eight bytes.
+/// States that a query's numbers have eight bytes.
 fn query_law(query: Query)
     ensures { IsQuery query }
 {}
 
-/// What holds of every position: its numbers have eight bytes, and its root is twenty.
+/// States that a position's numbers have eight bytes, and its root twenty.
 fn position_law(position: Position)
     ensures { IsPosition position }
 {
     id_law(position.root);
 }
 
-/// What holds of all patterns: their bytes are below 256.
+/// States that the bytes of all patterns are below 256.
 fn patterns_law(patterns: &[Vec<u8>])
     ensures { AllByRecursion AreBytes (lists patterns.now) }
 {
@@ -31,14 +32,14 @@ fn patterns_law(patterns: &[Vec<u8>])
     }
 }
 
-/// What holds of every filter: its patterns are patterns, and their bytes are bytes.
+/// States that a filter's patterns are valid, their bytes below 256.
 fn filter_law(filter: &Filter)
     ensures { IsFilterText filter.now }
 {
     patterns_law(filter.patterns());
 }
 
-/// What holds of every request: it has a spelling.
+/// States that each part of a request can be encoded.
 pub fn request_text_law(request: &Request)
     ensures { IsRequest request.now }
 {

@@ -1,4 +1,4 @@
--- What only the code of a mirror speaks of.
+-- Definitions that only the code of a mirror uses.
 pub mod Listed
 pub mod Pending
 pub mod Rounds

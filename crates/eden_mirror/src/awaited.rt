@@ -1,4 +1,4 @@
-//! The paths that are awaited in a round: those of contents, and those of directories.
+//! The paths that a round waits for: those of contents, and those of directories.
 
 ghost use Rattle.std.specs.Prelude.{◌≡◌, ◌++◌, [], false, if◌then◌else◌, length, map, nat_eq, is_some, Some, IfSome, IfOk, OnOk, OnErr};
 ghost use Rattle.std.specs.List.{IsDistinct};
@@ -19,17 +19,19 @@ use indexmap::IndexMap;
 use std::alloc::Global;
 use std::marker::Model;
 
-/// Distinct paths, in the order in which they became awaited, of which any may be answered next.
+/// Distinct paths, in the order in which they came to be awaited.
 ///
-/// An answered path is only marked, so that none behind it moves. Once more than half of the paths are marked these are taken out together,
-/// which costs each of them once; so to go over what is awaited costs no more than twice what is found, and n answers in any order
-/// cost a search and a constant each. Paths that become awaited later stand behind all others: marked ones are taken out before, since one
-/// of them may be awaited again.
+/// Any of them may be answered next. An answered path is only marked, so that no path
+/// after it moves. When more than half of the paths are marked, all marked ones are
+/// removed together; this costs each of them once. So iterating over the awaited paths
+/// costs at most twice their number, and n answers in any order cost a look-up and a
+/// constant each. Paths that are added later come after all others; marked ones are
+/// removed before, since one of them may be awaited again.
 #[derive(Drop)]
 pub(crate) struct Awaited {
     /// Each path, and whether it is answered.
     paths: IndexMap<Path, bool>,
-    /// How many are not.
+    /// The number of paths that are not answered.
     left: usize,
 }
 
@@ -44,7 +46,7 @@ impl Model for Awaited {
     ghost invariant = { λ a. IsCounted a.left a.paths.entries };
 }
 
-/// Adds a path that may be there. `NoMemory` changes nothing.
+/// Adds a path that may be there already. On `NoMemory` nothing changes.
 fn add(paths: &mut IndexMap<Path, bool>, path: &Path) -> Result<(), NoMemory>
     ensures ok { OnOk result (paths.new.entries ≡ insert_entry same_bytes paths.old.entries path.now false) }
     ensures err { OnErr result (paths.new.entries ≡ paths.old.entries) }
@@ -54,7 +56,9 @@ fn add(paths: &mut IndexMap<Path, bool>, path: &Path) -> Result<(), NoMemory>
     Ok(())
 }
 
-/// Adds paths that may be there to a table of which none is answered. `NoMemory` changes nothing.
+/// Adds paths to a table of which none is answered.
+///
+/// A path may be there already. On `NoMemory` nothing changes.
 fn add_all(paths: &mut IndexMap<Path, bool>, listed: &[Path]) -> Result<(), NoMemory>
     requires { paths.old.entries ≡ fresh (pending paths.old.entries) }
     ensures ok { OnOk result (paths.new.entries ≡ fresh (distinct (pending paths.old.entries ++ listed.now))) }
@@ -70,7 +74,9 @@ fn add_all(paths: &mut IndexMap<Path, bool>, listed: &[Path]) -> Result<(), NoMe
     Ok(())
 }
 
-/// Where a path stands in a table, if it is there and not answered.
+/// Returns the index of a path that is not answered.
+///
+/// It is `None` if there is no such path.
 fn place(paths: &IndexMap<Path, bool>, path: &Path) -> Option<usize>
     requires { IsDistinct same_bytes (keys_of paths.now.entries) }
     ensures awaited { is_some result ≡ is_among path.now (pending paths.now.entries) }
@@ -80,7 +86,9 @@ fn place(paths: &IndexMap<Path, bool>, path: &Path) -> Option<usize>
     if *answered { None } else { Some(at) }
 }
 
-/// Takes the answered paths out of a table of which so many are not.
+/// Removes the answered paths from a table.
+///
+/// `left` is the number of the others.
 fn take_answered_out(paths: &mut IndexMap<Path, bool>, left: usize)
     requires { left ≡ length (pending paths.old.entries) }
     ensures { paths.new.entries ≡ fresh (pending paths.old.entries) }
@@ -90,7 +98,9 @@ fn take_answered_out(paths: &mut IndexMap<Path, bool>, left: usize)
     }
 }
 
-/// Puts a file at a path that is given away, or takes the one there away. `NoMemory` changes nothing.
+/// Puts a file at a path, or removes the one there.
+///
+/// On `NoMemory` nothing changes.
 fn put(files: &mut Files, path: Path, file: Option<Content>) -> Result<(), NoMemory>
     ensures ok { OnOk result (files.new ≡ put_option files.old path file) }
     ensures err { OnErr result (files.new ≡ files.old) }
@@ -105,7 +115,7 @@ fn put(files: &mut Files, path: Path, file: Option<Content>) -> Result<(), NoMem
 }
 
 impl Awaited {
-    /// No path. It takes no memory.
+    /// Returns an empty list. Does not allocate.
     pub(crate) fn new(alloc: Global) -> Awaited
         ensures { result ≡ [] }
     {
@@ -115,7 +125,9 @@ impl Awaited {
         }
     }
 
-    /// All paths of a list, each where it stands first.
+    /// Returns the distinct paths of a list.
+    ///
+    /// They are in the order of their first occurrences.
     pub(crate) fn of_paths(alloc: Global, listed: &[Path]) -> Result<Awaited, NoMemory>
         ensures { IfOk result (λ awaited. awaited ≡ distinct listed.now) }
     {
@@ -124,7 +136,9 @@ impl Awaited {
         Ok(awaited)
     }
 
-    /// All paths of a list of marked ones, each where it stands first.
+    /// Returns the distinct paths of a list of marked ones.
+    ///
+    /// They are in the order of their first occurrences.
     pub(crate) fn of_marked(alloc: Global, listed: &[Marked]) -> Result<Awaited, NoMemory>
         ensures { IfOk result (λ awaited. awaited ≡ distinct (paths_of listed.now)) }
     {
@@ -136,22 +150,24 @@ impl Awaited {
         Ok(Awaited { paths, left })
     }
 
-    /// Whether no path is awaited any more.
+    /// Returns true if no path is awaited any more.
     pub(crate) fn is_empty(&self) -> bool
         ensures { result ≡ nat_eq (length self.now) 0 }
     {
         self.left == 0
     }
 
-    /// Whether a path is awaited.
+    /// Returns true if a path is awaited.
     pub(crate) fn has(&self, path: &Path) -> bool
         ensures { result ≡ is_among path.now self.now }
     {
         place(&self.paths, path).is_some()
     }
 
-    /// Puts a content at its path and takes the path out, if it is awaited, and tells whether it was. The path is looked for once. `NoMemory`
-    /// changes nothing.
+    /// Answers an awaited path: puts a content at it, and removes it from the list.
+    ///
+    /// Returns whether the path was awaited; if not, nothing changes. The path is looked
+    /// up once. On `NoMemory` nothing changes.
     pub(crate) fn answer(
         &mut self,
         files: &mut Files,
@@ -174,7 +190,7 @@ impl Awaited {
         Ok(true)
     }
 
-    /// Takes a path out, if it is awaited.
+    /// Removes a path, if it is awaited.
     pub(crate) fn take_out(&mut self, path: &Path)
         ensures { self.new ≡ without path.now self.old }
     {
@@ -186,7 +202,9 @@ impl Awaited {
         self.sweep();
     }
 
-    /// Awaits the paths of a list too, behind the others, but for those that are awaited. `NoMemory` changes nothing.
+    /// Adds the paths of a list after the others.
+    ///
+    /// Those that are awaited already are not added. On `NoMemory` nothing changes.
     pub(crate) fn extend(&mut self, listed: &[Path]) -> Result<(), NoMemory>
         ensures ok { OnOk result (self.new ≡ distinct (self.old ++ listed.now)) }
         ensures err { OnErr result (self.new ≡ self.old) }
@@ -197,7 +215,7 @@ impl Awaited {
         Ok(())
     }
 
-    /// Takes the marked paths out of the table where they are more than half of it.
+    /// Removes the marked paths if they are more than half.
     fn sweep(&mut self)
         ensures { self.new ≡ self.old }
     {
@@ -206,14 +224,14 @@ impl Awaited {
         }
     }
 
-    /// No path is awaited twice.
+    /// States that no path is awaited twice.
     pub(crate) fn distinct_law(&self)
         ensures { AreDistinct self.now }
     {
         let _ = &self.paths;
     }
 
-    /// Adds the question for the content of each path to a list.
+    /// Adds the request for the content of each path to a list.
     pub(crate) fn push_fetches(
         &self,
         requests: &mut Vec<Request>,
@@ -230,7 +248,7 @@ impl Awaited {
         Ok(())
     }
 
-    /// Adds the question what stands below each directory to a list.
+    /// Adds the request for the list of each directory to a list.
     pub(crate) fn push_lists(
         &self,
         requests: &mut Vec<Request>,

@@ -1,4 +1,4 @@
-//! What a mirror makes of a reply.
+//! What a mirror does with a reply.
 
 ghost use Rattle.std.specs.Prelude.{◌≡◌, ◌==◌, ◌&&◌, nat_le, Option, Some, IfOk, OnErr};
 ghost use Rattle.eden_ids.specs.declared.content.Content.{Content};
@@ -15,7 +15,10 @@ use eden_history::{Marked, Position};
 use eden_ids::{Content, Files, NoMemory, Path};
 use eden_messages::{Cause, Outcome, Query, Reply};
 
-/// Whether a content or a list under a question and at a position is one for the round that asked a question and has a target.
+/// Returns true if a content or a list belongs to a round.
+///
+/// It must answer the round's question, and be of the generation of the round's target
+/// and not older.
 fn is_of_round(asked: Query, target: Position, query: Query, position: Position) -> bool
     ensures { result ≡ (same_query query asked && position.generation == target.generation && nat_le target.sequence position.sequence) }
 {
@@ -35,7 +38,9 @@ impl Mirror {
         Outcome::Placed
     }
 
-    /// What a reply that counted comes to: the mirror is placed where neither a path nor a directory is awaited any more.
+    /// Returns the outcome of a reply that counted.
+    ///
+    /// The mirror is placed if no path and no directory is awaited any more.
     fn settle(&mut self) -> Outcome
         ensures { (self.new, result) ≡ settled_in self.old self.old.round }
     {
@@ -54,7 +59,9 @@ impl Mirror {
         self.place_at(target)
     }
 
-    /// Awaits the contents of these paths and lists of what stands below these directories, or is placed where there is none of either.
+    /// Waits for these contents and these lists of directories.
+    ///
+    /// If there are none of either, the mirror is placed.
     fn gather(&mut self, target: Position, awaited: Awaited, prefixes: Awaited) -> Outcome
         ensures { (self.new, result) ≡ gathers self.old (query_numbered self.old self.old.last) target awaited prefixes }
     {
@@ -89,7 +96,7 @@ impl Mirror {
         Ok(self.gather(target, awaited, prefixes))
     }
 
-    /// Takes the list of the paths that changed, and of the directories that files were moved between.
+    /// Takes the list of changed paths and renamed directories.
     #[tactic(auto, unfolding(eden_messages::specs::Mirrors::delivered))]
     fn take_changes(
         &mut self,
@@ -112,7 +119,7 @@ impl Mirror {
         Ok(self.gather(target, awaited, prefixes))
     }
 
-    /// Whether a content counts in the round that is under way.
+    /// Returns true if a content counts in the round under way.
     fn counts(&self, query: Query, position: Position, path: &Path) -> bool
         ensures { (content : Option Content) → result ≡ content_counts self.now.round (ContentIs query position path.now content) }
     {
@@ -156,7 +163,7 @@ impl Mirror {
         Ok(self.settle())
     }
 
-    /// Takes the content of a path that is lent, of which a copy is made where it counts.
+    /// Takes a borrowed content, and copies it if it counts.
     #[tactic(auto, unfolding(eden_messages::specs::Mirrors::delivered))]
     fn take_lent(
         &mut self,
@@ -175,7 +182,7 @@ impl Mirror {
         self.take_content(query, position, path.copy()?, content)
     }
 
-    /// Takes the list of what stands below a directory. All that can be refused memory comes before anything changes.
+    /// Takes the list of a directory. All allocations come before the first change.
     #[tactic(auto, unfolding(eden_messages::specs::Mirrors::delivered))]
     fn take_list(
         &mut self,
@@ -207,8 +214,10 @@ impl Mirror {
         Ok(self.settle())
     }
 
-    /// Takes a refusal of a list: of the round's, or of what stands below a directory, where only one that would be too long counts. It
-    /// takes no memory.
+    /// Takes a refusal of a list. Does not allocate.
+    ///
+    /// It may be the list of the round, or of a directory; of the latter only `TooLarge`
+    /// counts.
     #[tactic(auto, unfolding(eden_messages::specs::Mirrors::delivered))]
     fn take_refusal(&mut self, query: Query, cause: Cause) -> Outcome
         ensures { (self.new, result) ≡ delivered self.old (Refused query cause) }
@@ -238,17 +247,29 @@ impl Mirror {
         }
     }
 
-    /// Takes a reply, whoever it was for and however late it comes.
+    /// Takes a reply, no matter for whom it was or how late.
     ///
-    /// A list counts where it answers the round that awaits it, a content where it answers the question of the round that is under way, is
-    /// of the generation of the round's target and no older than that, and stands at a path that is awaited; a list of what stands below a
-    /// directory counts as a content does, where the directory is awaited. With it the files below the directory that are not listed leave
-    /// the mirror, and the listed paths become awaited. The last of these places the mirror at the target. A refusal ends the round that
-    /// awaits a list; where what stands below a directory is awaited, only one of a list that would be too long does. Any other reply is
-    /// `Ignored` and changes nothing. `NoMemory` comes where a growth was refused, and changes nothing: the reply can be delivered again.
+    /// - A list counts if it answers the round that waits for it.
+    /// - A content counts if it answers the question of the round under way and its path
+    ///   is awaited. It must be of the generation of the round's target, and not older
+    ///   than it.
+    /// - A list of a directory counts in the same way, if the directory is awaited. Files
+    ///   below the directory that are not listed are then removed, and the listed paths
+    ///   become awaited.
+    /// - A refusal ends a round that waits for its list. A round that waits for lists of
+    ///   directories ends only if such a list would be too long.
     ///
-    /// A list of what stands below a directory costs a step for each path of it, and for each file of the mirror, with a search by halves
-    /// for each that stands below; where contents came before it, also a step for each path that is awaited.
+    /// The last awaited reply places the mirror at the target. Any other reply is
+    /// `Ignored` and changes nothing.
+    ///
+    /// A list of a directory costs a step for each path of it and for each file of the
+    /// mirror. It also costs a binary search for each file below the directory. If
+    /// contents came before it, it also costs a step for each awaited path.
+    ///
+    /// # Errors
+    ///
+    /// - `NoMemory` if an allocation fails; nothing changes, and the reply can be
+    ///   delivered again.
     pub fn deliver(&mut self, reply: &Reply) -> Result<Outcome, NoMemory>
         ensures ok { IfOk result (λ outcome. (self.new, outcome) ≡ delivered self.old reply.now) }
         ensures err { OnErr result (self.new ≡ self.old) }
@@ -281,9 +302,14 @@ impl Mirror {
         }
     }
 
-    /// Takes a reply that is given away, as `deliver` takes one that is lent. A content moves into the mirror, and no copy of it is made.
+    /// Takes an owned reply, as `deliver` takes a borrowed one.
     ///
-    /// `NoMemory` comes where a growth was refused, and changes nothing: what the reply told is still outstanding, and can be asked again.
+    /// A content is moved into the mirror, not copied.
+    ///
+    /// # Errors
+    ///
+    /// - `NoMemory` if an allocation fails; nothing changes, and the reply's request is
+    ///   still outstanding.
     pub fn deliver_owned(&mut self, reply: Reply) -> Result<Outcome, NoMemory>
         ensures ok { IfOk result (λ outcome. (self.new, outcome) ≡ delivered self.old reply) }
         ensures err { OnErr result (self.new ≡ self.old) }

@@ -1,14 +1,18 @@
-//! How a round counts down to its place.
+//! How a round counts down to its end.
 
 ghost use Rattle.eden_mirror.specs.Counting.{ContentsCountDown, IgnoresOthers, ListsCountDown, PlacesWithNoneLeft, PlacesWithTheLast};
 
 use crate::mirror::{Mirror, Round};
 
 impl Mirror {
-    /// What holds of every mirror: each content that counts leaves one awaited path fewer, and each list that counts one awaited directory
-    /// fewer, while the paths that it adds are awaited too; and the mirror is placed exactly by the reply that leaves none of either. So
-    /// while n are awaited, whatever comes in between and in whatever order, the mirror is placed by the reply that counts with which n
-    /// have, and as many more as lists have added, and by none before it.
+    /// States how each mirror's round counts down to its end.
+    ///
+    /// Each content that counts leaves one awaited path fewer. Each list that counts
+    /// leaves one awaited directory fewer, and its paths are awaited too. The mirror is
+    /// placed by exactly the reply that leaves none of either. Suppose n are awaited, and
+    /// replies come in any order with others in between. Then the mirror is placed by the
+    /// reply that counts as number n plus the number of paths that lists have added, and
+    /// by none before it.
     pub fn round_law(&self)
         ensures contents { ContentsCountDown self.now }
         ensures lists { ListsCountDown self.now }

@@ -1,6 +1,14 @@
-//! Mirrors: a client's copy of the files of a mount that its filter admits, over a network that loses, repeats and reorders.
+//! Mirrors: a client's copy of the files of a mount that its filter admits.
 //!
-//! What a mirror does is defined in eden_messages' `specs/Mirrors.antt`, as functions of its state; `Mirror` is that state.
+//! A `Mirror` follows a mount over a network that may lose, repeat and reorder messages.
+//! It works in rounds. `begin` starts a round, `outstanding` lists the requests to send,
+//! and `deliver` takes each reply that arrives. Requests may be sent again at any time. A
+//! round ends when the last awaited reply is delivered; the mirror then has a new
+//! position.
+//!
+//! What a mirror does is defined in eden_messages' `specs/Mirrors.antt`, as functions of
+//! its state; `Mirror` is that state. `Mirror::round_law` states how a round counts down
+//! to its end.
 //!
 //! ```rust
 //! use eden_globs::Filter;

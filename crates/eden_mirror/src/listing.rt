@@ -1,4 +1,4 @@
-//! What a list of the paths below a directory takes out of a file map.
+//! Which files a list of the paths below a directory removes from a file map.
 
 ghost use Rattle.std.specs.Prelude.{◌≡◌, true, not, filter, IfOk};
 ghost use Rattle.std.specs.Ordering.{nat_cmp};
@@ -15,12 +15,14 @@ use eden_ids::{Files, NoMemory, Path};
 use std::alloc::Global;
 use std::marker::Model;
 
-/// Paths in which any is found without going over them all: by halves where they ascend, as those of every reply do that has a spelling;
-/// and through a table where they don't.
+/// Paths that can be searched without visiting them all.
+///
+/// They are searched by halves if they ascend, as those of every encoded reply do, and
+/// else through a table.
 #[derive(Drop)]
 struct Listed<'a> {
     paths: &'a [Path],
-    /// There is none where the paths ascend.
+    /// `None` if the paths ascend.
     table: Option<Awaited>,
 }
 
@@ -35,7 +37,7 @@ impl<'a> Model for Listed<'a> {
     ghost invariant = { λ l. IsFound l.paths.now l.table };
 }
 
-/// Whether each path stands before the next one.
+/// Returns true only if each path sorts before the next.
 fn ascend(paths: &[Path]) -> bool
     ensures { result ≡ true → IsStrictlySortedBy (slice_cmp nat_cmp) paths.now }
 {
@@ -43,7 +45,7 @@ fn ascend(paths: &[Path]) -> bool
 }
 
 impl<'a> Listed<'a> {
-    /// These paths.
+    /// Returns these paths, ready to be searched.
     fn new(alloc: Global, paths: &'a [Path]) -> Result<Listed<'a>, NoMemory>
         ensures { IfOk result (λ listed. listed ≡ paths.now) }
     {
@@ -54,7 +56,7 @@ impl<'a> Listed<'a> {
         Ok(Listed { paths, table })
     }
 
-    /// Whether a path is one of them.
+    /// Returns true if a path is one of them.
     fn has(&self, path: &Path) -> bool
         ensures { result ≡ is_among path.now self.now }
     {
@@ -65,7 +67,7 @@ impl<'a> Listed<'a> {
     }
 }
 
-/// The paths below a directory at which files are held and that are not listed.
+/// Returns the paths of files below a directory that are not listed.
 fn unlisted_below(
     alloc: Global,
     files: &Files,
@@ -83,8 +85,10 @@ fn unlisted_below(
     Ok(gone)
 }
 
-/// The paths at which files are held that leave the map with a list of what stands below a directory. It costs to go over the map once, and
-/// a search in the list for each path below the directory.
+/// Returns the paths that a list of a directory removes.
+///
+/// It visits each path of the map once, and searches the list for each path below the
+/// directory.
 pub(crate) fn unlisted(
     alloc: Global,
     files: &Files,
@@ -97,7 +101,7 @@ pub(crate) fn unlisted(
     unlisted_below(alloc, files, prefix, &listed)
 }
 
-/// Takes the files at these paths away. It takes no memory.
+/// Removes the files at these paths. Does not allocate.
 pub(crate) fn remove_all(files: &mut Files, gone: &[Path])
     ensures { files.new ≡ retain_keys files.old (λ path. not (is_among path gone.now)) }
 {

@@ -1,4 +1,4 @@
-//! A mirror's state, what it shows, and how its rounds begin.
+//! A mirror's state, and how its rounds begin.
 
 ghost use Rattle.std.specs.Prelude.{◌≡◌, [], ◌∷◌, false, true, IfOk, OnErr, OnOk};
 ghost use Rattle.std.specs.Option.{option_copied};
@@ -14,22 +14,25 @@ use std::alloc::Global;
 use std::marker::Model;
 use thiserror::Error;
 
-/// A mirror has had as many rounds as there are numbers: the last was 2^64 - 1.
+/// The mirror has used all round numbers: the last was 2^64 - 1.
 #[derive(Clone, Copy, Debug, PartialEq, Eq, Error)]
 #[error("NumbersExhausted")]
 pub struct NumbersExhausted;
 
-/// Where a round is. Its question is always the one of the mirror's last number, and its list is asked for with the mirror's filter and
-/// since the mirror's position, since neither changes while a list is awaited.
+/// The state of a round.
+///
+/// Its question always has the mirror's last number. Its list is requested with the
+/// mirror's filter and since the mirror's position, since neither changes while a list is
+/// awaited.
 #[derive(Drop)]
 pub(crate) enum Round {
     /// There is none.
     Idle,
     /// The list is awaited.
     Asked,
-    /// The list has come, and contents are awaited, and lists of what stands below directories.
+    /// The list has come; contents and lists of directories are awaited.
     Gathering {
-        /// The position that the list was told at.
+        /// The position of the list.
         target: Position,
         /// The paths of the contents.
         awaited: Awaited,
@@ -38,14 +41,22 @@ pub(crate) enum Round {
     },
 }
 
-/// A client's copy of the files of a mount that its filter admits.
+/// A client's copy of those files of a mount that it wants.
 ///
-/// It follows the mount by rounds. `begin` begins one; `outstanding` says what to ask, as often as one likes, for what is sent may be
-/// lost; `deliver` takes each reply that comes, in any order, also again. A round asks for a list first, of all paths or of those that
-/// changed since the mirror's position, and then for the content of each, and for what stands below each directory that files were moved
-/// from or to; with the last of these the position moves to where the list was told. In between the mirror holds contents of the new
-/// position beside others of the old one, so two paths of it may clash, of which one stands below the other. Whatever comes, and in
-/// whatever order, what a mirror with a position holds at a path that it wants stood there at that position or after it.
+/// Its filter says which they are. It follows the mount in rounds. `begin` begins one.
+/// `outstanding` returns what to ask; it can be called and sent as often as you like,
+/// since messages may be lost. `deliver` takes each reply that comes, in any order and
+/// any number of times.
+///
+/// A round first asks for a list: of all paths, or of those that changed since the
+/// mirror's position. Then it asks for the content of each path, and for the list of each
+/// directory that files were moved from or to. With the last of these the position moves
+/// to that of the first list.
+///
+/// During a round the mirror holds contents of the new position beside others of the old
+/// one. So two of its paths may clash: one may be below the other. No matter which
+/// replies come, and in which order: the file that a mirror with a position holds at a
+/// path that it wants was there at that position or after it.
 #[derive(Drop)]
 pub struct Mirror {
     alloc: Global,
@@ -80,7 +91,9 @@ impl Model for Mirror {
 }
 
 impl Mirror {
-    /// A mirror that holds nothing, under an id and a life that no other mirror of the mount has or had. It takes no memory.
+    /// Returns a mirror that holds nothing. Does not allocate.
+    ///
+    /// No other mirror of the mount may have, or have had, this id and life.
     pub fn new(alloc: Global, id: u64, life: u64, filter: Filter) -> Mirror
         ensures { result ≡ new_mirror id life filter }
     {
@@ -96,42 +109,50 @@ impl Mirror {
         }
     }
 
-    /// Which mirror it is. This takes no memory.
+    /// Returns the mirror's id. Does not allocate.
     pub fn id(&self) -> u64
         ensures { result ≡ self.now.id }
     {
         self.id
     }
 
-    /// Which life of it: one that begins anew takes a greater one. This takes no memory.
+    /// Returns the mirror's life; one that starts again takes a greater one. Does not
+    /// allocate.
     pub fn life(&self) -> u64
         ensures { result ≡ self.now.life }
     {
         self.life
     }
 
-    /// Which paths it wants. This takes no memory.
+    /// Returns the filter of the paths that it wants. Does not allocate.
     pub fn filter(&self) -> &Filter
         ensures { result.now ≡ self.now.patterns }
     {
         &self.filter
     }
 
-    /// The position that it was placed at last and that can still be followed, if there is one. This takes no memory.
+    /// Returns the mirror's position, if it has one that can be followed. Does not
+    /// allocate.
+    ///
+    /// It is the one at which the mirror was placed last.
     pub fn position(&self) -> Option<Position>
         ensures { result ≡ self.now.place }
     {
         self.place
     }
 
-    /// The file that it holds at a path, if it holds one. This takes no memory.
+    /// Returns the file that it holds at a path, if any. Does not allocate.
     pub fn get(&self, path: &Path) -> Option<&Content>
         ensures { option_copied result ≡ file_at self.now.files path.now }
     {
         self.files.get(path)
     }
 
-    /// The paths at which it holds a file, in byte order. `NoMemory` comes where a growth was refused.
+    /// Returns the paths at which it holds a file, in byte order.
+    ///
+    /// # Errors
+    ///
+    /// - `NoMemory` if an allocation fails.
     pub fn files(&self) -> Result<Vec<Path>, NoMemory>
         ensures { IfOk result (λ list. list.items ≡ paths self.now.files) }
     {
@@ -142,19 +163,19 @@ impl Mirror {
         Ok(list)
     }
 
-    /// Whether no round is under way. This takes no memory.
+    /// Returns true if no round is under way. Does not allocate.
     pub fn is_idle(&self) -> bool
         ensures { result ≡ is_idle self.now.round }
     {
         matches!(&self.round, Round::Idle)
     }
 
-    /// What new vectors take their memory from.
+    /// Returns the allocator for new vectors.
     pub(crate) fn alloc(&self) -> Global {
         self.alloc
     }
 
-    /// The question of the round with a number.
+    /// Returns the question of the round with a number.
     fn query_numbered(&self, number: u64) -> Query
         ensures { result ≡ query_numbered self.now number }
     {
@@ -165,14 +186,14 @@ impl Mirror {
         }
     }
 
-    /// The question of the last round.
+    /// Returns the question of the last round.
     pub(crate) fn query(&self) -> Query
         ensures { result ≡ query_numbered self.now self.now.last }
     {
         self.query_numbered(self.last)
     }
 
-    /// The request for the list of a round.
+    /// Returns the request for the list of a round.
     fn list_request(&self, query: Query) -> Result<Request, NoMemory>
         ensures { IfOk result (λ request. request ≡ list_request query self.now.place self.now.patterns) }
     {
@@ -187,7 +208,7 @@ impl Mirror {
         }
     }
 
-    /// That request alone.
+    /// Returns that request in a list of its own.
     fn list_alone(&self, query: Query) -> Result<Vec<Request>, NoMemory>
         ensures { IfOk result (λ requests. requests.items ≡ list_request query self.now.place self.now.patterns ∷ []) }
     {
@@ -196,17 +217,21 @@ impl Mirror {
         Ok(requests)
     }
 
-    /// Whether a round can begin: a number is left for it. This takes no memory.
+    /// Returns true if a number is left for another round. Does not allocate.
     pub fn can_begin(&self) -> bool
         ensures { result ≡ has_number self.now }
     {
         self.last < u64::MAX
     }
 
-    /// Begins a round, under the next number; one that is under way is given up. It asks what changed since the mirror's position, or for
-    /// all paths where there is none. This takes no memory.
+    /// Begins a round, and gives up one that is under way.
     ///
-    /// `NumbersExhausted` comes where the last number was 2^64 - 1, and changes nothing.
+    /// The round has the next number. It asks what changed since the mirror's position,
+    /// or for all paths if there is none. Does not allocate.
+    ///
+    /// # Errors
+    ///
+    /// - `NumbersExhausted` if the last number was 2^64 - 1; nothing changes.
     #[tactic(auto, unfolding(eden_messages::specs::Mirrors::begun))]
     pub fn begin(&mut self) -> Result<(), NumbersExhausted>
         ensures begun { self.new ≡ begun self.old }
@@ -221,9 +246,19 @@ impl Mirror {
         Ok(())
     }
 
-    /// What is still to be answered in the round that is under way: the request for its list; or one for what stands below each directory
-    /// that is awaited and then one for the content of each path that is, in the order in which they became so; or nothing where there is
-    /// no round. It costs what it lists. `NoMemory` comes where a growth was refused.
+    /// Returns the requests that the round under way still waits for.
+    ///
+    /// - If its list is awaited: the request for it.
+    /// - Later: a request for the list of each awaited directory, then one for the
+    ///   content of each awaited path. Both are in the order in which they came to be
+    ///   awaited.
+    /// - If there is no round: nothing.
+    ///
+    /// It costs what it lists.
+    ///
+    /// # Errors
+    ///
+    /// - `NoMemory` if an allocation fails.
     #[tactic(auto, unfolding(eden_messages::specs::Mirrors::outstanding_of))]
     pub fn outstanding(&self) -> Result<Vec<Request>, NoMemory>
         ensures { IfOk result (λ requests. requests.items ≡ outstanding_of self.now) }
@@ -244,8 +279,15 @@ impl Mirror {
         }
     }
 
-    /// What will be outstanding once a round is under way: what is so now, or what the next round begins with, of which there is none
-    /// where numbers are exhausted. So who sends can find room for that before a round begins. `NoMemory` comes where a growth was refused.
+    /// Returns the requests outstanding once a round is under way.
+    ///
+    /// They are those outstanding now or, if there is no round, those with which the next
+    /// one begins. So a caller can make room for them before a round begins. If numbers
+    /// are exhausted there are none.
+    ///
+    /// # Errors
+    ///
+    /// - `NoMemory` if an allocation fails.
     #[tactic(auto, unfolding(eden_messages::specs::Mirrors::begun, eden_messages::specs::Mirrors::stepped, eden_messages::specs::Mirrors::outstanding_of))]
     pub fn next_requests(&self) -> Result<Vec<Request>, NoMemory>
         ensures { IfOk result (λ requests. requests.items ≡ next_requests self.now) }
@@ -259,8 +301,10 @@ impl Mirror {
         }
     }
 
-    /// Wants other paths from now on: all that is held, the position and the round are given up. The number stays, so that no later round
-    /// takes a reply to an earlier one. This takes no memory.
+    /// Changes the filter, and gives up files, position and round.
+    ///
+    /// The number stays, so that no later round takes a reply to an earlier one. Does not
+    /// allocate.
     #[tactic(auto, unfolding(eden_messages::specs::Mirrors::refiltered))]
     pub fn refilter(&mut self, filter: Filter)
         ensures { self.new ≡ refiltered self.old filter }

@@ -24,16 +24,15 @@ use Rattle.eden_ids.proofs.Members.{all_joined}
 use Rattle.eden_ids.proofs.Sifted.{keys-sifted, sifted}
 use Rattle.eden_ids.proofs.TreeMaps.{entries_found}
 use Rattle.eden_ids.proofs.TreeQuestions.{any_witness}
-use Rattle.eden_history.proofs.CarriedLemmas.{carried-below}
+use Rattle.eden_overlay.proofs.CarriedLemmas.{carried-below}
 use Rattle.eden_objects.specs.Passing.{is_shown, told}
 use Rattle.eden_moves.specs.Moves.{Entry, Moves, at_paths, is_governed, is_path, nearest, seen_through}
-use Rattle.eden_moves.specs.internal.Listed.{AreInOrder, Row, is_listed, shown_by}
+use Rattle.eden_moves.specs.internal.Listed.{AreInOrder, is_listed, shown_by}
 use Rattle.eden_moves.specs.internal.Regions.{is_apart, is_past, seen_dir}
 use Rattle.eden_moves.proofs.InOrder.{shown_rises, told_by_members}
 use Rattle.eden_moves.proofs.Listed.{all_but, all_known, below_known, shown_in}
 use Rattle.eden_moves.proofs.Nearest.{nearest-is, no, one_nearest}
 use Rattle.eden_moves.proofs.Regions.{governed_near, longer, negated, neither, none_nearer}
-use Rattle.eden_moves.proofs.Unsettling.{marked}
 
 unless : (b : Bool) → (b ≡ true → ⊥) → b ≡ false
 unless true bad = absurd (bad refl)
@@ -56,18 +55,6 @@ joined_distinct (p ∷ ps) qs one other apart = (
 
 -- ---- put in order they rise
 
-all_rows : (P : List ℕ → Type 0) (rows : List Row) → AllByRecursion P (marked rows) → AllByRecursion (λ row. P row.0) rows
-all_rows P [] all = tt
-all_rows P (row ∷ rows) all = (all.0, all_rows P rows all.1)
-
-abbrev same_row : Row → Row → Bool
-same_row one other = same_path one.0 other.0
-
-distinct_rows : (rows : List Row) → IsDistinct same_path (marked rows) → IsDistinct same_row rows
-unfolding IsDistinct
-distinct_rows [] apart = tt
-distinct_rows (row ∷ rows) apart = (all_rows (λ q. same_path row.0 q ≡ false) rows apart.0, distinct_rows rows apart.1)
-
 strictly : (p q : List ℕ) → is_lt (order q p) ≡ false → same_path p q ≡ false → order p q ≡ Less
 strictly p q high apart =
     elim (order p q) as (λ o. order p q ≡ o → o ≡ Less) [
@@ -76,31 +63,22 @@ strictly p q high apart =
       | Greater ↦ λ is. no (sym (ap is_lt (nat_list_cmp_total.antisymm q p ∙ ap ordering_reverse is)) ∙ high)
     ] refl
 
-all_later : (p q : List ℕ) (rows : List Row) → order p q ≡ Less → AllByRecursion (λ r. order q r ≡ Less) (marked rows) → AllByRecursion (λ r. order p r ≡ Less) (marked rows)
+all_later : (p q : List ℕ) (ps : List (List ℕ)) → order p q ≡ Less → AllByRecursion (λ r. order q r ≡ Less) ps → AllByRecursion (λ r. order p r ≡ Less) ps
 all_later p q [] before all = tt
-all_later p q (row ∷ rows) before all = (nat_list_cmp_total.trans p q row.0 before all.0, all_later p q rows before all.1)
+all_later p q (r ∷ ps) before all = (nat_list_cmp_total.trans p q r before all.0, all_later p q ps before all.1)
 
-rows_rise : (rows : List Row) → AreInOrder rows → IsDistinct same_row rows → IsStrictlySortedBy order (marked rows)
+paths_rise : (ps : List (List ℕ)) → AreInOrder ps → IsDistinct same_path ps → IsStrictlySortedBy order ps
 unfolding IsDistinct IsStrictlySortedBy
-rows_rise [] up apart = tt
-rows_rise (row ∷ []) up apart = (tt, tt)
-rows_rise (row ∷ next ∷ rows) up apart =
-    let rest = rows_rise (next ∷ rows) (λ k d low within. let place : suc k + 1 ≡ suc (k + 1) = omega arith in
-    subst (λ n. is_lt (order (get_or (row ∷ next ∷ rows) n d).0 (get_or (next ∷ rows) k d).0) ≡ false) place (up (suc k) d (omega arith) (omega (arith, within)))) apart.1 in
-    let before : order row.0 next.0 ≡ Less = strictly row.0 next.0 (up 0 row (omega arith) (omega arith)) apart.0.0 in
-    ((before, all_later row.0 next.0 rows before rest.0), rest)
+paths_rise [] up apart = tt
+paths_rise (p ∷ []) up apart = (tt, tt)
+paths_rise (p ∷ next ∷ ps) up apart =
+    let rest = paths_rise (next ∷ ps) (λ k d low within. let place : suc k + 1 ≡ suc (k + 1) = omega arith in
+    subst (λ n. is_lt (order (get_or (p ∷ next ∷ ps) n d) (get_or (next ∷ ps) k d)) ≡ false) place (up (suc k) d (omega arith) (omega (arith, within)))) apart.1 in
+    let before : order p next ≡ Less = strictly p next (up 0 p (omega arith) (omega arith)) apart.0.0 in
+    ((before, all_later p next ps before rest.0), rest)
 
-ordered_rise : (rows next : List Row) → IsPermutation rows next → AreInOrder next → IsDistinct same_path (marked rows) → IsStrictlySortedBy order (marked next)
-ordered_rise rows next same up apart =
-    rows_rise next up (IsDistinct-IsPermutation same_row (λ one other. same_path-turned one.0 other.0) rows next same (distinct_rows rows apart))
-
-row_listed : (rows : List Row) (p : List ℕ) → is_listed (marked rows) p ≡ list_any (λ (row : Row). same_path p row.0) rows
-row_listed [] p = refl
-row_listed (row ∷ rows) p = ap (λ b. same_path p row.0 || b) (row_listed rows p)
-
-as_listed : (rows next : List Row) (p : List ℕ) → IsPermutation rows next → is_listed (marked next) p ≡ is_listed (marked rows) p
-as_listed rows next p same =
-    row_listed next p ∙ sym (list_any-IsPermutation (λ (row : Row). same_path p row.0) rows next same) ∙ sym (row_listed rows p)
+ordered_rise : (ps next : List (List ℕ)) → IsPermutation ps next → AreInOrder next → IsDistinct same_path ps → IsStrictlySortedBy order next
+ordered_rise ps next same up apart = paths_rise next up (IsDistinct-IsPermutation same_path same_path-turned ps next same apart)
 
 -- ---- what the directories list
 
@@ -169,10 +147,10 @@ module _ (files : FileMap) (moves : Moves) (patterns : List (List ℕ)) where
   flat_listed [] p = refl
   flat_listed (e ∷ es) p = list_any-append (λ q. same_path p q) (shows e) (flat_map shows es) ∙ ap (λ b. is_listed (shows e) p || b) (flat_listed es p)
 
-  both_listed : (ps : List (List ℕ)) (es : List Entry) (rows next : List Row) (p : List ℕ) → IsPermutation rows next → marked rows ≡ ps ++ flat_map shows es
-      → is_listed (marked next) p ≡ (is_listed ps p || list_any (λ e. is_listed (shows e) p) es)
-  both_listed ps es rows next p same is =
-      as_listed rows next p same ∙ ap (λ qs. is_listed qs p) is
+  both_listed : (ps : List (List ℕ)) (es : List Entry) (all next : List (List ℕ)) (p : List ℕ) → IsPermutation all next → all ≡ ps ++ flat_map shows es
+      → is_listed next p ≡ (is_listed ps p || list_any (λ e. is_listed (shows e) p) es)
+  both_listed ps es all next p same is =
+      sym (list_any-IsPermutation (λ q. same_path p q) all next same) ∙ ap (λ qs. is_listed qs p) is
       ∙ list_any-append (λ q. same_path p q) ps (flat_map shows es)
       ∙ ap (λ b. is_listed ps p || b) (flat_listed es p)
 
@@ -204,10 +182,10 @@ module _ (files : FileMap) (moves : Moves) (patterns : List (List ℕ)) where
         rest,
       )
 
-  put_below : (top : List ℕ) (rows next : List Row) → IsPermutation rows next → AreInOrder next
-      → marked rows ≡ shows (top, seen_dir moves top) ++ flat_map shows (further top (fin.entries moves))
-      → marked next ≡ filter (admits patterns) (filter (λ p. lies_below p top) (paths (at_paths (seen_through files moves))))
-  put_below top rows next same up is =
+  put_below : (top : List ℕ) (all next : List (List ℕ)) → IsPermutation all next → AreInOrder next
+      → all ≡ shows (top, seen_dir moves top) ++ flat_map shows (further top (fin.entries moves))
+      → next ≡ filter (admits patterns) (filter (λ p. lies_below p top) (paths (at_paths (seen_through files moves))))
+  put_below top all next same up is =
       let seen = at_paths (seen_through files moves) in
       let es : List Entry = further top (fin.entries moves) in
       let own : List (List ℕ) = shows (top, seen_dir moves top) in
@@ -215,16 +193,16 @@ module _ (files : FileMap) (moves : Moves) (patterns : List (List ℕ)) where
       joined_distinct own (flat_map shows es) (one_distinct (top, seen_dir moves top))
       (all_distinct es (said_further top (fin.entries moves) (entries_found moves)) (IsDistinct-keys_filter same_path (λ e. lies_below e.0 top) (fin.entries moves) keys_distinct))
       (λ p listed. not_shown p es (said_further top (fin.entries moves) (entries_found moves)) (none_further p top (fin.entries moves) (shown_near p top (seen_dir moves top) listed).1)) in
-      told_by_members (marked next) (sifted seen (λ p. lies_below p top)) (admits patterns)
-      (ordered_rise rows next same up (subst (IsDistinct same_path) (sym is) apart))
-      (λ p. both_listed own es rows next p same is ∙ below_known files moves patterns top p)
+      told_by_members next (sifted seen (λ p. lies_below p top)) (admits patterns)
+      (ordered_rise all next same up (subst (IsDistinct same_path) (sym is) apart))
+      (λ p. both_listed own es all next p same is ∙ below_known files moves patterns top p)
       ∙ ap (filter (admits patterns)) (keys-sifted seen (λ p. lies_below p top))
 
-  pub below_ordered : (top : List ℕ) (rows next : List Row) (first : List (List ℕ)) (es : List Entry) → IsPermutation rows next → AreInOrder next
-      → first ≡ shows (top, seen_dir moves top) → es ≡ filter (λ (e : Entry). lies_below e.0 top) (fin.entries moves) → marked rows ≡ first ++ flat_map shows es
-      → marked next ≡ filter (admits patterns) (filter (λ p. lies_below p top) (paths (at_paths (seen_through files moves))))
-  below_ordered top rows next first es same up own more is =
-      put_below top rows next same up (is ∙ (λ i. own i ++ flat_map shows (more i)))
+  pub below_ordered : (top : List ℕ) (all next : List (List ℕ)) (first : List (List ℕ)) (es : List Entry) → IsPermutation all next → AreInOrder next
+      → first ≡ shows (top, seen_dir moves top) → es ≡ filter (λ (e : Entry). lies_below e.0 top) (fin.entries moves) → all ≡ first ++ flat_map shows es
+      → next ≡ filter (admits patterns) (filter (λ p. lies_below p top) (paths (at_paths (seen_through files moves))))
+  below_ordered top all next first es same up own more is =
+      put_below top all next same up (is ∙ (λ i. own i ++ flat_map shows (more i)))
 
   -- ---- at all places
 
@@ -249,21 +227,21 @@ module _ (files : FileMap) (moves : Moves) (patterns : List (List ℕ)) where
   none_governs p [] free = tt
   none_governs p (e ∷ es) free = ((λ is. no (sym (governed_near moves p ∙ ap is_some is) ∙ free)), none_governs p es free)
 
-  put_all : (rows next : List Row) → AreTexts files → IsPermutation rows next → AreInOrder next → marked rows ≡ unmoved ++ flat_map shows (fin.entries moves)
-      → marked next ≡ filter (admits patterns) (paths (at_paths (seen_through files moves)))
-  put_all rows next are same up is =
+  put_all : (all next : List (List ℕ)) → AreTexts files → IsPermutation all next → AreInOrder next → all ≡ unmoved ++ flat_map shows (fin.entries moves)
+      → next ≡ filter (admits patterns) (paths (at_paths (seen_through files moves)))
+  put_all all next are same up is =
       let es : List Entry = fin.entries moves in
       let own : IsDistinct same_path unmoved =
       IsDistinct-from_sorted order unmoved (IsStrictlySortedBy-filter order (is_shown (is_governed moves) patterns) (paths files) (fin_keys_rise files)) in
       let apart : IsDistinct same_path (unmoved ++ flat_map shows es) =
       joined_distinct unmoved (flat_map shows es) own (all_distinct es (entries_found moves) keys_distinct)
       (λ p listed. not_shown p es (entries_found moves) (none_governs p es (not_governed p (paths files) listed))) in
-      told_by_members (marked next) (at_paths (seen_through files moves)) (admits patterns)
-      (ordered_rise rows next same up (subst (IsDistinct same_path) (sym is) apart))
-      (λ p. both_listed unmoved es rows next p same is ∙ all_known files moves patterns p are)
+      told_by_members next (at_paths (seen_through files moves)) (admits patterns)
+      (ordered_rise all next same up (subst (IsDistinct same_path) (sym is) apart))
+      (λ p. both_listed unmoved es all next p same is ∙ all_known files moves patterns p are)
 
-  pub all_ordered : (rows next : List Row) (first : List (List ℕ)) (es : List Entry) → AreTexts files → IsPermutation rows next → AreInOrder next
-      → first ≡ filter (is_shown (is_governed moves) patterns) (paths files) → es ≡ fin.entries moves → marked rows ≡ first ++ flat_map shows es
-      → marked next ≡ filter (admits patterns) (paths (at_paths (seen_through files moves)))
-  all_ordered rows next first es are same up own more is =
-      put_all rows next are same up (is ∙ (λ i. own i ++ flat_map shows (more i)))
+  pub all_ordered : (all next : List (List ℕ)) (first : List (List ℕ)) (es : List Entry) → AreTexts files → IsPermutation all next → AreInOrder next
+      → first ≡ filter (is_shown (is_governed moves) patterns) (paths files) → es ≡ fin.entries moves → all ≡ first ++ flat_map shows es
+      → next ≡ filter (admits patterns) (paths (at_paths (seen_through files moves)))
+  all_ordered all next first es are same up own more is =
+      put_all all next are same up (is ∙ (λ i. own i ++ flat_map shows (more i)))

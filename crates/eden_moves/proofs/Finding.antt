@@ -15,7 +15,7 @@ use Rattle.eden_ids.specs.FileMaps.{same_path}
 use Rattle.eden_ids.proofs.ByteOrder.{first, is_less, keys_rise, less, order, parted, second}
 use Rattle.eden_ids.proofs.FileMapLemmas.{same_order}
 use Rattle.eden_objects.proofs.Gathering.{inside}
-use Rattle.eden_history.proofs.CarriedLemmas.{rest_below}
+use Rattle.eden_overlay.proofs.CarriedLemmas.{rest_below}
 use Rattle.eden_moves.specs.Moves.{Entry, Moves, nearest}
 use Rattle.eden_moves.specs.internal.Told.{IsPlace, said_before, said_by}
 use Rattle.eden_moves.proofs.Nearest.{IsNearest, is_none, nearest-is, no, one_nearest}

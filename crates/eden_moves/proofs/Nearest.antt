@@ -14,7 +14,7 @@ use Rattle.eden_ids.specs.Paths.{lies_below}
 use Rattle.eden_ids.specs.FileMaps.{same_path}
 use Rattle.eden_ids.proofs.ByteOrder.{first, less, not_back, order, second}
 use Rattle.eden_ids.proofs.FileMapLemmas.{lies_below-itself, same_path-is, same_path-other, same_path-refl}
-use Rattle.eden_history.proofs.CarriedLemmas.{nested, rest_below}
+use Rattle.eden_overlay.proofs.CarriedLemmas.{nested, rest_below}
 use Rattle.eden_moves.specs.Moves.{Entry, Moves, nearest, source_by, source_of}
 
 pub no : {A : Type 0} → true ≡ false → A

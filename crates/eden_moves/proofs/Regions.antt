@@ -11,8 +11,8 @@ use Rattle.eden_ids.specs.Texts.{AreTexts}
 use Rattle.eden_ids.proofs.FileMapLemmas.{held, same_path-is}
 use Rattle.eden_ids.proofs.TreeMaps.{entries_found}
 use Rattle.eden_ids.proofs.TreeQuestions.{any_witness}
-use Rattle.eden_history.specs.Carried.{carried}
-use Rattle.eden_history.proofs.CarriedLemmas.{below-trans, carried-back, carried-below, carried_there, nested, rest_below}
+use Rattle.eden_overlay.specs.Carried.{carried}
+use Rattle.eden_overlay.proofs.CarriedLemmas.{below-trans, carried-back, carried-below, carried_there, nested, rest_below}
 use Rattle.eden_objects.proofs.Gathering.{above_more}
 use Rattle.eden_objects.specs.Passing.{told}
 use Rattle.eden_moves.specs.Moves.{Entry, Moves, file_from, is_governed, nearest, own_or, seen_through, source_by, source_of}

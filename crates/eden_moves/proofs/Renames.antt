@@ -14,9 +14,9 @@ use Rattle.eden_ids.specs.declared.path.PathFault.TheVariants.{Empty, TooLong, B
 use Rattle.eden_ids.specs.Paths.{IsPath, components, is_component, lies_below, path_fault}
 use Rattle.eden_ids.specs.FileMaps.{FileMap, file_at, same_path}
 use Rattle.eden_ids.proofs.FileMapLemmas.{lies_below-itself, same_file_map, same_path-is, same_path-other, same_path-refl}
-use Rattle.eden_history.specs.Carried.{carried, carried_files}
-use Rattle.eden_history.proofs.CarriedLemmas.{below-trans, carried-back, carried-below, carried-within, carried_there, file_at-carried, mapped, nested, rest_below}
-use Rattle.eden_history.proofs.DirRenameLaws.{and_both, names_joined, no_fault, parts_joined, unless}
+use Rattle.eden_overlay.specs.Carried.{carried, carried_files}
+use Rattle.eden_overlay.proofs.CarriedLemmas.{below-trans, carried-back, carried-below, carried-within, carried_there, file_at-carried, mapped, nested, rest_below}
+use Rattle.eden_overlay.proofs.Joined.{and_both, names_joined, no_fault, parts_joined, unless}
 use Rattle.eden_moves.specs.Moves.{ArePaths, Entry, Moves, dir_moved, file_from, moved_rule, nearest, own_or, path_alone, put_entry, said_of, seen_through, source_by, source_dir, source_of}
 use Rattle.eden_moves.proofs.Nearest.{IsNearest, is_none, nearest-is, no, same_above, source_is}
 use Rattle.eden_moves.specs.internal.Listed.{is_listed}

@@ -11,8 +11,8 @@ use Rattle.eden_ids.specs.declared.content.Content.{Content}
 use Rattle.eden_ids.specs.Paths.{lies_below}
 use Rattle.eden_ids.specs.FileMaps.{FileMap, file_at, paths, same_path}
 use Rattle.eden_ids.proofs.FileMapLemmas.{file_at-tabulate, held, same_file_map}
-use Rattle.eden_history.specs.Carried.{carried}
-use Rattle.eden_history.proofs.CarriedLemmas.{carried-back, mapped}
+use Rattle.eden_overlay.specs.Carried.{carried}
+use Rattle.eden_overlay.proofs.CarriedLemmas.{carried-back, mapped}
 use Rattle.eden_moves.specs.Moves.{Entry, Moves, file_from, nearest, seen_by, seen_paths, seen_through, source_by, source_of}
 use Rattle.eden_moves.specs.internal.Listed.{is_listed}
 use Rattle.eden_moves.proofs.Nearest.{source_is}

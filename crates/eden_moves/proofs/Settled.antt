@@ -12,9 +12,9 @@ use Rattle.eden_ids.specs.FileMaps.{FileMap, file_at, has, path_set, paths}
 use Rattle.eden_ids.specs.Texts.{AreBytes, AreTexts, IsContentText, IsPathText}
 use Rattle.eden_ids.proofs.FileMapLemmas.{has-append, has-path_set, has-where, unlisted}
 use Rattle.eden_ids.proofs.Members.{all_joined, all_parts}
-use Rattle.eden_history.specs.Carried.{carried, carried_files}
-use Rattle.eden_history.proofs.CarriedLemmas.{carried-back, carried-below, carried_there, file_at-carried, rest_below}
-use Rattle.eden_history.proofs.DirRenameLaws.{no_fault}
+use Rattle.eden_overlay.specs.Carried.{carried, carried_files}
+use Rattle.eden_overlay.proofs.CarriedLemmas.{carried-back, carried-below, carried_there, file_at-carried, rest_below}
+use Rattle.eden_overlay.proofs.Joined.{no_fault}
 use Rattle.eden_moves.specs.Moves.{Moves, file_from, is_governed, is_path, seen_through, source_of, unsettled}
 use Rattle.eden_moves.proofs.Nearest.{is_none as none_some, no, source_is}
 use Rattle.eden_moves.proofs.Seen.{file_at-seen}

@@ -11,10 +11,10 @@ use Rattle.eden_ids.specs.Paths.{lies_below}
 use Rattle.eden_ids.specs.FileMaps.{same_path}
 use Rattle.eden_ids.proofs.ByteOrder.{both, first, less, order, second}
 use Rattle.eden_ids.proofs.FileMapLemmas.{same_order, same_path-is, same_path-other, same_path-refl}
-use Rattle.eden_history.specs.Carried.{carried}
-use Rattle.eden_history.proofs.CarriedLemmas.{carried-back, carried-below, carried_there, rest_below}
+use Rattle.eden_overlay.specs.Carried.{breaks, carried}
+use Rattle.eden_overlay.proofs.CarriedLemmas.{carried-back, carried-below, carried_there, rest_below}
 use Rattle.eden_objects.proofs.Rising.{prefix}
-use Rattle.eden_moves.specs.Moves.{Entry, Moves, breaks, breaks_an_entry, dir_moved, source_dir}
+use Rattle.eden_moves.specs.Moves.{Entry, Moves, breaks_an_entry, dir_moved, source_dir}
 use Rattle.eden_moves.specs.internal.Shifted.{IsShifted, arriving, shifted}
 use Rattle.eden_moves.proofs.Nearest.{no}
 use Rattle.eden_moves.proofs.Renames.{get-dir_moved}

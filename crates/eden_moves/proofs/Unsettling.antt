@@ -12,13 +12,13 @@ use Rattle.eden_ids.specs.Paths.{IsPath, lies_below}
 use Rattle.eden_ids.specs.FileMaps.{FileMap, PathSet, file_at, has, paths, same_path}
 use Rattle.eden_ids.specs.Texts.{AreTexts}
 use Rattle.eden_ids.proofs.FileMapLemmas.{same_path-is, same_path-refl, same_path_set}
-use Rattle.eden_history.specs.Carried.{carried}
-use Rattle.eden_history.proofs.CarriedLemmas.{carried-back, carried-below, carried_there, rest_below}
+use Rattle.eden_overlay.specs.Carried.{carried}
+use Rattle.eden_overlay.proofs.CarriedLemmas.{carried-back, carried-below, carried_there, rest_below}
 use Rattle.eden_objects.specs.Passing.{told}
 use Rattle.eden_moves.specs.Moves.{Entry, Moves, by_bytes, file_from, is_governed, is_path, nearest, seen_through, source_by, unsettled}
 use Rattle.eden_moves.specs.internal.Unsettling.{is_shown, is_unsettled_by, own_below, put_if, seen_below}
 use Rattle.eden_moves.proofs.Nearest.{is_none as none_some, no}
-use Rattle.eden_moves.specs.internal.Listed.{IsWith, Row, is_listed}
+use Rattle.eden_moves.specs.internal.Listed.{IsWith, is_listed}
 use Rattle.eden_moves.proofs.Seen.{file_at-seen}
 use Rattle.eden_moves.proofs.Settled.{has-unsettled}
 use Rattle.eden_moves.proofs.Shifting.{both_ways}
@@ -305,42 +305,39 @@ pub or-none : (b : Bool) → (b || false) ≡ b
 or-none true = refl
 or-none false = refl
 
-abbrev pub marked : List Row → List (List ℕ)
-marked rows = map (λ row. row.0) rows
+pub one_own : {X : Type 0} (t next : fin.FinMap by_bytes X) (x : X) (path : List ℕ) (rest : List (List ℕ)) (p : List ℕ) → next ≡ fin.insert t path x
+    → (fin.contains_key next p || is_listed rest p) ≡ (fin.contains_key t p || is_listed (path ∷ rest) p)
+one_own t next x path rest p is =
+    ap (λ n. fin.contains_key n p || is_listed rest p) is ∙ ap (λ b. b || is_listed rest p) (has-more t path x p)
+    ∙ shuffled (same_path p path) (fin.contains_key t p) (is_listed rest p)
 
-pub one_own : {X : Type 0} (t next : fin.FinMap by_bytes X) (x : X) (row : Row) (rest : List Row) (p : List ℕ) → next ≡ fin.insert t row.0 x
-    → (fin.contains_key next p || is_listed (marked rest) p) ≡ (fin.contains_key t p || is_listed (marked (row ∷ rest)) p)
-one_own t next x row rest p is =
-    ap (λ n. fin.contains_key n p || is_listed (marked rest) p) is ∙ ap (λ b. b || is_listed (marked rest) p) (has-more t row.0 x p)
-    ∙ shuffled (same_path p row.0) (fin.contains_key t p) (is_listed (marked rest) p)
-
-pub one_seen : (seen : FileMap) (source dir : List ℕ) (t next : PathSet) (row : Row) (rest : List Row) (p : List ℕ)
-    → next ≡ put_if (is_shown seen (carried source dir row.0)) t (carried source dir row.0)
-    → (has next p || places seen source dir (marked rest) p) ≡ (has t p || places seen source dir (marked (row ∷ rest)) p)
-one_seen seen source dir t next row rest p is =
-    ap (λ n. has n p || places seen source dir (marked rest) p) is
-    ∙ ap (λ b. b || places seen source dir (marked rest) p) (has-put_if (is_shown seen (carried source dir row.0)) t (carried source dir row.0) p)
-    ∙ shuffled (same_path p (carried source dir row.0) && is_shown seen (carried source dir row.0)) (has t p) (places seen source dir (marked rest) p)
-    ∙ ap (λ b. has t p || (b || places seen source dir (marked rest) p)) (at (same_path p (carried source dir row.0)) refl)
+pub one_seen : (seen : FileMap) (source dir : List ℕ) (t next : PathSet) (path : List ℕ) (rest : List (List ℕ)) (p : List ℕ)
+    → next ≡ put_if (is_shown seen (carried source dir path)) t (carried source dir path)
+    → (has next p || places seen source dir rest p) ≡ (has t p || places seen source dir (path ∷ rest) p)
+one_seen seen source dir t next path rest p is =
+    ap (λ n. has n p || places seen source dir rest p) is
+    ∙ ap (λ b. b || places seen source dir rest p) (has-put_if (is_shown seen (carried source dir path)) t (carried source dir path) p)
+    ∙ shuffled (same_path p (carried source dir path) && is_shown seen (carried source dir path)) (has t p) (places seen source dir rest p)
+    ∙ ap (λ b. has t p || (b || places seen source dir rest p)) (at (same_path p (carried source dir path)) refl)
   where
-    at : (b : Bool) → same_path p (carried source dir row.0) ≡ b → (b && is_shown seen (carried source dir row.0)) ≡ (same_path p (carried source dir row.0) && is_shown seen p)
+    at : (b : Bool) → same_path p (carried source dir path) ≡ b → (b && is_shown seen (carried source dir path)) ≡ (same_path p (carried source dir path) && is_shown seen p)
     at true same =
-        ap (is_shown seen) (sym (same_path-is p (carried source dir row.0) same)) ∙ sym (ap (λ b. b && is_shown seen p) same)
+        ap (is_shown seen) (sym (same_path-is p (carried source dir path) same)) ∙ sym (ap (λ b. b && is_shown seen p) same)
     at false same = sym (ap (λ b. b && is_shown seen p) same)
 
-pub own_end : (files : FileMap) (dir : List ℕ) (t next : PathSet) (rows : List Row) (p : List ℕ) → marked rows ≡ filter (λ q. lies_below q dir) (paths files)
-    → (has next p || is_listed (marked []) p) ≡ (has t p || is_listed (marked rows) p) → has next p ≡ (has t p || own_below files dir p)
-own_end files dir t next rows p all is =
+pub own_end : (files : FileMap) (dir : List ℕ) (t next : PathSet) (found : List (List ℕ)) (p : List ℕ) → found ≡ filter (λ q. lies_below q dir) (paths files)
+    → (has next p || is_listed [] p) ≡ (has t p || is_listed found p) → has next p ≡ (has t p || own_below files dir p)
+own_end files dir t next found p all is =
     sym (or-none (has next p)) ∙ is ∙ ap (λ b. has t p || b) (ap (λ ps. is_listed ps p) all ∙ listed_below files dir p)
 
-pub seen_end : (files seen : FileMap) (source dir : List ℕ) (t next : PathSet) (rows : List Row) (p : List ℕ) → marked rows ≡ filter (λ q. lies_below q source) (paths files)
-    → (has next p || places seen source dir (marked []) p) ≡ (has t p || places seen source dir (marked rows) p) → has next p ≡ (has t p || seen_below files seen (dir, Some source) p)
-seen_end files seen source dir t next rows p all is =
+pub seen_end : (files seen : FileMap) (source dir : List ℕ) (t next : PathSet) (found : List (List ℕ)) (p : List ℕ) → found ≡ filter (λ q. lies_below q source) (paths files)
+    → (has next p || places seen source dir [] p) ≡ (has t p || places seen source dir found p) → has next p ≡ (has t p || seen_below files seen (dir, Some source) p)
+seen_end files seen source dir t next found p all is =
     sym (or-none (has next p)) ∙ is ∙ ap (λ b. has t p || b) (ap (λ ps. places seen source dir ps p) all ∙ places_below files seen source dir p)
 
-pub row_below : (source : List ℕ) (ps : List (List ℕ)) (rows : List Row) (i : ℕ) (row : Row) → marked rows ≡ filter (λ q. lies_below q source) ps → i < length rows
-    → row ≡ slice_index_or rows i row → lies_below row.0 source ≡ true
-row_below source ps rows i row all within is = at rows i (subst (AllByRecursion (λ q. lies_below q source ≡ true)) (sym all) (each ps)) within is
+pub path_below : (source : List ℕ) (ps : List (List ℕ)) (found : List (List ℕ)) (i : ℕ) (path : List ℕ) → found ≡ filter (λ q. lies_below q source) ps → i < length found
+    → path ≡ slice_index_or found i path → lies_below path source ≡ true
+path_below source ps found i path all within is = at found i (subst (AllByRecursion (λ q. lies_below q source ≡ true)) (sym all) (each ps)) within is
   where
     each : (ps : List (List ℕ)) → AllByRecursion (λ q. lies_below q source ≡ true) (filter (λ q. lies_below q source) ps)
     each [] = tt
@@ -351,10 +348,10 @@ row_below source ps rows i row all within is = at rows i (subst (AllByRecursion 
         by true below rest = (below, rest)
         by false below rest = rest
 
-    at : (rows : List Row) (i : ℕ) → AllByRecursion (λ q. lies_below q source ≡ true) (marked rows) → i < length rows → row ≡ slice_index_or rows i row → lies_below row.0 source ≡ true
+    at : (found : List (List ℕ)) (i : ℕ) → AllByRecursion (λ q. lies_below q source ≡ true) found → i < length found → path ≡ slice_index_or found i path → lies_below path source ≡ true
     at [] i all within is = absurd (omega arith)
-    at (r ∷ rows) zero all within is = ap (λ (r : Row). lies_below r.0 source) is ∙ all.0
-    at (r ∷ rows) (suc i) all within is = at rows i all.1 (omega arith) is
+    at (r ∷ found) zero all within is = ap (λ r. lies_below r source) is ∙ all.0
+    at (r ∷ found) (suc i) all within is = at found i all.1 (omega arith) is
 
 pub one_entry : (files seen : FileMap) (e : Entry) (rest : List Entry) (t next : PathSet) (p : List ℕ) → IsWith (λ p. is_unsettled_by files seen p e) t next
     → (has next p || any_entry files seen rest p) ≡ (has t p || any_entry files seen (e ∷ rest) p)

@@ -1,5 +1,6 @@
--- Renamed directories: for some directories, which directory of a commit is seen there, or that nothing is. A path is governed by the
--- nearest of them above it; where none stands above it, the commit's own files are seen.
+-- Renamed directories: for some directories, which directory of a commit is seen there,
+-- or that nothing is. A path is governed by the nearest of them above it; if there is
+-- none above it, the commit's own file is seen.
 use Rattle.std.specs.Prelude.{◌≡◌, ℕ, Bool, ◌&&◌, if◌then◌else◌, List, [], ◌∷◌, ◌++◌, map, Option, Some, None, is_some}
 use Rattle.std.specs.Option.{is_none, option_or}
 use Rattle.std.specs.declared.cmp.Ordering.{Ordering}
@@ -10,7 +11,7 @@ use Rattle.std.specs.FinMap as fin
 use Rattle.eden_ids.specs.declared.content.Content.{Content}
 use Rattle.eden_ids.specs.Paths.{IsPath, lies_below, path_fault}
 use Rattle.eden_ids.specs.FileMaps.{FileMap, PathSet, file_at, path_set, paths, same_path, tabulate}
-use Rattle.eden_history.specs.Carried.{carried}
+use Rattle.eden_overlay.specs.Carried.{breaks, carried}
 
 -- byte order
 abbrev pub by_bytes : List ℕ → List ℕ → Ordering
@@ -24,12 +25,12 @@ Moves = fin.FinMap (slice_cmp nat_cmp) (Option (List ℕ))
 abbrev pub Entry : Type 0
 Entry = List ℕ × Option (List ℕ)
 
--- of entries in byte order the last one above a path is the nearest
+-- among sorted entries, the last one above a path is the nearest
 abbrev pub nearest : List Entry → List ℕ → Option Entry
 nearest [] path = None
 nearest (e ∷ es) path = option_or (nearest es path) (if lies_below path e.0 then Some e else None)
 
--- the commit's path that is seen at a path, where this directory is the nearest above it
+-- the commit's path that is seen at a path, if this entry is the nearest above it
 abbrev pub source_by : Option Entry → List ℕ → Option (List ℕ)
 source_by None path = Some path
 source_by (Some (top, None)) path = None
@@ -44,7 +45,8 @@ abbrev pub file_from : FileMap → Option (List ℕ) → Option Content
 file_from files None = None
 file_from files (Some source) = file_at files source
 
--- the paths at which the files below one directory are seen: those below the source of an entry, told below its directory
+-- the paths at which one entry shows files: those below its source, moved below its
+-- directory
 abbrev pub seen_by : List (List ℕ) → Entry → List (List ℕ)
 seen_by ps (top, None) = []
 seen_by ps (top, Some source) = map (carried source top) ps
@@ -58,12 +60,13 @@ seen_paths ps (e ∷ es) = seen_by ps e ++ seen_paths ps es
 unfoldable pub seen_through : FileMap → Moves → FileMap
 seen_through files moves = tabulate (seen_paths (paths files) (fin.entries moves)) (λ path. file_from files (source_of moves path))
 
--- the commit's directory that is seen at a directory, by its own entry or by the nearest one above
+-- the commit's directory that is seen at a directory, by its own entry or by the nearest
+-- one above
 abbrev pub own_or : Option (Option (List ℕ)) → Option (List ℕ) → Option (List ℕ)
 own_or None above = above
 own_or (Some source) above = source
 
--- below what is no path no commit has a file, so nothing is seen there
+-- a commit has no file below an invalid path, so nothing is seen there
 abbrev pub path_alone : Option (List ℕ) → Option (List ℕ)
 path_alone None = None
 path_alone (Some source) = if is_some (path_fault source) then None else Some source
@@ -71,8 +74,9 @@ path_alone (Some source) = if is_some (path_fault source) then None else Some so
 abbrev pub source_dir : Moves → List ℕ → Option (List ℕ)
 source_dir moves dir = own_or (fin.get moves dir) (path_alone (source_of moves dir))
 
--- what is said of a directory after one was renamed: what stood at the new path and below it is forgotten, the same is seen there as at the
--- old one before, and nothing at the old one
+-- the entry of a directory after one more was renamed: the entries at the new path and
+-- below it are forgotten; at the new path is seen what was seen at the old one, and at
+-- the old one nothing
 abbrev pub moved_rule : Moves → List ℕ → List ℕ → List ℕ → Option (Option (List ℕ))
 moved_rule moves old new dir =
     if same_path dir new then Some (source_dir moves old) else
@@ -84,7 +88,7 @@ abbrev pub put_entry : Moves → List ℕ → Option (Option (List ℕ)) → Mov
 put_entry moves dir None = fin.remove moves dir
 put_entry moves dir (Some source) = fin.insert moves dir source
 
--- what a rule says of each of these directories, and nothing of others
+-- the entries that a rule gives these directories; others have none
 unfoldable pub said_of : List (List ℕ) → (List ℕ → Option (Option (List ℕ))) → Moves
 said_of [] rule = fin.empty
 said_of (dir ∷ dirs) rule = put_entry (said_of dirs rule) dir (rule dir)
@@ -93,29 +97,27 @@ said_of (dir ∷ dirs) rule = put_entry (said_of dirs rule) dir (rule dir)
 unfoldable pub dir_moved : Moves → List ℕ → List ℕ → Moves
 dir_moved moves old new = said_of (new ∷ old ∷ (fin.keys moves ++ map (carried old new) (fin.keys moves))) (moved_rule moves old new)
 
--- a path below the old one would be none below the new one
-abbrev pub breaks : List ℕ → List ℕ → List ℕ → Bool
-breaks old new path = is_some (path_fault (carried old new path))
-
--- so would one of the directories that have an entry
+-- one of the directories that have an entry would be at an invalid path
 abbrev pub breaks_an_entry : Moves → List ℕ → List ℕ → Bool
 breaks_an_entry moves old new = list_any (λ dir. lies_below dir old && breaks old new dir) (fin.keys moves)
 
--- a directory above the path has an entry: elsewhere the commit's own files are seen
+-- a directory above the path has an entry; at any other path the commit's own file is
+-- seen
 abbrev pub is_governed : Moves → List ℕ → Bool
 is_governed moves path = list_any (λ top. lies_below path top) (fin.keys moves)
 
 abbrev pub is_path : List ℕ → Bool
 is_path bytes = is_none (path_fault bytes)
 
--- the files that stand at paths
+-- the files at valid paths
 abbrev pub at_paths : FileMap → FileMap
 at_paths files = fin.retain_keys files is_path
 
--- the paths, of the commit's files and of those that are seen, that an entry governs: at each other path the commit's own file is seen
+-- the paths, of the commit's files and of those that are seen, that an entry governs; at
+-- each other path the commit's own file is seen
 unfoldable pub unsettled : FileMap → Moves → PathSet
 unsettled files moves = fin.retain_keys (path_set (paths files ++ paths (seen_through files moves))) (λ path. is_governed moves path && is_path path)
 
--- each file stands at a path, as those of a commit do
+-- each file is at a valid path, as those of a commit are
 abbrev pub ArePaths : FileMap → Type 0
 ArePaths files = (path : List ℕ) (file : Content) → file_at files path ≡ Some file → IsPath path

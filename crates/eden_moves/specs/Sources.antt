@@ -1,4 +1,4 @@
--- What is answered to the question what of a commit is seen at a path.
+-- The answer to the question what of a commit is seen at a path.
 use Rattle.std.specs.Prelude.{ℕ, List, ◌++◌, Option, Some, None}
 use Rattle.eden_moves.specs.declared.source.Source.{Source}
 use Rattle.eden_moves.specs.declared.source.Source.TheVariants.{Own, Nothing, Below}

@@ -1,4 +1,4 @@
--- What the implementation alone speaks of.
+-- Definitions that the code alone uses.
 pub mod Listed
 pub mod Regions
 pub mod Shifted

@@ -1,20 +1,20 @@
-//! Entries in byte order while those below a directory come to stand below another.
+//! Sorted entries, when those below one directory move below another.
 
 ghost use Rattle.std.specs.Prelude.{◌≡◌, ◌≢◌, ◌≤◌, ◌+◌, ◌++◌, ℕ, List, T, take, drop, false, true, not, IfOk, IfErr, filter, if◌then◌else◌, map};
 ghost use Rattle.std.specs.Vec.{vec_len, vec_capacity};
 ghost use Rattle.std.specs.List.{AllByRecursion, list_any};
 ghost use Rattle.std.specs.FinMap.{find, is_sorted};
 ghost use Rattle.eden_ids.specs.Paths.{lies_below};
-ghost use Rattle.eden_moves.specs.Moves.{breaks, by_bytes};
+ghost use Rattle.eden_moves.specs.Moves.{by_bytes};
+ghost use Rattle.eden_overlay.specs.Carried.{breaks};
 ghost use Rattle.eden_moves.specs.internal.Shifted.{shifted_entry, IsPutIn};
 
 use crate::entries::place;
-use crate::places::carried_path;
-use eden_history::ChangeFault;
 use eden_ids::{NoMemory, Path, has_path_below};
+use eden_overlay::{CarryFault, carried_path};
 use std::alloc::Global;
 
-/// A directory's copy, or none.
+/// Returns a copy of a directory, or `None` if there is none.
 pub(crate) fn copy_of(source: &Option<Path>) -> Result<Option<Path>, NoMemory>
     ensures { IfOk result (λ copy. copy ≡ source.now) }
 {
@@ -24,31 +24,37 @@ pub(crate) fn copy_of(source: &Option<Path>) -> Result<Option<Path>, NoMemory>
     }
 }
 
-/// Entries below the old path, as they are below the new one.
+/// Returns entries below the old path as they are below the new one.
+///
+/// # Errors
+///
+/// - `PathTooLong` if one would be at an invalid path.
+/// - `NoMemory` if an allocation fails.
 pub(crate) fn shifted(
     alloc: Global,
     entries: &[(Path, Option<Path>)],
     old: &Path,
     new: &Path,
-) -> Result<Vec<(Path, Option<Path>)>, ChangeFault>
+) -> Result<Vec<(Path, Option<Path>)>, CarryFault>
     requires { AllByRecursion (λ e. lies_below e.0 old.now ≡ true) entries.now }
     ensures shifted { IfOk result (λ more. more.items ≡ map (shifted_entry old.now new.now) entries.now) }
     ensures accepts { IfOk result (λ _. list_any (λ e. breaks old.now new.now e.0) entries.now ≡ false) }
-    ensures cause { IfErr result (λ fault. fault ≢ ChangeFault.NoMemory → fault ≡ ChangeFault.PathTooLong) }
-    ensures refuses { IfErr result (λ fault. fault ≢ ChangeFault.NoMemory → list_any (λ e. breaks old.now new.now e.0) entries.now ≡ true) }
+    ensures refuses { IfErr result (λ fault. fault ≢ CarryFault.NoMemory → list_any (λ e. breaks old.now new.now e.0) entries.now ≡ true) }
 {
     let mut more = Vec::new(alloc);
     for entry in entries {
         let place = carried_path(alloc, &entry.0, old, new)?;
         let source = copy_of(&entry.1)?;
         if more.push((place, source)).is_err() {
-            return Err(ChangeFault::NoMemory);
+            return Err(CarryFault::NoMemory);
         }
     }
     Ok(more)
 }
 
-/// Drops the entries below a directory. Where there is none, no entry is looked at but on the way to them.
+/// Removes the entries below a directory.
+///
+/// If there are none, only the entries on the way to them are looked at.
 pub(crate) fn forget_below(entries: &mut Vec<(Path, Option<Path>)>, top: &Path)
     requires { T (is_sorted by_bytes entries.old.items) }
     ensures left { entries.new.items ≡ filter (λ e. not (lies_below e.0 top.now)) entries.old.items }
@@ -60,7 +66,7 @@ pub(crate) fn forget_below(entries: &mut Vec<(Path, Option<Path>)>, top: &Path)
     }
 }
 
-/// Puts entries in at a place. There is room for them.
+/// Inserts entries at an index. There must be room for them.
 fn put_at(entries: &mut Vec<(Path, Option<Path>)>, at: usize, mut more: Vec<(Path, Option<Path>)>)
     requires within { at ≤ vec_len entries.old }
     requires room { vec_len entries.old + vec_len more ≤ vec_capacity entries.old }
@@ -77,7 +83,7 @@ fn put_at(entries: &mut Vec<(Path, Option<Path>)>, at: usize, mut more: Vec<(Pat
     entries.rotate_left(behind);
 }
 
-/// Puts entries in where the first of them stands. There is room for them.
+/// Inserts entries at the index of the first of them. There must be room for them.
 fn put_in(entries: &mut Vec<(Path, Option<Path>)>, more: Vec<(Path, Option<Path>)>)
     requires sorted { T (is_sorted by_bytes entries.old.items) }
     requires room { vec_len entries.old + vec_len more ≤ vec_capacity entries.old }
@@ -92,7 +98,7 @@ fn put_in(entries: &mut Vec<(Path, Option<Path>)>, more: Vec<(Path, Option<Path>
     put_at(entries, at, more);
 }
 
-/// Puts entries in the place of those below a directory. There is room for them.
+/// Replaces the entries below a directory. There must be room for the new ones.
 pub(crate) fn replace_below(
     entries: &mut Vec<(Path, Option<Path>)>,
     top: &Path,

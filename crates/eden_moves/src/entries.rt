@@ -1,4 +1,4 @@
-//! Directories in byte order, each with what is seen there.
+//! Sorted directories, each with what is seen there.
 
 ghost use Rattle.std.specs.Prelude.{◌≡◌, ◌<◌, ◌≤◌, ◌+◌, T, option_copied};
 ghost use Rattle.std.specs.Vec.{vec_len, vec_capacity};
@@ -9,14 +9,16 @@ ghost use Rattle.eden_moves.specs.internal.Told.{said_by, IsPlace};
 
 use eden_ids::Path;
 
-/// Whether the entry's directory comes before another in byte order.
+/// Returns true if the entry's directory sorts before another one.
 fn is_before(entry: &(Path, Option<Path>), dir: &[u8]) -> bool
     ensures { result ≡ is_lt (by_bytes entry.now.0 dir.now) }
 {
     entry.0.as_bytes().cmp(dir).is_lt()
 }
 
-/// What an entry says of a directory, if it is that directory's.
+/// Returns what an entry says of its own directory.
+///
+/// It is `None` for any other directory.
 fn said_by<'a>(entry: &'a (Path, Option<Path>), dir: &[u8]) -> Option<&'a Option<Path>>
     ensures { option_copied result ≡ said_by entry.now dir.now }
 {
@@ -27,7 +29,9 @@ fn said_by<'a>(entry: &'a (Path, Option<Path>), dir: &[u8]) -> Option<&'a Option
     }
 }
 
-/// At which place the entry of a directory stands or would stand. It is searched for by halves.
+/// Returns the index of a directory's entry, by binary search.
+///
+/// If there is none, it is the index at which it would be.
 pub(crate) fn place(entries: &[(Path, Option<Path>)], dir: &[u8]) -> usize
     requires { T (is_sorted by_bytes entries.now) }
     ensures { IsPlace dir.now entries.now result }
@@ -35,7 +39,7 @@ pub(crate) fn place(entries: &[(Path, Option<Path>)], dir: &[u8]) -> usize
     entries.partition_point(|entry| is_before(entry, dir))
 }
 
-/// What the entries say of a directory, if one of them is its. It takes no memory.
+/// Returns what the entries say of a directory, if one is its. Does not allocate.
 pub(crate) fn find<'a>(entries: &'a [(Path, Option<Path>)], dir: &[u8]) -> Option<&'a Option<Path>>
     requires { T (is_sorted by_bytes entries.now) }
     ensures { option_copied result ≡ find by_bytes dir.now entries.now }
@@ -46,7 +50,9 @@ pub(crate) fn find<'a>(entries: &'a [(Path, Option<Path>)], dir: &[u8]) -> Optio
     }
 }
 
-/// Says what is seen at a directory, in place of what was said of it. There is room for an entry more.
+/// Sets what is seen at a directory, instead of its old entry.
+///
+/// There must be room for one more entry.
 pub(crate) fn put(entries: &mut Vec<(Path, Option<Path>)>, dir: Path, source: Option<Path>)
     requires sorted { T (is_sorted by_bytes entries.old.items) }
     requires room { vec_len entries.old < vec_capacity entries.old }

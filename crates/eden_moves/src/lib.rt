@@ -1,7 +1,13 @@
-//! Directories of a commit that were renamed, and the commit's files as they are seen then.
+//! Renamed directories of a commit, and the commit's files as they are seen after the
+//! renames.
 //!
-//! A rename lists and copies nothing of the commit: it notes of a directory which one of the commit is seen there, or that nothing is. The
-//! nearest such directory above a path tells what is seen at the path.
+//! A rename lists and copies nothing of the commit. `Moves` notes for some directories
+//! which directory of the commit is seen there, or that nothing is; `rename` adds to it.
+//! The nearest such directory above a path decides which file is seen at the path.
+//!
+//! `Moved` is a commit together with such renames. It is asked for its files as any other
+//! `FileTree`, and lists them in byte order. `Moves::unsettled` returns the paths at
+//! which another file may be seen than the commit's own.
 //!
 //! ```rust
 //! use eden_globs::Filter;
@@ -25,7 +31,6 @@ pub use crate::laws::moves_law;
 pub use crate::moved::Moved;
 pub use crate::moves::Moves;
 pub use crate::parts::joined;
-pub use crate::places::carried_path;
 pub use crate::renaming::Renaming;
 pub use crate::source::Source;
 
@@ -36,10 +41,9 @@ mod listing;
 mod moved;
 mod moves;
 mod parts;
-mod places;
 mod region;
 mod renaming;
-mod rows;
 mod searching;
+mod sorting;
 mod source;
 mod unsettled;

@@ -1,6 +1,6 @@
-//! The files that are seen through renamed directories, as a list.
+//! The list of the files that are seen through renamed directories.
 
-ghost use Rattle.std.specs.Prelude.{◌≡◌, ◌++◌, IfOk, OnOk, Some, filter, map};
+ghost use Rattle.std.specs.Prelude.{◌≡◌, ◌++◌, IfOk, OnOk, Some, filter};
 ghost use Rattle.std.specs.List.{flat_map};
 ghost use Rattle.eden_globs.specs.Filters.{admits};
 ghost use Rattle.eden_ids.specs.FileMaps.{paths};
@@ -12,33 +12,34 @@ ghost use Rattle.eden_moves.specs.internal.Regions.{seen_dir};
 use crate::moves::Moves;
 use crate::parts::joined;
 use crate::region::{Governed, Pathless, Region};
-use crate::rows::sort_rows;
+use crate::sorting::sort_paths;
 use crate::source::Source;
 use eden_globs::Filter;
-use eden_ids::{Id, Kind, Naming, NoMemory, Path, paths_below};
+use eden_ids::{Naming, NoMemory, Path, paths_below};
 use eden_objects::{Commit, Nothing};
 use std::alloc::Global;
 
-/// The files below a directory of the commit that are seen by another one, where that one has them.
+/// Returns the files of one directory that are seen at another.
 fn list_in<N: Naming + Drop>(
     commit: &Commit<'_, N>,
     moves: &Moves,
     source: &[u8],
     top: &Path,
     wanted: &Filter,
-) -> Result<Vec<(Path, Kind, Id)>, NoMemory>
-    ensures { IfOk result (λ rows. map (λ row. row.0) rows.items ≡ shown_by commit.now moves.now wanted.now (top.now, Some source.now)) }
+) -> Result<Vec<Path>, NoMemory>
+    ensures { IfOk result (λ list. list.items ≡ shown_by commit.now moves.now wanted.now (top.now, Some source.now)) }
 {
     let region = Region {
         moves,
         long: top.as_bytes().len(),
         passed: &Pathless,
     };
-    let rows = commit.list_seen(source, top, wanted, &region)?;
-    Ok(rows)
+    commit.list_seen(source, top, wanted, &region)
 }
 
-/// The same of a directory that is told in two parts. Below what is longer than a path stands no file.
+/// Returns the same for a directory given in two parts.
+///
+/// There are no files below a directory that is longer than a path.
 fn list_behind<N: Naming + Drop>(
     commit: &Commit<'_, N>,
     moves: &Moves,
@@ -46,8 +47,8 @@ fn list_behind<N: Naming + Drop>(
     rest: &[u8],
     top: &Path,
     wanted: &Filter,
-) -> Result<Vec<(Path, Kind, Id)>, NoMemory>
-    ensures { IfOk result (λ rows. map (λ row. row.0) rows.items ≡ shown_by commit.now moves.now wanted.now (top.now, Some (front.now ++ rest.now))) }
+) -> Result<Vec<Path>, NoMemory>
+    ensures { IfOk result (λ list. list.items ≡ shown_by commit.now moves.now wanted.now (top.now, Some (front.now ++ rest.now))) }
 {
     commit.texts_law();
     match joined(front, rest) {
@@ -56,14 +57,14 @@ fn list_behind<N: Naming + Drop>(
     }
 }
 
-/// The same of what is seen at a directory by those above it.
+/// Returns the same for what those above a directory show there.
 fn list_by_above<N: Naming + Drop>(
     commit: &Commit<'_, N>,
     moves: &Moves,
     top: &Path,
     wanted: &Filter,
-) -> Result<Vec<(Path, Kind, Id)>, NoMemory>
-    ensures { IfOk result (λ rows. map (λ row. row.0) rows.items ≡ shown_by commit.now moves.now wanted.now (top.now, source_of moves.now top.now)) }
+) -> Result<Vec<Path>, NoMemory>
+    ensures { IfOk result (λ list. list.items ≡ shown_by commit.now moves.now wanted.now (top.now, source_of moves.now top.now)) }
 {
     match moves.source(top.as_bytes()) {
         Source::Own => list_in(commit, moves, top.as_bytes(), top, wanted),
@@ -74,15 +75,15 @@ fn list_by_above<N: Naming + Drop>(
     }
 }
 
-/// The same of a directory with what is said of it.
+/// Returns the same for a directory with its entry.
 fn list_at<N: Naming + Drop>(
     alloc: Global,
     commit: &Commit<'_, N>,
     moves: &Moves,
     entry: &(Path, Option<Path>),
     wanted: &Filter,
-) -> Result<Vec<(Path, Kind, Id)>, NoMemory>
-    ensures { IfOk result (λ rows. map (λ row. row.0) rows.items ≡ shown_by commit.now moves.now wanted.now entry.now) }
+) -> Result<Vec<Path>, NoMemory>
+    ensures { IfOk result (λ list. list.items ≡ shown_by commit.now moves.now wanted.now entry.now) }
 {
     match &entry.1 {
         Some(source) => list_in(commit, moves, source.as_bytes(), &entry.0, wanted),
@@ -90,14 +91,14 @@ fn list_at<N: Naming + Drop>(
     }
 }
 
-/// The same of what is seen at a directory itself.
+/// Returns the same for what is seen at a directory itself.
 fn list_own<N: Naming + Drop>(
     commit: &Commit<'_, N>,
     moves: &Moves,
     top: &Path,
     wanted: &Filter,
-) -> Result<Vec<(Path, Kind, Id)>, NoMemory>
-    ensures { IfOk result (λ rows. map (λ row. row.0) rows.items ≡ shown_by commit.now moves.now wanted.now (top.now, seen_dir moves.now top.now)) }
+) -> Result<Vec<Path>, NoMemory>
+    ensures { IfOk result (λ list. list.items ≡ shown_by commit.now moves.now wanted.now (top.now, seen_dir moves.now top.now)) }
 {
     match moves.get(top.as_bytes()) {
         Some(Some(source)) => list_in(commit, moves, source.as_bytes(), top, wanted),
@@ -106,76 +107,78 @@ fn list_own<N: Naming + Drop>(
     }
 }
 
-/// Puts what is seen by some of the directories of which something is said behind what is there, one directory's behind another's.
+/// Adds the paths that some of the entries show, entry by entry.
 fn add_seen_by<N: Naming + Drop>(
     alloc: Global,
-    rows: &mut Vec<(Path, Kind, Id)>,
+    list: &mut Vec<Path>,
     commit: &Commit<'_, N>,
     moves: &Moves,
     entries: &[(Path, Option<Path>)],
     wanted: &Filter,
 ) -> Result<(), NoMemory>
-    ensures { OnOk result (map (λ row. row.0) rows.new.items ≡ map (λ row. row.0) rows.old.items ++ flat_map (shown_by commit.now moves.now wanted.now) entries.now) }
+    ensures { OnOk result (list.new.items ≡ list.old.items ++ flat_map (shown_by commit.now moves.now wanted.now) entries.now) }
 {
     for entry in entries {
         let mut more = list_at(alloc, commit, moves, entry, wanted)?;
-        rows.append(&mut more)?;
+        list.append(&mut more)?;
     }
     Ok(())
 }
 
-/// The commit's own files, where no directory was renamed.
+/// Returns the commit's own files, if no directory was renamed.
 fn list_unmoved<N: Naming + Drop>(
     commit: &Commit<'_, N>,
     wanted: &Filter,
-) -> Result<Vec<(Path, Kind, Id)>, NoMemory>
-    ensures { IfOk result (λ rows. map (λ row. row.0) rows.items ≡ filter (admits wanted.now) (paths (at_paths commit.now))) }
+) -> Result<Vec<Path>, NoMemory>
+    ensures { IfOk result (λ list. list.items ≡ filter (admits wanted.now) (paths (at_paths commit.now))) }
 {
     commit.texts_law();
-    let rows = commit.list(wanted, &Nothing)?;
-    Ok(rows)
+    let list = commit.list(wanted, &Nothing)?;
+    Ok(list)
 }
 
-/// The files of a commit that are seen through renamed directories, at paths that a filter admits.
+/// Returns the admitted files that are seen through renamed directories.
 ///
-/// Those that no renamed directory governs are seen at their own places, and each directory of which something is said shows what is seen
-/// by it.
+/// Those that no renamed directory governs are seen at their own paths; each directory
+/// with an entry shows what is seen by it.
 pub(crate) fn list_all<N: Naming + Drop>(
     alloc: Global,
     commit: &Commit<'_, N>,
     moves: &Moves,
     wanted: &Filter,
-) -> Result<Vec<(Path, Kind, Id)>, NoMemory>
-    ensures { IfOk result (λ rows. map (λ row. row.0) rows.items ≡ filter (admits wanted.now) (paths (at_paths (seen_through commit.now moves.now)))) }
+) -> Result<Vec<Path>, NoMemory>
+    ensures { IfOk result (λ list. list.items ≡ filter (admits wanted.now) (paths (at_paths (seen_through commit.now moves.now)))) }
 {
     if moves.is_empty() {
         return list_unmoved(commit, wanted);
     }
     commit.texts_law();
-    let mut rows = commit.list(wanted, &Governed { moves })?;
-    add_seen_by(alloc, &mut rows, commit, moves, moves.entries(), wanted)?;
-    sort_rows(&mut rows)?;
-    Ok(rows)
+    let mut list = commit.list(wanted, &Governed { moves })?;
+    add_seen_by(alloc, &mut list, commit, moves, moves.entries(), wanted)?;
+    sort_paths(&mut list)?;
+    Ok(list)
 }
 
-/// The same of those below a directory. What is seen at the directory itself is the whole list, in order, where nothing is said of one
-/// below it.
+/// Returns the same for the files below a directory.
+///
+/// If no directory below it has an entry, what is seen at the directory itself is the
+/// whole list, in order.
 pub(crate) fn list_below<N: Naming + Drop>(
     alloc: Global,
     commit: &Commit<'_, N>,
     moves: &Moves,
     top: &Path,
     wanted: &Filter,
-) -> Result<Vec<(Path, Kind, Id)>, NoMemory>
-    ensures { IfOk result (λ rows. map (λ row. row.0) rows.items
+) -> Result<Vec<Path>, NoMemory>
+    ensures { IfOk result (λ list. list.items
         ≡ filter (admits wanted.now) (filter (λ p. lies_below p top.now) (paths (at_paths (seen_through commit.now moves.now))))) }
 {
-    let mut rows = list_own(commit, moves, top, wanted)?;
+    let mut list = list_own(commit, moves, top, wanted)?;
     let further = paths_below(moves.entries(), top.as_bytes());
     if further.is_empty() {
-        return Ok(rows);
+        return Ok(list);
     }
-    add_seen_by(alloc, &mut rows, commit, moves, further, wanted)?;
-    sort_rows(&mut rows)?;
-    Ok(rows)
+    add_seen_by(alloc, &mut list, commit, moves, further, wanted)?;
+    sort_paths(&mut list)?;
+    Ok(list)
 }

@@ -1,6 +1,6 @@
-//! A commit over which directories were renamed, asked for its files as they are seen.
+//! A commit with renamed directories, asked for its files as they are seen.
 
-ghost use Rattle.std.specs.Prelude.{◌≡◌, ◌++◌, ◌&&◌, IfOk, filter, map, not};
+ghost use Rattle.std.specs.Prelude.{◌≡◌, ◌++◌, ◌&&◌, IfOk, filter, not};
 ghost use Rattle.std.specs.List.{list_any};
 ghost use Rattle.eden_ids.specs.FileMaps.{file_at, lent, paths};
 ghost use Rattle.eden_ids.specs.Paths.{lies_below};
@@ -13,14 +13,14 @@ use crate::parts::joined;
 use crate::searching::has_below_but;
 use crate::source::Source;
 use eden_globs::Filter;
-use eden_ids::{FileTree, Id, Kind, Naming, NoMemory, Path};
+use eden_ids::{FileTree, Kind, Naming, NoMemory, Path};
 use eden_objects::{Commit, Nothing, Passes};
 use std::alloc::Global;
 use std::marker::Model;
 
-/// A commit over which directories were renamed.
+/// A commit with renamed directories.
 ///
-/// Its value is the file map that is seen there. It borrows both, and takes no memory.
+/// Its value is the file map that is seen. It borrows both, and does not allocate.
 #[derive(Drop)]
 pub struct Moved<'a, N: Naming + Drop> {
     commit: Commit<'a, N>,
@@ -41,7 +41,9 @@ impl<'a, N: Naming + Drop> Model for Moved<'a, N> {
     ghost view = { λ m. seen_through m.commit m.moves.now };
 }
 
-/// The file of a commit at a path that is told in two parts. What is longer than a path is has no file.
+/// Returns a commit's file at a path given in two parts.
+///
+/// Returns `None` if they are together longer than a path.
 fn file_behind<'a, N: Naming + Drop>(
     commit: &Commit<'a, N>,
     front: &[u8],
@@ -56,7 +58,7 @@ fn file_behind<'a, N: Naming + Drop>(
     }
 }
 
-/// The file of a commit that is seen at a path through renamed directories.
+/// Returns the file that is seen at a path through renamed directories.
 pub(crate) fn file_through<'a, N: Naming + Drop>(
     commit: &Commit<'a, N>,
     moves: &Moves,
@@ -72,52 +74,66 @@ pub(crate) fn file_through<'a, N: Naming + Drop>(
 }
 
 impl<'a, N: Naming + Drop> Moved<'a, N> {
-    /// A commit, as it is seen through renamed directories.
+    /// Returns a commit as it is seen through renamed directories.
     pub fn of(commit: Commit<'a, N>, moves: &'a Moves) -> Moved<'a, N>
         ensures { result ≡ seen_through commit.entry moves.now }
     {
         Moved { commit, moves }
     }
 
-    /// The kind and the bytes of the file that is seen at a path, if one is. It takes no memory.
+    /// Returns the kind and the bytes of the file that is seen.
     ///
-    /// Each directory above the path is searched for by halves among the renamed ones, and then the commit is asked for one file.
+    /// Each directory above the path is searched for among the renamed ones, by binary
+    /// search; then the commit is asked for one file. Does not allocate.
     pub fn file(&self, path: &[u8]) -> Option<(Kind, &'a [u8])>
         ensures { lent result ≡ file_at self.now path.now }
     {
         file_through(&self.commit, self.moves, path)
     }
 
-    /// Whether a file is seen below a directory that is not passed over.
+    /// Returns true if a seen file is not passed over.
     ///
-    /// It takes no memory. It goes depth first and ends at the first such file, and reads no directory without files, nor one below which
-    /// all is passed over or is seen by a further directory.
+    /// The file must be below the directory. The search is depth first and ends at the
+    /// first such file. It reads no directory without files, and none below which
+    /// everything is passed over or is seen at another directory. Does not allocate.
     pub fn has_below_but<S: Passes>(&self, top: &Path, passed: &S) -> bool
         ensures { result ≡ list_any (λ p. lies_below p top.now && not (S.passes passed.now p)) (paths self.now) }
     {
         has_below_but(&self.commit, self.moves, top, passed)
     }
 
-    /// The files that are seen at paths and that a filter admits, each with its path, its kind and its blob, in byte order of the paths.
+    /// Returns the paths at which files are seen and that a filter admits, in byte order.
     ///
-    /// `NoMemory` comes where a growth was refused. Each directory is read once for each place at which it is seen, but for those below which
-    /// the filter admits nothing (`Filter::admits_below`). Where no directory was renamed it is the commit's own list; else the rows are put
-    /// in order by one sort, and none of their paths is copied.
-    pub fn list(&self, alloc: Global, wanted: &Filter) -> Result<Vec<(Path, Kind, Id)>, NoMemory>
-        ensures { IfOk result (λ rows. map (λ row. row.0) rows.items ≡ filter (admits wanted.now) (paths (at_paths self.now))) }
+    /// Each directory is read once for each place at which it is seen, except those below
+    /// which the filter admits nothing (`Filter::admits_below`). If no directory was
+    /// renamed, it is the commit's own list. Else the paths are sorted once; none is
+    /// copied.
+    ///
+    /// # Errors
+    ///
+    /// - `NoMemory` if an allocation fails.
+    pub fn list(&self, alloc: Global, wanted: &Filter) -> Result<Vec<Path>, NoMemory>
+        ensures { IfOk result (λ list. list.items ≡ filter (admits wanted.now) (paths (at_paths self.now))) }
     {
         list_all(alloc, &self.commit, self.moves, wanted)
     }
 
-    /// The same of those below a directory alone: of the commit the directories on the way are searched and those that are seen below it are
-    /// read, and no others. Rows are put in order where a further directory below it was renamed, and else they come so.
+    /// Returns the paths of `list` that are below a directory, in byte order.
+    ///
+    /// Of the commit, only the directories on the way are searched and those seen below
+    /// the directory are read. Paths are sorted if another directory below it was renamed;
+    /// else they come in order.
+    ///
+    /// # Errors
+    ///
+    /// - `NoMemory` if an allocation fails.
     pub fn list_below(
         &self,
         alloc: Global,
         top: &Path,
         wanted: &Filter,
-    ) -> Result<Vec<(Path, Kind, Id)>, NoMemory>
-        ensures { IfOk result (λ rows. map (λ row. row.0) rows.items
+    ) -> Result<Vec<Path>, NoMemory>
+        ensures { IfOk result (λ list. list.items
             ≡ filter (admits wanted.now) (filter (λ p. lies_below p top.now) (paths (at_paths self.now)))) }
     {
         list_below(alloc, &self.commit, self.moves, top, wanted)

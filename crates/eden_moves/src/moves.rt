@@ -14,9 +14,10 @@ use eden_ids::{NoMemory, Path};
 use std::alloc::Global;
 use std::marker::Model;
 
-/// Renamed directories: for some directories, the commit's directory that is seen there, or that nothing is.
+/// Renamed directories: which directory of the commit is seen at each, or that nothing
+/// is.
 ///
-/// A call that wants memory answers `NoMemory` where a growth was refused, and then nothing is changed.
+/// A call that returns `NoMemory` changes nothing.
 #[derive(Drop)]
 pub struct Moves {
     /// In byte order.
@@ -39,7 +40,7 @@ impl Model for Moves {
 }
 
 impl Moves {
-    /// No renamed directory. It takes no memory.
+    /// Returns no renamed directories. Does not allocate.
     pub fn new(alloc: Global) -> Moves
         ensures { result ≡ fin.empty }
     {
@@ -48,29 +49,36 @@ impl Moves {
         }
     }
 
-    /// Whether no directory was renamed.
+    /// Returns true if no directory was renamed.
     pub fn is_empty(&self) -> bool
         ensures { IsTrue result ↔ self.now ≡ fin.empty }
     {
         self.entries().is_empty()
     }
 
-    /// The directories in byte order, each with the commit's directory that is seen there, or with none. It takes no memory.
+    /// Returns the entries, in byte order. Does not allocate.
+    ///
+    /// An entry is a directory with the commit's directory that is seen there, or `None`
+    /// if nothing is.
     pub fn entries(&self) -> &[(Path, Option<Path>)]
         ensures { result.now ≡ fin.entries self.now }
     {
         self.entries.as_slice()
     }
 
-    /// What is said of a directory, if something is: the commit's directory that is seen there, or that nothing is. It is searched for by
-    /// halves, and takes no memory.
+    /// Returns the entry of a directory, by binary search. Does not allocate.
+    ///
+    /// An entry is the commit's directory that is seen there, or `None` if nothing is. The
+    /// result is `None` if the directory has no entry.
     pub fn get(&self, dir: &[u8]) -> Option<&Option<Path>>
         ensures { option_copied result ≡ fin.get self.now dir.now }
     {
         find(self.entries.as_slice(), dir)
     }
 
-    /// What is said of the directory that ends before a place of a path, where a slash stands there.
+    /// Returns the entry of the directory before a slash, if any.
+    ///
+    /// It is `None` if there is no slash at index `at`, or the directory has no entry.
     fn said_before(&self, path: &[u8], at: usize) -> Option<&Option<Path>>
         requires { at < length path.now }
         ensures { option_copied result ≡ said_before self.now path.now at }
@@ -82,9 +90,11 @@ impl Moves {
         }
     }
 
-    /// The nearest directory above a path of which something is said: how many bytes of the path it is, and what is said of it.
+    /// Returns the nearest directory above a path with an entry.
     ///
-    /// Each directory above the path is searched for by halves, the nearest one last. It takes no memory.
+    /// It returns the entry too. The directory is given by its length in the path. Each
+    /// directory above the path is looked up by binary search, the nearest one last. Does
+    /// not allocate.
     pub fn nearest(&self, path: &[u8]) -> Option<(usize, &Option<Path>)>
         ensures told { nearest (fin.entries self.now) path.now ≡ entry_told path.now result }
         ensures within { MatchOption result (Unit {0}) (λ found. found.0 < length path.now) }
@@ -98,7 +108,7 @@ impl Moves {
         found
     }
 
-    /// What of the commit is seen at a path. It takes no memory.
+    /// Returns what of the commit is seen at a path. Does not allocate.
     pub fn source<'a>(&'a self, path: &'a [u8]) -> Source<'a>
         ensures { path_meant result path.now ≡ source_of self.now path.now }
     {
@@ -111,12 +121,12 @@ impl Moves {
         }
     }
 
-    /// What new vectors take their memory from.
+    /// Returns the allocator for new vectors.
     pub(crate) fn allocator(&self) -> Global {
         *self.entries.allocator()
     }
 
-    /// The renamed directories of entries in byte order.
+    /// Returns the renamed directories of sorted entries.
     pub(crate) fn of(entries: Vec<(Path, Option<Path>)>) -> Moves
         requires { T (is_sorted by_bytes entries.items) }
         ensures { result ≡ fin.from_sorted entries.items }
@@ -124,7 +134,7 @@ impl Moves {
         Moves { entries }
     }
 
-    /// Takes the entries out, with room for some more. `NoMemory` changes nothing.
+    /// Takes the entries out, with room for some more. On `NoMemory` nothing changes.
     pub(crate) fn take_with_room(
         &mut self,
         more: usize,
@@ -139,7 +149,11 @@ impl Moves {
         Ok(std::mem::replace(&mut self.entries, none))
     }
 
-    /// Renamed directories that are equal to these. `NoMemory` comes where a growth was refused.
+    /// Returns a copy of these renamed directories.
+    ///
+    /// # Errors
+    ///
+    /// - `NoMemory` if an allocation fails.
     pub fn copy(&self) -> Result<Moves, NoMemory>
         ensures { IfOk result (λ moves. moves ≡ self.now) }
     {

@@ -1,10 +1,12 @@
-//! Bytes of a path that are told in two parts.
+//! Paths given in two parts.
 
 ghost use Rattle.std.specs.Prelude.{◌≡◌, ◌++◌, ◌<◌, MatchOption, length};
 
 use arrayvec::ArrayVec;
 
-/// Two parts, one behind the other, or none where they are longer than a path may be. It takes no memory.
+/// Returns two parts joined, if they are not too long.
+///
+/// They are too long if a path may not be as long. Does not allocate.
 pub fn joined(front: &[u8], rest: &[u8]) -> Option<ArrayVec<u8, 1024>>
     ensures { MatchOption result (1024 < length (front.now ++ rest.now)) (λ whole. whole.items ≡ front.now ++ rest.now) }
 {

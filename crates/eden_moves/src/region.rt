@@ -9,8 +9,10 @@ use crate::moves::Moves;
 use eden_ids::is_path;
 use eden_objects::{Passes, Size};
 
-/// Whether the nearest directory above a path of which something is said is a longer path than so many bytes. Where that is so of a
-/// directory's front, it is of all paths below the directory.
+/// Returns true if the nearest entry above a path is deeper.
+///
+/// That is, its directory is longer than `long` bytes. If this holds for a directory's
+/// front, it holds for all paths below the directory.
 fn is_past(moves: &Moves, path: &[u8], long: usize) -> bool
     ensures { result ≡ is_past long (nearest (fin.entries moves.now) path.now) }
 {
@@ -20,11 +22,13 @@ fn is_past(moves: &Moves, path: &[u8], long: usize) -> bool
     }
 }
 
-/// What is not seen by one directory itself: what its caller passes over, and what is seen by a further directory.
+/// What is not seen by one directory itself.
+///
+/// It is what the caller passes over, and what is seen by another directory.
 #[derive(Drop)]
 pub(crate) struct Region<'r, S: Passes> {
     pub(crate) moves: &'r Moves,
-    /// How many bytes the directory's path has.
+    /// The length of the directory's path in bytes.
     pub(crate) long: usize,
     pub(crate) passed: &'r S,
 }
@@ -43,14 +47,16 @@ impl<'r, S: Passes> Passes for Region<'r, S> {
     }
 }
 
-/// Whether something is said of a directory above a path. Where that is so of a directory's front, it is of all paths below the directory.
+/// Returns true if a directory above a path has an entry.
+///
+/// If this holds for a directory's front, it holds for all paths below the directory.
 fn is_governed(moves: &Moves, path: &[u8]) -> bool
     ensures { result ≡ is_governed moves.now path.now }
 {
     moves.nearest(path).is_some()
 }
 
-/// What is not seen at its own place: all that stands below a directory of which something is said.
+/// What is not seen at its own path: everything below a directory that has an entry.
 #[derive(Drop)]
 pub(crate) struct Governed<'r> {
     pub(crate) moves: &'r Moves,
@@ -70,7 +76,7 @@ impl<'r> Passes for Governed<'r> {
     }
 }
 
-/// What is no path.
+/// What is not a valid path.
 #[derive(Clone, Copy)]
 pub(crate) struct Pathless;
 

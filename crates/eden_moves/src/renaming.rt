@@ -1,4 +1,4 @@
-//! One more renamed directory.
+//! The rename of one more directory.
 
 ghost use Rattle.std.specs.Prelude.{◌≡◌, ◌≢◌, ◌++◌, false, true, IfOk, IfErr, OnOk, OnErr, Some};
 ghost use Rattle.std.specs.FinMap as fin;
@@ -9,19 +9,20 @@ use crate::below::{copy_of, forget_below, replace_below, shifted};
 use crate::entries::put;
 use crate::moves::Moves;
 use crate::source::Source;
-use eden_history::ChangeFault;
 use eden_ids::{NoMemory, Path, paths_below};
+use eden_overlay::CarryFault;
 use std::alloc::Global;
 use std::marker::Model;
 
-/// A rename of a directory for which all memory is there, and the renamed directories that it is to change.
+/// A rename of a directory with everything allocated.
 ///
-/// Its value are those directories before the rename and after it.
+/// It has the entries that it is to change. Its value is those entries before the rename
+/// and after it.
 #[derive(Drop)]
 pub struct Renaming {
-    /// In byte order, with room for what comes.
+    /// In byte order, with room for what is added.
     entries: Vec<(Path, Option<Path>)>,
-    /// What comes to stand below the new path.
+    /// The entries that will be below the new path.
     arriving: Vec<(Path, Option<Path>)>,
     old: Path,
     new: Path,
@@ -47,7 +48,7 @@ impl Model for Renaming {
 }
 
 impl Renaming {
-    /// The renamed directories after the rename. It takes no memory.
+    /// Returns the renamed directories after the rename. Does not allocate.
     pub fn done(self) -> Moves
         ensures { result ≡ self.1 }
     {
@@ -67,7 +68,7 @@ impl Renaming {
         Moves::of(entries)
     }
 
-    /// The renamed directories as they were. It takes no memory.
+    /// Returns the renamed directories as they were. Does not allocate.
     pub fn undone(self) -> Moves
         ensures { result ≡ self.0 }
     {
@@ -75,7 +76,7 @@ impl Renaming {
     }
 }
 
-/// What two parts are together, if that is a path.
+/// Returns the path that two parts make, if it is valid.
 fn path_of_parts(alloc: Global, front: &[u8], rest: &[u8]) -> Result<Option<Path>, NoMemory>
     ensures { IfOk result (λ path. path ≡ path_alone (Some (front.now ++ rest.now))) }
 {
@@ -89,7 +90,9 @@ fn path_of_parts(alloc: Global, front: &[u8], rest: &[u8]) -> Result<Option<Path
 }
 
 impl Moves {
-    /// What of the commit is seen at a path, if it is a path.
+    /// Returns what of the commit is seen at a path.
+    ///
+    /// It is `None` if that is not a valid path.
     fn source_alone(&self, path: &Path) -> Result<Option<Path>, NoMemory>
         ensures { IfOk result (λ source. source ≡ path_alone (source_of self.now path.now)) }
     {
@@ -102,7 +105,11 @@ impl Moves {
         }
     }
 
-    /// The commit's directory that is seen at a directory, or that nothing is.
+    /// Returns the commit's directory that is seen at a directory, or `None`.
+    ///
+    /// # Errors
+    ///
+    /// - `NoMemory` if an allocation fails.
     pub fn source_dir(&self, dir: &Path) -> Result<Option<Path>, NoMemory>
         ensures { IfOk result (λ source. source ≡ source_dir self.now dir.now) }
     {
@@ -112,29 +119,32 @@ impl Moves {
         }
     }
 
-    /// The entries that come to stand below the new path.
-    fn arriving(&self, old: &Path, new: &Path) -> Result<Vec<(Path, Option<Path>)>, ChangeFault>
+    /// Returns the entries that will be below the new path.
+    fn arriving(&self, old: &Path, new: &Path) -> Result<Vec<(Path, Option<Path>)>, CarryFault>
         ensures arriving { IfOk result (λ more. more.items ≡ arriving (fin.entries self.now) old.now new.now) }
         ensures accepts { IfOk result (λ _. breaks_an_entry self.now old.now new.now ≡ false) }
-        ensures cause { IfErr result (λ fault. fault ≢ ChangeFault.NoMemory → fault ≡ ChangeFault.PathTooLong) }
-        ensures refuses { IfErr result (λ fault. fault ≢ ChangeFault.NoMemory → breaks_an_entry self.now old.now new.now ≡ true) }
+        ensures refuses { IfErr result (λ fault. fault ≢ CarryFault.NoMemory → breaks_an_entry self.now old.now new.now ≡ true) }
     {
         let below = paths_below(self.entries(), old.as_bytes());
         shifted(self.allocator(), below, old, new)
     }
 
-    /// Begins the rename of a directory, and takes the renamed directories out, so that none is left here until they come back: as they
-    /// are after the rename, or as they were.
+    /// Begins the rename of a directory, and takes all entries out.
     ///
-    /// `PathTooLong` comes where a directory below the old path that has an entry of its own would come to stand at what is no path, and
-    /// `NoMemory` where a growth was refused; then nothing is changed. The paths are made anew of those directories alone that have an
-    /// entry and stand below the old path.
-    pub fn begin_rename(&mut self, old: &Path, new: &Path) -> Result<Renaming, ChangeFault>
+    /// They come back from `Renaming::done` as they are after the rename, or from
+    /// `Renaming::undone` as they were. New paths are made only for directories below the
+    /// old path that have an entry.
+    ///
+    /// # Errors
+    ///
+    /// - `PathTooLong` if a directory below the old path that has an entry would get an
+    ///   invalid path; nothing changes.
+    /// - `NoMemory` if an allocation fails; nothing changes.
+    pub fn begin_rename(&mut self, old: &Path, new: &Path) -> Result<Renaming, CarryFault>
         ensures taken { OnOk result (self.new ≡ fin.empty) }
         ensures ready { IfOk result (λ renaming. renaming ≡ (self.old, dir_moved self.old old.now new.now)) }
         ensures accepts { IfOk result (λ _. breaks_an_entry self.old old.now new.now ≡ false) }
-        ensures cause { IfErr result (λ fault. fault ≢ ChangeFault.NoMemory → fault ≡ ChangeFault.PathTooLong) }
-        ensures refuses { IfErr result (λ fault. fault ≢ ChangeFault.NoMemory → breaks_an_entry self.old old.now new.now ≡ true) }
+        ensures refuses { IfErr result (λ fault. fault ≢ CarryFault.NoMemory → breaks_an_entry self.old old.now new.now ≡ true) }
         ensures same { OnErr result (self.new ≡ self.old) }
     {
         let arriving = self.arriving(old, new)?;
@@ -151,16 +161,20 @@ impl Moves {
         })
     }
 
-    /// Renames a directory: what was seen below the old path is seen below the new one, what stood there before is forgotten, and nothing
-    /// is seen below the old one any more.
+    /// Renames a directory.
     ///
-    /// `PathTooLong` comes where a directory below the old path that has an entry of its own would come to stand at what is no path, and
-    /// `NoMemory` where a growth was refused; then nothing is changed.
-    pub fn rename(&mut self, old: &Path, new: &Path) -> Result<(), ChangeFault>
+    /// What was seen below the old path is then seen below the new one. What was there
+    /// before is forgotten, and nothing is seen below the old path any more.
+    ///
+    /// # Errors
+    ///
+    /// - `PathTooLong` if a directory below the old path that has an entry would get an
+    ///   invalid path; nothing changes.
+    /// - `NoMemory` if an allocation fails; nothing changes.
+    pub fn rename(&mut self, old: &Path, new: &Path) -> Result<(), CarryFault>
         ensures moved { OnOk result (self.new ≡ dir_moved self.old old.now new.now) }
         ensures accepts { IfOk result (λ _. breaks_an_entry self.old old.now new.now ≡ false) }
-        ensures cause { IfErr result (λ fault. fault ≢ ChangeFault.NoMemory → fault ≡ ChangeFault.PathTooLong) }
-        ensures refuses { IfErr result (λ fault. fault ≢ ChangeFault.NoMemory → breaks_an_entry self.old old.now new.now ≡ true) }
+        ensures refuses { IfErr result (λ fault. fault ≢ CarryFault.NoMemory → breaks_an_entry self.old old.now new.now ≡ true) }
         ensures same { OnErr result (self.new ≡ self.old) }
     {
         *self = self.begin_rename(old, new)?.done();

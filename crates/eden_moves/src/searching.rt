@@ -1,4 +1,4 @@
-//! A search for a file that is seen below a directory and is not passed over.
+//! The search for a file that is seen below a directory and is not passed over.
 
 ghost use Rattle.std.specs.Prelude.{◌≡◌, ◌++◌, ◌&&◌, Some, filter, length, not};
 ghost use Rattle.std.specs.FinMap as fin;
@@ -15,7 +15,9 @@ use crate::source::Source;
 use eden_ids::{Naming, Path, paths_below};
 use eden_objects::{Commit, Passes};
 
-/// Whether a file below a directory of the commit is seen below another, and not passed over.
+/// Returns true if a directory's file is seen below another.
+///
+/// It must not be passed over.
 fn has_in<N: Naming + Drop, S: Passes>(
     commit: &Commit<'_, N>,
     moves: &Moves,
@@ -33,7 +35,9 @@ fn has_in<N: Naming + Drop, S: Passes>(
     commit.has_below_but(source, top, &region)
 }
 
-/// The same of a directory that is told in two parts. Below what is longer than a path stands no file.
+/// Returns the same for a directory given in two parts.
+///
+/// There are no files below a directory that is longer than a path.
 fn has_behind<N: Naming + Drop, S: Passes>(
     commit: &Commit<'_, N>,
     moves: &Moves,
@@ -51,7 +55,7 @@ fn has_behind<N: Naming + Drop, S: Passes>(
     }
 }
 
-/// The same of what is seen at a directory by those above it.
+/// Returns the same for what those above a directory show there.
 fn has_by_above<N: Naming + Drop, S: Passes>(
     commit: &Commit<'_, N>,
     moves: &Moves,
@@ -69,7 +73,7 @@ fn has_by_above<N: Naming + Drop, S: Passes>(
     }
 }
 
-/// The same of a directory with what is said of it.
+/// Returns the same for a directory with its entry.
 fn has_at<N: Naming + Drop, S: Passes>(
     commit: &Commit<'_, N>,
     moves: &Moves,
@@ -84,7 +88,7 @@ fn has_at<N: Naming + Drop, S: Passes>(
     }
 }
 
-/// The same of what is seen at a directory itself.
+/// Returns the same for what is seen at a directory itself.
 fn has_own<N: Naming + Drop, S: Passes>(
     commit: &Commit<'_, N>,
     moves: &Moves,
@@ -100,7 +104,7 @@ fn has_own<N: Naming + Drop, S: Passes>(
     }
 }
 
-/// The same of one of the directories below another of which something is said.
+/// Returns the same for the directories below one with an entry.
 fn has_further<N: Naming + Drop, S: Passes>(
     commit: &Commit<'_, N>,
     moves: &Moves,
@@ -118,10 +122,11 @@ fn has_further<N: Naming + Drop, S: Passes>(
     false
 }
 
-/// Whether a file of a commit is seen below a directory, through renamed directories, that is not passed over. It takes no memory.
+/// Returns true if a seen file is not passed over.
 ///
-/// Below the directory itself is searched what is seen there, and below each further directory of which something is said what is seen at
-/// that one.
+/// The file must be below the directory. It searches what is seen at the directory
+/// itself, and what is seen at each directory below it that has an entry. Does not
+/// allocate.
 #[tactic(auto, using(crate::proofs::Regions::regions))]
 pub(crate) fn has_below_but<N: Naming + Drop, S: Passes>(
     commit: &Commit<'_, N>,

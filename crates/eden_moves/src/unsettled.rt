@@ -1,33 +1,32 @@
-//! The paths at which what is seen may be another file than the commit's own.
+//! The paths at which another file may be seen than the commit's own.
 
-ghost use Rattle.std.specs.Prelude.{◌≡◌, ◌||◌, Some, false, true, IfOk, OnOk, filter, map};
+ghost use Rattle.std.specs.Prelude.{◌≡◌, ◌||◌, Some, false, true, IfOk, OnOk, filter};
 ghost use Rattle.eden_ids.specs.FileMaps.{listing, paths};
 ghost use Rattle.eden_ids.specs.Paths.{lies_below};
-ghost use Rattle.eden_history.specs.Carried.{carried};
+ghost use Rattle.eden_overlay.specs.Carried.{carried};
 ghost use Rattle.eden_moves.specs.Moves.{seen_through, unsettled};
 ghost use Rattle.eden_moves.specs.internal.Listed.{IsWith};
 ghost use Rattle.eden_moves.specs.internal.Unsettling.{is_shown, is_unsettled_by, own_below, put_if, seen_below};
 
 use crate::moved::file_through;
 use crate::moves::Moves;
-use crate::places::carried_path;
 use eden_globs::Filter;
-use eden_history::ChangeFault;
-use eden_ids::{Id, Kind, Naming, NoMemory, Path, PathTable};
+use eden_ids::{Naming, NoMemory, Path, PathTable};
 use eden_objects::{Commit, Nothing};
+use eden_overlay::{CarryFault, carried_path};
 use std::alloc::Global;
 
-/// The files of a commit below a directory.
+/// Returns the paths of a commit's files below a directory.
 fn files_below<N: Naming + Drop>(
     alloc: Global,
     commit: &Commit<'_, N>,
     top: &Path,
-) -> Result<Vec<(Path, Kind, Id)>, NoMemory>
-    ensures { IfOk result (λ rows. map (λ row. row.0) rows.items ≡ filter (λ p. lies_below p top.now) (paths commit.now)) }
+) -> Result<Vec<Path>, NoMemory>
+    ensures { IfOk result (λ list. list.items ≡ filter (λ p. lies_below p top.now) (paths commit.now)) }
 {
     commit.texts_law();
-    let rows = commit.list_seen(top.as_bytes(), top, &Filter::all(alloc), &Nothing)?;
-    Ok(rows)
+    let list = commit.list_seen(top.as_bytes(), top, &Filter::all(alloc), &Nothing)?;
+    Ok(list)
 }
 
 /// Adds the paths of the commit's own files below a directory.
@@ -39,14 +38,16 @@ fn add_own<N: Naming + Drop>(
 ) -> Result<(), NoMemory>
     ensures { OnOk result (IsWith (own_below commit.now dir.now) table.old table.new) }
 {
-    let rows = files_below(alloc, commit, dir)?;
-    for row in &rows {
-        table.add(&row.0)?;
+    let list = files_below(alloc, commit, dir)?;
+    for path in &list {
+        table.add(path)?;
     }
     Ok(())
 }
 
-/// Adds the place at which a file below a directory's source would be seen, if one is seen there.
+/// Adds a path below a directory, if a file is seen there.
+///
+/// It is where a file below the directory's source would be seen.
 fn add_if_seen<N: Naming + Drop>(
     table: &mut PathTable,
     commit: &Commit<'_, N>,
@@ -60,8 +61,8 @@ fn add_if_seen<N: Naming + Drop>(
 {
     let place = match carried_path(moves.allocator(), path, source, dir) {
         Ok(place) => place,
-        Err(ChangeFault::NoMemory) => return Err(NoMemory),
-        Err(_) => return Ok(()),
+        Err(CarryFault::NoMemory) => return Err(NoMemory),
+        Err(CarryFault::PathTooLong) => return Ok(()),
     };
     if file_through(commit, moves, place.as_bytes()).is_some() {
         table.add(&place)?;
@@ -69,7 +70,7 @@ fn add_if_seen<N: Naming + Drop>(
     Ok(())
 }
 
-/// Adds the places below a directory at which files below its source are seen.
+/// Adds the paths at which a directory shows its source's files.
 fn add_seen<N: Naming + Drop>(
     table: &mut PathTable,
     commit: &Commit<'_, N>,
@@ -79,14 +80,14 @@ fn add_seen<N: Naming + Drop>(
 ) -> Result<(), NoMemory>
     ensures { OnOk result (IsWith (seen_below commit.now (seen_through commit.now moves.now) (dir.now, Some source.now)) table.old table.new) }
 {
-    let rows = files_below(moves.allocator(), commit, source)?;
-    for row in &rows {
-        add_if_seen(table, commit, moves, &row.0, source, dir)?;
+    let list = files_below(moves.allocator(), commit, source)?;
+    for path in &list {
+        add_if_seen(table, commit, moves, path, source, dir)?;
     }
     Ok(())
 }
 
-/// Adds what an entry unsettles.
+/// Adds the paths that an entry unsettles.
 fn add_entry<N: Naming + Drop>(
     table: &mut PathTable,
     commit: &Commit<'_, N>,
@@ -103,11 +104,16 @@ fn add_entry<N: Naming + Drop>(
 }
 
 impl Moves {
-    /// The paths, in byte order, at which the file that is seen may be another one than the commit's own: those below a renamed directory at
-    /// which the commit has a file, or one is seen.
+    /// Returns the paths at which another file may be seen.
     ///
-    /// `NoMemory` comes where a growth was refused. The time grows with the files below the renamed directories and below what is seen at
-    /// them, however many others there are.
+    /// That is a file other than the commit's own. They are the paths below a renamed
+    /// directory at which the commit has a file or one is seen, in byte order. The time
+    /// grows with the number of files below the renamed directories and below what is
+    /// seen at them, not with that of other files.
+    ///
+    /// # Errors
+    ///
+    /// - `NoMemory` if an allocation fails.
     pub fn unsettled<N: Naming + Drop>(&self, commit: &Commit<'_, N>) -> Result<Vec<Path>, NoMemory>
         ensures { IfOk result (λ list. list.items ≡ listing (unsettled commit.now self.now)) }
     {

@@ -21,7 +21,7 @@ use Rattle.eden_objects.specs.Closed.{AllNamed, IsClosed, IsSound, IsTree}
 use Rattle.eden_objects.specs.Small.{AreSmall}
 use Rattle.eden_objects.specs.Imports.{GrowsOnto, Imported, and_then, import_from, put_of, put_word}
 use Rattle.eden_objects.specs.internal.Placed.{fault_at}
-use Rattle.eden_objects.specs.Laws.{HasAll, ImportsKeep, ImportsStaySmall}
+use Rattle.eden_objects.specs.Laws.{HasAll, ImportsKeep, ImportsStaySmall, PutsKeep}
 use Rattle.eden_objects.proofs.Closed.{find_stays}
 use Rattle.eden_objects.proofs.Judged.{tree_sound}
 use Rattle.eden_objects.proofs.Refusals.{commit_sound, few_bytes}
@@ -123,6 +123,10 @@ keeps_all name place (object ∷ objects) held new closed called is =
     let kept : Keeps name held first.0.1 =
     keeps_put name object.word object.payload held first.0 closed called (is_put name object.word object.payload held first.0 first.1) in
     keeps_further name held first.0.1 new kept (keeps_all name (place + 1) objects first.0.1 new kept.0 kept.1 first.2)
+
+pub puts_keep : PutsKeep
+puts_keep name object held new id closed called is =
+    keeps_put name object.word object.payload held (id, new) closed called (is_put name object.word object.payload held (id, new) is)
 
 pub imports_keep : ImportsKeep
 imports_keep name objects held new closed called is = keeps_all name 0 objects held new closed called is

@@ -1,5 +1,5 @@
 -- A search for a file that is not passed over, entry by entry, and files that are told as though their directory stood at another place.
-use Rattle.std.proofs.Common.{◌≡◌, ℕ, ◌+◌, ◌≤◌, ◌++◌, Bool, true, false, not, ◌&&◌, ◌||◌, cond, List, [], ◌∷◌, drop, map, length, Option, Some, None, Result, Ok, Err, is_some, refl, sym, ap, subst, ◌∙◌, arith, append_assoc, length-append}
+use Rattle.std.proofs.Common.{◌≡◌, ℕ, ◌+◌, ◌≤◌, ◌++◌, Bool, true, false, not, ◌&&◌, ◌||◌, cond, List, [], ◌∷◌, drop, map, length, Option, Some, None, Result, Ok, Err, is_some, refl, sym, ap, subst, ◌∙◌, arith, append_assoc, append-nil, length-append}
 use Rattle.std.proofs.Math.Seq.{drop-append_seam}
 use Rattle.std.proofs.lemmas.List.Folds.{list_any-append}
 use Rattle.std.proofs.lemmas.Slice.Eq.{bytes_eq-Decides}
@@ -254,6 +254,20 @@ told_there shows top seen held at files found closed has view is =
     ∙ ap (filter shows) (paths_retold top seen inner)
     ∙ ap (λ ps. filter shows (map (told top seen) ps))
     (paths_kept (λ p. lies_below p top) (rows_at held at) ∙ ap (filter (λ p. lies_below p top)) (paths_there held at files closed has view))
+
+-- the paths of rows, one row after another
+pub one_path : (done next : List (List ℕ)) (row : Row) (left rows all : List Row) → rows ≡ row ∷ left → next ≡ done ++ row.0 ∷ []
+    → done ++ map (λ row. row.0) rows ≡ map (λ row. row.0) all → next ++ map (λ row. row.0) left ≡ map (λ row. row.0) all
+one_path done next row left rows all first more so_far =
+    ap (λ ps. ps ++ map (λ row. row.0) left) more
+    ∙ append_assoc done (row.0 ∷ []) (map (λ row. row.0) left)
+    ∙ ap (λ rs. done ++ map (λ row. row.0) rs) (sym first)
+    ∙ so_far
+
+pub no_path : (done : List (List ℕ)) (rows all : List Row) → length rows ≡ 0 → done ++ map (λ row. row.0) rows ≡ map (λ row. row.0) all
+    → done ≡ map (λ row. row.0) all
+no_path done [] all none so_far = sym (append-nil done) ∙ so_far
+no_path done (row ∷ rows) all none so_far = absurd (omega (arith, none))
 
 -- what follows of a list that was made
 pub listed_if : {T E : Type 0} {A B : T → Type 0} (result : Result T E) → IfOk result A → ((found : T) → A found → B found) → IfOk result B

@@ -1,4 +1,5 @@
--- What every store keeps: one object an id, and each object names earlier ones of the right kinds, so that every tree has a meaning.
+-- What every store keeps: one object for each id, and each object refers to earlier ones
+-- of the right types, so that every tree can be read whole.
 use Rattle.std.specs.Prelude.{◌≡◌, ℕ, ◌≤◌, true, false, List, [], ◌∷◌, map, Some, None}
 use Rattle.std.specs.Ordering.{nat_cmp}
 use Rattle.std.specs.Cmp.Lexicographic.{slice_cmp}
@@ -15,20 +16,20 @@ use Rattle.eden_objects.specs.Trees.{entries_depth, entries_reach, tree_depth, t
 use Rattle.eden_git.specs.Commits.{tree_named}
 use Rattle.eden_objects.specs.Puts.{word_wanted}
 
--- the id is that of an object of this kind
+-- the id is that of an object of this type
 abbrev pub IsHeld : List Held → Word → Id → Type 0
 IsHeld held word id = (h : Held) × (find id held ≡ Some h) × (h.word ≡ word)
 
 abbrev pub HasTree : List Held → Id → Type 0
 HasTree held id = IsHeld held Tree id
 
--- no two entries have one name, also where one is a file and the other a directory
+-- no two entries have one name, even if one is a file and the other a directory
 abbrev pub NamesDiffer : List Entry → Type 0
 NamesDiffer [] = Unit {0}
 NamesDiffer (e ∷ es) = AllByRecursion (λ f. same_bytes e.name f.name ≡ false) es × NamesDiffer es
 
--- entries that a tree may have: their keys ascend, their names are names, what they name is there, no path is too long, and no
--- name comes twice
+-- entries that a tree may have: their keys ascend, their names are valid, what they refer
+-- to is there, no path is too long, and no name occurs twice
 abbrev pub IsTree : List Held → List Entry → Type 0
 IsTree earlier es = AllByRecursion (λ e. IsHeld earlier (word_wanted e.kind) e.id) es
     × IsStrictlySortedBy (slice_cmp nat_cmp) (map key es)

@@ -1,5 +1,6 @@
--- What a commit holds, from Git's format of trees and commits (`git cat-file` writes both out): a file entry gives its name, its mode's kind and its blob's payload; a directory entry
--- gives its name, a slash and each path of its child.
+-- The files of a commit, from Git's format of trees and commits (`git cat-file` prints
+-- both). The entry of a file gives its name, its mode's kind and its blob's payload; the
+-- entry of a directory gives its name, a slash and each path of its child.
 use Rattle.std.specs.Prelude.{ℕ, Bool, if◌then◌else◌, List, [], ◌∷◌, ◌++◌, map, filter, Option, Some, None}
 use Rattle.std.specs.List.{flat_map}
 use Rattle.std.specs.FinMap as fin
@@ -45,7 +46,8 @@ abbrev pub rows_held : List Held → Option Held → Option (List Row)
 rows_held held None = None
 rows_held held (Some h) = if same_word h.word Commit then rows_named held (tree_named h.payload) else None
 
--- the files of a commit, in byte order of their paths; none where the id is no commit
+-- the files of a commit, in byte order of their paths; `None` if the id is not that of a
+-- commit
 abbrev pub commit_rows : List Held → Id → Option (List Row)
 commit_rows held id = if same_id id zero_id then Some [] else rows_held held (find id held)
 
@@ -56,7 +58,7 @@ abbrev pub map_of_rows : List Held → Option (List Row) → Option FileMap
 map_of_rows held None = None
 map_of_rows held (Some rows) = Some (fin.from_entries (map (λ row. (row.0, content_of held row)) rows))
 
--- the file map that a commit stands for
+-- the file map of a commit
 abbrev pub commit_map : List Held → Id → Option FileMap
 commit_map held id = map_of_rows held (commit_rows held id)
 

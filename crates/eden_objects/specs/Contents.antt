@@ -1,4 +1,5 @@
--- How the table of a store is read as the list of its objects. A table is given newest first.
+-- How the table of a store is read as the list of its objects. A table is listed newest
+-- first.
 use Rattle.std.specs.Prelude.{List, map}
 use Rattle.eden_ids.specs.declared.id.Id.{Id}
 use Rattle.eden_git.specs.declared.word.Word.{Word}
@@ -8,7 +9,7 @@ use Rattle.eden_objects.specs.declared.stored.Body.TheVariants.{Blob, Tree, Comm
 use Rattle.eden_objects.specs.declared.stored.Stored.{Stored}
 use Rattle.eden_objects.specs.Objects.{Held}
 
--- the kind of an object, whatever is kept of it
+-- the type of an object, no matter what is kept of it
 abbrev pub word_of : Body → Word
 word_of Blob = word.Blob
 word_of (Tree outline) = word.Tree

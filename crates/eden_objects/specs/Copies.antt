@@ -1,4 +1,4 @@
--- Entries that were copied out of a payload, as what they stand for.
+-- The entries that copies out of a payload show.
 use Rattle.std.specs.Prelude.{List, map, Option, Some, None}
 use Rattle.std.specs.Global.{Vec}
 use Rattle.eden_objects.specs.declared.entries.Entry as own

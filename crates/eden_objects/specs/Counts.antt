@@ -1,4 +1,4 @@
--- A count as a machine's number that stays at its greatest.
+-- A count as a machine number, which stays at its greatest value.
 use Rattle.std.specs.Prelude.{ℕ, ◌-◌, ◌^◌, min}
 
 abbrev pub capped : ℕ → ℕ

@@ -1,4 +1,4 @@
--- The files of a commit by its rows, where an id that is no commit's has none.
+-- The files of a commit by its rows; an id that is not that of a commit has none.
 use Rattle.std.specs.Prelude.{List, [], map, Option, Some, None}
 use Rattle.std.specs.FinMap as fin
 use Rattle.eden_ids.specs.declared.id.Id.{Id}
@@ -7,16 +7,16 @@ use Rattle.eden_objects.specs.Objects.{Held}
 use Rattle.eden_objects.specs.Commits.{Row, commit_map, content_of, tree_rows}
 use Rattle.eden_objects.specs.Closed.{HasTree}
 
--- the files of a commit as a look-up tells them, and none where there is none
+-- the files that a look-up of a commit gives; none if there is no such commit
 abbrev pub files_of : Option FileMap → FileMap
 files_of None = no_files
 files_of (Some files) = files
 
--- the files of a commit, and none where there is no such commit
+-- the files of a commit; none if there is no such commit
 abbrev pub commit_files : List Held → Id → FileMap
 commit_files held commit = files_of (commit_map held commit)
 
--- a tree of the store, or none: the empty commit has no tree
+-- a tree of the store, or `None`: the empty commit has no tree
 abbrev pub IsTreeIn : List Held → Option Id → Type 0
 IsTreeIn held None = Unit {0}
 IsTreeIn held (Some tree) = HasTree held tree

@@ -1,5 +1,6 @@
--- What an import of several objects answers, and what the store holds after it. The objects are put one after another, each by the call of
--- its kind, and all of them or none: at the first that is refused the import is, and the store stays as it was.
+-- The result of an import of several objects, and what the store holds after it. The
+-- objects are put one after another, each by the call of its type, all or none: the
+-- import is refused at the first that is refused, and then the store does not change.
 use Rattle.std.specs.Prelude.{◌≡◌, ℕ, ◌+◌, List, [], ◌∷◌, ◌++◌, Result, Ok, Err}
 use Rattle.eden_ids.specs.declared.id.Id.{Id}
 use Rattle.eden_git.specs.declared.word.Word.{Word}
@@ -21,7 +22,7 @@ put_of name object held = put_word name object.word object.payload held
 abbrev pub Imported : Type 0
 Imported = Result (List Held) ImportFault
 
--- an object that is refused refuses all; behind one that is put come the others
+-- an object that is refused refuses all; after one that is put come the others
 abbrev pub and_then : ℕ → Outcome → (List Held → Imported) → Imported
 and_then place (Err fault) others = Err (BadObject place fault)
 and_then place (Ok put) others = others put.1
@@ -33,11 +34,12 @@ import_from name place (object ∷ objects) held = and_then place (put_of name o
 abbrev pub import_outcome : (List ℕ → List ℕ → Id) → List Object → List Held → Imported
 import_outcome name objects held = import_from name 0 objects held
 
--- the newer list has all that the older one has, and some before it
+-- the newer list has everything that the older one has, and some before it
 abbrev pub GrowsOnto : List Held → List Held → Type 0
 GrowsOnto held new = (more : List Held) × (new ≡ more ++ held)
 
--- What takes objects: over those that it has it is itself, and over others than before it is what it would have been over these at once.
+-- What takes objects: over the objects that it has, it is itself; and changing its
+-- objects twice is the same as changing them once, to the later ones.
 pub record IsOver {T : Type 0} (held : T → List Held) (over : T → List Held → T) : Type 0 where
   pub same : (taker : T) → over taker (held taker) ≡ taker
   pub again : (taker : T) (objects more : List Held) → over (over taker objects) more ≡ over taker more

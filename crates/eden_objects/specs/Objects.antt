@@ -1,4 +1,4 @@
--- The objects of a store, newest first, so that what an object names stands behind it.
+-- The objects of a store, newest first, so that what an object refers to comes after it.
 use Rattle.std.specs.Prelude.{ℕ, List, [], ◌∷◌, replicate, Option, Some, None, if◌then◌else◌}
 use Rattle.eden_ids.specs.declared.id.Id.{Id}
 use Rattle.eden_ids.specs.Sameness.{same_id}

@@ -1,4 +1,5 @@
--- What is passed over: of a directory of some size, and of files that are told as though their directory stood at another place.
+-- What is passed over: in a directory of some size, and of files that are listed as if
+-- their directory were at another path.
 use Rattle.std.specs.Prelude.{◌≡◌, ℕ, ◌≤◌, Bool, true, false, not, ◌&&◌, IsSome, List, ◌++◌, drop, length}
 use Rattle.std.specs.List.{list_all}
 use Rattle.eden_globs.specs.Filters.{admits}
@@ -6,19 +7,19 @@ use Rattle.eden_ids.specs.FileMaps.{FileMap, file_at}
 use Rattle.eden_ids.specs.Paths.{IsPath, components, is_component, lies_below}
 use Rattle.eden_objects.specs.declared.size.Size.{Size}
 
--- what a directory of a size may have a file at, told from the directory on
+-- the paths, from a directory of this size on, at which it may have a file
 abbrev pub IsWithin : Size → List ℕ → Type 0
 IsWithin size rest = (length rest ≤ size.reach) × (list_all is_component (components rest) ≡ true) × (length (components rest) ≤ size.depth)
 
--- a path below one directory, told as though that stood at another place
+-- a path below one directory, as if that were at another path
 abbrev pub told : List ℕ → List ℕ → List ℕ → List ℕ
 told top seen path = seen ++ drop (length top) path
 
--- what a list shows: what a filter admits of that which is not passed over
+-- what a list shows: what a filter admits and is not passed over
 abbrev pub is_shown : (List ℕ → Bool) → List (List ℕ) → List ℕ → Bool
 is_shown passes patterns path = not (passes path) && admits patterns path
 
--- each file below the directory that is not passed over is told by a path
+-- each file below the directory that is not passed over has a valid path there
 abbrev pub TellsPaths : (List ℕ → Bool) → List ℕ → List ℕ → FileMap → Type 0
 TellsPaths passes top seen files =
     (path : List ℕ) → lies_below path top ≡ true → IsSome (file_at files path) → passes (told top seen path) ≡ false → IsPath (told top seen path)

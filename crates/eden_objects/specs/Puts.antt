@@ -1,5 +1,5 @@
--- What each put call answers, and what the store holds after it. A refusal is the first cause that stands, in the order in which
--- they are asked here.
+-- The result of each put call, and what the store holds after it. A refusal is the first
+-- cause that applies, in the order in which they are listed here.
 use Rattle.std.specs.Prelude.{◌≡◌, ℕ, zero, suc, Bool, true, false, not, ◌&&◌, nat_lt, if◌then◌else◌, List, [], ◌∷◌, length, Option, Some, None, Result, Ok, Err}
 use Rattle.std.specs.Ordering.{nat_cmp, is_lt}
 use Rattle.std.specs.Cmp.Lexicographic.{slice_cmp}
@@ -22,7 +22,7 @@ use Rattle.eden_git.specs.Commits.{tree_named}
 abbrev pub Outcome : Type 0
 Outcome = Result (Id × List Held) PutFault
 
--- the first of two causes that stands
+-- the first of two causes that applies
 abbrev pub first_fault : Option PutFault → Option PutFault → Option PutFault
 first_fault None second = second
 first_fault (Some fault) second = Some fault
@@ -34,7 +34,7 @@ if_so false fault = None
 abbrev pub too_large : List ℕ → Option PutFault
 too_large payload = if_so (nat_lt 8388608 (length payload)) TooLarge
 
--- an object that is there already is left as it is; another one under its id is refused
+-- an object that is there already is left as it is; another one with its id is refused
 abbrev pub kept_or_added : Held → List Held → Option Held → Outcome
 kept_or_added new held None = Ok (new.id, new ∷ held)
 kept_or_added new held (Some h) =
@@ -54,7 +54,7 @@ named name word payload = record { id = name (word_text word) payload; word = wo
 abbrev pub blob_outcome : (List ℕ → List ℕ → Id) → List ℕ → List Held → Outcome
 blob_outcome name payload held = unless (too_large payload) (put_outcome (named name Blob payload) held)
 
--- what an id has to name: a tree for a directory, a blob for a file
+-- the type that an id must refer to: a tree for a directory, a blob for a file
 abbrev pub word_wanted : Option Kind → Word
 word_wanted None = Tree
 word_wanted (Some kind) = Blob
@@ -68,19 +68,20 @@ abbrev pub is_above : Entry → List Entry → Bool
 is_above e [] = true
 is_above e (before ∷ earlier) = is_lt (slice_cmp nat_cmp (key before) (key e))
 
--- why an entry can't follow these earlier ones
+-- why an entry cannot follow these earlier ones
 abbrev pub entry_fault : List Held → List Entry → Entry → Option PutFault
 entry_fault held earlier e =
     first_fault (if_so (list_any (λ f. same_bytes f.name e.name) earlier) Duplicate)
     (first_fault (if_so (not (is_above e earlier)) OutOfOrder) (child_fault (word_wanted e.kind) (find e.id held)))
 
--- an entry that can't be read is refused for the same cause
+-- an entry that cannot be read is refused for the same cause
 abbrev pub unread : EntryFault → PutFault
 unread entry.CutShort = CutShort
 unread entry.BadMode = BadMode
 unread entry.BadName = BadName
 
--- the fault of the first entry that has one, of the entries in some bytes that follow these earlier ones, newest first
+-- the fault of the first entry that has one, among the entries in some bytes that follow
+-- these earlier ones, newest first
 abbrev pub fault_after : List Held → List Entry → (List Entry → List ℕ → Option PutFault) → Result (Entry × List ℕ) EntryFault → Option PutFault
 fault_after held earlier more (Err fault) = Some (unread fault)
 fault_after held earlier more (Ok read) = first_fault (entry_fault held earlier read.0) (more (read.0 ∷ earlier) read.1)
@@ -115,13 +116,14 @@ commit_fault payload held =
 abbrev pub commit_outcome : (List ℕ → List ℕ → Id) → List ℕ → List Held → Outcome
 commit_outcome name payload held = unless (commit_fault payload held) (put_outcome (named name Commit payload) held)
 
--- a put call gave its outcome, or a growth was refused where an object would have been added
+-- a put call gave its result; or an allocation failed, and an object would have been
+-- added
 abbrev pub PutGives : Result Id PutFault → List Held → List Held → Outcome → Type 0
 PutGives (Ok id) old new outcome = outcome ≡ Ok (id, new)
 PutGives (Err NoMemory) old new outcome = (new ≡ old) × (id : Id) × (more : Held) × (outcome ≡ Ok (id, more ∷ old))
 PutGives (Err fault) old new outcome = (new ≡ old) × (outcome ≡ Err fault)
 
--- the same of a tree, for whose look memory is wanted before its outcome is known
+-- the same for a tree, whose check allocates before its result is known
 abbrev pub TreeGives : Result Id PutFault → List Held → List Held → List ℕ → Outcome → Type 0
 TreeGives (Ok id) old new payload outcome = outcome ≡ Ok (id, new)
 TreeGives (Err NoMemory) old new payload outcome = (new ≡ old) × (too_large payload ≡ None)

@@ -1,4 +1,4 @@
--- What every store keeps of sizes: a payload has 8 MiB at the most, and its bytes are below 256.
+-- The limits of every store: a payload has at most 8 MiB, and its bytes are below 256.
 use Rattle.std.specs.Prelude.{◌≤◌, List, length}
 use Rattle.std.specs.List.{AllByRecursion}
 use Rattle.eden_ids.specs.Texts.{AreBytes}

@@ -1,4 +1,4 @@
-//! A commit of a store that is found once, and asked for its files.
+//! A commit of a store, found once and asked for its files.
 ghost use Rattle.std.specs.Prelude.{◌≡◌, ◌&&◌, IfOk, filter, length, map, nat_le, not};
 ghost use Rattle.std.specs.List.{list_any};
 ghost use Rattle.eden_ids.specs.FileMaps.{file_at, lent, paths};
@@ -14,15 +14,16 @@ use crate::passing::Passes;
 use crate::store::Store;
 use eden_globs::Filter;
 use eden_ids::{FileTree, Id, Kind, Naming, NoMemory, Path};
+use std::alloc::Global;
 use std::marker::Model;
 
-/// A commit of a store, found once: its files are asked for without its id being looked up again.
+/// A commit of a store, found once: its id is not looked up again for each file.
 ///
-/// Its value is the file map that the commit stands for. It borrows the store, and takes no memory.
+/// Its value is the commit's file map. It borrows the store. Does not allocate.
 #[derive(Drop)]
 pub struct Commit<'a, N: Naming + Drop> {
     store: &'a Store<N>,
-    /// The tree that the commit names; the empty commit names none.
+    /// The tree of the commit; the empty commit has none.
     tree: Option<Id>,
 }
 
@@ -42,10 +43,22 @@ impl<'a, N: Naming + Drop> Model for Commit<'a, N> {
     ghost invariant = { λ c. IsTreeIn c.store.now c.tree };
 }
 
+/// Returns the paths of some files. No path is copied.
+fn only_paths(alloc: Global, rows: Vec<(Path, Kind, Id)>) -> Result<Vec<Path>, NoMemory>
+    ensures { IfOk result (λ list. list.items ≡ map (λ row. row.0) rows.items) }
+{
+    let mut list = Vec::with_capacity(alloc, rows.len())?;
+    for row in rows {
+        let (path, _, _) = row;
+        list.push(path)?;
+    }
+    Ok(list)
+}
+
 impl<'a, N: Naming + Drop> Commit<'a, N> {
-    /// The file at a path: its kind and its bytes.
+    /// Returns the kind and the bytes of the file at a path.
     ///
-    /// This takes no memory, and searches one directory for each component of the path.
+    /// It searches one directory for each component of the path. Does not allocate.
     pub fn file(&self, path: &[u8]) -> Option<(Kind, &'a [u8])>
         ensures { lent result ≡ file_at self.now path.now }
     {
@@ -58,9 +71,10 @@ impl<'a, N: Naming + Drop> Commit<'a, N> {
         }
     }
 
-    /// How many files stand below a path, at the most `usize::MAX`.
+    /// Returns the number of files below a path, at most `usize::MAX`.
     ///
-    /// This takes no memory. It searches the directories on the way to the path, and reads none of those below it.
+    /// It searches the directories on the way to the path, and reads none below it. Does
+    /// not allocate.
     pub fn files_below(&self, top: &[u8]) -> usize
         ensures { result ≡ capped (length (filter (λ p. lies_below p top.now) (paths self.now))) }
     {
@@ -71,10 +85,11 @@ impl<'a, N: Naming + Drop> Commit<'a, N> {
         }
     }
 
-    /// Whether a file stands below a path that is not passed over, where each is told as though the path's directory stood at another.
+    /// Returns true if a file below a path is not passed over.
     ///
-    /// This takes no memory. It goes depth first and ends at the first such file. It reads no directory without files, and none below
-    /// which all is passed over.
+    /// `passed` is asked with each file's path as if the directory were at `seen`. The
+    /// search is depth first and ends at the first such file. It reads no directory
+    /// without files, and none below which everything is passed over. Does not allocate.
     pub fn has_below_but<S: Passes>(&self, top: &[u8], seen: &Path, passed: &S) -> bool
         ensures { result ≡ list_any (λ p. lies_below p top.now && not (S.passes passed.now (told top.now seen.now p))) (paths self.now) }
     {
@@ -85,47 +100,63 @@ impl<'a, N: Naming + Drop> Commit<'a, N> {
         }
     }
 
-    /// The files that a filter admits and that are not passed over, each with its path, its kind and its blob, in byte order of the paths.
+    /// Returns the paths that are admitted and not passed over, in byte order.
     ///
-    /// `NoMemory` comes where a growth was refused. Each directory is read once, but for those without files, those below which the
-    /// filter admits nothing (`Filter::admits_below`), and those below which all is passed over.
-    pub fn list<S: Passes>(
-        &self,
-        wanted: &Filter,
-        passed: &S,
-    ) -> Result<Vec<(Path, Kind, Id)>, NoMemory>
-        ensures { IfOk result (λ rows. map (λ row. row.0) rows.items ≡ filter (is_shown (S.passes passed.now) wanted.now) (paths self.now)) }
+    /// Each directory is read once, except those without files, those below which the
+    /// filter admits nothing (`Filter::admits_below`), and those below which everything
+    /// is passed over.
+    ///
+    /// # Errors
+    ///
+    /// - `NoMemory` if an allocation fails.
+    pub fn list<S: Passes>(&self, wanted: &Filter, passed: &S) -> Result<Vec<Path>, NoMemory>
+        ensures { IfOk result (λ list. list.items ≡ filter (is_shown (S.passes passed.now) wanted.now) (paths self.now)) }
     {
         self.store.closed_law();
+        let alloc = self.store.allocator();
         match self.tree {
-            Some(tree) => self.store.gather_all(tree, wanted, passed),
-            None => Ok(Vec::new(self.store.allocator())),
+            Some(tree) => {
+                let rows = self.store.gather_all(tree, wanted, passed)?;
+                only_paths(alloc, rows)
+            }
+            None => Ok(Vec::new(alloc)),
         }
     }
 
-    /// The files below a path, where each is told as though the path's directory stood at another: those that a filter admits and that are
-    /// not passed over, each with its path, its kind and its blob, in byte order of the paths.
+    /// Returns the paths of the files below a path as they would be below another.
     ///
-    /// Condition: what is not passed over is told by a path. `NoMemory` comes where a growth was refused. It reads what `list` would.
+    /// They are those that a filter admits and that are not passed over, both by their
+    /// paths below `seen`, in byte order. What is not passed over must have a valid path
+    /// there. It reads what `list` would.
+    ///
+    /// # Errors
+    ///
+    /// - `NoMemory` if an allocation fails.
     pub fn list_seen<S: Passes>(
         &self,
         top: &[u8],
         seen: &Path,
         wanted: &Filter,
         passed: &S,
-    ) -> Result<Vec<(Path, Kind, Id)>, NoMemory>
+    ) -> Result<Vec<Path>, NoMemory>
         requires { TellsPaths (S.passes passed.now) top.now seen.now self.now }
-        ensures { IfOk result (λ rows. map (λ row. row.0) rows.items
+        ensures { IfOk result (λ list. list.items
             ≡ filter (is_shown (S.passes passed.now) wanted.now) (map (told top.now seen.now) (filter (λ p. lies_below p top.now) (paths self.now)))) }
     {
         self.store.closed_law();
+        let alloc = self.store.allocator();
         match self.tree {
-            Some(tree) => self.store.gather_seen(tree, top, seen, wanted, passed),
-            None => Ok(Vec::new(self.store.allocator())),
+            Some(tree) => {
+                let rows = self.store.gather_seen(tree, top, seen, wanted, passed)?;
+                only_paths(alloc, rows)
+            }
+            None => Ok(Vec::new(alloc)),
         }
     }
 
-    /// Whether at least so many files stand below a path, at the cost of `files_below`.
+    /// Returns true if there are at least `count` files below a path.
+    ///
+    /// It costs as much as `files_below`.
     pub fn has_below(&self, top: &[u8], count: usize) -> bool
         ensures { result ≡ nat_le count (length (filter (λ p. lies_below p top.now) (paths self.now))) }
     {
@@ -134,7 +165,7 @@ impl<'a, N: Naming + Drop> Commit<'a, N> {
 }
 
 impl<'a, N: Naming + Drop> Commit<'a, N> {
-    /// What holds of every commit: each of its paths is one, and each file is within its limit.
+    /// States that each path is valid, and each file within its limit.
     pub fn texts_law(&self)
         ensures { AreTexts self.now }
     {
@@ -156,7 +187,9 @@ impl<'a, N: Naming + Drop> FileTree for Commit<'a, N> {
 }
 
 impl<N: Naming + Drop> Store<N> {
-    /// The commit with an id, of which the empty one is always there. None where the id is no commit's. This takes no memory.
+    /// Returns the commit with an id, if it is that of one.
+    ///
+    /// The empty commit always exists. Does not allocate.
     pub fn commit(&self, id: Id) -> Option<Commit<'_, N>>
         ensures { result ≡ commit_map self.now id }
     {
@@ -166,7 +199,9 @@ impl<N: Naming + Drop> Store<N> {
         }
     }
 
-    /// The commit with an id that the caller knows to be a commit's; of another id it is the empty commit. This takes no memory.
+    /// Returns the commit with an id known to be a commit's.
+    ///
+    /// For any other id it is the empty commit. Does not allocate.
     pub fn commit_files(&self, id: Id) -> Commit<'_, N>
         ensures { result ≡ commit_files self.now id }
     {

@@ -1,4 +1,4 @@
-//! How many files stand below a path, or in a tree.
+//! The number of files below a path, or in a tree.
 ghost use Rattle.std.specs.Prelude.{◌≡◌, filter, length, nat_le};
 ghost use Rattle.eden_ids.specs.FileMaps.{paths};
 ghost use Rattle.eden_ids.specs.Paths.{lies_below};
@@ -12,16 +12,20 @@ use crate::store::Store;
 use eden_ids::{Id, Naming};
 
 impl<N: Naming + Drop> Store<N> {
-    /// Whether a commit has at least so many files below a path. It has none where the id is no commit's.
+    /// Returns true if a commit has `count` files below a path.
     ///
-    /// This takes no memory. It searches the directories on the way to the path, and reads none of those below it.
+    /// It may have more. If the id is not that of a commit, there are no files. It
+    /// searches the directories on the way to the path, and reads none below it. Does not
+    /// allocate.
     pub fn has_below(&self, commit: Id, top: &[u8], count: usize) -> bool
         ensures { result ≡ nat_le count (length (filter (λ p. lies_below p top.now) (paths (commit_files self.now commit)))) }
     {
         self.commit_files(commit).has_below(top, count)
     }
 
-    /// How many files stand below a path of a tree, at the most `usize::MAX`.
+    /// Returns the number of files below a path of a tree.
+    ///
+    /// It is at most `usize::MAX`.
     pub(crate) fn files_below(&self, tree: Id, top: &[u8]) -> usize
         requires { HasTree self.now tree }
         ensures { result ≡ capped (length (rows_below self.now tree top.now)) }
@@ -32,7 +36,7 @@ impl<N: Naming + Drop> Store<N> {
         }
     }
 
-    /// How many files stand below a tree, at the most `usize::MAX`.
+    /// Returns the number of files below a tree, at most `usize::MAX`.
     pub(crate) fn count_of_tree(&self, tree: Id) -> usize
         requires { HasTree self.now tree }
         ensures { result ≡ files_of_tree self.now tree }

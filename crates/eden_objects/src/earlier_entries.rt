@@ -1,4 +1,4 @@
-//! What a tree's entries so far ask of the next one.
+//! What a tree's earlier entries require of the next one.
 ghost use Rattle.std.specs.Prelude.{◌≡◌, ◌∷◌, [], List, OnOk};
 ghost use Rattle.eden_git.specs.Trees.{Entry};
 ghost use Rattle.eden_git.specs.Entries.{option_plain, plain};
@@ -10,7 +10,7 @@ use std::alloc::Global;
 use std::cmp::Ordering;
 use std::collections::BTreeSet;
 
-/// The names that came, and the last entry.
+/// The names of the entries so far, and the last entry.
 #[derive(Drop)]
 pub(crate) struct Seen<'a> {
     names: BTreeSet<&'a [u8]>,
@@ -18,7 +18,7 @@ pub(crate) struct Seen<'a> {
 }
 
 impl<'a> Seen<'a> {
-    /// Before the first entry.
+    /// Returns the state before the first entry.
     pub(crate) fn new(alloc: Global) -> Seen<'a>
         ensures { HasSeen result [] }
     {
@@ -28,14 +28,14 @@ impl<'a> Seen<'a> {
         }
     }
 
-    /// Whether an entry with this name came.
+    /// Returns true if there was an entry with this name.
     pub(crate) fn has_name(&self, name: &'a [u8]) -> bool
         ensures { (earlier : List Entry) → HasSeen self.now earlier → result ≡ has_name name.now earlier }
     {
         self.names.contains(&name)
     }
 
-    /// Whether the entry stands above the last one.
+    /// Returns true if the entry sorts after the last one.
     pub(crate) fn is_below(&self, entry: &RawEntry<'_>) -> bool
         ensures { result ≡ is_above_last (plain entry.now) (option_plain self.now.last) }
     {
@@ -45,7 +45,7 @@ impl<'a> Seen<'a> {
         }
     }
 
-    /// Takes the next entry.
+    /// Notes the next entry.
     pub(crate) fn note(&mut self, entry: RawEntry<'a>) -> Result<(), NoMemory>
         ensures { OnOk result ((earlier : List Entry) → HasSeen self.old earlier → HasSeen self.new (plain entry.entry ∷ earlier)) }
     {

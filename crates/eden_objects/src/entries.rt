@@ -1,4 +1,4 @@
-//! The entries of one tree, lent or copied.
+//! The entries of one tree, borrowed or copied.
 ghost use Rattle.std.specs.Prelude.{◌≡◌, ◌∷◌, ◌++◌, [], map, option_copied, IfOk, OnOk};
 ghost use Rattle.eden_objects.specs.Objects.{find};
 ghost use Rattle.eden_objects.specs.Closed.{HasTree};
@@ -20,13 +20,13 @@ use std::alloc::Global;
 pub struct Entry {
     /// The name, which has no slash.
     pub name: Vec<u8>,
-    /// What the file is; `None` for a directory.
+    /// The kind of the file; `None` for a directory.
     pub kind: Option<Kind>,
     /// The file's blob, or the directory's tree.
     pub id: Id,
 }
 
-/// The entry with a name of its own.
+/// Returns an entry with a copy of the name.
 fn copy_of(alloc: Global, entry: &RawEntry<'_>) -> Result<Entry, NoMemory>
     ensures { IfOk result (λ copy. copied copy ≡ plain entry.now) }
 {
@@ -37,7 +37,7 @@ fn copy_of(alloc: Global, entry: &RawEntry<'_>) -> Result<Entry, NoMemory>
     })
 }
 
-/// Puts an entry below the others.
+/// Adds an entry after the others.
 fn push_copy(alloc: Global, found: &mut Vec<Entry>, entry: &RawEntry<'_>) -> Result<(), NoMemory>
     ensures { OnOk result (map copied found.new.items ≡ map copied found.old.items ++ plain entry.now ∷ []) }
 {
@@ -45,7 +45,7 @@ fn push_copy(alloc: Global, found: &mut Vec<Entry>, entry: &RawEntry<'_>) -> Res
     Ok(found.push(copy)?)
 }
 
-/// The entries that are lent.
+/// Returns copies of borrowed entries.
 fn copies_of(alloc: Global, rows: &Rows<'_>) -> Result<Vec<Entry>, NoMemory>
     ensures { IfOk result (λ found. map copied found.items ≡ rows.now) }
 {
@@ -61,8 +61,10 @@ fn copies_of(alloc: Global, rows: &Rows<'_>) -> Result<Vec<Entry>, NoMemory>
 }
 
 impl<N: Naming + Drop> Store<N> {
-    /// The tree that the commit with an id names. None where the id is not that of a commit in the store; the empty commit has no
-    /// tree. This takes no memory.
+    /// Returns the tree of the commit with an id. Does not allocate.
+    ///
+    /// It is `None` if the id is not that of a commit in the store; the empty commit has
+    /// no tree.
     pub fn tree_of(&self, commit: Id) -> Option<Id>
         ensures { result ≡ tree_seen (find commit self.now) }
     {
@@ -72,7 +74,9 @@ impl<N: Naming + Drop> Store<N> {
         }
     }
 
-    /// The payload of the tree with an id, which `next_entry` reads. None where the id is not that of a tree. This takes no memory.
+    /// Returns the payload of the tree with an id, which `next_entry` reads.
+    ///
+    /// It is `None` if the id is not that of a tree. Does not allocate.
     pub fn tree(&self, id: Id) -> Option<&[u8]>
         ensures { option_copied result ≡ tree_payload self.now id }
     {
@@ -82,8 +86,9 @@ impl<N: Naming + Drop> Store<N> {
         }
     }
 
-    /// The entries of the tree with an id, with the columns that are kept of them. None where the id is not that of a tree. This takes
-    /// no memory.
+    /// Returns the entries of the tree with an id, with their columns.
+    ///
+    /// It is `None` if the id is not that of a tree. Does not allocate.
     pub fn rows(&self, id: Id) -> Option<Rows<'_>>
         ensures { result ≡ tree_entries self.now id }
     {
@@ -93,7 +98,7 @@ impl<N: Naming + Drop> Store<N> {
         }
     }
 
-    /// What is kept of a tree.
+    /// Returns what is kept of a tree.
     pub(crate) fn outline(&self, tree: Id) -> &Outline
         requires { HasTree self.now tree }
         ensures { TellsTree self.now tree result.now }
@@ -110,9 +115,13 @@ impl<N: Naming + Drop> Store<N> {
         }
     }
 
-    /// The entries of the tree with an id, in the order in which they stand in it. None where the id is not that of a tree.
+    /// Returns the entries of the tree with an id, in order.
     ///
-    /// `NoMemory` comes where a growth was refused.
+    /// It is `None` if the id is not that of a tree.
+    ///
+    /// # Errors
+    ///
+    /// - `NoMemory` if an allocation fails.
     pub fn entries(&self, tree: Id) -> Result<Option<Vec<Entry>>, NoMemory>
         ensures { IfOk result (λ found. copied_all found ≡ tree_entries self.now tree) }
     {

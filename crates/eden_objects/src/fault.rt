@@ -1,4 +1,4 @@
-//! Why an object is not put, and why a question about a commit has no answer.
+//! Why an object is not put, and why a commit cannot be asked.
 ghost use Rattle.std.specs.Prelude.{◌≡◌};
 ghost use Rattle.eden_objects.specs.declared.fault.CommitFault.TheVariants as fault;
 ghost use Rattle.eden_objects.specs.declared.fault.PutFault.TheVariants as put;
@@ -9,34 +9,40 @@ use eden_ids::NoMemory;
 use std::alloc::{AllocError, AllocFailed};
 use thiserror::Error;
 
-/// Why an object is not put into a store. Of the causes that stand, each put call tells the first in the order that it gives.
+/// Why an object is not put into a store.
+///
+/// Each put call reports the first cause that applies, in the order that it gives.
 #[derive(Clone, Copy, Debug, PartialEq, Eq, Error)]
 pub enum PutFault {
     /// The payload has more than 8,388,608 bytes.
     #[error("TooLarge")]
     TooLarge,
-    /// The id is that of another object, which is in the store.
+    /// Another object in the store has this id.
     #[error("IdTaken")]
     IdTaken,
     /// The id is that of the empty commit, which no object has.
     #[error("ZeroId")]
     ZeroId,
-    /// A mode of a tree's entry is none of `40000`, `100644`, `100755` and `120000`.
+    /// The mode of an entry is not `40000`, `100644`, `100755` or `120000`.
     #[error("BadMode")]
     BadMode,
-    /// A name of a tree's entry has not 1 to 255 bytes, is `.` or `..`, or has a slash.
+    /// The name of an entry is invalid.
+    ///
+    /// It does not have 1 to 255 bytes, is `.` or `..`, or has a slash.
     #[error("BadName")]
     BadName,
-    /// A tree's entry does not stand above the one before it.
+    /// An entry does not sort after the one before it.
     #[error("OutOfOrder")]
     OutOfOrder,
-    /// A tree's entry has the name of an earlier one.
+    /// An entry has the name of an earlier one.
     #[error("Duplicate")]
     Duplicate,
-    /// The object that is named is not in the store.
+    /// An object that is referred to is not in the store.
     #[error("MissingChild")]
     MissingChild,
-    /// A directory is no tree, a file no blob, or a commit's tree no tree.
+    /// An object that is referred to has the wrong type.
+    ///
+    /// A directory must be a tree, a file a blob, and a commit's tree a tree.
     #[error("WrongChildKind")]
     WrongChildKind,
     /// A path below the tree would have more than 64 components.
@@ -45,13 +51,15 @@ pub enum PutFault {
     /// A path below the tree would have more than 1,024 bytes.
     #[error("PathTooLong")]
     PathTooLong,
-    /// The payload ends inside an entry of a tree, or before the end of a commit's first line.
+    /// The payload ends inside an entry or a commit's first line.
     #[error("CutShort")]
     CutShort,
-    /// A commit does not begin with `tree `, an id's text and a line feed.
+    /// A commit does not begin with its tree.
+    ///
+    /// Its first line must be `tree `, an id in hexadecimal and a line feed.
     #[error("BadCommit")]
     BadCommit,
-    /// A growth was refused.
+    /// An allocation failed.
     #[error("NoMemory")]
     NoMemory,
 }
@@ -92,18 +100,22 @@ impl From<AllocError> for PutFault {
     }
 }
 
-/// The id is neither that of the empty commit nor that of a commit in the store.
+/// The id is not that of a commit.
+///
+/// It is neither that of the empty commit nor that of a commit in the store.
 #[derive(Clone, Copy, Debug, PartialEq, Eq, Error)]
 #[error("NoCommit")]
 pub struct NoCommit;
 
-/// Why a call that asks about a commit has no answer.
+/// Why a question about a commit has no answer.
 #[derive(Clone, Copy, Debug, PartialEq, Eq, Error)]
 pub enum CommitFault {
-    /// The id is neither that of the empty commit nor that of a commit in the store.
+    /// The id is not that of a commit.
+    ///
+    /// It is neither that of the empty commit nor that of a commit in the store.
     #[error("NoCommit")]
     NoCommit,
-    /// A growth was refused.
+    /// An allocation failed.
     #[error("NoMemory")]
     NoMemory,
 }

@@ -1,4 +1,4 @@
-//! Objects that are put one after another, all of them or none.
+//! Imports: objects that are put one after another, all or none.
 ghost use Rattle.std.specs.Prelude.{◌≡◌, ◌≢◌, Ok, Err, IfErr, OnOk, OnErr};
 ghost use Rattle.eden_objects.specs.Imports.{import_outcome};
 ghost use Rattle.eden_objects.specs.internal.Placed.{fault_at};
@@ -11,27 +11,29 @@ use eden_git::Word;
 use eden_ids::{Id, Naming, NoMemory, Sequence};
 use thiserror::Error;
 
-/// An object that is imported: its kind and its payload, from which a naming gives it its id.
+/// An object to be imported: its type and its payload.
+///
+/// A naming gives it its id.
 #[derive(Clone, Debug, PartialEq, Drop)]
 pub struct Object {
-    /// Whether it is a blob, a tree or a commit.
+    /// The object's type: blob, tree or commit.
     pub word: Word,
-    /// Its bytes, as the put call of its kind takes them.
+    /// Its payload, as the put call of its type takes it.
     pub payload: Sequence<u8>,
 }
 
 /// Why objects are not imported.
 #[derive(Clone, Copy, Debug, PartialEq, Eq, Error)]
 pub enum ImportFault {
-    /// An object is refused. It is the first that is, and its put call would tell this fault behind the objects before it.
+    /// An object is refused: the first that is, put after the objects before it.
     #[error("BadObject")]
     BadObject {
-        /// The object's place among those that are imported, from 0.
+        /// The object's index among those that are imported, from 0.
         place: u64,
-        /// The fault of its put call, and never `NoMemory`.
+        /// The fault of its put call, never `NoMemory`.
         fault: PutFault,
     },
-    /// A growth was refused.
+    /// An allocation failed.
     #[error("NoMemory")]
     NoMemory,
 }
@@ -44,7 +46,7 @@ impl From<NoMemory> for ImportFault {
     }
 }
 
-/// What the fault of the object at a place is to the import.
+/// Returns the import's fault for that of an object.
 fn refused(place: u64, fault: PutFault) -> ImportFault
     ensures { result ≡ fault_at place fault }
 {
@@ -75,7 +77,7 @@ impl<N: Naming + Drop> Importer for Store<N> {
 }
 
 impl<N: Naming + Drop> Store<N> {
-    /// Puts objects one after another, as far as the first that is refused.
+    /// Puts objects one after another, up to the first that is refused.
     fn put_all(&mut self, objects: &[Object]) -> Result<(), ImportFault>
         ensures ok { OnOk result (import_outcome N.id objects.now self.old ≡ Ok self.new) }
         ensures refuses { IfErr result (λ fault. fault ≢ ImportFault.NoMemory → import_outcome N.id objects.now self.old ≡ Err fault) }
@@ -89,14 +91,19 @@ impl<N: Naming + Drop> Store<N> {
         Ok(())
     }
 
-    /// Imports objects: puts each of them, in their order, by the call of its kind, or none of them. An object that is there already is
-    /// passed over.
+    /// Imports objects: puts each of them in order, or none of them.
     ///
-    /// Refused as `BadObject` at the first object that its put call refuses behind those before it. `NoMemory` may stand in place of any
-    /// answer where a growth was refused. After a refusal the store is as before.
+    /// Each is put by the call of its type. An object that is there already is skipped. A
+    /// commit of the store keeps its files, no matter what is imported (`grown_law`).
+    /// Besides what the put calls allocate, the objects are prepared for the next copy of
+    /// the store (`share`), which then takes a few pointers.
     ///
-    /// A commit that the store has keeps its files for good, whatever is imported (`grown_law`). Beside what the put calls take, the objects
-    /// are set apart, so that the next copy of the store (`share`) takes a few pointers.
+    /// # Errors
+    ///
+    /// - `BadObject` at the first object that its put call refuses, after those before
+    ///   it; nothing changes.
+    /// - `NoMemory` if an allocation fails; it may be returned instead of any other answer;
+    ///   nothing changes.
     pub fn import(&mut self, objects: &[Object]) -> Result<(), ImportFault>
         ensures ok { OnOk result (import_outcome N.id objects.now self.old ≡ Ok self.new) }
         ensures err { OnErr result (self.new ≡ self.old) }

@@ -1,12 +1,12 @@
-//! What takes objects one after another.
+//! The interface of everything that takes objects.
 
 use crate::fault::PutFault;
 use eden_git::Word;
 use eden_ids::Id;
 
-/// What takes objects of each kind, one after another: a store, or what stands over one.
+/// Something that takes objects of each type, one after another.
 ///
-/// So a reader of objects can fill either.
+/// It is a store, or something that owns one; a reader of objects can fill either.
 pub trait Importer {
     ghost use Rattle.std.specs.Prelude.{◌≡◌, ◌≢◌, ℕ, List, Ok, Err, IfOk, IfErr, OnErr};
     ghost use Rattle.eden_ids.specs.declared.id.Id.{Id};
@@ -19,14 +19,20 @@ pub trait Importer {
     /// The objects that it has.
     ghost held: { Self → List Held };
 
-    /// The same over these objects.
+    /// The same thing over these objects.
     ghost over: { Self → List Held → Self };
 
     ghost laws: { IsOver held over };
 
-    /// Puts an object by the call of its kind, as `Store::put_blob`, `put_tree` and `put_commit` do, and answers its id. Refused for the same
-    /// causes. `NoMemory` may stand in place of any answer where a growth was refused. Nothing but the objects is changed, and after a
-    /// refusal nothing.
+    /// Puts an object by its type's call, and returns its id.
+    ///
+    /// The calls are `Store::put_blob`, `put_tree` and `put_commit`. Nothing but the
+    /// objects changes.
+    ///
+    /// # Errors
+    ///
+    /// As of these calls. `NoMemory` may be returned instead of any other answer. Nothing
+    /// changes.
     fn put_object(&mut self, word: Word, payload: &[u8]) -> Result<Id, PutFault>
         ensures ok { IfOk result (λ id. put_word name word payload.now (held self.old) ≡ Ok (id, held self.new)) }
         ensures err { OnErr result (held self.new ≡ held self.old) }

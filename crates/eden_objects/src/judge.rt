@@ -1,4 +1,4 @@
-//! Whether an object may be put: what each refusal of a tree or a commit asks of the store.
+//! The check whether an object may be put.
 ghost use Rattle.std.specs.List.{AllByRecursion};
 ghost use Rattle.std.specs.Prelude.{◌≡◌, ◌≢◌, ◌≤◌, List, [], ◌∷◌, length, Some, None, IfOk, IfErr};
 ghost use Rattle.eden_objects.specs.Objects.{find};
@@ -21,7 +21,8 @@ use eden_git::{Columns, RawEntry, Rows, Word, read_entry, same_word, tree_named}
 use eden_ids::{Id, Kind, Naming};
 use eden_segments::Shared;
 
-/// What a directory, or else a file, has to be.
+/// Returns the type that an entry must refer to: a tree for a directory, a blob for a
+/// file.
 fn word_wanted(kind: Option<Kind>) -> Word
     ensures { result ≡ word_wanted kind }
 {
@@ -32,7 +33,7 @@ fn word_wanted(kind: Option<Kind>) -> Word
 }
 
 impl<N: Naming + Drop> Store<N> {
-    /// Why an id can't be named as an object of this kind.
+    /// Returns why an entry cannot refer to an id as this type.
     fn child_fault(&self, word: Word, id: Id) -> Option<PutFault>
         ensures { result ≡ child_fault word (find id self.now) }
     {
@@ -46,7 +47,7 @@ impl<N: Naming + Drop> Store<N> {
         }
     }
 
-    /// The tree that a commit names, or why the payload is no commit's.
+    /// Returns the tree that a commit names, or the payload's fault.
     pub(crate) fn tree_of_commit(&self, payload: &[u8]) -> Result<Id, PutFault>
         ensures passes { IfOk result (λ tree. commit_fault payload.now self.now ≡ None) }
         ensures named { IfOk result (λ tree. tree_named payload.now ≡ Some tree) }
@@ -67,7 +68,7 @@ impl<N: Naming + Drop> Store<N> {
         }
     }
 
-    /// Why an entry can't follow those that came.
+    /// Returns why an entry cannot follow the earlier ones.
     fn entry_fault<'a>(&self, seen: &Seen<'a>, entry: &RawEntry<'a>) -> Option<PutFault>
         ensures { (earlier : List Entry) → HasSeen seen.now earlier → result ≡ entry_fault self.now earlier (plain entry.now) }
     {
@@ -80,7 +81,7 @@ impl<N: Naming + Drop> Store<N> {
         }
     }
 
-    /// What an entry comes to.
+    /// Returns the size of an entry.
     fn size_of(&self, entry: &RawEntry<'_>) -> Size
         requires { IsHeld self.now (word_wanted entry.now.kind) entry.now.id }
         ensures depth { result.depth ≡ depth_of entry.now.kind (tree_depth self.now entry.now.id) }
@@ -100,7 +101,9 @@ impl<N: Naming + Drop> Store<N> {
         }
     }
 
-    /// What a tree with these entries comes to, or the first fault of the first entry that has one.
+    /// Returns the size of a tree with these entries.
+    ///
+    /// If an entry has a fault, the first one is returned instead.
     fn judged(&self, payload: &[u8]) -> Result<Size, PutFault>
         ensures passes { IfOk result (λ size. entries_fault (length payload.now) self.now [] payload.now ≡ None) }
         ensures depth { IfOk result (λ size. size.depth ≡ entries_depth (tree_depth self.now) (entries_of payload.now)) }
@@ -123,7 +126,7 @@ impl<N: Naming + Drop> Store<N> {
         Ok(size)
     }
 
-    /// What a tree comes to, or why the payload is no tree's that the store may hold.
+    /// Returns the size of a tree, or its fault.
     fn tree_size(&self, payload: &[u8]) -> Result<Size, PutFault>
         requires { length payload.now ≤ 8388608 }
         ensures passes { IfOk result (λ size. tree_fault payload.now self.now ≡ None) }
@@ -141,7 +144,7 @@ impl<N: Naming + Drop> Store<N> {
         Ok(size)
     }
 
-    /// How many files an entry comes to.
+    /// Returns the number of files of an entry.
     fn count_of_entry(&self, entry: &RawEntry<'_>) -> usize
         requires { IsHeld self.now (word_wanted entry.now.kind) entry.now.id }
         ensures { result ≡ files_of_entries self.now (plain entry.now ∷ []) }
@@ -152,7 +155,7 @@ impl<N: Naming + Drop> Store<N> {
         self.count_of_tree(entry.id)
     }
 
-    /// How many files a tree of these entries comes to.
+    /// Returns the number of files of a tree with these entries.
     fn count_of_entries(&self, rows: &Rows<'_>) -> usize
         requires { AllByRecursion (λ e. IsHeld self.now (word_wanted e.kind) e.id) rows.now }
         ensures { result ≡ files_of_entries self.now rows.now }
@@ -168,7 +171,9 @@ impl<N: Naming + Drop> Store<N> {
         files
     }
 
-    /// What is kept of a tree beside its payload, or why the payload is no tree's that the store may hold.
+    /// Returns what is kept of a tree, or its fault.
+    ///
+    /// That is what is kept besides the payload.
     pub(crate) fn outline_of(&self, payload: &[u8]) -> Result<Shared<Outline>, PutFault>
         requires { length payload.now ≤ 8388608 }
         ensures passes { IfOk result (λ outline. tree_fault payload.now self.now ≡ None) }

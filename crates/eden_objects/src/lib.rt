@@ -1,4 +1,15 @@
-//! A store of Git's objects, in which every object names earlier ones only, and of which a copy takes a few pointers.
+//! A store of Git's objects: blobs, trees and commits, in memory.
+//!
+//! `put_blob`, `put_tree` and `put_commit` add an object under the id that a naming gives
+//! it. An object refers only to objects that are in the store already, so every tree and
+//! every commit can be read whole. An object stays forever, and no other one gets its id.
+//! `import` puts several objects, all or none. `share` returns a copy of the store that
+//! shares its objects.
+//!
+//! A commit's files are found by `lookup` and `list`, or through `Commit`, which is found
+//! once and then asked as a `FileTree`. A store keeps each tree's entries in columns
+//! (`rows`), with its size and the number of its files. So trees are checked and counted
+//! without reading what is below them.
 //!
 //! ```rust
 //! use eden_ids::{GitNaming, Naming, Path, Sequence};

@@ -1,4 +1,4 @@
-//! Listings: the files of a commit, or those below a directory, in byte order of their paths.
+//! Lists of the files of a commit, or those below a directory, in byte order.
 
 ghost use Rattle.std.specs.Prelude.{◌≡◌, ◌++◌, ◌∷◌, [], false, Some, IfOk, OnOk};
 ghost use Rattle.eden_globs.specs.Filters.{admits};
@@ -18,7 +18,7 @@ use eden_globs::{Filter, Front};
 use eden_ids::{Id, Kind, Naming, NoMemory, Path};
 use std::alloc::Global;
 
-/// The files that were found so far, and the directory that is read.
+/// The files found so far, and the directory that is read.
 #[derive(Drop)]
 struct Listing {
     front: Front,
@@ -26,7 +26,7 @@ struct Listing {
 }
 
 impl Listing {
-    /// Nothing yet, at the root.
+    /// Returns an empty list, at the root.
     fn new(alloc: Global) -> Listing
         ensures front { result.front ≡ [] }
         ensures rows { result.rows.items ≡ [] }
@@ -37,7 +37,7 @@ impl Listing {
         }
     }
 
-    /// Whether the file of a name in the directory that is read is passed over.
+    /// Returns true if a file in the directory is passed over.
     fn passes<S: Passes>(&mut self, passed: &S, name: &[u8]) -> Result<bool, NoMemory>
         ensures passes { IfOk result (λ passes. passes ≡ S.passes passed.now (self.old.front ++ name.now)) }
         ensures listing { OnOk result (self.new ≡ self.old) }
@@ -48,7 +48,9 @@ impl Listing {
         Ok(passes)
     }
 
-    /// Adds a file of the directory that is read, if it is wanted and not passed over.
+    /// Adds a file, if it is admitted and not passed over.
+    ///
+    /// The file is in the directory that is read.
     fn add<S: Passes>(
         &mut self,
         filter: &Filter,
@@ -73,11 +75,16 @@ impl Listing {
 }
 
 impl<N: Naming + Drop> Store<N> {
-    /// The files of a commit that a filter admits, each with its path, its kind and its blob, in byte order of the paths.
+    /// Returns the admitted files of a commit, in byte order.
     ///
-    /// `NoCommit` comes where the id is no commit's; `NoMemory` may stand in place of any answer where a growth was refused. Each
-    /// directory below which the filter may admit something (`Filter::admits_below`) is read once, and no other; no path is made that
-    /// the filter does not admit.
+    /// Each has its path, its kind and its blob. Each directory below which the filter
+    /// may admit something (`Filter::admits_below`) is read once, and no other. No path
+    /// is made that the filter does not admit.
+    ///
+    /// # Errors
+    ///
+    /// - `NoCommit` if the id is not that of a commit.
+    /// - `NoMemory` if an allocation fails; it may be returned instead of any other answer.
     pub fn list(&self, commit: Id, filter: &Filter) -> Result<Vec<(Path, Kind, Id)>, CommitFault>
         ensures { Lists result (rows_where (admits filter.now) (commit_rows self.now commit)) }
     {
@@ -88,12 +95,17 @@ impl<N: Naming + Drop> Store<N> {
         }
     }
 
-    /// The files of a commit that stand below a path and that a filter admits, each with its path, its kind and its blob, in byte order of
-    /// the paths. The path need not be a directory of the commit: then there are none.
+    /// Returns the admitted files of a commit that are below a path.
     ///
-    /// `NoCommit` comes where the id is no commit's; `NoMemory` may stand in place of any answer where a growth was refused. The
-    /// directories on the way to the path are searched, and those below it are read below which the filter may admit something
-    /// (`Filter::admits_below`); no others are.
+    /// Each has its path, its kind and its blob; they are in byte order of the paths. If
+    /// the path is not a directory of the commit, there are none. The directories on the
+    /// way to the path are searched. Those below it are read if the filter may admit
+    /// something below them (`Filter::admits_below`).
+    ///
+    /// # Errors
+    ///
+    /// - `NoCommit` if the id is not that of a commit.
+    /// - `NoMemory` if an allocation fails; it may be returned instead of any other answer.
     pub fn list_below(
         &self,
         commit: Id,
@@ -109,7 +121,7 @@ impl<N: Naming + Drop> Store<N> {
         }
     }
 
-    /// The files of a tree that stand below a path and that a filter admits.
+    /// Returns the admitted files of a tree that are below a path.
     fn list_directory(
         &self,
         tree: Id,
@@ -126,7 +138,7 @@ impl<N: Naming + Drop> Store<N> {
         Ok(self.gather_below(dir, path, filter, &Nothing)?)
     }
 
-    /// The directory of a tree at a path.
+    /// Returns the directory of a tree at a path.
     #[tactic(auto, using(crate::proofs::WalkSteps::rest_shorter))]
     pub(crate) fn directory_below(&self, tree: Id, path: &[u8]) -> Option<Id>
         requires { HasTree self.now tree }
@@ -149,7 +161,7 @@ impl<N: Naming + Drop> Store<N> {
         }
     }
 
-    /// The files of a tree that a filter admits.
+    /// Returns the files of a tree that a filter admits.
     #[tactic(auto, using(crate::proofs::Gathering::nothing_before))]
     fn list_tree(&self, tree: Id, filter: &Filter) -> Result<Vec<(Path, Kind, Id)>, CommitFault>
         requires { HasTree self.now tree }
@@ -158,8 +170,9 @@ impl<N: Naming + Drop> Store<N> {
         Ok(self.gather_all(tree, filter, &Nothing)?)
     }
 
-    /// The files of a tree below a path that a filter admits and that are not passed over, where each is told as though the path's
-    /// directory stood at another.
+    /// Returns the files below a path, admitted and not passed over.
+    ///
+    /// Each is given the path that it would have if the directory were at `seen`.
     pub(crate) fn gather_seen<S: Passes>(
         &self,
         tree: Id,
@@ -180,7 +193,9 @@ impl<N: Naming + Drop> Store<N> {
         }
     }
 
-    /// The files of a tree that a filter admits and that are not passed over, behind the path of its directory.
+    /// Returns the files of a directory, admitted and not passed over.
+    ///
+    /// Their paths begin with the path of the directory.
     pub(crate) fn gather_below<S: Passes>(
         &self,
         dir: Id,
@@ -201,7 +216,7 @@ impl<N: Naming + Drop> Store<N> {
         Ok(listing.rows)
     }
 
-    /// The files of a tree that a filter admits and that are not passed over.
+    /// Returns the files of a tree, admitted and not passed over.
     pub(crate) fn gather_all<S: Passes>(
         &self,
         tree: Id,
@@ -217,8 +232,10 @@ impl<N: Naming + Drop> Store<N> {
         Ok(listing.rows)
     }
 
-    /// Adds the files of a tree to a listing, directory by directory. A directory without files is not read, nor is one below which
-    /// nothing is wanted, or of which all is passed over.
+    /// Adds the files of a tree to a list, directory by directory.
+    ///
+    /// A directory is not read if it has no files, nothing below it is admitted, or
+    /// everything in it is passed over.
     fn gather<S: Passes>(
         &self,
         tree: Id,

@@ -1,4 +1,4 @@
-//! Looking up a blob by its id, and a file of a commit by its path.
+//! Look-up of a blob by its id, and of a file of a commit by its path.
 ghost use Rattle.std.specs.Prelude.{◌≡◌, option_copied, is_some};
 ghost use Rattle.std.specs.Result.{result_ok};
 ghost use Rattle.eden_ids.specs.FileMaps.{file_at, lent};
@@ -16,15 +16,19 @@ use eden_git::cut;
 use eden_ids::{Id, Kind, Naming, Path};
 
 impl<N: Naming + Drop> Store<N> {
-    /// Whether the id is that of a commit, of which the empty one is always there. This takes no memory.
+    /// Returns true if the id is that of a commit. Does not allocate.
+    ///
+    /// The empty commit always exists.
     pub fn has_commit(&self, id: Id) -> bool
         ensures { result ≡ is_some (commit_rows self.now id) }
     {
         self.root_tree(id).is_ok()
     }
 
-    /// The payload of the blob with an id: the bytes of a file, or the target of a link. None where the id is not that of a blob. This
-    /// takes no memory.
+    /// Returns the payload of the blob with an id. Does not allocate.
+    ///
+    /// It is the bytes of a file, or the target of a link. It is `None` if the id is not
+    /// that of a blob.
     pub fn blob(&self, id: Id) -> Option<&[u8]>
         ensures { option_copied result ≡ blob_of self.now id }
     {
@@ -34,10 +38,15 @@ impl<N: Naming + Drop> Store<N> {
         }
     }
 
-    /// The file of a commit at a path: its kind and its blob, or none where the commit has no file there.
+    /// Returns the kind and the blob of a commit's file.
     ///
-    /// `NoCommit` comes where the id is no commit's. This takes no memory, and searches one directory for each component of the path,
-    /// which takes time in the order of the logarithm of its entries.
+    /// It is `None` if there is no file at the path. It searches one directory for each
+    /// component of the path, in a time that grows with the logarithm of the number of
+    /// its entries. Does not allocate.
+    ///
+    /// # Errors
+    ///
+    /// - `NoCommit` if the id is not that of a commit.
     pub fn lookup(&self, commit: Id, path: &Path) -> Result<Option<(Kind, Id)>, NoCommit>
         ensures { result_ok result ≡ row_in path.now (commit_rows self.now commit) }
     {
@@ -48,16 +57,19 @@ impl<N: Naming + Drop> Store<N> {
         }
     }
 
-    /// The file of a commit at a path: its kind and its bytes. There is none where the id is no commit's.
+    /// Returns the kind and the bytes of a commit's file.
     ///
-    /// This takes no memory, and searches one directory for each component of the path.
+    /// It is `None` if there is no file at the path, or the id is not that of a commit. It
+    /// searches one directory for each component of the path. Does not allocate.
     pub fn file(&self, commit: Id, path: &[u8]) -> Option<(Kind, &[u8])>
         ensures { lent result ≡ file_at (commit_files self.now commit) path.now }
     {
         self.commit_files(commit).file(path)
     }
 
-    /// The payload of the object with an id, and no bytes where there is none.
+    /// Returns the payload of the object with an id.
+    ///
+    /// If there is no such object, it is empty.
     pub(crate) fn payload(&self, id: Id) -> &[u8]
         ensures { result.now ≡ payload_of (find id self.now) }
     {
@@ -67,7 +79,7 @@ impl<N: Naming + Drop> Store<N> {
         }
     }
 
-    /// The file with a name in a tree. It is found by a search.
+    /// Returns the file with a name in a tree, by a search.
     fn file_in(&self, tree: Id, name: &[u8]) -> Option<(Kind, Id)>
         requires { HasTree self.now tree }
         ensures { result ≡ file_named name.now (entries_of (payload_of (find tree self.now))) }
@@ -79,7 +91,7 @@ impl<N: Naming + Drop> Store<N> {
         }
     }
 
-    /// The tree of the directory with a name in a tree. It is found by a search.
+    /// Returns the tree of a directory, by a search for its name.
     pub(crate) fn directory_in(&self, tree: Id, name: &[u8]) -> Option<Id>
         requires { HasTree self.now tree }
         ensures { result ≡ dir_named name.now (entries_of (payload_of (find tree self.now))) }
@@ -91,7 +103,7 @@ impl<N: Naming + Drop> Store<N> {
         }
     }
 
-    /// The tree of a commit; the empty commit has none.
+    /// Returns the tree of a commit; the empty commit has none.
     #[tactic(auto, using(crate::proofs::TreeOf::seen_rows, crate::proofs::TreeOf::seen_tree))]
     pub(crate) fn root_tree(&self, commit: Id) -> Result<Option<Id>, NoCommit>
         ensures rows { commit_rows self.now commit ≡ rows_of_tree self.now result }
@@ -107,7 +119,7 @@ impl<N: Naming + Drop> Store<N> {
         }
     }
 
-    /// The file of a tree at a path.
+    /// Returns the file of a tree at a path.
     #[tactic(auto, using(crate::proofs::WalkSteps::rest_shorter))]
     pub(crate) fn find_below(&self, tree: Id, path: &[u8]) -> Option<(Kind, Id)>
         requires { HasTree self.now tree }

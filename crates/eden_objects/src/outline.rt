@@ -1,13 +1,15 @@
-//! What is kept of a tree beside its payload, so that no child is read to judge it and its entries are found and compared without being
-//! read one by one.
+//! What is kept of a tree besides its payload.
+//!
+//! With it no child is read to check a tree, and entries are found and compared without
+//! reading them one by one.
 use crate::size::Size;
 use eden_git::Columns;
 
-/// What a tree comes to, and the columns of its entries.
+/// The size of a tree, its number of files and its columns.
 #[derive(Drop)]
 pub(crate) struct Outline {
     pub(crate) size: Size,
-    /// How many files stand below the tree, at the most `usize::MAX`.
+    /// The number of files below the tree, at most `usize::MAX`.
     pub(crate) files: usize,
     pub(crate) columns: Columns,
 }

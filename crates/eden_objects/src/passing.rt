@@ -2,9 +2,9 @@
 
 use crate::size::Size;
 
-/// What a search or a list of files passes over: some paths, and all that stands below some directories.
+/// What a search or a list of files passes over: some paths, and some whole directories.
 ///
-/// Each question is answered without memory.
+/// No method allocates.
 pub trait Passes {
     ghost use Rattle.std.specs.Prelude.{◌≡◌, ◌++◌, ℕ, Bool, List, true};
     ghost use Rattle.eden_objects.specs.Passing.{IsWithin};
@@ -12,18 +12,21 @@ pub trait Passes {
     /// Which paths are passed over.
     ghost passes: { Self → List ℕ → Bool };
 
-    /// Whether a file at a path is passed over.
+    /// Returns true if a file at a path is passed over.
     fn passes_file(&self, path: &[u8]) -> bool
         ensures { result ≡ passes self.now path.now };
 
-    /// Whether all files of a directory of a size are passed over, so that it need not be read. It is told by its front, which stands before
-    /// each of its names: its path and a slash, and nothing at the root. Where it says no, some of the files may be all the same, and each
-    /// is asked for.
+    /// Returns true only if a whole directory is passed over.
+    ///
+    /// All files of a directory of this size must be. Such a directory need not be read.
+    /// `front` is what precedes each of its names: its path and a slash, or nothing at
+    /// the root. If the answer is false, some or all of the files may still be passed
+    /// over, and each is asked for.
     fn passes_below(&self, front: &[u8], size: Size) -> bool
         ensures { result ≡ true → (rest : List ℕ) → IsWithin size rest → passes self.now (front.now ++ rest) ≡ true };
 }
 
-/// Nothing is passed over.
+/// Passes nothing over.
 #[derive(Clone, Copy)]
 pub struct Nothing;
 

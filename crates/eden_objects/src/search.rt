@@ -15,7 +15,9 @@ use crate::trail::Trail;
 use eden_ids::{Id, Naming, Path};
 
 impl<N: Naming + Drop> Store<N> {
-    /// Whether a tree has a file below a path that is not passed over, where each is told as though the path's directory stood at another.
+    /// Returns true if a file below a path is not passed over.
+    ///
+    /// `passed` is asked with each file's path as if the directory were at `seen`.
     pub(crate) fn has_below_but<S: Passes>(
         &self,
         tree: Id,
@@ -35,7 +37,9 @@ impl<N: Naming + Drop> Store<N> {
         self.has_but(directory, passed, &mut trail)
     }
 
-    /// Whether a tree need not be read, since it has no files behind the bytes that its paths begin with, or all are passed over.
+    /// Returns true only if a tree need not be read.
+    ///
+    /// It has no files, or all files below `front` are passed over.
     pub(crate) fn passes_tree<S: Passes>(&self, tree: Id, front: &[u8], passed: &S) -> bool
         requires { HasTree self.now tree }
         ensures { result ≡ true → any_but (S.passes passed.now) front.now (tree_rows self.now tree) ≡ false }
@@ -45,8 +49,9 @@ impl<N: Naming + Drop> Store<N> {
         outline.files == 0 || passed.passes_below(front, outline.size)
     }
 
-    /// Whether a tree has a file that is not passed over, directory by directory. A directory without files is not read, nor is one of which
-    /// all is passed over.
+    /// Returns true if a tree's file is not passed over.
+    ///
+    /// A directory is not read if it has no files or all of them are passed over.
     fn has_but<S: Passes>(&self, tree: Id, passed: &S, trail: &mut Trail) -> bool
         requires tree { HasTree self.now tree }
         requires room { length trail.old + tree_reach self.now tree ≤ 2049 }

@@ -1,4 +1,4 @@
-//! The store: its objects, what is put into it, and copies of it.
+//! The store: its objects, its put calls, and its copies.
 ghost use Rattle.std.specs.Prelude.{◌≡◌, ◌≤◌, ◌∷◌, [], None, IfOk, OnOk, OnErr, length, option_copied};
 ghost use Rattle.eden_objects.specs.Objects.{find};
 ghost use Rattle.eden_git.specs.Words.{word_text};
@@ -19,10 +19,11 @@ use std::marker::Model;
 /// The most bytes of an object's payload: 8 MiB.
 pub(crate) const PAYLOAD_LIMIT: usize = 8_388_608;
 
-/// A store of Git's objects: blobs, trees and commits, each under the id that a naming gives it.
+/// A store of Git's objects: blobs, trees and commits, each under its id.
 ///
-/// An object names earlier ones only, so a tree or a commit is put after all that it names. An object that is there stays for good,
-/// and no other object is put under its id. Objects are kept in memory, uncompressed, and a copy of a store shares them (`share`).
+/// A naming gives the ids. An object refers only to earlier ones, so a tree or a commit
+/// is put after everything that it refers to. Each id names one object, forever. Objects
+/// are kept in memory, uncompressed, and copies of a store share them (`share`).
 #[derive(Drop)]
 pub struct Store<N: Naming + Drop> {
     objects: Table<Stored>,
@@ -48,7 +49,7 @@ impl<N: Naming + Drop> Model for Store<N> {
 }
 
 impl<N: Naming + Drop> Store<N> {
-    /// A store without objects, whose ids this naming gives.
+    /// Returns a store without objects, whose ids this naming gives.
     pub fn new(alloc: Global, naming: N) -> Store<N>
         ensures { result ≡ [] }
     {
@@ -58,11 +59,21 @@ impl<N: Naming + Drop> Store<N> {
         }
     }
 
-    /// Puts a blob, whose payload is the bytes of a file or the target of a link, and answers its id; the same blob may be there
-    /// already.
+    /// Puts a blob and returns its id.
     ///
-    /// Refused, in this order, as `TooLarge`, `ZeroId` or `IdTaken`. `NoMemory` comes only where the blob would have been added and a
-    /// growth was refused. After a refusal the store is as before.
+    /// The same blob may be there already. The payload is the bytes of a file or the
+    /// target of a link.
+    ///
+    /// # Errors
+    ///
+    /// The first of these that applies; nothing changes:
+    ///
+    /// - `TooLarge` if there are more than 8,388,608 bytes.
+    /// - `ZeroId` if the id is that of the empty commit.
+    /// - `IdTaken` if another object has the id.
+    ///
+    /// `NoMemory` if an allocation fails, only where the blob would have been added;
+    /// nothing changes.
     pub fn put_blob(&mut self, payload: &[u8]) -> Result<Id, PutFault>
         ensures { PutGives result self.old self.new (blob_outcome N.id payload.now self.old) }
     {
@@ -72,17 +83,33 @@ impl<N: Naming + Drop> Store<N> {
         self.put(payload, Body::Blob)
     }
 
-    /// Puts a tree, whose payload is its entries, and answers its id; the same tree may be there already. An entry is a mode in octal
-    /// digits, a space, a name, a NUL byte and the 20 bytes of an id, as in Git's tree format.
+    /// Puts a tree and returns its id.
     ///
-    /// Refused as `TooLarge`, and then at the first entry with a fault: as `CutShort` where the payload ends before the entry does,
-    /// `BadMode`, `BadName`, `Duplicate` (an earlier entry has the name), `OutOfOrder` (names ascend, a directory's with a slash
-    /// behind it), `MissingChild` or `WrongChildKind`, in the order in which an entry is read. After all entries it is refused, in
-    /// this order, as `TooDeep` (more than 64 components), `PathTooLong` (more than 1,024 bytes), `ZeroId` or `IdTaken`.
-    /// `NoMemory` may stand in place of any answer but `TooLarge` where a growth was refused. After a refusal the store is as before.
+    /// The same tree may be there already. The payload is the tree's entries in Git's
+    /// format: each is a mode in octal digits, a space, a name, a NUL byte and the 20
+    /// bytes of an id.
     ///
-    /// It takes time in the order of the payload's length and, for n entries, of n log n; no child is read. Beside the payload it keeps
-    /// the columns of the entries (`eden_git::Columns`), by which names are found and trees compared.
+    /// The time grows with the payload's length and, for n entries, with n log n; no
+    /// child is read. Besides the payload it keeps the columns of the entries
+    /// (`eden_git::Columns`), by which names are found and trees compared.
+    ///
+    /// # Errors
+    ///
+    /// The first of these that applies; nothing changes:
+    ///
+    /// - `TooLarge` if there are more than 8,388,608 bytes.
+    /// - At the first entry that has one of these faults, in the order in which an entry
+    ///   is read: `CutShort` if the payload ends inside it; `BadMode`; `BadName`;
+    ///   `Duplicate` if an earlier entry has the name; `OutOfOrder` if the names do not
+    ///   ascend, a directory's taken with a slash after it; `MissingChild`;
+    ///   `WrongChildKind`.
+    /// - `TooDeep` if a path would have more than 64 components.
+    /// - `PathTooLong` if a path would have more than 1,024 bytes.
+    /// - `ZeroId` if the id is that of the empty commit.
+    /// - `IdTaken` if another object has the id.
+    ///
+    /// `NoMemory` if an allocation fails; it may be returned instead of any answer but
+    /// `TooLarge`; nothing changes.
     pub fn put_tree(&mut self, payload: &[u8]) -> Result<Id, PutFault>
         ensures { TreeGives result self.old self.new payload.now (tree_outcome N.id payload.now self.old) }
     {
@@ -93,12 +120,26 @@ impl<N: Naming + Drop> Store<N> {
         self.put(payload, Body::Tree(outline))
     }
 
-    /// Puts a commit, whose payload begins with `tree `, the 40 lowercase hexadecimal digits of a tree's id and a line feed, and
-    /// answers its id; the same commit may be there already. What follows the first line is kept and not read.
+    /// Puts a commit and returns its id.
     ///
-    /// Refused, in this order, as `TooLarge`, `CutShort` (fewer than 46 bytes), `BadCommit` (it begins otherwise), `MissingChild`,
-    /// `WrongChildKind` (what it names is no tree), `ZeroId` or `IdTaken`. `NoMemory` comes only where the commit would have been
-    /// added and a growth was refused. After a refusal the store is as before.
+    /// The same commit may be there already. The payload begins with `tree `, the 40
+    /// lowercase hexadecimal digits of a tree's id and a line feed. What follows the
+    /// first line is kept but not read.
+    ///
+    /// # Errors
+    ///
+    /// The first of these that applies; nothing changes:
+    ///
+    /// - `TooLarge` if there are more than 8,388,608 bytes.
+    /// - `CutShort` if there are fewer than 46 bytes.
+    /// - `BadCommit` if the payload does not begin as it must.
+    /// - `MissingChild` if the object that it names is not in the store.
+    /// - `WrongChildKind` if that object is not a tree.
+    /// - `ZeroId` if the id is that of the empty commit.
+    /// - `IdTaken` if another object has the id.
+    ///
+    /// `NoMemory` if an allocation fails, only where the commit would have been added;
+    /// nothing changes.
     pub fn put_commit(&mut self, payload: &[u8]) -> Result<Id, PutFault>
         ensures { PutGives result self.old self.new (commit_outcome N.id payload.now self.old) }
     {
@@ -106,7 +147,7 @@ impl<N: Naming + Drop> Store<N> {
         self.put(payload, Body::Commit { tree })
     }
 
-    /// The object with an id.
+    /// Returns the object with an id.
     pub(crate) fn object(&self, id: Id) -> Option<&Stored>
         ensures found { option_held id (option_copied result) ≡ find id self.now }
         ensures kept { TellsKept self.now id (option_copied result) }
@@ -114,8 +155,10 @@ impl<N: Naming + Drop> Store<N> {
         self.objects.get(id)
     }
 
-    /// What holds of every store: an object has one id and names earlier ones of the right kinds, its id is the naming's, and its payload
-    /// has 8 MiB at the most.
+    /// States what holds of every store.
+    ///
+    /// An object has one id and refers to earlier ones of the right types; its id is the
+    /// naming's; and its payload has at most 8 MiB.
     pub fn closed_law(&self)
         ensures closed { IsClosed self.now }
         ensures named { AllNamed N.id self.now }
@@ -124,16 +167,22 @@ impl<N: Naming + Drop> Store<N> {
         let _ = &self.objects;
     }
 
-    /// What the store takes its memory from.
+    /// Returns the store's allocator.
     pub fn allocator(&self) -> Global {
         self.objects.allocator()
     }
 
-    /// A copy of the store, which has the same objects and keeps them whatever is put into either afterwards. `NoMemory` comes where a
-    /// growth was refused, or an object has as many owners as can be counted; nothing is changed.
+    /// Returns a copy of the store, with the same objects.
     ///
-    /// No payload is copied: of n objects, a copy takes about log n pointers at the most. Objects that were put since the last copy are
-    /// set apart first, which takes a few pointers for each of them, and once in a while for each object.
+    /// Objects that are put into either of the two later are not in the other. No payload
+    /// is copied: for n objects, a copy takes at most about log n pointers. Objects that
+    /// were put since the last copy are prepared first, which takes a few pointers for
+    /// each of them, and now and then for each object.
+    ///
+    /// # Errors
+    ///
+    /// - `NoMemory` if an allocation fails, or an object has as many owners as can be
+    ///   counted; nothing changes.
     pub fn share(&mut self) -> Result<Store<N>, NoMemory>
         ensures copy { IfOk result (λ copy. copy ≡ self.old) }
         ensures same { self.new ≡ self.old }
@@ -144,7 +193,10 @@ impl<N: Naming + Drop> Store<N> {
         })
     }
 
-    /// Sets the objects apart that were put since the last copy, so that the next copy takes a few pointers.
+    /// Prepares new objects for the next copy.
+    ///
+    /// They are those that were put since the last copy; the next one then takes a few
+    /// pointers.
     pub(crate) fn rest(&mut self)
         ensures { self.new ≡ self.old }
     {

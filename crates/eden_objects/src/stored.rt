@@ -13,11 +13,11 @@ use eden_git::{Rows, Word, same_word};
 use eden_ids::{Id, NoMemory};
 use eden_segments::{Share, Shared};
 
-/// What an object is, and what is kept of it beside its payload.
+/// An object's type, and what is kept of it besides its payload.
 #[derive(Drop)]
 pub(crate) enum Body {
     Blob,
-    /// What the tree comes to, and its entries in columns.
+    /// The size of the tree, and its entries in columns.
     Tree(Shared<Outline>),
     Commit {
         /// The tree that the payload names.
@@ -26,7 +26,7 @@ pub(crate) enum Body {
 }
 
 impl Body {
-    /// The kind of the object.
+    /// Returns the object's type.
     pub(crate) fn word(&self) -> Word
         ensures { result ≡ word_of self.now }
     {
@@ -48,7 +48,7 @@ impl Share for Body {
     }
 }
 
-/// An object of a store, whose bytes stand once, however many stores have it.
+/// An object of a store. Its bytes are shared by all stores that have it.
 #[derive(Drop)]
 pub(crate) struct Stored {
     pub(crate) payload: Bytes,
@@ -56,7 +56,7 @@ pub(crate) struct Stored {
 }
 
 impl Stored {
-    /// What is answered where this object stands under the id that another would have.
+    /// Returns the answer for a new object with this object's id.
     pub(crate) fn id_or_taken(&self, id: Id, word: Word, payload: &[u8]) -> Result<Id, PutFault>
         ensures { result ≡ standing_answer self.now id word payload.now }
     {
@@ -67,7 +67,7 @@ impl Stored {
         }
     }
 
-    /// The payload, if the object is a blob.
+    /// Returns the payload, if the object is a blob.
     pub(crate) fn blob(&self) -> Option<&[u8]>
         ensures { option_copied result ≡ (if same_word (word_of self.now.body) Word.Blob then Some self.now.payload else None) }
     {
@@ -77,7 +77,7 @@ impl Stored {
         }
     }
 
-    /// The payload, if the object is a tree.
+    /// Returns the payload, if the object is a tree.
     pub(crate) fn entries(&self) -> Option<&[u8]>
         ensures { option_copied result ≡ (if same_word (word_of self.now.body) Word.Tree then Some self.now.payload else None) }
     {
@@ -87,7 +87,7 @@ impl Stored {
         }
     }
 
-    /// The entries with their columns, if the object is a tree.
+    /// Returns the entries with their columns, if the object is a tree.
     pub(crate) fn rows(&self) -> Option<Rows<'_>>
         requires { IsReadFrom self.now.payload self.now.body }
         ensures { result ≡ (if same_word (word_of self.now.body) Word.Tree then Some (entries_of self.now.payload) else None) }
@@ -98,7 +98,7 @@ impl Stored {
         }
     }
 
-    /// The tree that the object names, if it is a commit.
+    /// Returns the tree that the object names, if it is a commit.
     pub(crate) fn tree(&self) -> Option<Id>
         requires { IsReadFrom self.now.payload self.now.body }
         ensures { result ≡ (if same_word (word_of self.now.body) Word.Commit then tree_named self.now.payload else None) }

@@ -1,4 +1,4 @@
-//! The way of a search, in memory of a fixed size.
+//! The path of a search, in a buffer of fixed size.
 
 ghost use Rattle.std.specs.Prelude.{◌≡◌, ◌+◌, ◌≤◌, ◌++◌, ◌∷◌, [], length, take};
 
@@ -6,10 +6,12 @@ use crate::passing::Passes;
 use arrayvec::ArrayVec;
 use std::marker::Model;
 
-/// The bytes of a path, a slash, and a path behind it.
+/// The bytes of a path, a slash, and another path.
 const ROOM: usize = 2_049;
 
-/// What stands before each name of the directory that is searched: nothing at the root, and below it the directory's path and a slash.
+/// The bytes before each name of the directory that is searched.
+///
+/// They are the directory's path and a slash, or nothing at the root.
 #[derive(Drop)]
 pub(crate) struct Trail {
     bytes: ArrayVec<u8, ROOM>,
@@ -24,7 +26,7 @@ impl Model for Trail {
 }
 
 impl Trail {
-    /// The root's.
+    /// Returns the trail at the root.
     pub(crate) fn new() -> Trail
         ensures { result ≡ [] }
     {
@@ -33,7 +35,7 @@ impl Trail {
         }
     }
 
-    /// Puts a name behind what stands before it, and tells what `leave` goes back to.
+    /// Adds a name, and returns the length to which `leave` goes back.
     fn add(&mut self, name: &[u8]) -> usize
         requires { length self.old + length name.now ≤ 2049 }
         ensures added { self.new ≡ self.old ++ name.now }
@@ -47,7 +49,7 @@ impl Trail {
         length
     }
 
-    /// Whether the file of a name is passed over.
+    /// Returns true if the file with a name is passed over.
     pub(crate) fn passes<S: Passes>(&mut self, passed: &S, name: &[u8]) -> bool
         requires { length self.old + length name.now ≤ 2049 }
         ensures passes { result ≡ S.passes passed.now (self.old ++ name.now) }
@@ -59,7 +61,7 @@ impl Trail {
         passes
     }
 
-    /// Goes on to a directory of the one that is searched, and tells what `leave` goes back to.
+    /// Enters a directory, and returns the length to which `leave` goes back.
     pub(crate) fn enter(&mut self, name: &[u8]) -> usize
         requires { length self.old + length name.now + 1 ≤ 2049 }
         ensures entered { self.new ≡ self.old ++ name.now ++ 47 ∷ [] }
@@ -70,14 +72,14 @@ impl Trail {
         length
     }
 
-    /// The bytes.
+    /// Returns the bytes.
     pub(crate) fn as_bytes(&self) -> &[u8]
         ensures { result.now ≡ self.now }
     {
         self.bytes.as_slice()
     }
 
-    /// Goes back to the directory of which a length was told.
+    /// Goes back to the directory whose length `enter` returned.
     pub(crate) fn leave(&mut self, length: usize)
         ensures { self.new ≡ take length self.old }
     {

@@ -1,14 +1,12 @@
 //! The command line of `edend`.
 
+use crate::ends::{EDEND, VERSION};
 use crate::options::{number_of, number_option, small_of};
 use clap::{Arg, ArgAction, ArgMatches, Command, Error};
-use eden_command::VERSION;
+use eden_serve::Until;
 use std::alloc::Global;
 
-/// The program's name, in what it tells.
-pub(crate) const NAME: &str = "edend";
-
-/// What `edend run` is for.
+/// Says what `edend run` is for.
 const ABOUT_RUN: &str = "Runs a script from standard input";
 
 /// What `edend run` is for, and the lines of its script.
@@ -52,20 +50,18 @@ const ABOUT_OBJECTS: &str = "Put these objects first, in the form that
 those that it names. The label of a commit is the
 first 32 digits of its id.";
 
-/// How a mount is served.
+/// Says how a mount is served.
 #[derive(Clone, Copy)]
 pub(crate) struct Service {
     /// Where it listens.
     pub(crate) port: u16,
-    /// How many connections it takes, or how many at a time where it stays.
-    pub(crate) connections: u64,
-    /// Whether it takes connections until its input ends.
-    pub(crate) stays: bool,
+    /// How long it serves.
+    pub(crate) until: Until,
     /// Whether it prints what is refused, and where its script has ended.
     pub(crate) is_verbose: bool,
 }
 
-/// What reads a script.
+/// Says which command reads a script.
 #[derive(Clone, Copy)]
 pub(crate) enum Setting {
     /// `edend run`.
@@ -77,17 +73,17 @@ pub(crate) enum Setting {
     },
 }
 
-/// What the words of a command line ask for.
+/// Says what a command line asks for.
 #[derive(Clone, Copy)]
 pub(crate) struct Task<'a> {
-    /// The file of objects, where one is given.
+    /// The file of objects, if one is given.
     pub(crate) objects: Option<&'a str>,
-    /// How to serve, or none where a script is to be run alone.
+    /// How to serve, or `None` to run a script alone.
     pub(crate) service: Option<Service>,
 }
 
 impl<'a> Task<'a> {
-    /// What reads the script.
+    /// Returns which command reads the script.
     pub(crate) fn setting(&self) -> Setting {
         if self.service.is_none() {
             return Setting::Run;
@@ -98,7 +94,7 @@ impl<'a> Task<'a> {
     }
 }
 
-/// The option for a file of objects.
+/// Returns the option for a file of objects.
 fn objects_option<'a>(alloc: Global) -> Arg<'a> {
     Arg::new(alloc, "objects")
         .long("objects")
@@ -107,7 +103,7 @@ fn objects_option<'a>(alloc: Global) -> Arg<'a> {
         .action(ArgAction::Set)
 }
 
-/// `edend serve` with its options.
+/// Returns `edend serve` with its options.
 fn serve_command<'a>(alloc: Global) -> Result<Command<'a>, Error> {
     let port = number_option(
         alloc,
@@ -144,23 +140,31 @@ fn serve_command<'a>(alloc: Global) -> Result<Command<'a>, Error> {
     Ok(command)
 }
 
-/// How the words say that a mount is to be served.
+/// Returns how a mount is to be served.
 fn service_of(command: &mut Command<'_>, serve: &ArgMatches<'_>) -> Result<Service, Error> {
+    let port = small_of(command, serve, "port")?;
+    let connections = number_of(command, serve, "connections")?;
+    let until = if serve.get_flag("stay") {
+        Until::Input {
+            threads: connections,
+        }
+    } else {
+        Until::Connections(connections)
+    };
     Ok(Service {
-        port: small_of(command, serve, "port")?,
-        connections: number_of(command, serve, "connections")?,
-        stays: serve.get_flag("stay"),
+        port,
+        until,
         is_verbose: serve.get_flag("verbose"),
     })
 }
 
-/// What the words of a command line ask for. Help and the version are errors here too: they run nothing.
+/// Returns what a command line asks for. Help and the version are errors too: they run nothing.
 pub(crate) fn read_words<'a>(alloc: Global, words: &'a [String]) -> Result<Task<'a>, Error> {
     let run = Command::new(alloc, "run")
         .about(ABOUT_RUN)
         .long_about(LONG_ABOUT_RUN)
         .arg(objects_option(alloc))?;
-    let mut command = Command::new(alloc, NAME)
+    let mut command = Command::new(alloc, EDEND)
         .version(VERSION)
         .about("Runs a script of changes to a mount, and serves the mount over TCP")
         .subcommand_required(true)

@@ -1,15 +1,16 @@
-//! The program `follow`: what it does with its command line, its statuses, and what it prints if it can't go on.
+//! The program `follow`: what it does with its command line, its statuses, and what it prints if it
+//! can't go on.
 
 ghost use Rattle.std.specs.Prelude.{◌≤◌};
 
+use crate::ends::{FOLLOW, end_connect, end_demo, end_unrun, fail};
 use crate::explained::explain_patterns;
-use crate::follower_words::{NAME, Task, Wanted, read_words};
+use crate::follower_words::{Task, Wanted, read_words};
 use crate::reason::Excerpt;
-use crate::told::tell;
-use eden_command::{ProgramFault, end_unrun, fail};
-use eden_connect::{Progress, Quiet, Shown, connect_program};
+use eden_connect::{ConnectFault, Progress, Quiet, Shown, connect_program};
 use eden_demo::demo;
 use eden_globs::{Filter, FilterFault};
+use eden_sockets::Place;
 use std::alloc::{AllocError, Global};
 use std::io::Write;
 use std::net::{Net, TcpStream};
@@ -17,7 +18,7 @@ use std::sync::Wait;
 use std::thread::Threads;
 use std::time::Clock;
 
-/// Whether somebody sees what goes to standard error, and so is shown how far the work is.
+/// Says whether somebody sees standard error, and so is shown how far the work is.
 #[derive(Clone, Copy, Debug, PartialEq, Eq)]
 pub enum Screen {
     /// It goes to a terminal.
@@ -26,7 +27,7 @@ pub enum Screen {
     None,
 }
 
-/// The filter of some patterns, in the order in which they are given.
+/// Returns the filter of some patterns, in their order.
 fn filter_of(alloc: Global, patterns: &[&str]) -> Result<Filter, FilterFault> {
     let mut words = Vec::new(alloc);
     for pattern in patterns {
@@ -45,7 +46,7 @@ fn keep<R: Net<Stream = TcpStream>, O: Write, P: Progress>(
     filter: &Filter,
     output: &mut O,
     progress: &mut P,
-) -> Result<(), ProgramFault> {
+) -> Result<(), ConnectFault> {
     let Wanted {
         port,
         mirror,
@@ -53,8 +54,9 @@ fn keep<R: Net<Stream = TcpStream>, O: Write, P: Progress>(
         rounds,
         ..
     } = *wanted;
+    let place = Place::Port(port);
     connect_program(
-        rt, alloc, output, port, mirror, life, rounds, filter, progress,
+        rt, alloc, output, place, mirror, life, rounds, filter, progress,
     )
 }
 
@@ -68,19 +70,19 @@ fn tell_pattern<E: Write>(errors: &mut E, fault: FilterFault, patterns: &[&str])
     let _ = match refused {
         Some(pattern) => {
             let pattern = Excerpt(pattern.as_bytes());
-            write!(errors, "{NAME}: {fault}: `{pattern}`: {why}\n")
+            write!(errors, "{FOLLOW}: {fault}: `{pattern}`: {why}\n")
         }
-        None => write!(errors, "{NAME}: {fault}: {why}\n"),
+        None => write!(errors, "{FOLLOW}: {fault}: {why}\n"),
     };
 }
 
 /// Returns why a fault came.
-fn explain(alloc: Global, fault: &ProgramFault, port: u16) -> Result<Option<String>, AllocError> {
+fn explain(alloc: Global, fault: ConnectFault, port: u16) -> Result<Option<String>, AllocError> {
     let why = match fault {
-        ProgramFault::NoConnection => {
+        ConnectFault::NoConnection => {
             format!(in alloc; "nothing serves a mount at port {port} of 127.0.0.1")?
         }
-        ProgramFault::Write => format!(in alloc; "standard output can't be written")?,
+        ConnectFault::Write => format!(in alloc; "standard output can't be written")?,
         _ => return Ok(None),
     };
     Ok(Some(why))
@@ -99,7 +101,7 @@ fn connect<R: Net<Stream = TcpStream> + Clock, O: Write, E: Write>(
 {
     let filter = match filter_of(alloc, wanted.patterns.as_slice()) {
         Ok(filter) => filter,
-        Err(FilterFault::NoMemory) => return fail(errors, NAME, "NoMemory"),
+        Err(FilterFault::NoMemory) => return fail(errors, FOLLOW, "NoMemory"),
         Err(fault) => {
             tell_pattern(errors, fault, wanted.patterns.as_slice());
             return 2;
@@ -115,8 +117,8 @@ fn connect<R: Net<Stream = TcpStream> + Clock, O: Write, E: Write>(
     match ended {
         Ok(()) => 0,
         Err(fault) => {
-            let why = explain(alloc, &fault, wanted.port);
-            tell(errors, NAME, &fault, why)
+            let why = explain(alloc, fault, wanted.port);
+            end_connect(errors, fault, why.unwrap_or(None))
         }
     }
 }
@@ -132,20 +134,24 @@ fn run_demo<R: Threads + Wait + Clock + Sync, O: Write, E: Write>(
 {
     match demo(rt, alloc, output) {
         Ok(()) => 0,
-        Err(fault) => fault.tell(errors, NAME),
+        Err(fault) => end_demo(errors, fault),
     }
 }
 
-/// Runs `follow` with the words of a command line, of which the first is its name, and returns the status that it ends with.
+/// Runs `follow` with the words of a command line, and returns its status.
 ///
-/// `demo` runs the demonstration, as `eden_demo::demo` does. `connect` keeps a mirror of a mount that is served over TCP, as
-/// `eden_connect::connect_program` does; on a terminal it shows how many of the contents have come. `--version` writes name and version to the
-/// output.
+/// The first word is the program's name.
+///
+/// `demo` runs the demonstration, as `eden_demo::demo` does. `connect` keeps a mirror of a mount
+/// that is served over TCP, as `eden_connect::connect_program` does; on a terminal it shows how
+/// many of the contents have come. `--version` writes name and version to the output.
 ///
 /// - 0: the demonstration ended well, the mirror is placed, or the version was written.
-/// - 1: the mirror is placed nowhere, as the output says.
-/// - 2: the command line is refused, or asks for help: what `clap` says; or a pattern is refused: `follow: `, the fault, and why.
-/// - 3: writing or memory failed, or there was no connection: `follow: `, `Write`, `NoMemory` or `NoConnection`, and why.
+/// - 1: the mirror has no position, as the output says.
+/// - 2: the command line is refused, or asks for help: what `clap` says; or a pattern is refused:
+///   `follow: `, the fault, and why.
+/// - 3: writing or memory failed, or there was no connection: `follow: `, `Write`, `NoMemory` or
+///   `NoConnection`, and why.
 /// - 4: the audit refused the logs, or the followers differ, as the output says.
 ///
 /// All this goes to `errors`; that it can't be printed changes no status.
@@ -162,6 +168,6 @@ pub fn follow<R: Threads + Wait + Clock + Net<Stream = TcpStream> + Sync, O: Wri
     match read_words(alloc, words) {
         Ok(Task::Demo) => run_demo(rt, alloc, output, errors),
         Ok(Task::Connect(wanted)) => connect(rt, alloc, &wanted, output, errors, screen),
-        Err(error) => end_unrun(output, errors, NAME, &error),
+        Err(error) => end_unrun(output, errors, FOLLOW, &error),
     }
 }

@@ -1,12 +1,9 @@
 //! The command line of `follow`.
 
+use crate::ends::{FOLLOW, VERSION};
 use crate::options::{number_of, number_option, small_of};
 use clap::{Arg, ArgAction, ArgMatches, Command, Error};
-use eden_command::VERSION;
 use std::alloc::Global;
-
-/// The program's name, in what it tells.
-pub(crate) const NAME: &str = "follow";
 
 /// What `follow demo` is for.
 const ABOUT_DEMO: &str = "Runs writers beside followers, and audits what they did";
@@ -28,7 +25,7 @@ It makes N rounds, and prints the mirror: `placed GENERATION SEQUENCE ROOT` or
 A PATTERN is a path in which `*` matches any part of a name, and `**` any
 directories. Without a pattern the mirror has all files.";
 
-/// What `follow connect` is to do.
+/// Says what `follow connect` is to do.
 #[derive(Drop)]
 pub(crate) struct Wanted<'a> {
     /// Where the mount is served.
@@ -37,13 +34,13 @@ pub(crate) struct Wanted<'a> {
     pub(crate) mirror: u64,
     /// Its life.
     pub(crate) life: u64,
-    /// How many rounds it makes.
+    /// The number of rounds.
     pub(crate) rounds: u32,
     /// The patterns of the paths that it wants.
     pub(crate) patterns: Vec<&'a str>,
 }
 
-/// What the words of a command line ask for.
+/// Says what a command line asks for.
 #[derive(Drop)]
 pub(crate) enum Task<'a> {
     /// The demonstration.
@@ -52,7 +49,7 @@ pub(crate) enum Task<'a> {
     Connect(Wanted<'a>),
 }
 
-/// `follow connect` with its options.
+/// Returns `follow connect` with its options.
 fn connect_command<'a>(alloc: Global) -> Result<Command<'a>, Error> {
     let port = number_option(
         alloc,
@@ -102,7 +99,7 @@ fn connect_command<'a>(alloc: Global) -> Result<Command<'a>, Error> {
     Ok(command)
 }
 
-/// What the words say that `follow connect` is to do.
+/// Returns what `follow connect` is to do.
 fn wanted_of<'a>(
     alloc: Global,
     command: &mut Command<'_>,
@@ -121,12 +118,12 @@ fn wanted_of<'a>(
     })
 }
 
-/// What the words of a command line ask for. Help and the version are errors here too: they run nothing.
+/// Returns what a command line asks for. Help and the version are errors too: they run nothing.
 pub(crate) fn read_words<'a>(alloc: Global, words: &'a [String]) -> Result<Task<'a>, Error> {
     let demo = Command::new(alloc, "demo")
         .about(ABOUT_DEMO)
         .long_about(LONG_ABOUT_DEMO);
-    let mut command = Command::new(alloc, NAME)
+    let mut command = Command::new(alloc, FOLLOW)
         .version(VERSION)
         .about("Keeps mirrors of a mount")
         .subcommand_required(true)

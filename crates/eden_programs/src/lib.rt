@@ -1,4 +1,5 @@
-//! The programs `edend` and `follow` as functions over any devices: their command lines, what they do, and the statuses that they end with.
+//! The programs `edend` and `follow` as functions over any devices: their command lines, what they
+//! do, and their statuses.
 //!
 //! ```rust
 //! use eden_programs::{Screen, follow};
@@ -16,12 +17,15 @@
 #![tactic(auto)]
 
 pub use crate::daemon::edend;
+pub use crate::ends::{end_connect, end_daemon, end_demo};
 pub use crate::follower::{Screen, follow};
 pub use crate::objects::Shelf;
+pub use crate::words::command_words;
 
 mod daemon;
 mod daemon_words;
 mod devices;
+mod ends;
 mod explained;
 mod follower;
 mod follower_words;
@@ -30,4 +34,4 @@ mod objects;
 mod options;
 mod reason;
 mod script;
-mod told;
+mod words;

@@ -1,10 +1,10 @@
 //! What goes wrong while a mount is served, as standard error shows it.
 
-use crate::daemon_words::NAME;
+use crate::ends::EDEND;
 use crate::reason::Excerpt;
-use eden_frames::FrameFault;
 use eden_history::{Change, ChangeFault};
 use eden_serve::Observer;
+use eden_stream::FrameFault;
 use std::io::Write;
 use std::sync::{Mutex, Wait};
 
@@ -17,7 +17,8 @@ struct Heard<'a, E> {
     taken: u64,
 }
 
-/// Prints what goes wrong while a mount is served when it happens, and counts it. Without `--verbose` it does nothing.
+/// Prints what goes wrong while a mount is served when it happens, and counts it. Without
+/// `--verbose` it does nothing.
 #[derive(Drop)]
 pub(crate) struct Log<'a, 'b, E, R: Wait> {
     rt: &'b R,
@@ -67,7 +68,7 @@ impl<'a, 'b, E: Write, R: Wait> Log<'a, 'b, E, R> {
         if changes > 0 || frames > 0 || taken > 0 {
             let _ = write!(
                 errors,
-                "{NAME}: refused changes: {changes}; connections that ended at an invalid frame: {frames}; times that all places were taken: {taken}\n"
+                "{EDEND}: refused changes: {changes}; connections that ended at an invalid frame: {frames}; times that all places were taken: {taken}\n"
             );
         }
     }
@@ -82,7 +83,7 @@ impl<'a, 'b, E: Write, R: Wait> Observer for Log<'a, 'b, E, R> {
             heard.changes = heard.changes.saturating_add(1);
             let _ = write!(
                 heard.errors,
-                "{NAME}: `{word}{path}` was refused: {fault}\n"
+                "{EDEND}: `{word}{path}` was refused: {fault}\n"
             );
         }
     }
@@ -92,7 +93,7 @@ impl<'a, 'b, E: Write, R: Wait> Observer for Log<'a, 'b, E, R> {
             let mut heard = self.heard.lock(self.rt);
             let _ = write!(
                 heard.errors,
-                "{NAME}: line {number} can't be read, so no line changes the mount any more\n"
+                "{EDEND}: line {number} can't be read, so no line changes the mount any more\n"
             );
         }
     }
@@ -103,7 +104,7 @@ impl<'a, 'b, E: Write, R: Wait> Observer for Log<'a, 'b, E, R> {
             heard.frames = heard.frames.saturating_add(1);
             let _ = write!(
                 heard.errors,
-                "{NAME}: a connection has ended: frame {number}: {fault}\n"
+                "{EDEND}: a connection has ended: frame {number}: {fault}\n"
             );
         }
     }
@@ -114,7 +115,7 @@ impl<'a, 'b, E: Write, R: Wait> Observer for Log<'a, 'b, E, R> {
             heard.taken = heard.taken.saturating_add(1);
             let _ = write!(
                 heard.errors,
-                "{NAME}: all places are taken; the next connection waits\n"
+                "{EDEND}: all places are taken; the next connection waits\n"
             );
         }
     }

@@ -2,12 +2,11 @@
 
 ghost use Rattle.std.specs.Prelude.{◌≤◌, IfErr};
 
-use crate::daemon_words::NAME;
 use crate::devices::Noting;
+use crate::ends::{EDEND, fail};
 use crate::explained::explain_put;
 use crate::reason::Excerpt;
 use eden_batch::{ObjectFault, ObjectsFault, read_objects};
-use eden_command::fail;
 use eden_edend::Objects;
 use eden_git::{RawEntry, Word, read_entry, tree_named};
 use eden_ids::{GitNaming, Id, Naming, NoMemory};
@@ -18,16 +17,18 @@ use std::io::{Read, Write};
 use std::marker::Model;
 use std::{fmt, io};
 
-/// Where the files are that a command line names.
+/// Opens the files that a command line names.
 pub trait Shelf {
     /// A file that is open.
     type File: Read + Drop;
 
     /// Opens the file of this name, to be read.
+    ///
+    /// No clause says what a name opens: the bytes of a file are the system's.
     fn open(&self, name: &str) -> io::Result<Self::File>;
 }
 
-/// An object, by which a person finds it.
+/// Names an object to a person.
 #[derive(Clone, Copy, Debug)]
 struct Named {
     word: Word,
@@ -42,7 +43,7 @@ impl fmt::Display for Named {
     }
 }
 
-/// An object that a store has refused, and why.
+/// Holds an object that a store has refused, and why.
 #[derive(Clone, Copy, Debug)]
 struct Refused {
     object: Named,
@@ -66,7 +67,7 @@ impl fmt::Display for Refused {
     }
 }
 
-/// A store, and the object that it refused last.
+/// Holds a store, and the object that it refused last.
 #[derive(Drop)]
 struct Filled {
     store: Store<GitNaming>,
@@ -90,7 +91,7 @@ impl Filled {
         }
     }
 
-    /// The objects, with the commits among these ids bound to their own labels.
+    /// Returns the objects, with the commits among these ids bound to their own labels.
     fn into_objects(self, alloc: Global, ids: &[Id]) -> Result<Objects, NoMemory> {
         let mut objects = Objects::new(alloc);
         objects.store = self.store;
@@ -102,7 +103,7 @@ impl Filled {
         self.store.blob(id).is_some() || self.store.tree(id).is_some()
     }
 
-    /// The first object that a tree names and the store does not have.
+    /// Returns the first object that a tree names and the store does not have.
     fn missing_entry(&self, payload: &[u8]) -> Option<Named> {
         let mut rest = payload;
         for _ in 0..payload.len() {
@@ -120,7 +121,7 @@ impl Filled {
         None
     }
 
-    /// The first object that an object names and the store does not have.
+    /// Returns the first object that an object names and the store does not have.
     fn missing(&self, word: Word, payload: &[u8]) -> Option<Named> {
         match word {
             Word::Blob => None,
@@ -187,16 +188,17 @@ fn tell_object<E: Write>(
 ) {
     let _ = match (cause, refused) {
         (ObjectFault::Refused(_), Some(refused)) => {
-            write!(errors, "{NAME}: {fault}: {refused}\n")
+            write!(errors, "{EDEND}: {fault}: {refused}\n")
         }
         _ => {
             let why = explain_object(cause);
-            write!(errors, "{NAME}: {fault}: {why}\n")
+            write!(errors, "{EDEND}: {fault}: {why}\n")
         }
     };
 }
 
-/// Prints why the objects of a file can't be read, and returns the status that the program ends with.
+/// Prints why the objects of a file can't be read, and returns the status that the program ends
+/// with.
 fn tell_fault<E: Write>(
     errors: &mut E,
     fault: ObjectsFault,
@@ -212,18 +214,19 @@ fn tell_fault<E: Write>(
             1
         }
         (ObjectsFault::Read { .. }, Some(error)) => {
-            let _ = write!(errors, "{NAME}: {fault}: {name}: {error}\n");
+            let _ = write!(errors, "{EDEND}: {fault}: {name}: {error}\n");
             3
         }
         _ => {
-            let _ = write!(errors, "{NAME}: {fault}\n");
+            let _ = write!(errors, "{EDEND}: {fault}\n");
             3
         }
     }
 }
 
-/// Puts the objects of a file, and binds each commit to its own label; or prints why that can't be done, and returns the status that the
-/// program ends with.
+/// Puts the objects of a file, and binds each commit to its own label.
+///
+/// If that can't be done, it prints why, and returns the status that the program ends with.
 fn read_first<F: Read + Drop, E: Write>(
     alloc: Global,
     file: F,
@@ -237,13 +240,13 @@ fn read_first<F: Read + Drop, E: Write>(
     match read_objects(alloc, &mut Counted::new(&mut device), &mut filled) {
         Ok(ids) => match filled.into_objects(alloc, ids.as_slice()) {
             Ok(objects) => Ok(objects),
-            Err(NoMemory) => Err(fail(errors, NAME, "NoMemory")),
+            Err(NoMemory) => Err(fail(errors, EDEND, "NoMemory")),
         },
         Err(fault) => Err(tell_fault(errors, fault, filled.refused, name, device.failed)),
     }
 }
 
-/// The objects that the script begins with: those of the file that the command line names, or none.
+/// Returns the objects that the script begins with: those of the file on the command line, or none.
 pub(crate) fn first_objects<S: Shelf, E: Write>(
     alloc: Global,
     shelf: &S,
@@ -258,7 +261,7 @@ pub(crate) fn first_objects<S: Shelf, E: Write>(
     match shelf.open(name) {
         Ok(file) => read_first(alloc, file, name, errors),
         Err(error) => {
-            let _ = write!(errors, "{NAME}: {name}: {error}\n");
+            let _ = write!(errors, "{EDEND}: {name}: {error}\n");
             Err(3)
         }
     }

@@ -5,7 +5,7 @@ use clap::error::ErrorKind;
 use clap::{Arg, ArgAction, ArgMatches, Command, Error};
 use std::alloc::Global;
 
-/// An option that has to be given, with a number between two others.
+/// Returns an option that must be given, with a number between two others.
 pub(crate) fn number_option<'a>(
     alloc: Global,
     name: &'a str,
@@ -23,7 +23,7 @@ pub(crate) fn number_option<'a>(
         .action(ArgAction::Set)
 }
 
-/// The number that an option has. That it has none is told as `clap` tells it.
+/// Returns the number of an option, or the error of `clap` if it has none.
 pub(crate) fn number_of(
     command: &mut Command<'_>,
     matches: &ArgMatches<'_>,
@@ -35,7 +35,7 @@ pub(crate) fn number_of(
     }
 }
 
-/// The number that an option has, where its range is that of a smaller type.
+/// Returns the number of an option whose range fits a smaller type.
 pub(crate) fn small_of<T: TryFrom<u64>>(
     command: &mut Command<'_>,
     matches: &ArgMatches<'_>,

@@ -37,7 +37,8 @@ fn is_read(alloc: Global, line: &[u8]) -> Result<bool, AllocError>
 }
 
 impl Field {
-    /// Whether this may be such a word: whether the line of a script can be read that is put together from it and others that are right.
+    /// Whether this may be such a word: whether the line of a script can be read that is put
+    /// together from it and others that are right.
     fn admits(self, alloc: Global, word: &[u8]) -> Result<bool, AllocError> {
         let (front, behind) = match self {
             Field::Any => return Ok(true),
@@ -224,7 +225,8 @@ impl Row {
 /// The most characters of a word that are shown.
 const SHOWN: usize = 60;
 
-/// Bytes from outside, as a person may see them on a terminal: short, and without control characters.
+/// Bytes from outside, as a person may see them on a terminal: short, and without control
+/// characters.
 #[derive(Clone, Copy, Debug)]
 pub(crate) struct Excerpt<'a>(pub(crate) &'a [u8]);
 
@@ -254,7 +256,7 @@ pub(crate) enum Reason<'a> {
     SpaceBefore,
     /// The line ends with a space.
     SpaceAfter,
-    /// Two spaces stand in a row.
+    /// There are two spaces in a row.
     TwoSpaces,
     /// A backslash in this word begins no escape.
     Escape(&'a [u8]),
@@ -359,8 +361,8 @@ fn line_reason<'a>(alloc: Global, line: &'a [u8]) -> Result<Reason<'a>, AllocErr
 
 /// Returns why a line can't be read, or `None` exactly if it can.
 ///
-/// The line comes without its end. Lines that are empty or comments are skipped in a script, and are not looked at here. How long the line is
-/// does not matter.
+/// The line comes without its end. Lines that are empty or comments are skipped in a script, and
+/// are not looked at here. How long the line is does not matter.
 ///
 /// # Errors
 ///

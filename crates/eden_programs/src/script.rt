@@ -111,7 +111,8 @@ impl Passed {
 pub(crate) struct Script<I> {
     device: I,
     passed: Passed,
-    /// The lines that were not whole before the last read; of one that is too long no more than its front is kept.
+    /// The lines that were not whole before the last read; of one that is too long no more than its
+    /// front is kept.
     recent: Vec<u8>,
     /// Whether there was memory for them.
     is_known: bool,
@@ -136,7 +137,8 @@ impl<I> Script<I> {
         }
     }
 
-    /// Remembers bytes that were read. The whole lines before them were run, so they are passed over.
+    /// Remembers bytes that were read. The whole lines before them were run, so they are passed
+    /// over.
     fn remember(&mut self, bytes: &[u8]) {
         if let Some(end) = self.recent.as_slice().rfind_byte(b'\n') {
             for line in self.recent[..end].split(|b| *b == b'\n') {
@@ -158,7 +160,8 @@ impl<I> Script<I> {
         (self.passed.count, is_whole)
     }
 
-    /// Returns why the line of this number can't be read, or why the script may not end before it. `None` if that isn't known.
+    /// Returns why the line of this number can't be read, or why the script may not end before it.
+    /// `None` if that isn't known.
     pub(crate) fn explain(&mut self, number: u64, setting: Setting) -> Option<String> {
         if !self.is_known {
             return None;

@@ -1,19 +1,19 @@
 -- What frames tell of a server, carried on from body to body, and what it says at the end.
 use Rattle.std.proofs.Common.{ℕ, inl, inr, List, [], ◌∷◌, ◌++◌, map, Option, Result, Ok, Err, refl, sym, ap, ◌∙◌, subst}
 use Rattle.std.proofs.lemmas.List.{map-append}
-use Rattle.eden_frames.proofs.FrameEndings.{at_each_end, serve_ends}
-use Rattle.eden_frames.proofs.Replying.{answers_tell, replied_none}
-use Rattle.eden_frames.specs.FrameAnswers.{AnswersBody, RepliesAs}
-use Rattle.eden_frames.specs.FrameEnds.{Serves}
-use Rattle.eden_frames.specs.FrameTellings.{EndsTelling}
-use Rattle.eden_frames.specs.declared.fault.FrameFault.{FrameFault}
-use Rattle.eden_frames.specs.declared.frames.ServeFault.{ServeFault}
+use Rattle.eden_stream.proofs.FrameEndings.{at_each_end, serve_ends}
+use Rattle.eden_stream.proofs.Replying.{answers_tell, replied_none}
+use Rattle.eden_stream.specs.FrameAnswers.{AnswersBody, RepliesAs}
+use Rattle.eden_stream.specs.FrameEnds.{Serves}
+use Rattle.eden_stream.specs.FrameTellings.{EndsTelling}
+use Rattle.eden_stream.specs.declared.frame_fault.FrameFault.{FrameFault}
+use Rattle.eden_stream.specs.declared.frames.ServeFault.{ServeFault}
 use Rattle.eden_history.specs.Worlds.{WorldState}
 use Rattle.eden_messages.specs.declared.message.Request.{Request}
 use Rattle.eden_stream.specs.Stories.{Tells}
-use Rattle.eden_stream.specs.declared.teller.Answer.{Answer}
-use Rattle.eden_stream.specs.declared.teller.Answer.TheVariants.{Told, Fault, NoMemory}
-use Rattle.eden_query.specs.Answers.{answer_to, answered}
+use Rattle.eden_stream.specs.declared.teller.Step.{Step}
+use Rattle.eden_stream.specs.declared.teller.Step.TheVariants.{Told, Fault, NoMemory}
+use Rattle.eden_query.specs.Answers.{answer_to, answered, refused_with}
 use Rattle.eden_wire.specs.Reading.{read_request}
 use Rattle.eden_query.specs.Servers.{Asks}
 use Rattle.eden_query.specs.Servings.{AsksBodies, serving_story}
@@ -45,7 +45,7 @@ module _ {T : Type 0} (gives : T → ℕ → Request → Raw → T → Type 0) (
       record { requests = []; spelled = refl; asked = refl },
     )
 
-    pub serving_tells : (old new : T) (bodies : List (List ℕ)) (sent body before_text text : List ℕ) (answer : Answer FrameFault)
+    pub serving_tells : (old new : T) (bodies : List (List ℕ)) (sent body before_text text : List ℕ) (answer : Step FrameFault)
         → ((world : WorldState) → stands_for old world → AnswersBody (answer_to world) body before_text text answer)
         → ((world : WorldState) → stands_for old world → stands_for new world) → AsksBody gives caller old body new answer
         → (serving_story stands_for gives caller before old).told bodies (sent ++ before_text)
@@ -84,7 +84,7 @@ module _ {T : Type 0} (gives : T → ℕ → Request → Raw → T → Type 0) (
       replies_as world s = record {
         told = λ bodies text told. told.0.replied world s;
         lost = λ bodies text lost. lost.0.replied world s;
-        refused = λ bodies body fault unread. ap (answered world) unread.1 ∙ ap (λ cause. Err cause) (sym unread.2);
+        refused = λ bodies body fault unread. ap (answered world) unread.1 ∙ ap refused_with unread.2;
         spent = λ bodies body text spent. spent.0.replied world s;
       }
 

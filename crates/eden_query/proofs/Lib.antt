@@ -2,3 +2,4 @@ mod ReplyFits
 mod Telling
 mod Asking
 mod Spelled
+mod TellingOver

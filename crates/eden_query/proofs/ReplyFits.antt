@@ -9,7 +9,7 @@ use Rattle.eden_messages.specs.declared.message.Reply.{Reply}
 use Rattle.eden_messages.specs.declared.message.Reply.TheVariants.{Refused}
 use Rattle.eden_messages.specs.Replies.{bounded}
 use Rattle.eden_messages.specs.Spells.{reply_bytes}
-use Rattle.eden_frames.specs.Frames.{body_limit}
+use Rattle.eden_stream.specs.Frames.{body_limit}
 
 refusal-length : (query : Query) (cause : Cause) → length (reply_bytes (Refused query cause)) ≡ 35
 refusal-length query (Stale generation) = refl

@@ -1,5 +1,8 @@
--- What is replied, from what a mount told when it was asked.
+-- The reply that is made of what was held of a mount.
 use Rattle.std.specs.Prelude.{◌≡◌, Bool, true, is_some, IsSome, List, [], ℕ}
+use Rattle.eden_objects.specs.Closed.{IsClosed}
+use Rattle.eden_objects.specs.Commits.{commit_map}
+use Rattle.eden_objects.specs.Laws.{HasAll}
 use Rattle.eden_objects.specs.Objects.{Held}
 use Rattle.eden_ranges.specs.Expanded.{are_commits, are_comparable, expanded}
 use Rattle.eden_messages.specs.declared.message.Reply.{Reply}
@@ -14,8 +17,9 @@ use Rattle.eden_accumulate.specs.Snapshots.{shown_to}
 use Rattle.eden_query.specs.declared.raw.Raw.{Raw}
 use Rattle.eden_query.specs.declared.raw.Raw.TheVariants as raw
 
--- over a store's objects: of a range the paths that it names and the patterns admit, and all its directories, up to where it ends; of a
--- snapshot the paths of its files that they admit, or those of them below a directory; and the content that was held
+-- The reply over a store's objects. Of a range: its end, the paths that it names and the patterns
+-- admit, and all its directories. Of a snapshot: the paths of its files that the patterns admit,
+-- all of them or those below a directory. Else what was held.
 abbrev pub told : List Held → List (List ℕ) → Raw → Reply
 told held patterns (raw.Ranged query range) = bounded query (ChangesAre query range.to (admitted patterns (expanded held range)) range.prefixes)
 told held patterns (raw.Based query snapshot) = bounded query (BasisIs query snapshot.position (shown_to patterns held snapshot))
@@ -23,8 +27,8 @@ told held patterns (raw.Held query position path content) = bounded query (Conte
 told held patterns (raw.Listed query snapshot prefix) = bounded query (ListIs query snapshot.position prefix (below prefix (shown_to patterns held snapshot)))
 told held patterns (raw.Refused query cause) = Refused query cause
 
--- whether the commits are there that it takes: each two neighbouring roots of a range are one or both commits, and a snapshot's root
--- is one
+-- whether the commits are there that the reply takes: two neighbouring roots of a range are equal
+-- or are both commits, and the root of a snapshot is a commit
 abbrev pub is_answerable : Commits → Raw → Bool
 is_answerable commits (raw.Ranged query range) = are_comparable commits range.roots
 is_answerable commits (raw.Based query snapshot) = is_some (commits snapshot.position.root)
@@ -32,7 +36,8 @@ is_answerable commits (raw.Held query position path content) = true
 is_answerable commits (raw.Listed query snapshot prefix) = is_some (commits snapshot.position.root)
 is_answerable commits (raw.Refused query cause) = true
 
--- whether each commit that it names is there: the roots that a range passes and the one at its end, and that of a snapshot or of a file
+-- each commit that it names is there: the roots of a range and the one at its end, and the root of
+-- a snapshot or of a file's position
 abbrev pub NamesCommits : Commits → Raw → Type 0
 NamesCommits commits (raw.Ranged query range) = (are_commits commits range.roots ≡ true) × IsSome (commits range.to.root)
 NamesCommits commits (raw.Based query snapshot) = IsSome (commits snapshot.position.root)
@@ -40,9 +45,19 @@ NamesCommits commits (raw.Held query position path content) = IsSome (commits po
 NamesCommits commits (raw.Listed query snapshot prefix) = IsSome (commits snapshot.position.root)
 NamesCommits commits (raw.Refused query cause) = Unit {0}
 
--- the patterns of a request's filter; one that has no filter has no pattern either
+-- the patterns of a request's filter, and none if it has no filter
 abbrev pub patterns_of : Request → List (List ℕ)
 patterns_of (Basis query patterns) = patterns
 patterns_of (Fetch query path) = []
 patterns_of (Poll query since patterns) = patterns
 patterns_of (Below query prefix patterns) = patterns
+
+-- if each commit that it names is there, the reply is the same over a store with more objects
+abbrev pub TellsOver : Type 0
+TellsOver = (held more : List Held) → IsClosed held → IsClosed more → HasAll held more → (patterns : List (List ℕ)) (raw : Raw)
+    → NamesCommits (commit_map held) raw → told more patterns raw ≡ told held patterns raw
+
+-- and it can be made over them
+abbrev pub StaysAnswerable : Type 0
+StaysAnswerable = (held more : List Held) → IsClosed held → IsClosed more → HasAll held more → (raw : Raw)
+    → NamesCommits (commit_map held) raw → is_answerable (commit_map more) raw ≡ true

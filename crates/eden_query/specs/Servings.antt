@@ -1,34 +1,35 @@
--- What a server was asked by the frames of a stream, and what they tell of it.
-use Rattle.std.specs.Prelude.{◌≡◌, ℕ, ◌⊎◌, List, [], ◌∷◌, ◌++◌, map, Ok, Err}
-use Rattle.eden_frames.specs.FrameAnswers.{HasReplied}
-use Rattle.eden_frames.specs.declared.fault.FrameFault.{FrameFault}
+-- What the frames of a stream ask a server, and what is known of them.
+use Rattle.std.specs.Prelude.{◌≡◌, ℕ, ◌⊎◌, List, [], ◌∷◌, ◌++◌, map, Some, Ok, Err}
+use Rattle.eden_stream.specs.FrameAnswers.{HasReplied}
+use Rattle.eden_stream.specs.declared.frame_fault.FrameFault.{FrameFault}
 use Rattle.eden_history.specs.Worlds.{WorldState}
 use Rattle.eden_messages.specs.declared.message.Request.{Request}
 use Rattle.eden_stream.specs.Stories.{Story}
-use Rattle.eden_query.specs.Answers.{answer_to, frame_fault}
+use Rattle.eden_query.specs.Answers.{answer_to, frame_fault_of}
 use Rattle.eden_wire.specs.Reading.{read_request}
 use Rattle.eden_query.specs.Servers.{Asks}
 use Rattle.eden_wire.specs.declared.fault.DecodeFault.{DecodeFault}
 use Rattle.eden_query.specs.declared.raw.Raw.{Raw}
 
--- The caller asked the requests that the bodies spell, in order, each once and nothing else, which took the server from the first state to
--- the last.
+-- The caller asked the requests that the bodies spell, in order, each once and nothing else. That
+-- took the server from the first state to the last.
 pub record AsksBodies {T : Type 0} (gives : T → ℕ → Request → Raw → T → Type 0) (caller : ℕ) (old : T) (bodies : List (List ℕ)) (new : T) : Type 0 where
   pub requests : List Request
   pub spelled : map read_request bodies ≡ map (λ request. Ok request) requests
   pub asked : Asks gives caller old requests new
 
--- The text is the right replies to the bodies in each world for which the server stood, and for that it stands still.
+-- In each world whose present the server was, the text is that world's replies to the bodies, and
+-- the server still is its present.
 pub record RepliesRightly {T : Type 0} (stands_for : T → WorldState → Type 0) (old : T) (bodies : List (List ℕ)) (text : List ℕ) (new : T) : Type 0 where
   pub replied : (world : WorldState) → stands_for old world → HasReplied (answer_to world) bodies text
   pub stands : (world : WorldState) → stands_for old world → stands_for new world
 
--- the body spells no request, for this fault
+-- the body spells no request, and this is its fault
 abbrev pub IsUnread : List ℕ → FrameFault → Type 0
-IsUnread body fault = (cause : DecodeFault) × (read_request body ≡ Err cause) × (fault ≡ frame_fault cause)
+IsUnread body fault = (cause : DecodeFault) × (read_request body ≡ Err cause) × (frame_fault_of cause ≡ Some fault)
 
--- What frames tell of a server that they are asked of. A body that spells no request asks nothing; where there was no memory to answer one,
--- it was asked once, or not at all.
+-- What is known of a server that is asked by frames. A body that spells no request asks nothing.
+-- One that was not answered for lack of memory was asked once, or not at all.
 abbrev pub serving_story : {T : Type 0} → (T → WorldState → Type 0) → (T → ℕ → Request → Raw → T → Type 0) → ℕ → T → T → Story FrameFault
 serving_story stands_for gives caller old new = record {
   told = λ bodies text. RepliesRightly stands_for old bodies text new × AsksBodies gives caller old bodies new;

@@ -1,24 +1,24 @@
-//! What is left to do once a mount was asked.
+//! The reply to a request, from what was held of a mount.
 
 ghost use Rattle.std.specs.Prelude.{◌≡◌, ◌≢◌, ◌≤◌, [], length, true, false, is_some, IfOk, IfErr, OnOk};
 ghost use Rattle.eden_objects.specs.Commits.{commit_map};
 ghost use Rattle.eden_messages.specs.Replies.{bounded};
-ghost use Rattle.eden_messages.specs.Spells.{reply_bytes};
+ghost use Rattle.eden_messages.specs.Spells.{SpellsReply, reply_bytes};
 ghost use Rattle.eden_messages.specs.declared.message.Reply.TheVariants as ReplyIs;
-ghost use Rattle.eden_query.specs.Answers.{IsSpelledOfWorlds};
+ghost use Rattle.eden_query.specs.Answers.{IsReplyOfWorld};
 ghost use Rattle.eden_query.specs.Raws.{is_answerable, patterns_of, told};
 
 use crate::raw::Raw;
 use eden_globs::Filter;
 use eden_history::Position;
 use eden_ids::{Content, Naming, NoMemory, Path, Sequence};
-use eden_messages::{Query, Reply, Request};
+use eden_messages::{Query, Reply, Request, request_text_law};
 use eden_objects::{CommitFault, Store};
-use eden_ranges::{expand_admitted, expand_owned};
+use eden_ranges::expand_owned;
 use std::alloc::Global;
 use std::mem;
 
-/// The reply that tells a file, or the lack of one.
+/// Returns the reply with a file, or with `None` if the path holds no file.
 fn content_reply(query: Query, position: Position, path: Path, content: Option<Content>) -> Reply
     ensures { result ≡ bounded query (ReplyIs.ContentIs query position path content) }
 {
@@ -31,18 +31,20 @@ fn content_reply(query: Query, position: Position, path: Path, content: Option<C
     reply.bounded(query)
 }
 
-/// The reply to a request that a mount was asked, with the request's filter and the mount's objects. The mount isn't needed any more.
+/// Returns the reply to a request, from what was held for it.
 ///
-/// A reply whose body would have more than 16,777,216 bytes is refused as `TooLarge`. No directory is read below which the filter admits
-/// nothing (`Filter::admits_below`), and no path is made that it does not admit.
+/// It takes the request's filter and the mount's objects, and no mount. If the body of the reply
+/// would be longer than 16,777,216 bytes, the reply is a refusal as `TooLarge`. No directory is
+/// read below which the filter admits nothing (`Filter::admits_below`), and no path is made that
+/// it does not admit.
 ///
-/// `NoCommit` comes just where two neighbouring roots of a range are not one and one of them is no commit of the store, or a snapshot's
-/// root is none; of what a mount gave, over that mount's store, it never comes. `NoMemory` may stand in place of any answer where a
-/// growth was refused.
+/// # Errors
 ///
-/// `spelled` says what a client of any make may rely on: what was held of a mount, and so is answered as its world replies, has a spelling. Of
-/// a `Raw` made by hand, with a file of any length, nothing is said.
-#[tactic(auto, using(crate::proofs::ReplyFits::refusal_fits, crate::proofs::ReplyFits::bounded_fits, crate::proofs::Spelled::spelled_of_worlds))]
+/// - `NoCommit` if two neighbouring roots of a range differ and one of them is no commit of the
+///   store, or if the root of a snapshot is no commit of it. It never comes if a mount gave `raw`
+///   and the store has that mount's objects.
+/// - `NoMemory` if an allocation fails.
+#[tactic(auto, using(crate::proofs::ReplyFits::refusal_fits, crate::proofs::ReplyFits::bounded_fits))]
 pub fn answer<N: Naming + Drop>(
     alloc: Global,
     raw: &Raw,
@@ -51,17 +53,18 @@ pub fn answer<N: Naming + Drop>(
 ) -> Result<Reply, CommitFault>
     ensures reply { IfOk result (λ reply. reply ≡ told store.now filter.now raw.now) }
     ensures fits { IfOk result (λ reply. length (reply_bytes reply) ≤ 16777216) }
-    ensures spelled { IfOk result (λ reply. IsSpelledOfWorlds reply) }
     ensures compared { OnOk result (is_answerable (commit_map store.now) raw.now ≡ true) }
     ensures fault { IfErr result (λ fault. fault ≢ CommitFault.NoMemory → is_answerable (commit_map store.now) raw.now ≡ false) }
 {
     match raw {
-        Raw::Ranged(query, range) => {
+        Raw::Ranged(query, due) => {
+            let mut range = due.gather(alloc)?;
+            let prefixes = mem::replace(&mut range.prefixes, Sequence::new(alloc));
             let reply = Reply::ChangesAre {
                 query: *query,
-                target: range.to,
-                marked: Sequence::from_vec(expand_admitted(alloc, store, range, filter)?),
-                prefixes: range.prefixes.clone()?,
+                target: due.to(),
+                marked: Sequence::from_vec(expand_owned(alloc, store, range, filter)?),
+                prefixes,
             };
             Ok(reply.bounded(*query))
         }
@@ -94,8 +97,7 @@ pub fn answer<N: Naming + Drop>(
     }
 }
 
-/// The reply that `answer` gives. A file that was held is moved into it, and so are the paths of a range that tells changes of files
-/// alone.
+/// Returns the reply that `answer` gives, and moves a file that was held into it.
 #[tactic(auto, using(crate::proofs::ReplyFits::bounded_fits))]
 fn answered<N: Naming + Drop>(
     alloc: Global,
@@ -111,22 +113,11 @@ fn answered<N: Naming + Drop>(
         Raw::Held(query, position, path, content) => {
             Ok(content_reply(query, position, path, content))
         }
-        Raw::Ranged(query, mut range) => {
-            let target = range.to;
-            let prefixes = mem::replace(&mut range.prefixes, Sequence::new(alloc));
-            let reply = Reply::ChangesAre {
-                query,
-                target,
-                marked: Sequence::from_vec(expand_owned(alloc, store, range, filter)?),
-                prefixes,
-            };
-            Ok(reply.bounded(query))
-        }
         other => answer(alloc, &other, store, filter),
     }
 }
 
-/// The request's filter, or the other one where it has none.
+/// Returns the filter of a request, or the other one if the request has none.
 fn filter_of<'a>(request: &'a Request, everything: &'a Filter) -> &'a Filter
     requires { everything.now ≡ [] }
     ensures { result.now ≡ patterns_of request.now }
@@ -139,11 +130,11 @@ fn filter_of<'a>(request: &'a Request, everything: &'a Filter) -> &'a Filter
     }
 }
 
-/// The reply to a request for which a server held this, over the objects that the server had then or has since. The server isn't needed any
-/// more, and a file that was held is moved into the reply.
+/// Returns the reply to a request, from what a server held for it.
 ///
-/// `NoMemory` comes where a growth was refused.
-#[tactic(auto, using(crate::proofs::Spelled::spelled_of_worlds))]
+/// It takes the objects that the server had at that time, and no server. Objects that the server
+/// took in since make no difference (`told_over_law`). A file that was held is moved into the
+/// reply. `NoMemory` if an allocation fails.
 pub fn answer_request<N: Naming + Drop>(
     alloc: Global,
     raw: Raw,
@@ -153,13 +144,15 @@ pub fn answer_request<N: Naming + Drop>(
     requires { is_answerable (commit_map store.now) raw ≡ true }
     ensures reply { IfOk result (λ reply. reply ≡ told store.now (patterns_of request.now) raw) }
     ensures fits { IfOk result (λ reply. length (reply_bytes reply) ≤ 16777216) }
-    ensures spelled { IfOk result (λ reply. IsSpelledOfWorlds reply) }
+    // If a world gives this reply, its bytes spell it.
+    ensures spelled { IfOk result (λ reply. IsReplyOfWorld request.now (told store.now (patterns_of request.now) raw) → SpellsReply (reply_bytes reply) reply) }
 {
+    request_text_law(request);
     let everything = Filter::all(alloc);
     let filter = filter_of(request, &everything);
     match answered(alloc, raw, store, filter) {
         Ok(reply) => Ok(reply),
-        // The commits are there that it takes.
+        // The commits that it names are there.
         Err(CommitFault::NoCommit) => unreachable!(),
         Err(CommitFault::NoMemory) => Err(NoMemory),
     }

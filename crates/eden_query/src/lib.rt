@@ -1,6 +1,8 @@
-//! What a mount replies to requests, and a service of them: whatever stands for a mount's present is served over any reader and writer.
+//! Replies to requests, from a mount or any other server, and their service over a reader and a
+//! writer.
 //!
-//! The bytes of messages are eden_wire's, whose calls are handed on from here.
+//! A server first holds what a request asks for (`Served::hold`). Then the reply is made without
+//! the server (`answer_request`). The calls for the bytes of messages are eden_wire's.
 //!
 //! ```rust
 //! use eden_accumulate::Mount;
@@ -27,16 +29,18 @@
 #![tactic(auto)]
 
 pub use crate::answering::{answer, answer_request};
+pub use crate::laws::told_over_law;
 pub use crate::raw::Raw;
 pub use crate::served::Served;
 pub use crate::serving::{fault_of_frame, reply_to, serve};
-pub use eden_frames::{BODY_LIMIT, FrameFault, ServeFault, tell_frames};
+pub use eden_stream::{BODY_LIMIT, FrameFault, ServeFault, tell_frames};
 pub use eden_wire::{
     DecodeFault, EncodeFault, append_reply, decode_reply, decode_request, encode_reply,
     encode_request, reply_law, request_law,
 };
 
 mod answering;
+mod laws;
 mod mounting;
 mod raw;
 mod served;

@@ -1,4 +1,4 @@
-//! A mount answers requests.
+//! A mount as a server of requests.
 
 ghost use Rattle.std.specs.Prelude.{◌≡◌, ℕ, List, None, IfOk};
 ghost use Rattle.eden_ids.specs.FileMaps.{file_at};
@@ -19,7 +19,7 @@ use eden_ids::{Content, Naming, NoMemory, Path};
 use eden_messages::{Cause, Query, Request};
 use eden_objects::Store;
 
-/// Which files are held, as a basis asks for them.
+/// Holds which files there are, for a basis.
 #[tactic(auto, using(crate::proofs::Telling::based_tells, crate::proofs::Telling::based_commits, crate::proofs::Telling::based_settled))]
 fn hold_basis<N: Naming + Drop>(mount: &Mount<N>, query: Query) -> Result<Raw, NoMemory>
     ensures replies { IfOk result (λ raw. (world : WorldState) → StandsFor mount.now world → (patterns : List (List ℕ))
@@ -32,7 +32,7 @@ fn hold_basis<N: Naming + Drop>(mount: &Mount<N>, query: Query) -> Result<Raw, N
     Ok(Raw::Based(query, snapshot))
 }
 
-/// Which files are held, as a list of those below a directory asks for them.
+/// Holds which files there are, for a list of those below a directory.
 #[tactic(auto, using(crate::proofs::Telling::listed_tells, crate::proofs::Telling::listed_commits, crate::proofs::Telling::listed_settled))]
 fn hold_list<N: Naming + Drop>(
     mount: &Mount<N>,
@@ -49,7 +49,7 @@ fn hold_list<N: Naming + Drop>(
     Ok(Raw::Listed(query, snapshot, prefix.copy()?))
 }
 
-/// What changed since a position, as it is asked for.
+/// Holds what changed since a position, or why that is refused.
 #[tactic(auto, using(crate::proofs::Telling::ranged_tells, crate::proofs::Telling::refused_tells, crate::proofs::Telling::ranged_commits, crate::proofs::Telling::ranged_settled, crate::proofs::Telling::refused_settled))]
 fn hold_poll<N: Naming + Drop>(
     mount: &Mount<N>,
@@ -63,13 +63,13 @@ fn hold_poll<N: Naming + Drop>(
     ensures commits { IfOk result (λ raw. NamesCommits (commit_map mount.now.held) raw) }
 {
     mount.stands_law();
-    match mount.range_since(since) {
+    match mount.owe_since(since) {
         Ok(range) => Ok(Raw::Ranged(query, range)),
         Err(fault) => Ok(Raw::Refused(query, Cause::of(fault)?)),
     }
 }
 
-/// The file that stands at a path, or none.
+/// Returns the file at a path, or `None` if there is no file.
 fn content_at<N: Naming + Drop>(mount: &Mount<N>, path: &Path) -> Result<Option<Content>, NoMemory>
     ensures { IfOk result (λ content. content ≡ file_at (files_of mount.now) path.now) }
 {
@@ -77,7 +77,7 @@ fn content_at<N: Naming + Drop>(mount: &Mount<N>, path: &Path) -> Result<Option<
     Content::of_lent(store.allocator(), mount.work().file(store, path.as_bytes()))
 }
 
-/// What a request asks for.
+/// Holds what a request asks for.
 #[tactic(auto, using(crate::proofs::Telling::held_tells, crate::proofs::Telling::held_commits, crate::proofs::Telling::held_settled))]
 fn hold<N: Naming + Drop>(mount: &Mount<N>, request: &Request) -> Result<Raw, NoMemory>
     ensures replies { IfOk result (λ raw. (world : WorldState) → StandsFor mount.now world
@@ -98,7 +98,7 @@ fn hold<N: Naming + Drop>(mount: &Mount<N>, request: &Request) -> Result<Raw, No
 }
 
 impl<N: Naming + Drop> Served<N> for Mount<N> {
-    ghost use Rattle.eden_accumulate.specs.Mounts.{StandsFor};
+    ghost use Rattle.eden_accumulate.specs.Mounts.{Answers, Follows, StandsFor};
 
     ghost stands_for = { λ mount world. StandsFor mount world };
 
@@ -106,12 +106,14 @@ impl<N: Naming + Drop> Served<N> for Mount<N> {
 
     ghost held = { λ mount. mount.held };
 
+    // A mount stores no history.
     ghost stored = { λ _. None };
 
-    // A mount stores no history.
-    ghost apply_gives = { λ _ _ _ _ _. Unit {0} };
+    // The change was made once, and this is its answer.
+    ghost apply_gives = { λ before _ change answer after. Answers N.id before change answer × Follows N.id before change after };
 
-    ghost hold_gives = { λ _ _ _ _ _. Unit {0} };
+    // A request changes nothing.
+    ghost hold_gives = { λ before _ _ _ after. after ≡ before };
 
     fn store(&self) -> &Store<N> {
         self.store()

@@ -1,22 +1,25 @@
-//! What is held of a mount once a request was asked of it.
+//! What is held of a mount for a request.
 
 use eden_accumulate::Snapshot;
 use eden_history::Position;
 use eden_ids::{Content, Path};
 use eden_messages::{Cause, Query};
-use eden_ranges::Range;
+use eden_ranges::Due;
 
-/// What a mount was asked for, as it stood when it was asked: what is left of the work needs the mount no more, only its objects.
+/// What a request asks for, as the mount was at the time.
+///
+/// The reply is made of it and of the mount's objects, without the mount.
 #[derive(Drop)]
 pub enum Raw {
-    /// Which question it is, and what changed since its position.
-    Ranged(Query, Range),
-    /// Which question it is, and which files were held, without their contents.
+    /// The question, and what changed since its position, not gathered yet.
+    Ranged(Query, Due),
+    /// The question, and which files the mount had, without their contents.
     Based(Query, Snapshot),
-    /// Which question it is, the position, the path, and the file that stood there, if one did.
+    /// The question, the position, the path, and the file there, if there was one.
     Held(Query, Position, Path, Option<Content>),
-    /// Which question it is, which files were held, without their contents, and the directory below which they are asked for.
+    /// The question, which files the mount had, without their contents, and the directory asked
+    /// for.
     Listed(Query, Snapshot, Path),
-    /// Which question it is, and why it can't be answered.
+    /// The question, and why it is refused.
     Refused(Query, Cause),
 }

@@ -1,4 +1,4 @@
-//! Whatever answers requests and makes changes.
+//! What answers requests and makes changes.
 
 ghost use Rattle.std.specs.Prelude.{◌≡◌, ℕ, List, Option, true, IfOk, OnOk, OnErr};
 ghost use Rattle.eden_objects.specs.Objects.{Held};
@@ -25,47 +25,49 @@ use eden_objects::Store;
 
 /// A server of requests and changes: the present of some history of a mount.
 ///
-/// Each call names its caller, by a number of the caller's own, which a server may note.
+/// Each call names its caller by a number, which a server may note.
 pub trait Served<N: Naming + Drop> {
-    // The histories whose present it is.
+    // The worlds whose present it is.
     ghost stands_for: { Self → WorldState → Type 0 };
 
-    // Each such history is one, and whatever is asked of it, the reply has a spelling.
+    // Each is a world, and each reply that it gives has a spelling.
     ghost spelled: { (server : Self) (world : WorldState) → stands_for server world → IsSomeWorld world × IsSpellable world };
 
-    // The objects under it.
+    // The objects that it has.
     ghost held: { Self → List Held };
 
-    // The length of its stored history, where it stores one.
+    // The length of its stored history, if it stores one.
     ghost stored: { Self → Option ℕ };
 
-    // That a change of this caller with this answer took the server from the first state to the second: where a history is stored, which
-    // entry it gave there.
+    // The caller made the change and got the answer, which took the server from the first state
+    // to the second. If the server stores a history, this says which entry was added.
     ghost apply_gives: { Self → ℕ → Change → Answer → Self → Type 0 };
 
-    // The same of a request, and of what was held for it.
+    // The same of a request and of what was held for it.
     ghost hold_gives: { Self → ℕ → Request → Raw → Self → Type 0 };
 
-    /// The objects. This takes no memory.
+    /// Returns the objects, without an allocation.
     fn store(&self) -> &Store<N>
         ensures held { result.now ≡ held self.now }
         ensures worlds { (world : WorldState) → stands_for self.now world → held self.now ≡ world.held };
 
-    /// How many entries the stored history has, or `None` where none is stored. This takes no memory.
+    /// Returns the number of entries of the stored history, without an allocation.
+    ///
+    /// It is `None` if the server stores no history.
     fn taken(&self) -> Option<u64>
         ensures { result ≡ stored self.now };
 
-    /// What a request asks for, as it stands now, and a copy of the store with the objects of now: `answer`, with the request's filter,
-    /// makes the reply of the two, whatever the server takes in afterwards.
+    /// Holds what a request asks for, with a copy of the store.
     ///
-    /// `NoMemory` comes where a growth was refused; nothing has changed then.
+    /// `answer_request` makes the reply of the two, whatever the server is asked in between.
+    /// `NoMemory` if an allocation fails. Then nothing has changed.
     fn hold(&mut self, caller: u64, request: &Request) -> Result<(Raw, Store<N>), NoMemory>
-        // There is such a history.
+        // There is such a world.
         ensures world { (world : WorldState) × stands_for self.old world }
         ensures replies { IfOk result (λ given. (world : WorldState) → stands_for self.old world
             → told (held self.old) (patterns_of request.now) given.0 ≡ reply_of world request.now) }
         ensures settled { IfOk result (λ given. (world : WorldState) → stands_for self.old world → settled given.0 ≡ settled_of world request.now) }
-        // Each commit that it names is there, so that it can be answered.
+        // Each commit that it names is there, so the reply can be made.
         ensures commits { IfOk result (λ given. NamesCommits (commit_map (held self.old)) given.0) }
         ensures answerable { IfOk result (λ given. is_answerable (commit_map (held self.old)) given.0 ≡ true) }
         ensures objects { IfOk result (λ given. given.1 ≡ held self.old) }
@@ -75,9 +77,10 @@ pub trait Served<N: Naming + Drop> {
         ensures noted { OnOk result (stored self.new ≡ raised (stored self.old)) }
         ensures unchanged { OnErr result (self.new ≡ self.old) };
 
-    /// Makes a change, and answers the position after it, of a checkout its conflicts too, or why it is refused.
+    /// Makes a change, and returns its answer.
     ///
-    /// `NoMemory` comes where a growth was refused; nothing has changed then.
+    /// The answer is the position after the change, with the conflicts of a checkout, or why the
+    /// change is refused. `NoMemory` if an allocation fails. Then nothing has changed.
     fn apply(&mut self, caller: u64, change: &Change) -> Result<Answer, NoMemory>
         ensures world { (world : WorldState) × stands_for self.old world }
         ensures answer { IfOk result (λ answer. (world : WorldState) → stands_for self.old world → answer ≡ answer_of N.id world change.now) }

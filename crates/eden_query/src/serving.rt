@@ -1,14 +1,14 @@
-//! A server that answers requests over any reader and writer.
+//! The service of requests over a reader and a writer.
 
-ghost use Rattle.std.specs.Prelude.{◌≡◌, ◌≢◌, ◌+◌, ◌≤◌, ◌⊎◌, length, IsErrOf, IfOk, IfSome, OnOk, OnErr};
-ghost use Rattle.eden_frames.specs.FrameAnswers.{AnswersBody};
-ghost use Rattle.eden_frames.specs.FrameEnds.{Serves};
-ghost use Rattle.eden_frames.specs.FrameTellings.{EndsTelling};
+ghost use Rattle.std.specs.Prelude.{◌≡◌, ◌+◌, ◌≤◌, ◌⊎◌, length, IsErrOf, IfOk, OnOk, OnErr};
+ghost use Rattle.eden_stream.specs.FrameAnswers.{AnswersBody};
+ghost use Rattle.eden_stream.specs.FrameEnds.{Serves};
+ghost use Rattle.eden_stream.specs.FrameTellings.{EndsTelling};
 ghost use Rattle.eden_history.specs.Worlds.{WorldState};
 ghost use Rattle.eden_messages.specs.Replies.{reply_of};
 ghost use Rattle.eden_messages.specs.Spells.{SpellsReply, reply_bytes};
 ghost use Rattle.eden_stream.specs.Counts.{Rose, RoseBy};
-ghost use Rattle.eden_query.specs.Answers.{AnswersAreSpelled, answer_to, frame_fault};
+ghost use Rattle.eden_query.specs.Answers.{answer_to, frame_fault_of};
 ghost use Rattle.eden_query.specs.Raws.{patterns_of, told};
 ghost use Rattle.eden_query.specs.Servers.{raised};
 ghost use Rattle.eden_query.specs.Servings.{serving_story};
@@ -17,26 +17,29 @@ ghost use Rattle.eden_query.specs.internal.Askings.{AsksBody};
 
 use crate::answering::answer_request;
 use crate::served::Served;
-use eden_frames::{FrameFault, Frames, ServeFault, tell_frames};
 use eden_ids::{Naming, NoMemory};
 use eden_messages::{Reply, Request, request_text_law};
-use eden_stream::{Answer, CountedRead, CountedWrite, Teller};
+use eden_stream::{
+    CountedRead, CountedWrite, FrameFault, Frames, ServeFault, Step, Teller, tell_frames,
+};
 use eden_wire::{DecodeFault, append_reply, decode_request};
 use std::alloc::Global;
 use std::marker::PhantomData;
 
-/// As which caller frames are answered.
+/// The caller as which frames are answered.
 const STREAM: u64 = 0;
 
-/// Asks a server what the bodies of frames spell.
+/// The teller of a service: it asks a server what the bodies of frames spell.
 #[derive(Drop)]
 struct Asker<N> {
     naming: PhantomData<N>,
 }
 
-/// The fault of a body as that of its frame, under the same name; a want of memory is none.
+/// Returns the fault of a body as its frame's, under the same name.
+///
+/// It is `None` for `NoMemory`, which is no fault of the body.
 pub fn fault_of_frame(fault: DecodeFault) -> Option<FrameFault>
-    ensures some { IfSome result (λ frame. (fault ≢ DecodeFault.NoMemory) × (frame ≡ frame_fault fault)) }
+    ensures { result ≡ frame_fault_of fault }
 {
     match fault {
         DecodeFault::CutShort => Some(FrameFault::CutShort),
@@ -49,10 +52,10 @@ pub fn fault_of_frame(fault: DecodeFault) -> Option<FrameFault>
     }
 }
 
-/// What a server replies to a request of this caller: what it holds for the request, answered with the request's filter over the objects
-/// that it had then.
+/// Returns a server's reply to a request of this caller.
 ///
-/// `NoMemory` comes where a growth was refused. What was held keeps its entry then, where a history is stored.
+/// The server is asked once. `NoMemory` if an allocation fails. The request may have been held by
+/// then, and a stored history keeps its entry.
 pub fn reply_to<N: Naming + Drop, T: Served<N>>(
     server: &mut T,
     caller: u64,
@@ -73,13 +76,13 @@ pub fn reply_to<N: Naming + Drop, T: Served<N>>(
     answer_request(store.allocator(), raw, &store, request)
 }
 
-/// What the server answers to a body.
+/// Asks the server what a body spells, and adds the frame of the reply to a text.
 #[tactic(auto, using(eden_ids::proofs::Fronts::kept))]
 fn answer_body<N: Naming + Drop, T: Served<N>>(
     server: &mut T,
     body: &[u8],
     text: &mut Vec<u8>,
-) -> Answer<FrameFault>
+) -> Step<FrameFault>
     ensures answered { (world : WorldState) → T.stands_for server.old world
         → AnswersBody (answer_to world) body.now text.old.items text.new.items result }
     ensures stands { (world : WorldState) → T.stands_for server.old world → T.stands_for server.new world }
@@ -90,18 +93,18 @@ fn answer_body<N: Naming + Drop, T: Served<N>>(
         Ok(request) => request,
         Err(fault) => {
             return match fault_of_frame(fault) {
-                Some(fault) => Answer::Fault(fault),
-                None => Answer::NoMemory,
+                Some(fault) => Step::Fault(fault),
+                None => Step::NoMemory,
             };
         }
     };
     let reply = match reply_to(server, STREAM, &request) {
         Ok(reply) => reply,
-        Err(_) => return Answer::NoMemory,
+        Err(_) => return Step::NoMemory,
     };
     match append_reply(text, &reply) {
-        Ok(()) => Answer::Told,
-        Err(_) => Answer::NoMemory,
+        Ok(()) => Step::Told,
+        Err(_) => Step::NoMemory,
     }
 }
 
@@ -109,31 +112,37 @@ impl<N: Naming + Drop, T: Served<N>> Teller<Frames, T, FrameFault> for Asker<N> 
     ghost story = { λ _ before now. serving_story T.stands_for T.hold_gives 0 before now };
 
     #[tactic(auto, using(crate::proofs::Asking::serving_tells))]
-    fn tell(&self, server: &mut T, body: &[u8], text: &mut Vec<u8>) -> Answer<FrameFault> {
+    fn tell(&self, server: &mut T, body: &[u8], text: &mut Vec<u8>) -> Step<FrameFault> {
         answer_body(server, body, text)
     }
 
     ghost lawful = { λ _ _ _. record { passes = λ _ _ _ silent _. absurd silent; stops = λ _ _ told. told } };
 }
 
-/// Serves requests: reads their frames from `reader`, and writes the frames of the right replies to `writer`, in order. Gives the
-/// number of frames. The server is asked as caller 0, and stays the present of each history whose present it was.
+/// Serves requests from `reader`, and returns the number of frames.
 ///
-/// Each frame is one request of that caller, in order; a frame with a fault is none. Where a growth was refused, the frame behind those that
-/// are answered may be asked too, and a stored history then keeps its entry; so it may before `Write`, which can come in its place.
+/// It reads the frames of requests from `reader`, and writes the frames of the replies to
+/// `writer`, in order. The server is asked as caller 0, once for each frame, and remains the
+/// present of each world whose present it was.
 ///
-/// Whole frames are answered before the next read, of 64 KiB each; replies are gathered, and written before the next read and
-/// whenever there are 64 KiB of them.
+/// It reads 64 KiB at a time, and answers all whole frames before the next read. It writes the
+/// replies before the next read, and whenever there are 64 KiB of them.
 ///
 /// # Errors
 ///
-/// - `Frame`, with its number from 1: `CutShort` where the input ends inside it, `TooLarge` where its length is above
-///   16,777,216, which is said as soon as its four bytes are there, else the first fault of its body. The replies to the
-///   frames before it are written.
-/// - `Read` and `Write`, where the device failed in this call: the replies to all whole frames that were read are written;
-///   after `Write`, the first bytes of the replies to some first frames.
-/// - `TurnsSpent`, after 1,000,000 reads in this call: the replies to all whole frames that were read are written.
-/// - `NoMemory`, where a growth was refused: the replies to some first frames are written.
+/// - `Frame`, with the frame's number from 1. The fault is `CutShort` if the input ends inside the
+///   frame, and `TooLarge` if its length is above 16,777,216, as soon as the four bytes of the
+///   length are read. Else it is the first fault of the body. The server is not asked. The replies
+///   to the frames before it are written.
+/// - `Read` if the reader fails in this call. The replies to all whole frames read are written.
+/// - `Write` if the writer fails in this call. The first bytes of the replies to some first frames
+///   are written.
+/// - `TurnsSpent` after 1,000,000 reads in this call. The replies to all whole frames read are
+///   written.
+/// - `NoMemory` if an allocation fails. The replies to some first frames are written.
+///
+/// Before `NoMemory` the server may also have been asked the next frame, and a stored history keeps
+/// its entry. `Write` may be returned instead of this `NoMemory`.
 pub fn serve<N: Naming + Drop, T: Served<N>, R: CountedRead, W: CountedWrite>(
     alloc: Global,
     reader: &mut R,
@@ -142,7 +151,6 @@ pub fn serve<N: Naming + Drop, T: Served<N>, R: CountedRead, W: CountedWrite>(
 ) -> Result<u64, ServeFault>
     ensures ends { (world : WorldState) → T.stands_for server.old world
         → Serves (answer_to world) (R.remaining reader.old) (R.remaining reader.new) (W.contents writer.old) (W.contents writer.new) result }
-    ensures spelled { (world : WorldState) → T.stands_for server.old world → AnswersAreSpelled world }
     ensures stands { (world : WorldState) → T.stands_for server.old world → T.stands_for server.new world }
     ensures asks { EndsTelling (serving_story T.stands_for T.hold_gives 0 server.old server.new) (R.remaining reader.old) (R.remaining reader.new)
         (W.contents writer.old) (W.contents writer.new) result }

@@ -1,4 +1,4 @@
--- Which paths a range names, and what became of each.
+-- The paths that a range names, each with its mark.
 use Rattle.std.specs.Prelude.{Bool, true, ◌&&◌, ◌||◌, ◌++◌, is_some, List, [], ◌∷◌, map}
 use Rattle.std.specs.List.{list_all}
 use Rattle.eden_ids.specs.declared.id.Id.{Id}
@@ -19,12 +19,12 @@ abbrev pub differing_after : Commits → Id → List Id → PathSet
 differing_after commits root [] = no_paths
 differing_after commits root (next ∷ roots) = union (commits_differ commits root next) (differing_after commits next roots)
 
--- the paths on which two neighbouring roots differ
+-- the paths at which two neighbouring roots differ
 abbrev pub differing : Commits → List Id → PathSet
 differing commits [] = no_paths
 differing commits (root ∷ roots) = differing_after commits root roots
 
--- two roots can be compared where they are one, or both are commits
+-- two roots can be compared if they are equal, or both are commits
 abbrev pub is_comparable : Commits → Id → Id → Bool
 is_comparable commits left reached = same_id left reached || (is_some (commits left) && is_some (commits reached))
 
@@ -43,10 +43,11 @@ are_commits commits roots = list_all (λ root. is_some (commits root)) roots
 
 -- ---- ranges
 
--- what a range says of paths: what changes of files did, and that the root names the unclean ones and those on which neighbouring roots differ
+-- what a range says of paths: what changes of files did, and that the root names the
+-- unclean paths and those at which neighbouring roots differ
 abbrev pub said_by_range : List Held → Range → List Said
 said_by_range held range = map by_touch range.changes ++ map by_root (range.unclean ++ listing (differing (commit_map held) range.roots))
 
--- each path of which it says something, ascending, with what became of it
+-- each path of which it says something, ascending, with its mark
 abbrev pub expanded : List Held → Range → List Marked
 expanded held range = map mark_said (ends (said_by_range held range))

@@ -29,21 +29,22 @@ abbrev pub RefusalsAreTheWorlds : Type 0
 RefusalsAreTheWorlds = (world : WorldState) → IsLegal world → (log : Log) → StandsFor log (history_of world) → (position : Position)
     → log_status log position ≡ status_of world position
 
--- from a good position the range has the paths that the world's events name since, each with what became of it
+-- from a position that is not refused, the range expands to the paths that the world's
+-- events since name, each with its mark
 abbrev pub RangesAreTheWorlds : Type 0
 RangesAreTheWorlds = (world : WorldState) → IsLegal world → (log : Log) → StandsFor log (history_of world) → (position : Position)
     → log_status log position ≡ None → expanded world.held (range_of log position.sequence) ≡ marked_since world position.sequence
 
--- from a good position the range is what the world's events since did
+-- from a position that is not refused, the range is what the world's events since did
 abbrev pub RangesAreSince : Type 0
 RangesAreSince = (world : WorldState) → IsLegal world → (log : Log) → StandsFor log (history_of world) → (position : Position)
     → log_status log position ≡ None → range_of log position.sequence ≡ range_in world position.sequence
 
--- roots of which each is a commit can be compared
+-- roots that are all commits can be compared
 abbrev pub CommitsAreComparable : Type 0
 CommitsAreComparable = (commits : Commits) (roots : List Id) → are_commits commits roots ≡ true → are_comparable commits roots ≡ true
 
--- ---- what changes of files come to
+-- ---- what changes of files amount to
 
 -- all changes of files at a path, the oldest first
 abbrev pub touches_at : List ℕ → List Delta → List FileTouch
@@ -55,11 +56,12 @@ abbrev pub last_of : FileTouch → List FileTouch → FileTouch
 last_of first [] = first
 last_of first (next ∷ later) = last_of next later
 
--- what was there before the first of them, and is there after the last
+-- whether a file was there before the first of them, and is there after the last
 abbrev pub ends_of : List FileTouch → Option Touch
 ends_of [] = None
 ends_of (first ∷ later) = Some (record { before = first.before; after = (last_of first later).after })
 
--- at each path the deltas of a range come to what was there before the first change, and is there after the last
+-- at each path, the deltas of a range amount to what was there before the first change
+-- and is there after the last
 abbrev pub ChangesAreEnds : Type 0
 ChangesAreEnds = (deltas : List Delta) (path : List ℕ) → ends_at path (said_by deltas) ≡ ends_of (touches_at path deltas)

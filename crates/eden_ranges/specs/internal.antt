@@ -1,4 +1,4 @@
--- What the implementation uses alone.
+-- Definitions that the code alone uses.
 pub mod Wanted
 pub mod Mentions
 pub mod Gathering

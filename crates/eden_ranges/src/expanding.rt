@@ -1,4 +1,4 @@
-//! The paths that a range names, each with what became of it.
+//! The paths that a range names, each with its mark.
 
 ghost use Rattle.std.specs.Prelude.{◌≡◌, ◌≢◌, ◌||◌, ◌++◌, ◌∷◌, [], true, false, map, IfOk, IfErr, OnOk};
 ghost use Rattle.eden_ids.specs.FileMaps.{path_set, union};
@@ -23,8 +23,10 @@ use eden_treediff::diff_admitted;
 use indexmap::IndexSet;
 use std::alloc::Global;
 
-/// Makes room for more paths. Where it has to grow, paths that stand twice go first: so the room is but a few times that of
-/// different paths, however many roots name them.
+/// Makes room for more paths.
+///
+/// If it has to grow, duplicate paths are removed first. So the room is at most a few
+/// times the number of different paths, no matter how many roots name them.
 fn make_room(paths: &mut Vec<Path>, more: usize) -> Result<(), NoMemory>
     ensures { OnOk result (path_set paths.new.items ≡ path_set paths.old.items) }
 {
@@ -36,7 +38,9 @@ fn make_room(paths: &mut Vec<Path>, more: usize) -> Result<(), NoMemory>
     Ok(paths.reserve(more.max(paths.len()))?)
 }
 
-/// Whether two roots are not noted yet, in either order. Then they are.
+/// Notes a pair of roots, and returns true if it is new.
+///
+/// The order of the two does not matter.
 fn note_pair(pairs: &mut IndexSet<(Id, Id)>, left: Id, reached: Id) -> Result<bool, NoMemory>
     ensures again { IfOk result (λ first. first ≡ false → ((has_pair pairs.old.keys left reached || has_pair pairs.old.keys reached left) ≡ true) × (pairs.new.keys ≡ pairs.old.keys)) }
     ensures first { IfOk result (λ first. first ≡ true → pairs.new.keys ≡ pairs.old.keys ++ (left, reached) ∷ []) }
@@ -47,7 +51,7 @@ fn note_pair(pairs: &mut IndexSet<(Id, Id)>, left: Id, reached: Id) -> Result<bo
     Ok(pairs.insert((left, reached))?)
 }
 
-/// Adds the admitted paths on which two roots differ.
+/// Adds the admitted paths at which two roots differ.
 fn add_differing<N: Naming + Drop>(
     alloc: Global,
     store: &Store<N>,
@@ -66,8 +70,10 @@ fn add_differing<N: Naming + Drop>(
     Ok(paths.append(&mut more)?)
 }
 
-/// Adds the admitted paths on which two roots differ. Roots that are one are not looked at, nor are two that were compared before, in
-/// either order.
+/// Adds the admitted paths at which two roots differ.
+///
+/// Equal roots are not looked up, and a pair that was compared before, in either order,
+/// is not compared again.
 fn add_once<N: Naming + Drop>(
     alloc: Global,
     store: &Store<N>,
@@ -94,8 +100,10 @@ fn add_once<N: Naming + Drop>(
     add_differing(alloc, store, paths, left, reached, wanted)
 }
 
-/// The admitted paths on which neighbouring roots differ: those of each two ascend, and one may stand again among the next. Each two
-/// are compared once, however often they are neighbours.
+/// Returns the admitted paths at which neighbouring roots differ.
+///
+/// The paths of each pair ascend; a path may occur again for another pair. Each pair is
+/// compared once, no matter how often the two are neighbours.
 fn differing_paths<N: Naming + Drop>(
     alloc: Global,
     store: &Store<N>,
@@ -126,13 +134,19 @@ fn differing_paths<N: Naming + Drop>(
     Ok(paths)
 }
 
-/// The paths that a range names and a filter admits, in byte order, each with what became of it.
+/// Returns the admitted paths of a range, with their marks.
 ///
-/// A range names the paths at which files were changed, the unclean ones, and those on which two neighbouring roots differ. `NoCommit`
-/// comes just where two neighbouring roots are not one and one of them is no commit of the store; `NoMemory` may stand in place of any
-/// answer where a growth was refused. Neighbouring roots that are one cost nothing, and each two are compared once, however often the
-/// range goes to and fro between them. No directory is read below which the filter admits nothing (`Filter::admits_below`), and no
-/// path is made that it does not admit.
+/// They are in byte order. A range names the paths at which files changed, the unclean
+/// ones, and those at which neighbouring roots differ. Equal neighbours are not looked
+/// up. Each pair of roots is compared once, no matter how often the range passes between
+/// them. No directory is read below which the filter admits nothing
+/// (`Filter::admits_below`), and no path is made that it does not admit.
+///
+/// # Errors
+///
+/// - `NoCommit` if two neighbouring roots are different and one of them is not a commit
+///   of the store.
+/// - `NoMemory` if an allocation fails; it may be returned instead of any other answer.
 pub fn expand_admitted<N: Naming + Drop>(
     alloc: Global,
     store: &Store<N>,
@@ -151,7 +165,7 @@ pub fn expand_admitted<N: Naming + Drop>(
     Ok(mentions.into_marked(alloc)?)
 }
 
-/// A change of a file as a marked path.
+/// Returns a change of a file as a marked path.
 fn marked_touch(touch: FileTouch) -> Marked
     ensures { result ≡ mark_said (by_touch touch) }
 {
@@ -166,14 +180,16 @@ fn marked_touch(touch: FileTouch) -> Marked
     }
 }
 
-/// Whether each path stands before the next one, so that none stands twice.
+/// Returns true only if the paths ascend, each once.
 fn ascend(touches: &[FileTouch]) -> bool
     ensures { result ≡ true → Ascend (map by_touch touches.now) }
 {
     touches.is_sorted_by(|left, right| left.path < right.path)
 }
 
-/// What changes of files did, each at a path of its own, as far as the filter admits the paths. They are moved.
+/// Returns the marked path of each change whose path the filter admits.
+///
+/// The paths are moved, not copied.
 fn mark_each(
     alloc: Global,
     touches: Vec<FileTouch>,
@@ -190,9 +206,14 @@ fn mark_each(
     Ok(marked)
 }
 
-/// As `expand_admitted`, of a range that is not needed any more.
+/// Does what `expand_admitted` does, for a range that is no longer needed.
 ///
-/// Where changes of files alone are told, in the order of their paths, the paths are moved, and none is copied.
+/// If the range has changes of files alone, in the order of their paths, the paths are
+/// moved and none is copied.
+///
+/// # Errors
+///
+/// As of `expand_admitted`.
 pub fn expand_owned<N: Naming + Drop>(
     alloc: Global,
     store: &Store<N>,
@@ -209,12 +230,17 @@ pub fn expand_owned<N: Naming + Drop>(
     expand_admitted(alloc, store, &range, wanted)
 }
 
-/// The paths that a range names, in byte order, each with what became of it.
+/// Returns the paths of a range, with their marks, in byte order.
 ///
-/// They are those at which files were changed, the unclean ones, and those on which two neighbouring roots differ. `NoCommit` comes
-/// just where two neighbouring roots are not one and one of them is no commit of the store; `NoMemory` may stand in place of any
-/// answer where a growth was refused. Neighbouring roots that are one cost nothing, and each two are compared once, however often the
-/// range goes to and fro between them.
+/// They are the paths at which files changed, the unclean ones, and those at which
+/// neighbouring roots differ. Equal neighbours are not looked up, and each pair of roots
+/// is compared once, no matter how often the range passes between them.
+///
+/// # Errors
+///
+/// - `NoCommit` if two neighbouring roots are different and one of them is not a commit
+///   of the store.
+/// - `NoMemory` if an allocation fails; it may be returned instead of any other answer.
 pub fn expand<N: Naming + Drop>(
     alloc: Global,
     store: &Store<N>,

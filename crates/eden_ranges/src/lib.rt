@@ -1,4 +1,15 @@
-//! What changed since a position, gathered from a journal, and made into marked paths once the lock is given back.
+//! What changed since a position: ranges of a journal, and the marked paths that they
+//! name.
+//!
+//! `accumulate` takes a `Range` from a journal, as EdenFS's `accumulateRange` does: the
+//! paths at which files changed, the directories that were renamed, the unclean paths,
+//! and the roots that the mount passed through. It needs no store, so it can be done
+//! quickly under a mount's lock.
+//!
+//! `expand` then adds the paths at which neighbouring roots differ, which it finds by
+//! comparing their trees in a store, and gives each path its `Mark`. `expand_admitted`
+//! does so for the paths that a filter admits alone, and `expand_owned` moves the paths
+//! of a range that is no longer needed.
 //!
 //! ```rust
 //! use eden_history::Position;
@@ -23,7 +34,7 @@
 
 pub use crate::expanding::{expand, expand_admitted, expand_owned};
 pub use crate::laws::{changes_law, commits_law, range_law};
-pub use crate::ranges::{Range, accumulate};
+pub use crate::ranges::{Due, Range, accumulate, owe};
 
 mod expanding;
 mod gathering;

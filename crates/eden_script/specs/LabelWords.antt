@@ -24,6 +24,6 @@ label_read word = if is_label word then Some word else None
 abbrev pub label_to_bind : List ℕ → Option (List ℕ)
 label_to_bind word = if is_label word && not (is_empty word) then Some word else None
 
--- the label that a commit has where no line binds one to it: the first 32 digits of its id
+-- the label of a commit to which no line binds one: the first 32 digits of its id
 abbrev pub own_label : Id → List ℕ
 own_label id = take 32 (encode_lower id.0)

@@ -1,11 +1,12 @@
--- What the words of a script's line ask for: a row of the table of lines, or nothing where no row reads them.
+-- What the words of a script's line ask for: a row of the table of lines, or nothing if
+-- no row matches them.
 use Rattle.std.specs.Prelude.{ℕ, if◌then◌else◌, List, [], ◌∷◌, codes, Option, Some, None, option_map, option_and_then}
 use Rattle.eden_ids.specs.declared.content.Kind.{Kind}
 use Rattle.eden_ids.specs.declared.content.Kind.TheVariants.{Plain, Exec, Link}
 use Rattle.eden_ids.specs.Sameness.{same_bytes}
 use Rattle.eden_history.specs.declared.change.Mode.{Mode}
 use Rattle.eden_history.specs.declared.change.Mode.TheVariants.{Normal, Dry, Force}
-use Rattle.eden_numbers.specs.Numbers.{number_of}
+use Rattle.eden_git.specs.Numbers.{number_of}
 use Rattle.eden_script.specs.LabelWords.{label_read, label_to_bind}
 use Rattle.eden_script.specs.declared.command.Command.{Command}
 use Rattle.eden_script.specs.declared.command.Command.TheVariants as line
@@ -29,7 +30,8 @@ mode_of word =
     if same_bytes word (codes "force") then Some Force else
     if same_bytes word (codes "dry") then Some Dry else None
 
--- ---- a line of no more words, of one, of two and of three, each read as what the line asks for: a word as it is by `Some`
+-- ---- a line with no more words, with one, with two and with three, each read by a
+-- function; a word is taken as it is by `Some`
 
 abbrev pub none : {C : Type 0} → C → List (List ℕ) → Option C
 none line [] = Some line
@@ -62,12 +64,12 @@ entries_of [] = Some []
 entries_of (mode ∷ name ∷ label ∷ words) = entry_before (entry_of mode name label) (entries_of words)
 entries_of _ = None
 
--- a label, and the entries behind it
+-- a label, and the entries after it
 abbrev pub tree_of : List (List ℕ) → Option PutLine
 tree_of [] = None
 tree_of (label ∷ words) = option_and_then (λ l. option_map (put.Tree l) (entries_of words)) (label_to_bind label)
 
--- ---- the table, a row a line, by the first word and the others
+-- ---- the table, one row for each line, by the first word and the others
 
 abbrev puts : Option PutLine → Option Command
 puts = option_map line.Put
@@ -107,7 +109,7 @@ ask_of first words =
     if same_bytes first (codes "read") then asks (one Some ask.Read words) else
     if same_bytes first (codes "since") then asks (two number_of number_of ask.Since words) else change_of first words
 
--- the words of a line
+-- what the words of a line ask for
 abbrev pub command_of : List (List ℕ) → Option Command
 command_of [] = None
 command_of (first ∷ words) = if same_bytes first (codes "tree") then puts (tree_of words) else ask_of first words

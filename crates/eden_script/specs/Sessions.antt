@@ -1,4 +1,4 @@
--- What a script's lines have made so far, and what each line makes of it and comes to.
+-- What a script's lines have made so far, and what each line does to it and results in.
 use Rattle.std.specs.Prelude.{ℕ, List, [], ◌∷◌, ◌++◌, codes, replicate, Option, Some, None, filter, Result, Ok, Err, option_map}
 use Rattle.eden_git.specs.declared.word.Word.{Word}
 use Rattle.eden_git.specs.declared.word.Word.TheVariants.{Blob, Tree, Commit}
@@ -44,7 +44,8 @@ use Rattle.eden_script.specs.declared.told.Told.{Told}
 use Rattle.eden_script.specs.declared.told.Told.TheVariants as told
 use Rattle.eden_script.specs.Labels.{bound}
 
--- what the lines so far have made: the mount, once there is one; the objects put before it, newest first; and the bindings made, newest first
+-- what the lines so far have made: the mount, if there is one; the objects put before it,
+-- newest first; and the bindings, newest first
 pub record Session : Type 0 where
   pub mounted : Option WorldState
   pub held : List Held
@@ -57,18 +58,18 @@ session_over held bindings = record { mounted = None; held = held; bindings = bi
 abbrev pub first_session : Session
 first_session = session_over [] []
 
--- the session after a line, and what the line came to
+-- the session after a line, and the result of the line
 abbrev pub Acted : Type 0
 Acted = Session × Told
 
--- what is refused, or else what it comes to
+-- a refusal, or else the result
 abbrev pub unless : Option Refusal → Told → Told
 unless (Some cause) others = told.Refused cause
 unless None others = others
 
 -- ---- objects
 
--- the objects so far: those of the mount, once there is one
+-- the objects so far: those of the mount, if there is one
 abbrev pub objects_in : List Held → Option WorldState → List Held
 objects_in held None = held
 objects_in held (Some world) = world.held
@@ -87,7 +88,8 @@ put_acted session label (Err fault) = (session, told.Refused (refusal.Put fault)
 put_acted session label (Ok made) =
     (record (grown session made.1 session.mounted) { bindings = record { label = label; id = made.0 } ∷ session.bindings }, told.Done)
 
--- the bytes that an entry puts into a tree, where its label is bound: mode, space, name, NUL and the id's bytes
+-- the bytes of an entry in a tree, if its label is bound: mode, space, name, NUL and the
+-- id's bytes
 abbrev pub entry_bytes : TreeEntry → Option Id → Option (List ℕ)
 entry_bytes entry None = None
 entry_bytes entry (Some id) = Some (entry.mode ++ 32 ∷ entry.name ++ 0 ∷ id.0)
@@ -104,7 +106,7 @@ abbrev pub commit_payload : Option Id → Option (List ℕ)
 commit_payload None = None
 commit_payload (Some tree) = Some (codes "tree " ++ encode_lower tree.0 ++ (10 ∷ []))
 
--- the object that a line names, or none where a label in it is not bound
+-- the object of a line, or `None` if a label in it is not bound
 abbrev pub object_with : Word → Option (List ℕ) → Option Object
 object_with word None = None
 object_with word (Some payload) = Some record { word = word; payload = payload }
@@ -119,7 +121,8 @@ put_label (put.Blob label bytes) = label
 put_label (put.Tree label entries) = label
 put_label (put.Commit label tree) = label
 
--- a label that is not bound is refused before the put is tried; the mount's objects are added to as those before it are
+-- a label that is not bound is refused before the put is tried; once there is a mount,
+-- objects are added to its store
 abbrev pub tried : Session → List ℕ → Option Object → Acted
 tried session label None = (session, told.Refused refusal.NoLabel)
 tried session label (Some object) = put_acted session label (imports.put_of git_name object (objects_of session))
@@ -146,7 +149,7 @@ mounted_by session line (Some root) = mounted_at session line root (commit_map s
 abbrev pub path_refusal : List ℕ → Option Refusal
 path_refusal word = option_map refusal.Path (path_fault word)
 
--- of two causes the first
+-- the first of two causes
 abbrev pub first_cause : Option Refusal → Option Refusal → Option Refusal
 first_cause None second = second
 first_cause (Some cause) second = Some cause
@@ -159,7 +162,8 @@ abbrev pub to_commit : Option Id → (Id → Change) → Result Change Refusal
 to_commit None change = Err refusal.NoLabel
 to_commit (Some commit) change = Ok (change commit)
 
--- what a line changes: it is refused for its path, or its label, before the mount is asked
+-- the change of a line; it is refused for its path, or its label, before the mount is
+-- asked
 abbrev pub change_of : List Binding → ChangeLine → Result Change Refusal
 change_of bindings (changing.Write path kind bytes) = changing_to (path_refusal path) (change.Write path kind bytes)
 change_of bindings (changing.Remove path) = changing_to (path_refusal path) (change.Remove path)
@@ -183,8 +187,9 @@ file_told (Some content) = told.File content.kind content.bytes
 abbrev pub position_asked : ℕ → ℕ → Position
 position_asked generation sequence = record { generation = generation; sequence = sequence; root = record { 0 = replicate 20 0 } }
 
--- the position; the paths of the files, in byte order, that the patterns admit; those, in byte order, at which the files differ from the
--- files of the commit; a file, which is refused for its path before the mount is asked; and what changed since a position
+-- the position; the paths of the files, in byte order, that the patterns admit; the
+-- paths, in byte order, at which the files differ from the commit's; a file, which is
+-- refused for its path before the mount is asked; and what changed since a position
 abbrev pub asked : WorldState → AskLine → Told
 asked world asking.Position = told.Answer (At (position_of (now world)))
 asked world (asking.ListFiles patterns) =
@@ -200,12 +205,12 @@ asked world (asking.Since generation sequence) =
 
 -- ---- every line
 
--- a commit is mounted where there is no mount
+-- a commit is mounted if there is no mount
 abbrev pub until_mounted : Option WorldState → Session → Acted → Acted
 until_mounted None session acted = acted
 until_mounted (Some world) session acted = (session, told.Refused refusal.Mounted)
 
--- a line of the mount is refused where there is none
+-- a line for the mount is refused if there is none
 abbrev pub once_mounted : Option WorldState → Session → (WorldState → Acted) → Acted
 once_mounted None session acts = (session, told.Refused refusal.NotMounted)
 once_mounted (Some world) session acts = acts world

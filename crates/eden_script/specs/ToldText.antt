@@ -1,4 +1,4 @@
--- What a line came to, as it is printed. Bytes: 10 is LF, 32 a space.
+-- The result of a line, as it is printed. Byte 10 is a line feed, 32 a space.
 use Rattle.std.specs.Prelude.{ℕ, ◌==◌, if◌then◌else◌, List, [], ◌∷◌, ◌++◌, length, codes, Option, Some, None}
 use Rattle.std.specs.Fmt.{decimal}
 use Rattle.std.specs.List.{flat_map}
@@ -38,7 +38,8 @@ abbrev pub labelled : Id → Option (List ℕ) → List ℕ
 labelled id (Some label) = label
 labelled id None = encode_lower id.0
 
--- a root is shown as `empty` where it is the empty commit, else as the first label ever bound to it that still is, else in hexadecimal
+-- a root is printed as `empty` if it is the empty commit, else as the first label ever
+-- bound to it that still is, else in hexadecimal
 abbrev pub root_text : List Binding → Id → List ℕ
 root_text bindings id = if same_id id zero_id then codes "empty" else labelled id (label_of bindings id)
 
@@ -46,7 +47,7 @@ abbrev pub position_text : List Binding → Position → List ℕ
 position_text bindings position =
     decimal position.generation ++ (32 ∷ decimal position.sequence) ++ (32 ∷ root_text bindings position.root)
 
--- ---- refusals: the cause by its name, and a number where it has one
+-- ---- refusals: the name of the cause, and a number if it has one
 
 abbrev pub put_fault_name : PutFault → List ℕ
 put_fault_name put.TooLarge = codes "TooLarge"
@@ -136,7 +137,7 @@ marked_text marked = mark_text marked.mark ++ (32 ∷ escaped marked.path) ++ (1
 abbrev pub path_text : List ℕ → List ℕ
 path_text path = escaped path ++ (10 ∷ [])
 
--- what some paths are, how many there are, and then each of them
+-- a heading and the number of paths, then each of them
 abbrev pub paths_text : List ℕ → List (List ℕ) → List ℕ
 paths_text name paths = name ++ decimal (length paths) ++ (10 ∷ []) ++ flat_map path_text paths
 
@@ -145,7 +146,7 @@ kind_text Plain = codes "plain"
 kind_text Exec = codes "exec"
 kind_text Link = codes "link"
 
--- ---- what a line came to
+-- ---- results of lines
 
 abbrev pub at_text : List Binding → Position → List ℕ
 at_text bindings position = codes "at " ++ position_text bindings position ++ (10 ∷ [])
@@ -164,7 +165,7 @@ id_text id = codes "id " ++ encode_lower id.0 ++ (10 ∷ [])
 abbrev pub content_text : Kind → List ℕ → List ℕ
 content_text kind bytes = kind_text kind ++ (32 ∷ escaped bytes) ++ (10 ∷ [])
 
--- the directories that were renamed, before and after, where there are some
+-- the directories that were renamed, old and new, if there are any
 abbrev pub prefixes_text : List (List ℕ) → List ℕ
 prefixes_text prefixes = if length prefixes == 0 then [] else paths_text (codes "prefixes ") prefixes
 

@@ -1,2 +1,2 @@
--- What the implementation uses alone.
+-- Definitions that the code alone uses.
 pub mod Runs

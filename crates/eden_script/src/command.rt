@@ -5,20 +5,23 @@ use crate::lines::Word;
 use eden_history::Mode;
 use eden_ids::{Kind, Sequence};
 
-/// What a line of a script gives as an entry of a tree. The mode and the name are the words as they were written, with their
-/// escapes undone: they go into the tree's payload as they are.
+/// An entry of a tree, as a line gives it.
+///
+/// The mode and the name are the words of the line, with their escapes undone. They go
+/// into the tree's payload unchanged.
 #[derive(Drop)]
 pub struct TreeEntry {
-    /// The mode, not looked at.
+    /// The mode, not checked.
     pub mode: Word,
-    /// The name, not looked at.
+    /// The name, not checked.
     pub name: Word,
     /// The label of the object.
     pub label: Label,
 }
 
-/// What a line of a script asks for, by what it does. Paths and contents are the words as they were written, with their escapes
-/// undone.
+/// What a line of a script asks for.
+///
+/// Paths and contents are the words of the line, with their escapes undone.
 #[derive(Drop)]
 pub enum Command {
     /// Puts an object, and binds a label to it.
@@ -50,7 +53,7 @@ pub enum PutLine {
     Tree {
         /// The label, not `empty`.
         label: Label,
-        /// What the tree is to name, in the order of the line.
+        /// The tree's entries, in the order of the line.
         entries: Sequence<TreeEntry>,
     },
     /// Puts a commit.
@@ -69,7 +72,7 @@ pub struct MountLine {
     pub label: Label,
     /// The mount's generation.
     pub generation: u64,
-    /// What the changes that are kept may cost together.
+    /// The most bytes that the mount's journal may hold.
     pub limit: u64,
 }
 
@@ -78,49 +81,49 @@ pub struct MountLine {
 pub enum ChangeLine {
     /// Sets the file at a path.
     Write {
-        /// The path, not looked at yet.
+        /// The path, not checked yet.
         path: Word,
-        /// What the file is to be.
+        /// The file's new kind.
         kind: Kind,
-        /// What it is to hold.
+        /// The file's new bytes.
         bytes: Word,
     },
-    /// Takes the file at a path away.
+    /// Removes the file at a path.
     Remove {
-        /// The path, not looked at yet.
+        /// The path, not checked yet.
         path: Word,
     },
-    /// Takes the file at one path away and puts it at another.
+    /// Moves a file to another path.
     Rename {
-        /// The path at which the file stands, not looked at yet.
+        /// The file's path now, not checked yet.
         old: Word,
-        /// The path at which it is to stand, not looked at yet.
+        /// The file's new path, not checked yet.
         new: Word,
     },
     /// Moves each file below one path to the same place below another.
     RenameDir {
-        /// The path below which the files stand, not looked at yet.
+        /// The directory's path now, not checked yet.
         old: Word,
-        /// The path below which they are to stand, not looked at yet.
+        /// The directory's new path, not checked yet.
         new: Word,
     },
-    /// Goes over to another commit, and leaves the files as they are.
+    /// Moves the root to another commit, and leaves the files.
     Reset {
         /// The label of the commit.
         label: Label,
     },
-    /// Forgets what changed so far.
+    /// Drops what the journal holds.
     Flush,
-    /// Begins anew under another generation.
+    /// Begins another generation.
     Remount {
         /// The generation.
         generation: u64,
     },
-    /// Goes over to another commit, and makes the files those of that commit as far as the mode says.
+    /// Checks out another commit, and changes the files as the mode says.
     Checkout {
         /// The label of the commit.
         label: Label,
-        /// What becomes of files that were changed.
+        /// How files that were changed are treated.
         mode: Mode,
     },
 }
@@ -132,14 +135,16 @@ pub enum AskLine {
     Position,
     /// Asks for the paths of the files.
     ListFiles {
-        /// The patterns of which one has to admit a path, not looked at yet; with none all files are asked for.
+        /// The patterns of a filter, not checked yet.
+        ///
+        /// Without patterns all files are listed.
         patterns: Sequence<Word>,
     },
     /// Asks for the paths at which the files differ from the commit's.
     Dirty,
     /// Asks for the file at a path.
     Read {
-        /// The path, not looked at yet.
+        /// The path, not checked yet.
         path: Word,
     },
     /// Asks what changed since a position.

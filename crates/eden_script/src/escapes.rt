@@ -1,4 +1,4 @@
-//! Bytes as the words of a line, with backslashes before what a word can't hold, and read back.
+//! Bytes as the words of a line: escaping, and its reverse.
 
 ghost use Rattle.std.specs.Prelude.{◌≡◌, ◌++◌, length, take, map, MatchOption, OnOk, OnErr, IfOk};
 ghost use Rattle.std.specs.List.{flat_map};
@@ -10,7 +10,11 @@ ghost use Rattle.eden_script.specs.internal.Runs.{IsPlain, EndsPlain, HasNoBacks
 use bstr::ByteSlice;
 use std::alloc::{AllocError, Global};
 
-/// Appends the bytes as they are. Where memory runs out the text stays as it was.
+/// Appends the bytes as they are.
+///
+/// # Errors
+///
+/// - `AllocError` if an allocation fails; the text does not change.
 #[tactic(auto, using(eden_ids::proofs::Fronts::grown_keeps))]
 pub fn push_bytes(text: &mut Vec<u8>, bytes: &[u8]) -> Result<(), AllocError>
     ensures ok { OnOk result (text.new.items ≡ text.old.items ++ bytes.now) }
@@ -20,9 +24,14 @@ pub fn push_bytes(text: &mut Vec<u8>, bytes: &[u8]) -> Result<(), AllocError>
     text.extend_from_slice(bytes)
 }
 
-/// Appends the bytes escaped, as one word: a backslash as `\\`, a line feed as `\n`, a space as
-/// `\s`, any other byte as it is, and `\e` where there are no bytes. Where memory runs out the text
-/// stays as it was.
+/// Appends the bytes escaped, as one word.
+///
+/// A backslash is written as `\\`, a line feed as `\n`, a space as `\s`, any other byte
+/// as it is, and an empty string as `\e`.
+///
+/// # Errors
+///
+/// - `AllocError` if an allocation fails; the text does not change.
 #[tactic(auto, unfolding(crate::specs::Escapes::escaped), using(eden_ids::proofs::Fronts::grown_keeps))]
 pub fn push_escaped(text: &mut Vec<u8>, bytes: &[u8]) -> Result<(), AllocError>
     ensures ok { OnOk result (text.new.items ≡ text.old.items ++ escaped bytes.now) }
@@ -40,7 +49,7 @@ pub fn push_escaped(text: &mut Vec<u8>, bytes: &[u8]) -> Result<(), AllocError>
     pushed
 }
 
-// The place of the first byte that is not written as it is.
+// Returns the index of the first byte that needs an escape.
 #[tactic(auto, unfolding(bstr::specs::Bytes::is_in))]
 fn first_escaped(bytes: &[u8]) -> Option<usize>
     ensures { MatchOption result (IsPlain bytes.now) (EndsPlain bytes.now) }
@@ -48,8 +57,9 @@ fn first_escaped(bytes: &[u8]) -> Option<usize>
     bytes.find_byteset(b"\\\n ".as_slice())
 }
 
-// Bytes that are written as they are go in together. Where memory runs out some of the bytes may
-// have been appended.
+// Appends each byte escaped; runs of bytes that need no escape go in together.
+//
+// If an allocation fails, some of the bytes may have been appended.
 fn push_each_escaped(text: &mut Vec<u8>, bytes: &[u8]) -> Result<(), AllocError>
     ensures ok { OnOk result (text.new.items ≡ text.old.items ++ flat_map escaped_byte bytes.now) }
     ensures err { OnErr result (take (length text.old.items) text.new.items ≡ text.old.items) }
@@ -79,7 +89,7 @@ fn push_escaped_byte(text: &mut Vec<u8>, byte: u8) -> Result<(), AllocError>
     }
 }
 
-// What a backslash and `code` stand for.
+// Returns the meaning of a backslash followed by `code`.
 fn meaning(code: u8) -> Option<&'static [u8]>
     ensures { option_copied result ≡ meaning_of code }
 {
@@ -92,15 +102,16 @@ fn meaning(code: u8) -> Option<&'static [u8]>
     }
 }
 
-// The place of the first backslash.
+// Returns the index of the first backslash.
 fn first_backslash(bytes: &[u8]) -> Option<usize>
     ensures { MatchOption result (HasNoBackslash bytes.now) (HasBackslashAt bytes.now) }
 {
     bytes.find_byte(b'\\')
 }
 
-// The bytes that `text` stands for, or `None` where one of its backslashes has no meaning. Those up
-// to a backslash are read together.
+// Returns the bytes that `text` spells, or `None` if one of its backslashes is invalid.
+//
+// The bytes up to a backslash are copied together.
 pub(crate) fn unescape(alloc: Global, text: &[u8]) -> Result<Option<Vec<u8>>, AllocError>
     ensures { IfOk result (λ bytes. option_map (λ v. v.items) bytes ≡ unescaped text.now) }
 {

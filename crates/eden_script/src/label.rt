@@ -1,4 +1,4 @@
-//! Labels, which stand for ids in a script.
+//! Labels, the names of objects in a script.
 
 ghost use Rattle.std.specs.Prelude.{◌≡◌, nat_eq, IfOk};
 ghost use Rattle.std.specs.List.{list_all};
@@ -48,7 +48,7 @@ fn is_label(bytes: &[u8]) -> bool
 }
 
 impl Label {
-    /// The label that a word is, or none where it is no label.
+    /// Reads a label from a word, if it is valid.
     pub fn read(word: Word) -> Option<Label>
         ensures { result ≡ label_read word }
     {
@@ -60,7 +60,9 @@ impl Label {
         }
     }
 
-    /// The label that a word is, or none where it is no label, or `empty`: that one is the empty commit's, and is never bound.
+    /// Reads a label that a line may bind, if it is valid.
+    ///
+    /// `empty` is refused too: it always names the empty commit.
     pub fn read_to_bind(word: Word) -> Option<Label>
         ensures { result ≡ label_to_bind word }
     {
@@ -70,9 +72,13 @@ impl Label {
         }
     }
 
-    /// The label that a commit has where no line binds one to it: the first 32 digits of its id.
+    /// Returns the label of a commit to which no line binds one.
     ///
-    /// `AllocError` comes where a growth was refused.
+    /// It is the first 32 digits of its id.
+    ///
+    /// # Errors
+    ///
+    /// - `AllocError` if an allocation fails.
     #[tactic(auto, using(crate::proofs::OwnLabels::own_is_label))]
     pub fn of_id(alloc: Global, id: Id) -> Result<Label, AllocError>
         ensures { IfOk result (λ label. label ≡ own_label id) }
@@ -84,14 +90,14 @@ impl Label {
         Ok(Label { bytes })
     }
 
-    /// Whether this is `empty`, the label of the empty commit.
+    /// Returns true if this is `empty`, the label of the empty commit.
     pub fn is_empty(&self) -> bool
         ensures { result ≡ is_empty self.now }
     {
         self.as_bytes() == b"empty".as_slice()
     }
 
-    /// The label's bytes. This takes no memory.
+    /// Returns the label's bytes. Does not allocate.
     pub fn as_bytes(&self) -> &[u8]
         ensures { result.now ≡ self.now }
     {
@@ -152,7 +158,7 @@ impl fmt::Debug for Label {
     }
 }
 
-/// What a line of a script bound: from then on the label names the object, until it is bound again.
+/// A binding that a line made: the label names the object until it is bound again.
 #[derive(Drop)]
 pub struct Binding {
     /// The label, never `empty`.

@@ -1,12 +1,17 @@
-//! The language of a script: how a line is parted into words, how bytes are escaped in them, how numbers are read and written,
-//! what each line asks for, and the parts of what a script prints.
+//! The language of scripts: what a line asks for, and what it prints.
 //!
-//! The words of a line are parted by single spaces. In a word `\\` stands for a backslash, `\n` for a line feed, `\s` for a space
-//! and `\e` for nothing at all, so that each list of bytes can be written as one word. A number is the decimal text of a `u64`, with
-//! no sign and no leading zero.
+//! `words` splits a line at single spaces and undoes escapes. In a word `\\` is a
+//! backslash, `\n` a line feed, `\s` a space and `\e` nothing at all. So any bytes can be
+//! written as one word. A number is the decimal text of a `u64`, without sign and leading
+//! zeros.
 //!
-//! The definitions stand in `specs/`: which words a line has to have, what labels are bound to, and the text that each line prints
-//! over the objects put so far and the mount.
+//! `Command::read` reads the words of a line: put an object and bind a `Label` to it,
+//! mount a commit, change the mount or ask it something. The result of a line is a
+//! `Told`, with a `Refusal` if nothing was done. `push_refusal`, `push_listed` and others
+//! write the parts of what is printed.
+//!
+//! The definitions are in `specs/`: the words of each line, what labels are bound to, and
+//! the text that each line prints, over the objects put so far and the mount.
 //!
 //! ```rust
 //! use eden_script::words;
@@ -32,7 +37,7 @@ pub use crate::texts::{
     push_refusal,
 };
 pub use crate::told::{Lent, Refusal, Told};
-pub use eden_numbers::number;
+pub use eden_git::number;
 
 mod command;
 mod escapes;

@@ -8,7 +8,7 @@ use crate::escapes::unescape;
 use std::alloc::{AllocError, Global};
 use std::marker::Model;
 
-/// A word of a line, with its escapes undone: any bytes, perhaps none.
+/// A word of a line, with its escapes undone: any bytes, also none.
 #[derive(Drop)]
 pub struct Word {
     bytes: Vec<u8>,
@@ -23,14 +23,14 @@ impl Model for Word {
 }
 
 impl Word {
-    /// The bytes of the word.
+    /// Returns the bytes of the word.
     pub fn as_bytes(&self) -> &[u8]
         ensures { result.now ≡ self.now }
     {
         self.bytes.as_slice()
     }
 
-    /// The bytes of the word, as a vector.
+    /// Returns the bytes of the word, as a vector.
     pub fn into_bytes(self) -> Vec<u8>
         ensures { result.items ≡ self }
     {
@@ -38,9 +38,15 @@ impl Word {
     }
 }
 
-/// The words of a line with their escapes undone, or `None` where the line has no reading: it has
-/// an empty word (two spaces in a row, a space at either end, an empty line), or a backslash at a
-/// word's end or before a byte that makes no escape with it. It fails only where memory runs out.
+/// Splits a line into words with their escapes undone, or returns `None`.
+///
+/// `None` means that the line is invalid. It may have an empty word: two spaces in a row,
+/// a space at either end, an empty line. Or a backslash is at a word's end, or before a
+/// byte with which it is not an escape.
+///
+/// # Errors
+///
+/// - `AllocError` if an allocation fails.
 pub fn words(alloc: Global, line: &[u8]) -> Result<Option<Vec<Word>>, AllocError>
     ensures { IfOk result (λ words. option_map (λ v. v.items) words ≡ words_of line.now) }
 {
@@ -54,7 +60,7 @@ pub fn words(alloc: Global, line: &[u8]) -> Result<Option<Vec<Word>>, AllocError
     Ok(Some(words))
 }
 
-// The word that a part of a line stands for. A part with no bytes is no word.
+// Reads a word from a part of a line. An empty part is not a word.
 fn read_word(alloc: Global, part: &[u8]) -> Result<Option<Word>, AllocError>
     ensures { IfOk result (λ word. word ≡ word_of part.now) }
 {

@@ -6,7 +6,11 @@ ghost use Rattle.eden_ids.specs.Fronts.{KeepsFront};
 use itoa::Buffer;
 use std::alloc::AllocError;
 
-/// Appends the decimal text of `n`. Where memory runs out the text stays as it was.
+/// Appends the decimal text of `n`.
+///
+/// # Errors
+///
+/// - `AllocError` if an allocation fails; the text does not change.
 #[tactic(auto, using(eden_ids::proofs::Fronts::grown_keeps))]
 pub fn push_number(text: &mut Vec<u8>, n: u64) -> Result<(), AllocError>
     ensures ok { OnOk result (text.new.items ≡ text.old.items ++ decimal n) }

@@ -1,4 +1,4 @@
-//! What a line asks for, read from its words.
+//! Commands, read from the words of a line.
 
 ghost use Rattle.std.specs.Prelude.{◌≡◌, ◌<◌, length, IfOk, OnSome};
 ghost use Rattle.eden_ids.specs.Sameness.{same_bytes};
@@ -8,9 +8,9 @@ use crate::command::{AskLine, ChangeLine, Command, MountLine, PutLine, TreeEntry
 use crate::label::Label;
 use crate::lines::Word;
 use crate::unread::Unread;
+use eden_git::number;
 use eden_history::Mode;
 use eden_ids::{Kind, Sequence};
-use eden_numbers::number;
 use std::alloc::{AllocError, Global};
 
 fn is_named(word: &Word, name: &[u8]) -> bool
@@ -54,7 +54,7 @@ fn read_entry(mode: Word, name: Word, label: Word) -> Option<TreeEntry>
     Some(TreeEntry { mode, name, label })
 }
 
-/// The entry of the first three words, which are taken.
+/// Takes the first three words and returns their entry.
 fn take_entry(words: &mut Unread) -> Option<TreeEntry>
     requires { 0 < length words.old }
     ensures reads { entries_of words.old ≡ entry_before result (entries_of words.new) }
@@ -82,7 +82,7 @@ fn read_entries(alloc: Global, mut words: Unread) -> Result<Option<Sequence<Tree
     Ok(Some(Sequence::from_vec(entries)))
 }
 
-/// What a tree's line asks for, by the words after its first.
+/// Reads a tree's line, by the words after its first.
 fn read_tree(alloc: Global, mut words: Unread) -> Result<Option<PutLine>, AllocError>
     ensures { IfOk result (λ line. line ≡ tree_of words) }
 {
@@ -96,7 +96,7 @@ fn read_tree(alloc: Global, mut words: Unread) -> Result<Option<PutLine>, AllocE
     }
 }
 
-/// What a line asks for that puts an object, but for a tree; tells an id; or mounts.
+/// Reads a line for a blob, commit, id or mount.
 #[tactic(auto, using(crate::proofs::RowLemmas::not_none, crate::proofs::RowLemmas::not_one, crate::proofs::RowLemmas::not_two, crate::proofs::RowLemmas::not_three))]
 fn read_first(first: &Word, words: Unread) -> Option<Command>
     ensures { result ≡ first_of first.now words }
@@ -128,7 +128,7 @@ fn read_first(first: &Word, words: Unread) -> Option<Command>
     }
 }
 
-/// What a line asks for that changes a mount, or comes before there is one.
+/// Reads a line that changes a mount, or one of `read_first`.
 #[tactic(auto, using(crate::proofs::RowLemmas::not_none, crate::proofs::RowLemmas::not_one, crate::proofs::RowLemmas::not_two, crate::proofs::RowLemmas::not_three))]
 fn read_change(first: &Word, words: Unread) -> Option<Command>
     ensures { result ≡ change_of first.now words }
@@ -165,8 +165,10 @@ fn read_change(first: &Word, words: Unread) -> Option<Command>
     }
 }
 
-/// What a line asks for, but for a tree's, which alone takes memory to read. A mount is asked, and changed, more often than made, so those lines
-/// are looked for first.
+/// Reads any line but that of a tree.
+///
+/// Only a tree's line needs an allocation. A mount is changed and asked more often than
+/// it is made, so those lines are tried first.
 #[tactic(auto, using(crate::proofs::RowLemmas::not_none, crate::proofs::RowLemmas::not_one, crate::proofs::RowLemmas::not_two, crate::proofs::RowLemmas::not_three))]
 fn read_ask(first: &Word, words: Unread) -> Option<Command>
     ensures { result ≡ ask_of first.now words }
@@ -197,11 +199,16 @@ fn read_ask(first: &Word, words: Unread) -> Option<Command>
 }
 
 impl Command {
-    /// What the words of a line ask for, or none where no row of the table of lines reads them: another first word, a wrong number of
-    /// words, or a number, a kind, a mode or a label that is none. Paths, patterns and the parts of a tree's entries are taken as they
-    /// are.
+    /// Reads the words of a line, if they are valid.
     ///
-    /// `AllocError` comes where a growth was refused.
+    /// It returns `None` if the words are not in the table of lines. They are not if the
+    /// first word is unknown, the number of words is wrong, or a number, a kind, a mode
+    /// or a label is invalid. Paths, patterns and the parts of a tree's entries are not
+    /// checked.
+    ///
+    /// # Errors
+    ///
+    /// - `AllocError` if an allocation fails.
     pub fn read(alloc: Global, words: Vec<Word>) -> Result<Option<Command>, AllocError>
         ensures { IfOk result (λ command. command ≡ command_of words.items) }
     {

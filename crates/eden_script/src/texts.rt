@@ -1,6 +1,8 @@
-//! The parts of what a script prints in which no label stands: ids, refusals, paths, contents and marks.
+//! The parts of a script's output that have no labels: ids, refusals, paths, contents and
+//! marks.
 //!
-//! Each call adds to the end of a text. Where a growth is refused a part may stand there, and what stood there before is as it was.
+//! Each call adds to the end of a text. If an allocation fails, the text may end with a
+//! part of what was to be added; what was there before is unchanged.
 
 ghost use Rattle.std.specs.Prelude.{◌≡◌, ◌++◌, OnOk};
 ghost use Rattle.std.specs.List.{flat_map};
@@ -17,7 +19,7 @@ use eden_ids::{Id, Kind, Path, PathFault};
 use eden_objects::PutFault;
 use std::alloc::AllocError;
 
-/// An id, as forty hexadecimal digits.
+/// Adds an id as forty hexadecimal digits.
 pub fn push_id(text: &mut Vec<u8>, id: &Id) -> Result<(), AllocError>
     ensures told { OnOk result (text.new.items ≡ text.old.items ++ encode_lower id.now.0) }
     ensures front { KeepsFront text.old.items text.new.items }
@@ -25,7 +27,7 @@ pub fn push_id(text: &mut Vec<u8>, id: &Id) -> Result<(), AllocError>
     push_bytes(text, id.to_hex().as_slice())
 }
 
-/// The line of an object that was put.
+/// Adds the line of an object that was put.
 pub fn push_ok(text: &mut Vec<u8>) -> Result<(), AllocError>
     ensures told { OnOk result (text.new.items ≡ text.old.items ++ ok_text) }
     ensures front { KeepsFront text.old.items text.new.items }
@@ -33,7 +35,7 @@ pub fn push_ok(text: &mut Vec<u8>) -> Result<(), AllocError>
     push_bytes(text, b"ok\n".as_slice())
 }
 
-/// The line of an id that was asked for: `id` and the id.
+/// Adds the line of an id that was asked for: `id` and the id.
 pub fn push_id_line(text: &mut Vec<u8>, id: &Id) -> Result<(), AllocError>
     ensures told { OnOk result (text.new.items ≡ text.old.items ++ id_text id.now) }
     ensures front { KeepsFront text.old.items text.new.items }
@@ -43,7 +45,7 @@ pub fn push_id_line(text: &mut Vec<u8>, id: &Id) -> Result<(), AllocError>
     push_bytes(text, b"\n".as_slice())
 }
 
-/// The name of a put's fault, as it is displayed.
+/// Returns the name of a put's fault, as it is displayed.
 fn put_fault_name(fault: PutFault) -> &'static [u8]
     ensures { result.now ≡ put_fault_name fault }
 {
@@ -65,7 +67,7 @@ fn put_fault_name(fault: PutFault) -> &'static [u8]
     }
 }
 
-/// The name of a path's fault, as it is displayed.
+/// Returns the name of a path's fault, as it is displayed.
 fn path_fault_name(fault: PathFault) -> &'static [u8]
     ensures { result.now ≡ path_fault_name fault }
 {
@@ -78,7 +80,7 @@ fn path_fault_name(fault: PathFault) -> &'static [u8]
     }
 }
 
-/// The name of a change's fault, as it is displayed.
+/// Returns the name of a change's fault, as it is displayed.
 fn change_fault_name(fault: ChangeFault) -> &'static [u8]
     ensures { result.now ≡ change_fault_name fault }
 {
@@ -97,7 +99,7 @@ fn change_fault_name(fault: ChangeFault) -> &'static [u8]
     }
 }
 
-/// The name of a fault of patterns, without the place that is displayed behind it.
+/// Returns the name of a filter's fault, without its index.
 fn filter_fault_name(fault: FilterFault) -> &'static [u8]
     ensures { result.now ≡ filter_fault_name fault }
 {
@@ -109,7 +111,7 @@ fn filter_fault_name(fault: FilterFault) -> &'static [u8]
     }
 }
 
-/// The name of a position's fault, without the number that is displayed behind it.
+/// Returns the name of a position's fault, without its number.
 fn since_fault_name(fault: SinceFault) -> &'static [u8]
     ensures { result.now ≡ since_fault_name fault }
 {
@@ -137,7 +139,10 @@ fn refusal_name(cause: Refusal) -> &'static [u8]
     }
 }
 
-/// The number that is told with a cause: of a pattern its place, from 0, and of a position the mount's number that refuses it.
+/// Returns the number that is printed with a cause.
+///
+/// For a pattern it is its index, from 0; for a position the mount's number that refuses
+/// it.
 fn refusal_number(cause: Refusal) -> Option<u64>
     ensures { result ≡ refusal_number cause }
 {
@@ -161,7 +166,7 @@ fn push_number_behind(text: &mut Vec<u8>, number: Option<u64>) -> Result<(), All
     push_number(text, number)
 }
 
-/// The line of a refusal: the cause by its name, with its number where it has one.
+/// Adds the line of a refusal: the name of the cause, and its number if it has one.
 pub fn push_refusal(text: &mut Vec<u8>, cause: Refusal) -> Result<(), AllocError>
     ensures told { OnOk result (text.new.items ≡ text.old.items ++ refused_text (refusal_name cause) (refusal_number cause)) }
     ensures front { KeepsFront text.old.items text.new.items }
@@ -172,7 +177,7 @@ pub fn push_refusal(text: &mut Vec<u8>, cause: Refusal) -> Result<(), AllocError
     push_bytes(text, b"\n".as_slice())
 }
 
-/// A path on a line of its own.
+/// Adds a path on a line of its own.
 fn push_path(text: &mut Vec<u8>, path: &Path) -> Result<(), AllocError>
     ensures told { OnOk result (text.new.items ≡ text.old.items ++ path_text path.now) }
     ensures front { KeepsFront text.old.items text.new.items }
@@ -191,7 +196,9 @@ fn push_paths(text: &mut Vec<u8>, paths: &[Path]) -> Result<(), AllocError>
     Ok(())
 }
 
-/// A line of what some paths are and how many there are, and then each of them on a line of its own.
+/// Adds a heading with the number of paths, then each path.
+///
+/// Each path is on a line of its own.
 pub fn push_listed(text: &mut Vec<u8>, what: &[u8], paths: &[Path]) -> Result<(), AllocError>
     ensures told { OnOk result (text.new.items ≡ text.old.items ++ paths_text what.now paths.now) }
     ensures front { KeepsFront text.old.items text.new.items }
@@ -202,7 +209,7 @@ pub fn push_listed(text: &mut Vec<u8>, what: &[u8], paths: &[Path]) -> Result<()
     push_paths(text, paths)
 }
 
-/// The word for a file's kind: `plain`, `exec` or `link`.
+/// Returns the word for a file's kind: `plain`, `exec` or `link`.
 pub fn kind_name(kind: Kind) -> &'static [u8]
     ensures { result.now ≡ kind_text kind }
 {
@@ -213,7 +220,7 @@ pub fn kind_name(kind: Kind) -> &'static [u8]
     }
 }
 
-/// The line of a file: its kind, and what it holds.
+/// Adds the line of a file: its kind and its bytes.
 pub fn push_content(text: &mut Vec<u8>, kind: Kind, bytes: &[u8]) -> Result<(), AllocError>
     ensures told { OnOk result (text.new.items ≡ text.old.items ++ content_text kind bytes.now) }
     ensures front { KeepsFront text.old.items text.new.items }
@@ -245,7 +252,7 @@ fn push_marked(text: &mut Vec<u8>, marked: &Marked) -> Result<(), AllocError>
     push_bytes(text, b"\n".as_slice())
 }
 
-/// Each of some paths on a line of its own, behind what became of it.
+/// Adds each path on a line of its own, after its mark.
 pub fn push_all_marked(text: &mut Vec<u8>, marked: &[Marked]) -> Result<(), AllocError>
     ensures told { OnOk result (text.new.items ≡ text.old.items ++ flat_map marked_text marked.now) }
     ensures front { KeepsFront text.old.items text.new.items }

@@ -1,4 +1,4 @@
-//! What a line of a script came to, before it is printed.
+//! The result of a script's line, before it is printed.
 
 ghost use Rattle.std.specs.Prelude.{◌≡◌};
 
@@ -11,27 +11,27 @@ use std::marker::Model;
 /// Why a line is refused. Nothing has changed.
 #[derive(Clone, Copy, Debug, PartialEq, Eq)]
 pub enum Refusal {
-    /// A label is bound to nothing.
+    /// A label is not bound.
     NoLabel,
-    /// There is a mount already, and a script has one at the most.
+    /// There is a mount already; a script has at most one.
     Mounted,
     /// There is no mount yet.
     NotMounted,
-    /// The id of the commit to be mounted is no commit's.
+    /// The id to be mounted is not that of a commit.
     NoCommit,
-    /// The object can't be put.
+    /// The object cannot be put.
     Put(PutFault),
-    /// A word is no path.
+    /// A word is not a path.
     Path(PathFault),
     /// No file can be read at a path.
     File(ChangeFault),
-    /// The words are no patterns.
+    /// The words are not valid patterns.
     Patterns(FilterFault),
-    /// What changed since the position can't be told.
+    /// The changes since the position cannot be listed.
     Since(SinceFault),
 }
 
-/// Bytes that are lent: a value of its own by what they are, and not by where they lie.
+/// Borrowed bytes, compared by value.
 #[derive(Drop)]
 pub struct Lent<'a> {
     bytes: &'a [u8],
@@ -46,14 +46,14 @@ impl<'a> Model for Lent<'a> {
 }
 
 impl<'a> Lent<'a> {
-    /// These bytes, which are not copied.
+    /// Borrows these bytes, without copying them.
     pub fn new(bytes: &'a [u8]) -> Lent<'a>
         ensures { result ≡ bytes.now }
     {
         Lent { bytes }
     }
 
-    /// The bytes. This takes no memory.
+    /// Returns the bytes. Does not allocate.
     pub fn as_slice(&self) -> &[u8]
         ensures { result.now ≡ self.now }
     {
@@ -61,33 +61,35 @@ impl<'a> Lent<'a> {
     }
 }
 
-/// What a line came to. The bytes of a file that is read are lent by the mount that holds it.
+/// The result of a line. The bytes of a file are borrowed from the mount that holds it.
 #[derive(Drop)]
 pub enum Told<'a> {
     /// An object was put, and its label is bound to it.
     Done,
     /// The id that a label is bound to.
     Id(Id),
-    /// What a change came to; of a commit that was mounted, and of a mount that was asked for it, the present position.
+    /// The answer to a change, or the position after a mount.
+    ///
+    /// It is also the position that a mount was asked for.
     Answer(Answer),
-    /// Nothing, and why.
+    /// Nothing was done; the cause.
     Refused(Refusal),
     /// The paths of the files that were asked for, in byte order.
     Files(Sequence<Path>),
-    /// The paths, in byte order, at which the files differ from those of the commit.
+    /// The paths where files differ from the commit's, in byte order.
     Dirty(Sequence<Path>),
     /// The file at a path.
     File {
-        /// What it is.
+        /// Its kind.
         kind: Kind,
-        /// What it holds.
+        /// Its bytes.
         bytes: Lent<'a>,
     },
     /// What changed since a position.
     Changes {
-        /// The paths, in byte order, each with what became of it.
+        /// The paths with their marks, in byte order.
         marked: Sequence<Marked>,
-        /// The directories that were renamed, before and after, in byte order.
+        /// The directories that were renamed, old and new, in byte order.
         prefixes: Sequence<Path>,
         /// The present position.
         to: Position,

@@ -8,7 +8,7 @@ use std::marker::Model;
 /// Words that are taken from the front.
 #[derive(Drop)]
 pub(crate) struct Unread {
-    // The last word first, so that the first one is at hand.
+    // The last word first, so that the first one can be popped.
     backwards: Vec<Word>,
 }
 
@@ -21,7 +21,7 @@ impl Model for Unread {
 }
 
 impl Unread {
-    /// All of these words.
+    /// Returns all of these words.
     pub(crate) fn new(words: Vec<Word>) -> Unread
         ensures { result ≡ words.items }
     {
@@ -30,14 +30,14 @@ impl Unread {
         Unread { backwards }
     }
 
-    /// The number of words.
+    /// Returns the number of words.
     pub(crate) fn len(&self) -> usize
         ensures { result ≡ length self.now }
     {
         self.backwards.len()
     }
 
-    /// The words as a vector.
+    /// Returns the words as a vector.
     pub(crate) fn into_words(self) -> Vec<Word>
         ensures { result.items ≡ self }
     {
@@ -46,7 +46,7 @@ impl Unread {
         words
     }
 
-    /// Takes the first word.
+    /// Takes the first word. There must be one.
     pub(crate) fn take(&mut self) -> Word
         requires { 0 < length self.old }
         ensures { self.old ≡ result ∷ self.new }
@@ -54,14 +54,14 @@ impl Unread {
         self.backwards.pop().unwrap()
     }
 
-    /// That there is no word.
+    /// Returns `Some` if there is no word.
     pub(crate) fn none(self) -> Option<()>
         ensures { MatchOption result (length self ≢ 0) (λ _. self ≡ []) }
     {
         if self.len() == 0 { Some(()) } else { None }
     }
 
-    /// The one word that there is.
+    /// Returns the word, if there is exactly one.
     pub(crate) fn one(mut self) -> Option<Word>
         ensures { MatchOption result (length self ≢ 1) (λ word. self ≡ word ∷ []) }
     {
@@ -72,7 +72,7 @@ impl Unread {
         }
     }
 
-    /// The two words that there are.
+    /// Returns the two words, if there are exactly two.
     pub(crate) fn two(mut self) -> Option<(Word, Word)>
         ensures { MatchOption result (length self ≢ 2) (λ words. self ≡ words.0 ∷ words.1 ∷ []) }
     {
@@ -83,7 +83,7 @@ impl Unread {
         Some((first, self.take()))
     }
 
-    /// The three words that there are.
+    /// Returns the three words, if there are exactly three.
     pub(crate) fn three(mut self) -> Option<(Word, Word, Word)>
         ensures { MatchOption result (length self ≢ 3) (λ words. self ≡ words.0 ∷ words.1 ∷ words.2 ∷ []) }
     {

@@ -1,2 +1,2 @@
--- What the implementation uses alone.
+-- What only the implementation uses.
 pub mod Segments

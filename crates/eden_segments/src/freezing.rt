@@ -1,4 +1,4 @@
-//! Segments that copies of a table share, oldest first, and the newest one, which is no copy's yet.
+//! The frozen segments of a table, which copies share, and the newest one.
 ghost use Rattle.std.specs.Prelude.{◌≡◌, ◌≤◌, [], IfOk, OnOk, length, map, option_copied, reverse};
 ghost use Rattle.std.specs.Arc.{arc_value};
 ghost use Rattle.std.specs.Map.{lookup};
@@ -13,7 +13,9 @@ use std::alloc::Global;
 use std::mem;
 use std::sync::Arc;
 
-/// The value of an id in frozen segments. The oldest is asked first, since it has most of the rows.
+/// Returns the value of an id in frozen segments.
+///
+/// The oldest is searched first, since it has most of the rows.
 pub(crate) fn find_in<V>(frozen: &[Arc<Segment<V>>], id: Id) -> Option<&V>
     ensures { option_copied result ≡ lookup (same_id id) (frozen_rows frozen.now) }
 {
@@ -25,7 +27,7 @@ pub(crate) fn find_in<V>(frozen: &[Arc<Segment<V>>], id: Id) -> Option<&V>
     None
 }
 
-/// Other owners of frozen segments.
+/// Returns further owners of frozen segments.
 pub(crate) fn shared<V: Drop>(
     alloc: Global,
     frozen: &[Arc<Segment<V>>],
@@ -39,7 +41,9 @@ pub(crate) fn shared<V: Drop>(
     Ok(segments)
 }
 
-/// The place of the first segment that is merged with so many newer rows: from there on each has at most twice the rows behind it.
+/// Returns the place of the first segment that is merged with newer rows.
+///
+/// From there on each segment has at most twice as many rows as all newer ones.
 fn first_merged<V>(frozen: &[Arc<Segment<V>>], newest: usize) -> usize
     ensures { result ≤ length frozen.now }
 {
@@ -52,7 +56,7 @@ fn first_merged<V>(frozen: &[Arc<Segment<V>>], newest: usize) -> usize
     first
 }
 
-/// The rows of frozen segments, and of the newest behind them, in one segment.
+/// Returns the rows of frozen segments and then of the newest one, in one segment.
 fn merged<V: Share + Drop>(
     frozen: &[Arc<Segment<V>>],
     newest: &Segment<V>,
@@ -72,7 +76,7 @@ fn merged<V: Share + Drop>(
     Ok(merged)
 }
 
-/// Merges the newest segment with the frozen ones behind which it would be too large.
+/// Merges the newest segment with those frozen ones that are too small to stay apart.
 fn settle<V: Share + Drop>(
     frozen: &mut Vec<Arc<Segment<V>>>,
     newest: &mut Segment<V>,
@@ -88,8 +92,10 @@ fn settle<V: Share + Drop>(
     Ok(())
 }
 
-/// Freezes the newest segment, so that no row stands in it. Frozen segments stay so few because each has more than twice the rows of the
-/// one behind it. After a refusal the rows are as they were.
+/// Freezes the newest segment, and leaves an empty one in its place.
+///
+/// Each frozen segment then has more than twice the rows of the next one, so they stay few. The
+/// rows are unchanged, also if an allocation fails.
 pub(crate) fn freeze<V: Share + Drop>(
     frozen: &mut Vec<Arc<Segment<V>>>,
     newest: &mut Segment<V>,

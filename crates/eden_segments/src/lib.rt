@@ -1,4 +1,4 @@
-//! Tables from ids to values that grow in place, and of which a copy is a few pointers.
+//! Tables from ids to values that grow in place, and whose copies take a few pointers.
 //!
 //! ```rust
 //! use eden_ids::Id;
@@ -7,7 +7,7 @@
 //! let mut table = Table::new(alloc);
 //! table.add(Id([1; 20]), Shared::new(alloc, 1)?)?;
 //!
-//! // A copy keeps the rows that it has, and either grows by itself.
+//! // A copy keeps its rows, and each of the two tables grows by itself.
 //! let copy = table.share()?;
 //! if table.get(Id([2; 20])).is_none() {
 //!     table.add(Id([2; 20]), Shared::new(alloc, 2)?)?;

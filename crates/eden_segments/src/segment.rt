@@ -1,4 +1,4 @@
-//! Rows of a table that stand in one map.
+//! The rows of a table that one map holds.
 
 ghost use Rattle.std.specs.Prelude.{◌≡◌, ◌++◌, ◌∷◌, [], None, IfOk, OnOk, OnErr, length, option_copied, reverse};
 ghost use Rattle.std.specs.Map.{lookup};
@@ -11,7 +11,7 @@ use indexmap::IndexMap;
 use std::alloc::Global;
 use std::marker::Model;
 
-/// Rows of a table that stand in one map, in the order in which they were added.
+/// The rows of a table that one map holds, in the order in which they were added.
 #[derive(Drop)]
 pub(crate) struct Segment<V> {
     rows: IndexMap<Id, V>,
@@ -27,7 +27,7 @@ impl<V> Model for Segment<V> {
 }
 
 impl<V> Segment<V> {
-    /// A segment of no rows. It takes no memory.
+    /// Returns a segment without rows. Does not allocate.
     pub(crate) fn new(alloc: Global) -> Segment<V>
         ensures { result ≡ [] }
     {
@@ -36,19 +36,19 @@ impl<V> Segment<V> {
         }
     }
 
-    /// What the segment takes its memory from.
+    /// Returns the allocator of the segment.
     pub(crate) fn allocator(&self) -> Global {
         *self.rows.allocator()
     }
 
-    /// The number of rows.
+    /// Returns the number of rows.
     pub(crate) fn len(&self) -> usize
         ensures { result ≡ length self.now }
     {
         self.rows.len()
     }
 
-    /// The value of an id.
+    /// Returns the value of an id.
     pub(crate) fn get(&self, id: Id) -> Option<&V>
         ensures { option_copied result ≡ lookup (same_id id) self.now }
     {
@@ -57,7 +57,7 @@ impl<V> Segment<V> {
 }
 
 impl<V: Drop> Segment<V> {
-    /// A segment of no rows, and with room for so many.
+    /// Returns a segment without rows, with room for this number of them.
     pub(crate) fn with_room(alloc: Global, rows: usize) -> Result<Segment<V>, NoMemory>
         ensures { IfOk result (λ segment. segment ≡ []) }
     {
@@ -67,7 +67,7 @@ impl<V: Drop> Segment<V> {
         }
     }
 
-    /// Adds a row behind the others, whose id none of them has.
+    /// Appends a row, whose id no other row has.
     pub(crate) fn add(&mut self, id: Id, value: V) -> Result<(), NoMemory>
         requires { lookup (same_id id) self.old ≡ None }
         ensures ok { OnOk result (self.new ≡ self.old ++ (id, value) ∷ []) }
@@ -81,7 +81,7 @@ impl<V: Drop> Segment<V> {
 }
 
 impl<V: Share + Drop> Segment<V> {
-    /// Adds the rows of another segment behind the others, each of which shares its value.
+    /// Appends the rows of another segment. Their values are shared.
     pub(crate) fn take_rows(&mut self, other: &Segment<V>) -> Result<(), NoMemory>
         requires { AreDistinct (reverse (self.old ++ other.now)) }
         ensures { OnOk result (self.new ≡ self.old ++ other.now) }

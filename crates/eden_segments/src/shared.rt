@@ -1,4 +1,4 @@
-//! A value with several owners, which none of them changes.
+//! An immutable value with several owners.
 
 ghost use Rattle.std.specs.Prelude.{◌≡◌, IfOk};
 
@@ -9,9 +9,10 @@ use std::marker::Model;
 use std::ops::Deref;
 use std::sync::Arc;
 
-/// A value on the heap with several owners, in any threads, which none of them changes.
+/// An immutable value on the heap, with several owners in any threads.
 ///
-/// It is an `Arc` that says its value alone: two are equal where their values are, wherever these stand.
+/// It is an `Arc` that is known only by its value: two are equal if their values are, at whatever
+/// address.
 #[derive(Drop)]
 pub struct Shared<T> {
     value: Arc<T>,
@@ -26,7 +27,7 @@ impl<T> Model for Shared<T> {
 }
 
 impl<T: Drop> Shared<T> {
-    /// A value that has one owner yet. `NoMemory` comes where memory was refused.
+    /// Returns a value with one owner. `NoMemory` if an allocation fails.
     pub fn new(alloc: Global, value: T) -> Result<Shared<T>, NoMemory>
         ensures { IfOk result (λ shared. shared ≡ value) }
     {

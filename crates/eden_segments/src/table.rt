@@ -12,12 +12,12 @@ use std::alloc::Global;
 use std::marker::Model;
 use std::sync::Arc;
 
-/// A table from ids to values that only grows, and of which a copy is a few pointers.
+/// A table from ids to values that only grows, and whose copies take a few pointers.
 ///
-/// Its rows stand in segments: frozen ones, which copies share, and the newest one, to which rows are added in place. Each frozen
-/// segment has more than twice the rows of the one behind it, so of n rows there are about log n segments at the most, and adding n
-/// rows takes time in the order of n log n, however often a copy is taken between them. Where segments are merged, the values are
-/// shared, and never copied.
+/// Its rows are in segments: frozen ones, which copies share, and the newest one, to which rows are
+/// added in place. Each frozen segment has more than twice the rows of the next one. So n rows have
+/// at most about log n segments, and adding n rows takes time of order n log n, however often the
+/// table is copied meanwhile. When segments are merged, the values are shared and never copied.
 #[derive(Drop)]
 pub struct Table<V> {
     /// Oldest first.
@@ -40,7 +40,7 @@ impl<V> Model for Table<V> {
 }
 
 impl<V> Table<V> {
-    /// A table of no rows. It takes no memory.
+    /// Returns a table without rows. Does not allocate.
     pub fn new(alloc: Global) -> Table<V>
         ensures { result ≡ [] }
     {
@@ -50,12 +50,14 @@ impl<V> Table<V> {
         }
     }
 
-    /// What the table takes its memory from.
+    /// Returns the allocator of the table.
     pub fn allocator(&self) -> Global {
         self.newest.allocator()
     }
 
-    /// The value of an id. It takes no memory, and asks about log n maps at the most.
+    /// Returns the value of an id.
+    ///
+    /// This takes no memory, and searches at most about log n maps.
     pub fn get(&self, id: Id) -> Option<&V>
         ensures { option_copied result ≡ lookup (same_id id) self.now }
     {
@@ -67,7 +69,9 @@ impl<V> Table<V> {
 }
 
 impl<V: Drop> Table<V> {
-    /// Adds a row, whose id no other has. `NoMemory` comes where a growth was refused, and changes nothing.
+    /// Adds a row, whose id no other row has.
+    ///
+    /// `NoMemory` if an allocation fails; then nothing is changed.
     pub fn add(&mut self, id: Id, value: V) -> Result<(), NoMemory>
         requires fresh { lookup (same_id id) self.old ≡ None }
         ensures ok { OnOk result (self.new ≡ (id, value) ∷ self.old) }
@@ -78,11 +82,11 @@ impl<V: Drop> Table<V> {
 }
 
 impl<V: Share + Drop> Table<V> {
-    /// A copy, which has the same rows and keeps them whatever is added to either afterwards. `NoMemory` comes where memory was
-    /// refused, or a value to be shared, and changes nothing.
+    /// Returns a copy, which keeps its rows whatever is added to either table later.
     ///
-    /// It takes about log n pointers at the most. Rows that were added since the last copy are frozen first, which may merge segments and
-    /// so share the value of each row, once in a while of all.
+    /// `NoMemory` if an allocation fails or a value cannot be shared. No row is changed. A copy
+    /// takes at most about log n pointers. The rows that were added since the last copy are frozen
+    /// first. This may merge segments, and then shares the value of each of their rows.
     pub fn share(&mut self) -> Result<Table<V>, NoMemory>
         ensures copy { IfOk result (λ copy. copy ≡ self.old) }
         ensures same { self.new ≡ self.old }
@@ -95,8 +99,10 @@ impl<V: Share + Drop> Table<V> {
         })
     }
 
-    /// Freezes the rows that were added since the last copy, so that the next copy finds no segments to merge. Where memory is refused
-    /// they are left to the next copy.
+    /// Freezes the rows that were added since the last copy.
+    ///
+    /// The next copy then has no segments to merge. If an allocation fails, they are left to that
+    /// copy.
     pub fn freeze(&mut self)
         ensures { self.new ≡ self.old }
     {

@@ -1,1 +1,5 @@
+mod Ending
 mod Judging
+pub mod Kept
+mod LinesEnding
+mod Tearing

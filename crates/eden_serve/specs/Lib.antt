@@ -1,2 +1,3 @@
-pub mod Printings
-pub mod Servings
+pub mod Agreeing
+pub mod Changed
+pub mod Endings

@@ -1,71 +1,102 @@
 //! The audit at the end, and how its outcome is printed.
 
-ghost use Rattle.std.specs.Prelude.{◌≡◌, ◌⊎◌, IfErr, IfOk, Ok, OnOk, codes};
-ghost use Rattle.std.specs.String.{string_bytes};
+ghost use Rattle.std.specs.Prelude.{◌≡◌, Ok, Err, Result, ⊤, length, IfErr, IfOk, OnOk};
 ghost use Rattle.std.specs.Io.KnownBytes.{Appends};
-ghost use Rattle.eden_logs.specs.declared.fault.AuditFault.{AuditFault};
-ghost use Rattle.eden_serve.specs.Servings.{Agrees};
+ghost use Rattle.eden_serve.specs.Agreeing.{Agrees};
+ghost use Rattle.eden_serve.specs.Endings.{AuditFails, audit_text};
+ghost use Rattle.eden_shared.specs.Passes.{made_by};
 
-use crate::writing::Behind;
-use eden_audit::{AuditFault, audit};
-use eden_command::ProgramFault;
-use eden_ids::NoMemory;
-use eden_shared::{CallLog, Pass};
+use crate::changes::Behind;
+use crate::fault::DaemonFault;
+use crate::printing::print;
+use eden_ids::GitNaming;
+use eden_shared::{AuditFault, Audited, CallLog, Pass, audit};
+use eden_stream::{CountedWrite, RunFault};
 use std::alloc::Global;
-use std::io::Write;
 use std::sync::ledger::Ledger;
 
+/// A mount with its history, and the logs of its callers, which an audit found to agree.
+#[derive(Drop)]
+pub(crate) struct Agreed {
+    audited: Audited<GitNaming>,
+    logs: Vec<CallLog>,
+    ghost agree: { ∥ Agrees audited logs.items ∥₁ },
+}
+
 /// Takes the mount back from the lock, and audits what all callers have noted.
-pub(crate) fn judge<L: Ledger>(
+fn judge<L: Ledger>(
     alloc: Global,
     shared: Behind<L>,
     passes: Vec<Pass<L>>,
-    logs: &[CallLog],
-) -> Result<(), AuditFault>
+    logs: Vec<CallLog>,
+) -> Result<Agreed, AuditFault>
     requires { L.parts ≡ 256 }
-    ensures { OnOk result (Agrees passes.items logs.now) }
+    ensures taken { IfOk result (λ agreed. length agreed.audited.entries ≡ made_by passes.items) }
+    ensures logs { IfOk result (λ agreed. agreed.logs ≡ logs) }
 {
-    match shared.finish(passes) {
-        Ok(mut audited) => audit(alloc, &mut audited, logs),
-        // No log has the calls of a missing pass.
-        Err(_) => Err(AuditFault::CountsDiffer),
-    }
-}
-
-/// Returns the line that says what an audit found.
-fn audit_text(alloc: Global, audit: Result<(), AuditFault>) -> Result<String, NoMemory>
-    ensures { IfOk result (λ text. audit ≡ Ok tt → string_bytes text ≡ codes "audit ok\n") }
-{
-    match audit {
-        Ok(()) => Ok(format!(in alloc; "audit ok\n")?),
-        Err(fault) => Ok(format!(in alloc; "audit {fault}\n")?),
-    }
-}
-
-/// Writes and flushes what an audit found, and returns what is wrong.
-///
-/// Nothing is written if the audit was out of memory.
-pub(crate) fn tell_audit<O: Write>(
-    alloc: Global,
-    output: &mut O,
-    audit: Result<(), AuditFault>,
-) -> Result<(), ProgramFault>
-    ensures found { OnOk result (audit ≡ Ok tt) }
-    ensures told { OnOk result (Appends (O.contents output.old) (O.contents output.new) (codes "audit ok\n")) }
-    ensures causes { IfErr result (λ fault.
-        (fault ≡ ProgramFault.Write) ⊎ (fault ≡ ProgramFault.NoMemory) ⊎ ((cause : AuditFault) × (fault ≡ ProgramFault.Refused cause))) }
-{
-    if let Err(AuditFault::NoMemory) = audit {
-        return Err(ProgramFault::NoMemory);
-    }
-    let Ok(text) = audit_text(alloc, audit) else {
-        return Err(ProgramFault::NoMemory);
+    // No log has the calls of a missing pass.
+    let Ok(mut audited) = shared.finish(passes) else {
+        return Err(AuditFault::CountsDiffer);
     };
-    if output.write_all(text.as_bytes()).is_err() || output.flush().is_err() {
-        return Err(ProgramFault::Write);
+    match audit(alloc, &mut audited, logs.as_slice()) {
+        Ok(()) => Ok(Agreed { audited, logs }),
+        Err(fault) => Err(fault),
     }
-    match audit {
-        Ok(()) => Ok(()),
-        Err(fault) => Err(ProgramFault::Refused(fault)),
+}
+
+/// Returns the line that says that an audit found this, or no text if it was out of memory.
+fn fault_text(fault: AuditFault) -> &'static [u8]
+    ensures { result.now ≡ audit_text (Err fault) }
+{
+    match fault {
+        AuditFault::UnknownCall => b"audit UnknownCall\n",
+        AuditFault::WrongReply => b"audit WrongReply\n",
+        AuditFault::OutOfOrder => b"audit OutOfOrder\n",
+        AuditFault::Twice => b"audit Twice\n",
+        AuditFault::CountsDiffer => b"audit CountsDiffer\n",
+        AuditFault::NoMemory => b"",
+    }
+}
+
+/// Writes that an audit found this, and returns why the daemon ends.
+#[tactic(auto, using(crate::proofs::Ending::kept))]
+fn fail<W: CountedWrite>(writer: &mut W, fault: AuditFault) -> DaemonFault
+    ensures { AuditFails (W.contents writer.old) (W.contents writer.new) result }
+{
+    if fault == AuditFault::NoMemory {
+        return DaemonFault::Script(RunFault::NoMemory);
+    }
+    if !print(writer, fault_text(fault)) {
+        return DaemonFault::Script(RunFault::Write);
+    }
+    DaemonFault::Audit(fault)
+}
+
+/// Takes the mount back from the lock, audits what all callers have noted, and writes the outcome.
+///
+/// `audit ok` is written if the logs agree with the history, and else `audit` and the fault.
+/// Nothing is written if the audit is out of memory.
+#[tactic(auto, using(crate::proofs::Ending::ok_torn))]
+pub(crate) fn close<L: Ledger, W: CountedWrite>(
+    alloc: Global,
+    shared: Behind<L>,
+    passes: Vec<Pass<L>>,
+    logs: Vec<CallLog>,
+    writer: &mut W,
+) -> Result<Agreed, DaemonFault>
+    requires { L.parts ≡ 256 }
+    ensures taken { IfOk result (λ agreed. length agreed.audited.entries ≡ made_by passes.items) }
+    ensures logs { IfOk result (λ agreed. agreed.logs ≡ logs) }
+    ensures printed { OnOk result (Appends (W.contents writer.old) (W.contents writer.new) (audit_text (Ok tt))) }
+    ensures failed { IfErr result (λ fault. AuditFails (W.contents writer.old) (W.contents writer.new) fault) }
+{
+    match judge(alloc, shared, passes, logs) {
+        Ok(agreed) => {
+            if !print(writer, b"audit ok\n".as_slice()) {
+                return Err(DaemonFault::Script(RunFault::Write));
+            }
+            Ok(agreed)
+        }
+        Err(fault) => Err(fail(writer, fault)),
     }
 }

@@ -1,31 +1,50 @@
-//! `edend serve` as a library.
+//! `edend serve` as a library: a daemon that serves the mount of a script at a port, or at a Unix
+//! socket.
 //!
-//! A script makes a mount up to its line `listen`. Then the mount is served to connections over TCP, each in a thread of its own, while the lines
-//! after `listen` change it. Each thread notes its calls and their answers. At the end an audit compares these notes with the mount's history.
+//! A script makes a mount up to its line `listen`. Then the mount is served to connections, while
+//! the lines after `listen` change it. `Until` says how long: for a number of connections, after
+//! which an audit compares what all callers noted with the mount's history; or as long as there is
+//! input, while nothing is noted.
 //!
 //! ```rust
-//! use eden_serve::serve_program;
+//! use eden_edend::Objects;
+//! use eden_serve::{Daemon, ScriptInput, Unobserved, Until, run_daemon};
+//! use eden_sockets::Place;
 //! use eden_stream::Counted;
 //!
 //! let script = b"mount empty 7 1000\nlisten\nwrite notes plain to\\sdo\n";
+//! let mut input = ScriptInput::new(alloc, script.as_slice())?;
 //! let mut text = Vec::new(alloc);
 //! let mut writer = Counted::new(&mut text);
 //! // A port that nobody listens at, and no connection.
-//! let ended = serve_program(rt, alloc, script.as_slice(), &mut writer, port, 0);
+//! let daemon = Daemon {
+//!     objects: Objects::new(alloc),
+//!     place: Place::Port(port),
+//!     until: Until::Connections(0),
+//! };
+//! let ended = run_daemon(rt, alloc, daemon, &mut input, &mut writer, &Unobserved);
 //! assert_eq!(rt; ended, Ok(()));
 //! assert!(rt; text.starts_with(b"at 7 1 empty\nlistening ".as_slice()));
 //! assert!(rt; text.ends_with(b"\naudit ok\n".as_slice()));
 //! ```
 #![tactic(auto)]
 
-pub use crate::listening::{Listening, listen, program_fault};
+pub use crate::fault::DaemonFault;
+pub use crate::input::ScriptInput;
+pub use crate::listening::{Listening, listen};
 pub use crate::observing::{Observer, Unobserved};
-pub use crate::program::{serve_listener, serve_over, serve_program};
-pub use eden_command::ProgramFault;
+pub use crate::program::{Daemon, Until, run_daemon, serve_listener, serve_program};
+pub use crate::stopping::Stoppable;
 
 mod auditing;
+mod changes;
+mod connections;
+mod fault;
+mod input;
 mod listening;
 mod observing;
+mod printing;
 mod program;
-mod threads;
-mod writing;
+mod station;
+mod staying;
+mod stopping;

@@ -1,7 +1,7 @@
 //! What goes wrong beside the replies, which ends nothing but itself.
 
-use eden_frames::FrameFault;
 use eden_history::{Change, ChangeFault};
+use eden_stream::FrameFault;
 
 /// Hears what goes wrong while a mount is served, from any thread.
 pub trait Observer {

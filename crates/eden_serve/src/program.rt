@@ -1,308 +1,236 @@
-//! The program: a script, a port, and the connections.
+//! The program: a script, a listener, and the connections.
 
-ghost use Rattle.std.specs.Prelude.{◌≡◌, ◌≢◌, ◌⊎◌, true, ℕ, [], IfErr, IfOk, IsErrOf, IsOk, OnOk, codes};
-ghost use Rattle.std.specs.Io.KnownBytes.{Appends, Keeps};
+ghost use Rattle.std.specs.Prelude.{◌≡◌, ◌⊎◌, Err, IsErrOf};
 ghost use Rattle.eden_script.specs.ScriptText.{script_text};
 ghost use Rattle.eden_script.specs.Sessions.{first_session, session_over};
-ghost use Rattle.eden_serve.specs.Printings.{OpensNothing, TellsAudit, TellsOpening, TellsPort};
-ghost use Rattle.eden_serve.specs.Servings.{stops_serving};
+ghost use Rattle.eden_serve.specs.Endings.{DaemonEnds, EndsServing, ServingEnds};
+ghost use Rattle.eden_stream.specs.Counts.{Rose, RoseBy};
 
-use crate::auditing::{judge, tell_audit};
-use crate::listening::{Listening, listen, program_fault};
+use crate::changes::{Lines, Service};
+use crate::connections::serve_connections;
+use crate::fault::DaemonFault;
+use crate::input::ScriptInput;
+use crate::listening::{Listening, listen};
 use crate::observing::{Observer, Unobserved};
-use crate::threads::{Ended, run_threads};
-use crate::writing::{Behind, Lines};
-use eden_accumulate::Mount;
-use eden_audit::Audited;
-use eden_command::ProgramFault;
-use eden_edend::{LineInput, Objects, Opened};
-use eden_ids::{GitNaming, NoMemory};
-use eden_shared::{Desk, Shared};
-use eden_stream::{CountedWrite, RunFault};
+use crate::staying::serve_input;
+use eden_edend::{Objects, Opened};
+use eden_sockets::Place;
+use eden_stream::{CountedRead, CountedWrite, RunFault};
 use std::alloc::Global;
-use std::io::{Read, Write};
+use std::fs::{File, Files};
+use std::io::Read;
 use std::marker::Brand;
 use std::net::{Net, TcpListener, TcpStream};
 use std::sync::Wait;
-use std::sync::ledger::{Blank, Ledger};
+use std::sync::ledger::Blank;
 use std::thread::Threads;
+use std::time::Clock;
 
-/// Makes a mount that stores its history from now on.
-fn store_history(alloc: Global, mount: Mount<GitNaming>) -> Result<Audited<GitNaming>, ProgramFault>
-    ensures stored { IfOk result (λ audited. audited.entries ≡ []) }
-    ensures cause { IfErr result (λ fault. fault ≡ ProgramFault.NoMemory) }
-{
-    match Audited::new(alloc, mount) {
-        Ok(audited) => Ok(audited),
-        Err(_) => Err(ProgramFault::NoMemory),
-    }
+/// How long a daemon serves.
+#[derive(Clone, Copy, Debug, PartialEq, Eq)]
+pub enum Until {
+    /// Until this many connections have ended, each in a thread of its own.
+    ///
+    /// All requests and replies are noted, and audited at the end.
+    Connections(u64),
+    /// Until the input has ended.
+    ///
+    /// Nothing is noted, so nothing grows with the number of calls or connections.
+    Input {
+        /// How many threads serve connections, each one after another.
+        threads: u64,
+    },
 }
 
-/// Opens a desk at a lock. `NoConnection` if the lock has given all its passes.
-fn open_desk<L: Ledger>(
-    rt: &impl Wait,
-    alloc: Global,
-    shared: &Behind<L>,
-) -> Result<Desk<L>, ProgramFault>
-    ensures { IfErr result (λ fault. fault ≡ ProgramFault.NoConnection) }
-{
-    match shared.pass(rt) {
-        Ok(pass) => Ok(Desk::new(alloc, pass)),
-        Err(_) => Err(ProgramFault::NoConnection),
-    }
+/// What a daemon begins with.
+#[derive(Drop)]
+pub struct Daemon {
+    /// The objects of the script's store, and the labels that are bound to some of them.
+    pub objects: Objects,
+    /// Where it listens.
+    pub place: Place,
+    /// How long it serves.
+    pub until: Until,
 }
 
-/// Opens this many desks at a lock.
-fn open_desks<L: Ledger>(
-    rt: &impl Wait,
-    alloc: Global,
-    shared: &Behind<L>,
-    count: u64,
-) -> Result<Vec<Desk<L>>, ProgramFault>
-    ensures { IfErr result (λ fault. (fault ≡ ProgramFault.NoConnection) ⊎ (fault ≡ ProgramFault.NoMemory)) }
-{
-    let mut desks = Vec::new(alloc);
-    for _ in 0..count {
-        let desk = open_desk(rt, alloc, shared)?;
-        if desks.push(desk).is_err() {
-            return Err(ProgramFault::NoMemory);
-        }
-    }
-    Ok(desks)
-}
-
-/// Takes the mount back, writes what the audit found, and returns how the writer's lines have ended if it agrees.
-fn close<L: Ledger, O: Write>(
-    alloc: Global,
-    shared: Behind<L>,
-    ended: Ended<L>,
-    output: &mut O,
-) -> Result<(), ProgramFault>
-    requires { L.parts ≡ 256 }
-    ensures ran { OnOk result (IsOk ended.ran) }
-    ensures told { OnOk result (Appends (O.contents output.old) (O.contents output.new) (codes "audit ok\n")) }
-    ensures bad_line { (number : ℕ) → IsErrOf result (ProgramFault.BadLine number)
-        → Appends (O.contents output.old) (O.contents output.new) (codes "audit ok\n") }
-    ensures read { IsErrOf result ProgramFault.Read → Appends (O.contents output.old) (O.contents output.new) (codes "audit ok\n") }
-    ensures turns_spent { IsErrOf result ProgramFault.TurnsSpent → Appends (O.contents output.old) (O.contents output.new) (codes "audit ok\n") }
-    ensures bound { IfErr result (λ fault. fault ≢ ProgramFault.NoConnection) }
-    ensures causes { IfErr result (λ fault. stops_serving fault ≡ true) }
-{
-    let Ended { passes, logs, ran } = ended;
-    let audit = judge(alloc, shared, passes, logs.as_slice());
-    tell_audit(alloc, output, audit)?;
-    match ran {
-        Ok(_) => Ok(()),
-        Err(fault) => Err(program_fault(fault)),
-    }
-}
-
-/// Serves as `serve_listener` does, with this kind of ledger in the lock.
-fn serve_behind<
-    L: Ledger + Send + Sync,
-    R: Threads + Wait + Sync,
-    I: Read + Send + Drop,
-    O: Write,
+/// Serves what a script has opened, while the lines after `listen` change it.
+///
+/// The listener accepts the connections. A connection ends when its peer ends it, with a fault, or
+/// after 1,000,000 reads. That ends no other. The lines are run as `eden_edend::run_changes` does.
+/// The observer hears of each change that is refused and of each frame that can't be answered.
+///
+/// - `Connections`: each connection is served by `eden_shared::serve_shared`, and one that can't be
+///   accepted counts as one that has ended. If no thread can be made, a connection is served before
+///   the next one is accepted, and the lines are run after the last. All callers note their calls
+///   and the answers. When all have ended, an audit compares these notes with the mount's history.
+///   `audit ok` is written if they agree, and else `audit` and the name of the fault. The observer
+///   also hears of a line that can't be read.
+/// - `Input`: each thread accepts the next connection when its last one has ended. If not all of
+///   the threads can be made, there are fewer. Once the input has ended, or a line has a fault, no
+///   connection is accepted any more. Those that are open end within 200 ms or so, whatever their
+///   peers do. What is not read or not written by then is lost. The observer also hears each time
+///   that the last thread takes a connection. Nothing is written.
+///
+/// # Errors
+///
+/// - `NoConnection` if there are more than 254 connections, since a lock has 255 callers and one is
+///   the writer; or if no thread could be made that serves until the input ends. No line is read
+///   then.
+/// - `Audit` if the audit finds a fault, which is written.
+/// - `BadLine`, `Read`, `TurnsSpent` and `NoMemory` if the lines have ended so. The audit agrees,
+///   which is written. The number is counted from the first line of the script.
+/// - `Write` if the output fails. Some first bytes of what the audit found are written.
+/// - `NoMemory` also if an allocation fails for what all connections need. Nothing is written then.
+///   A connection that is out of memory ends alone.
+pub fn serve_listener<
+    R: Threads + Wait + Clock + Sync,
+    I: CountedRead + Send,
+    W: CountedWrite,
     V: Observer + Sync,
 >(
     rt: &R,
     alloc: Global,
-    blank: Blank,
-    opened: Opened,
-    input: LineInput<I>,
-    output: &mut O,
-    listener: &TcpListener,
-    connections: u64,
+    listening: Listening,
+    until: Until,
+    input: &mut I,
+    writer: &mut W,
     observer: &V,
-) -> Result<(), ProgramFault>
-    requires name { blank.name ≡ L.name }
-    requires parts { blank.parts ≡ L.parts }
-    requires whole { blank.parts ≡ 256 }
-    ensures told { OnOk result (Appends (O.contents output.old) (O.contents output.new) (codes "audit ok\n")) }
-    ensures bad_line { (number : ℕ) → IsErrOf result (ProgramFault.BadLine number)
-        → Appends (O.contents output.old) (O.contents output.new) (codes "audit ok\n") }
-    ensures read { IsErrOf result ProgramFault.Read → Appends (O.contents output.old) (O.contents output.new) (codes "audit ok\n") }
-    ensures turns_spent { IsErrOf result ProgramFault.TurnsSpent → Appends (O.contents output.old) (O.contents output.new) (codes "audit ok\n") }
-    ensures no_connection { IsErrOf result ProgramFault.NoConnection → Keeps (O.contents output.old) (O.contents output.new) }
-    ensures causes { IfErr result (λ fault. stops_serving fault ≡ true) }
+) -> Result<(), DaemonFault>
+    ensures ends { ServingEnds listening.opened.labels listening.opened.line until (I.remaining input.old) (W.contents writer.old) (W.contents writer.new) result }
 {
+    let Listening { opened, listener } = listening;
     let Opened {
         line,
         mount,
         labels,
     } = opened;
-    let shared: Behind<L> = Shared::new(store_history(alloc, mount)?, blank);
     let lines = Lines {
-        desk: open_desk(rt, alloc, &shared)?,
         input,
         labels,
         from: line,
     };
-    let desks = open_desks(rt, alloc, &shared, connections)?;
-    match run_threads(rt, alloc, &shared, listener, desks, lines, observer) {
-        Ok(ended) => close(alloc, shared, ended, output),
-        Err(NoMemory) => Err(ProgramFault::NoMemory),
+    let service = Service {
+        mount,
+        listener,
+        lines,
+    };
+    match until {
+        Until::Connections(count) => serve_connections::<Brand, R, I, W, V>(
+            rt,
+            alloc,
+            Blank::new(256),
+            service,
+            count,
+            writer,
+            observer,
+        ),
+        Until::Input { threads } => serve_input::<Brand, R, I, V>(
+            rt,
+            alloc,
+            Blank::new(256),
+            service,
+            threads,
+            observer,
+        ),
     }
 }
 
-/// Serves what a script has opened to this many connections, and then audits it.
+/// Runs a script up to its line `listen`, and then serves its mount at a place.
 ///
-/// The listener accepts the connections. Each is served in a thread of its own, by `eden_shared::serve_shared`, to its end or its fault, which ends
-/// no other. Meanwhile a thread makes the changes of the lines after `listen`, as `eden_edend::run_changes` does. Each of them notes its calls and
-/// their answers. When all have ended, an audit compares the notes with the mount's history. `audit ok` is written if they agree, else `audit` and
-/// the name of the fault.
-///
-/// A connection that can't be accepted counts as one that has ended. If no thread can be made, a connection is served before the next one is
-/// accepted, and the lines are run after the last connection. The observer hears of each change that is refused, of each frame that can't be
-/// answered, and of a line that can't be read, when it happens.
+/// The script begins with the daemon's objects. What the lines before `listen` print is written,
+/// and then where connections are accepted, as `listen` says. Then the mount is served as
+/// `serve_listener` says. The files of a socket stay at the end.
 ///
 /// # Errors
 ///
-/// - `NoConnection` if there are more than 254 connections, since a lock has 255 callers and one is the writer. None is accepted.
-/// - `Write` if the output fails. The first bytes of what the audit found are written.
-/// - `Refused` if the audit finds a fault, which is written.
-/// - `BadLine`, `Read` and `TurnsSpent` if the lines after `listen` have ended so. The audit agrees, which is written. The number is counted from
-///   the first line of the script.
-/// - `NoMemory` if an allocation fails: for those lines, and the audit agrees; or for what all need, and nothing is written. A connection that is
-///   out of memory ends alone.
-pub fn serve_listener<
-    R: Threads + Wait + Sync,
-    I: Read + Send + Drop,
-    O: Write,
-    V: Observer + Sync,
->(
-    rt: &R,
-    alloc: Global,
-    opened: Opened,
-    input: LineInput<I>,
-    output: &mut O,
-    listener: &TcpListener,
-    connections: u64,
-    observer: &V,
-) -> Result<(), ProgramFault>
-    ensures told { OnOk result (Appends (O.contents output.old) (O.contents output.new) (codes "audit ok\n")) }
-    ensures bad_line { (number : ℕ) → IsErrOf result (ProgramFault.BadLine number)
-        → Appends (O.contents output.old) (O.contents output.new) (codes "audit ok\n") }
-    ensures read { IsErrOf result ProgramFault.Read → Appends (O.contents output.old) (O.contents output.new) (codes "audit ok\n") }
-    ensures turns_spent { IsErrOf result ProgramFault.TurnsSpent → Appends (O.contents output.old) (O.contents output.new) (codes "audit ok\n") }
-    ensures no_connection { IsErrOf result ProgramFault.NoConnection → Keeps (O.contents output.old) (O.contents output.new) }
-    ensures causes { IfErr result (λ fault. stops_serving fault ≡ true) }
-{
-    serve_behind::<Brand, R, I, O, V>(
-        rt,
-        alloc,
-        Blank::new(256),
-        opened,
-        input,
-        output,
-        listener,
-        connections,
-        observer,
-    )
-}
-
-/// Runs the program as `serve_program` does, over objects that are already there.
-///
-/// The script begins with these objects, and with labels that are bound to some of them. The observer hears what `serve_listener` says.
-///
-/// # Errors
-///
-/// As in `serve_program`.
-pub fn serve_over<
-    R: Threads + Wait + Net<Listener = TcpListener, Stream = TcpStream> + Sync,
+/// - `BadLine`, with the number of the first line that can't be read, of `listen` if there is no
+///   mount, or of the line after the last if the script ends before `listen`. Nobody listens. Or
+///   with the number of a line after `listen` that changes no mount.
+/// - `NoConnection` if nobody can listen there, or as in `serve_listener`.
+/// - `Read`, `Write`, `TurnsSpent` and `NoMemory` as in `listen` and in `serve_listener`.
+/// - `Audit` as in `serve_listener`.
+#[tactic(auto, using(crate::proofs::Ending::served, crate::proofs::Ending::serving, crate::proofs::Ending::unserved))]
+pub fn run_daemon<
+    R: Threads
+        + Wait
+        + Clock
+        + Files<File = File>
+        + Net<Listener = TcpListener, Stream = TcpStream>
+        + Sync,
     I: Read + Send + Drop,
     W: CountedWrite,
     V: Observer + Sync,
 >(
     rt: &R,
     alloc: Global,
-    objects: Objects,
-    input: I,
-    output: &mut W,
-    port: u16,
-    connections: u64,
+    daemon: Daemon,
+    input: &mut ScriptInput<I>,
+    writer: &mut W,
     observer: &V,
-) -> Result<(), ProgramFault>
-    ensures told { OnOk result (TellsAudit (script_text (session_over objects.store objects.labels)) port (I.remaining input) (W.contents output.old) (W.contents output.new)) }
-    ensures bad_line { (number : ℕ) → IsErrOf result (ProgramFault.BadLine number)
-        → OpensNothing (script_text (session_over objects.store objects.labels)) (I.remaining input) (W.contents output.old) (W.contents output.new) (RunFault.BadLine number)
-        ⊎ TellsAudit (script_text (session_over objects.store objects.labels)) port (I.remaining input) (W.contents output.old) (W.contents output.new) }
-    ensures read { IsErrOf result ProgramFault.Read
-        → OpensNothing (script_text (session_over objects.store objects.labels)) (I.remaining input) (W.contents output.old) (W.contents output.new) RunFault.Read
-        ⊎ TellsAudit (script_text (session_over objects.store objects.labels)) port (I.remaining input) (W.contents output.old) (W.contents output.new) }
-    ensures turns_spent { IsErrOf result ProgramFault.TurnsSpent
-        → OpensNothing (script_text (session_over objects.store objects.labels)) (I.remaining input) (W.contents output.old) (W.contents output.new) RunFault.TurnsSpent
-        ⊎ TellsAudit (script_text (session_over objects.store objects.labels)) port (I.remaining input) (W.contents output.old) (W.contents output.new) }
-    ensures no_connection { IsErrOf result ProgramFault.NoConnection
-        → TellsOpening (script_text (session_over objects.store objects.labels)) (I.remaining input) (W.contents output.old) (W.contents output.new)
-        ⊎ TellsPort (script_text (session_over objects.store objects.labels)) port (I.remaining input) (W.contents output.old) (W.contents output.new) }
-    ensures causes { IfErr result (λ fault. stops_serving fault ≡ true) }
+) -> Result<(), DaemonFault>
+    ensures ends { DaemonEnds (script_text (session_over daemon.objects.store daemon.objects.labels)) daemon.until daemon.place
+        input.old.lines.device (W.contents writer.old) (W.contents writer.new) result }
+    // The input failed, or 1,000,000 reads were made of it, or it has listened.
+    ensures read { IsErrOf result (DaemonFault.Script RunFault.Read) → Rose input.old.lines.failed input.new.lines.failed
+        ⊎ EndsServing (script_text (session_over daemon.objects.store daemon.objects.labels)) daemon.until daemon.place
+        input.old.lines.device (W.contents writer.old) (W.contents writer.new) result }
+    ensures turns_spent { IsErrOf result (DaemonFault.Script RunFault.TurnsSpent) → RoseBy 1000000 input.old.lines.called input.new.lines.called
+        ⊎ EndsServing (script_text (session_over daemon.objects.store daemon.objects.labels)) daemon.until daemon.place
+        input.old.lines.device (W.contents writer.old) (W.contents writer.new) result }
 {
-    let Listening {
-        opened,
-        input,
-        listener,
-    } = listen(rt, alloc, objects, input, output, port)?;
+    let Daemon {
+        objects,
+        place,
+        until,
+    } = daemon;
+    let listening = match listen(rt, alloc, objects, &mut input.lines, writer, place) {
+        Ok(listening) => listening,
+        Err(fault) => return Err(fault),
+    };
     serve_listener(
         rt,
         alloc,
-        opened,
-        input,
-        output,
-        &listener,
-        connections,
+        listening,
+        until,
+        &mut input.lines,
+        writer,
         observer,
     )
 }
 
-/// Runs a script up to its line `listen`, and then serves its mount over TCP.
-///
-/// The lines before `listen` are run as `eden_edend::run` does, and what they print is written. Then `listening` and the port are written, once
-/// connections are accepted there, on 127.0.0.1. The mount is served to this many connections as `serve_listener` does. If that ends well, `audit ok`
-/// is all that is written after the port.
+/// Runs a script as `run_daemon` does, over no objects, and serves this many connections.
 ///
 /// # Errors
 ///
-/// - `BadLine`, with the number of the first line that can't be read, of `listen` if there is no mount, or of the line after the last if the script
-///   ends before `listen`. No port is bound. Or with the number of a line after `listen` that can't be read: `audit ok` is written then.
-/// - `NoConnection` if the port can't be bound, or as in `serve_listener`.
-/// - `Read`, `Write`, `TurnsSpent` and `NoMemory` as in `eden_edend::run`, for the lines before `listen`, and as in `serve_listener`.
-/// - `Refused` as in `serve_listener`.
+/// As in `run_daemon`. `NoMemory` also if an allocation fails for the input. Nothing is read or
+/// written then.
+#[tactic(auto, using(crate::proofs::Ending::nothing_run))]
 pub fn serve_program<
-    R: Threads + Wait + Net<Listener = TcpListener, Stream = TcpStream> + Sync,
+    R: Threads
+        + Wait
+        + Clock
+        + Files<File = File>
+        + Net<Listener = TcpListener, Stream = TcpStream>
+        + Sync,
     I: Read + Send + Drop,
     W: CountedWrite,
 >(
     rt: &R,
     alloc: Global,
     input: I,
-    output: &mut W,
-    port: u16,
+    writer: &mut W,
+    place: Place,
     connections: u64,
-) -> Result<(), ProgramFault>
-    ensures told { OnOk result (TellsAudit (script_text first_session) port (I.remaining input) (W.contents output.old) (W.contents output.new)) }
-    ensures bad_line { (number : ℕ) → IsErrOf result (ProgramFault.BadLine number)
-        → OpensNothing (script_text first_session) (I.remaining input) (W.contents output.old) (W.contents output.new) (RunFault.BadLine number)
-        ⊎ TellsAudit (script_text first_session) port (I.remaining input) (W.contents output.old) (W.contents output.new) }
-    ensures read { IsErrOf result ProgramFault.Read
-        → OpensNothing (script_text first_session) (I.remaining input) (W.contents output.old) (W.contents output.new) RunFault.Read
-        ⊎ TellsAudit (script_text first_session) port (I.remaining input) (W.contents output.old) (W.contents output.new) }
-    ensures turns_spent { IsErrOf result ProgramFault.TurnsSpent
-        → OpensNothing (script_text first_session) (I.remaining input) (W.contents output.old) (W.contents output.new) RunFault.TurnsSpent
-        ⊎ TellsAudit (script_text first_session) port (I.remaining input) (W.contents output.old) (W.contents output.new) }
-    ensures no_connection { IsErrOf result ProgramFault.NoConnection
-        → TellsOpening (script_text first_session) (I.remaining input) (W.contents output.old) (W.contents output.new)
-        ⊎ TellsPort (script_text first_session) port (I.remaining input) (W.contents output.old) (W.contents output.new) }
-    ensures causes { IfErr result (λ fault. stops_serving fault ≡ true) }
+) -> Result<(), DaemonFault>
+    ensures { DaemonEnds (script_text first_session) (Until.Connections connections) place (I.remaining input) (W.contents writer.old) (W.contents writer.new) result }
 {
-    serve_over(
-        rt,
-        alloc,
-        Objects::new(alloc),
-        input,
-        output,
-        port,
-        connections,
-        &Unobserved,
-    )
+    let Ok(mut input) = ScriptInput::new(alloc, input) else {
+        return Err(DaemonFault::Script(RunFault::NoMemory));
+    };
+    let daemon = Daemon {
+        objects: Objects::new(alloc),
+        place,
+        until: Until::Connections(connections),
+    };
+    run_daemon(rt, alloc, daemon, &mut input, writer, &Unobserved)
 }

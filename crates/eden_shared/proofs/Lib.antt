@@ -1,3 +1,10 @@
+pub mod Accounted
+pub mod Followed
+pub mod Marked
+pub mod Retold
+pub mod Walked
 pub mod Counting
 pub mod Telling
 pub mod Carried
+pub mod Reaching
+pub mod HeadLemmas

@@ -1,4 +1,9 @@
--- What is known of an answer that came from behind a lock.
+-- What is known of an answer that came from behind a lock: of which state of the server it is the
+-- right one.
+--
+-- What is known of that state is a parameter: a statement about a number and a state. A lock that
+-- stores a history numbers its calls, and the number is the call's ticket. A lock that stores none
+-- counts its changes, and the number is how many came before.
 use Rattle.std.specs.Prelude.{◌≡◌, ℕ, ◌-◌, List, Option, Some}
 use Rattle.eden_history.specs.declared.answer.Answer.{Answer}
 use Rattle.eden_history.specs.declared.change.Change.{Change}
@@ -11,25 +16,30 @@ use Rattle.eden_objects.specs.Objects.{Held}
 use Rattle.eden_query.specs.declared.raw.Raw.{Raw}
 use Rattle.eden_query.specs.Raws.{patterns_of, told}
 
--- The call was made of some state that had taken one call less. That stands for some world, in each world for which it stands this is the
--- answer, and the call took it on.
-abbrev pub Gave : {T : Type 0} → (T → Option ℕ) → (T → WorldState → Type 0) → ℕ → (WorldState → Type 0) → (T → T → Type 0) → Type 0
-Gave {T} stored stands_for ticket answers gives = (before : T) × (stored before ≡ Some (ticket - 1)) × ((world : WorldState) × stands_for before world)
+-- The server has taken one call fewer than the ticket says: it is the ticket's turn.
+abbrev pub IsTurnOf : {T : Type 0} → (T → Option ℕ) → ℕ → T → Type 0
+IsTurnOf stored ticket server = stored server ≡ Some (ticket - 1)
+
+-- The call was made of a state of which this is known. The state stands for some world. In each
+-- world for which it stands, this is the answer. The call took it to a next state.
+abbrev pub Gave : {T : Type 0} → (T → Type 0) → (T → WorldState → Type 0) → (WorldState → Type 0) → (T → T → Type 0) → Type 0
+Gave {T} Known stands_for answers gives = (before : T) × Known before × ((world : WorldState) × stands_for before world)
     × ((world : WorldState) → stands_for before world → answers world) × ((after : T) × gives before after)
 
--- Of such a state this caller made the change, under this ticket, and this is the answer.
-pub record MadeBy {T : Type 0} (name : Namer) (stored : T → Option ℕ) (stands_for : T → WorldState → Type 0) (apply_gives : T → ℕ → Change → Answer → T → Type 0)
-    (caller ticket : ℕ) (change : Change) (answer : Answer) : Type 0 where
-  pub gave : Gave stored stands_for ticket (λ world. answer ≡ answer_of name world change) (λ before after. apply_gives before caller change answer after)
+-- The caller made the change of such a state, and this is the answer.
+pub record IsMade {T : Type 0} (Known : ℕ → T → Type 0) (name : Namer) (stands_for : T → WorldState → Type 0)
+    (apply_gives : T → ℕ → Change → Answer → T → Type 0) (caller number : ℕ) (change : Change) (answer : Answer) : Type 0 where
+  pub gave : Gave (Known number) stands_for (λ world. answer ≡ answer_of name world change) (λ before after. apply_gives before caller change answer after)
 
--- Of such a state, which had these objects, this was held for the caller's request, so that the two make the reply.
-pub record HeldBy {T : Type 0} (stored : T → Option ℕ) (stands_for : T → WorldState → Type 0) (held : T → List Held) (hold_gives : T → ℕ → Request → Raw → T → Type 0)
-    (caller ticket : ℕ) (request : Request) (raw : Raw) (objects : List Held) : Type 0 where
-  pub gave : Gave stored stands_for ticket (λ world. told objects (patterns_of request) raw ≡ reply_of world request)
+-- This was held of such a state, with its objects, for the caller's request. The two make the
+-- reply.
+pub record IsHeld {T : Type 0} (Known : ℕ → T → Type 0) (stands_for : T → WorldState → Type 0) (held : T → List Held)
+    (hold_gives : T → ℕ → Request → Raw → T → Type 0) (caller number : ℕ) (request : Request) (raw : Raw) (objects : List Held) : Type 0 where
+  pub gave : Gave (Known number) stands_for (λ world. told objects (patterns_of request) raw ≡ reply_of world request)
       (λ before after. (objects ≡ held before) × hold_gives before caller request raw after)
 
--- Of such a state this caller asked the request, under this ticket, and this is the reply.
-pub record ToldBy {T : Type 0} (stored : T → Option ℕ) (stands_for : T → WorldState → Type 0) (held : T → List Held) (hold_gives : T → ℕ → Request → Raw → T → Type 0)
-    (caller ticket : ℕ) (request : Request) (reply : Reply) : Type 0 where
-  pub gave : Gave stored stands_for ticket (λ world. reply ≡ reply_of world request)
+-- The caller asked the request of such a state, and this is the reply.
+pub record IsTold {T : Type 0} (Known : ℕ → T → Type 0) (stands_for : T → WorldState → Type 0) (held : T → List Held)
+    (hold_gives : T → ℕ → Request → Raw → T → Type 0) (caller number : ℕ) (request : Request) (reply : Reply) : Type 0 where
+  pub gave : Gave (Known number) stands_for (λ world. reply ≡ reply_of world request)
       (λ before after. (raw : Raw) × (reply ≡ told (held before) (patterns_of request) raw) × hold_gives before caller request raw after)

@@ -1,5 +1,10 @@
+pub mod Faults
+pub mod Audits
+pub mod Followings
+pub mod Seats
 pub mod Passes
 pub mod Gives
+pub mod Reached
 pub mod Desks
 pub mod Servings
 pub mod internal

@@ -1,12 +1,18 @@
 -- What a caller's pass is, and what passes count together.
 use Rattle.std.specs.Prelude.{ℕ, ◌+◌, List, [], ◌∷◌}
 
--- which caller it is, and how many calls were taken of it
+-- which caller it is, and how many calls are counted by it
 pub record PassView : Type 0 where
   pub caller : ℕ
   pub amount : ℕ
 
--- how many calls were taken of all these callers
+-- how many calls all these passes count
 abbrev pub made_by : List PassView → ℕ
 made_by [] = 0
 made_by (pass ∷ passes) = pass.amount + made_by passes
+
+-- how many passes were given, how many of them came back, and how many calls those count
+pub record PassesView : Type 0 where
+  pub given : ℕ
+  pub back : ℕ
+  pub amount : ℕ

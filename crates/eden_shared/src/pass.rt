@@ -1,15 +1,19 @@
 //! The passes of callers.
 
-ghost use Rattle.std.specs.Prelude.{◌≡◌};
+ghost use Rattle.std.specs.Prelude.{◌≡◌, ◌+◌, ◌≤◌, IfOk, OnErr, OnOk, length};
+ghost use Rattle.eden_shared.specs.Passes.{made_by};
 
 use std::marker::Model;
-use std::sync::ledger::{Ledger, Share};
+use std::sync::ledger::{Book, Ledger, Share};
 use thiserror::Error;
 
-/// What a caller calls with: its number, and its share in the calls that were taken.
+/// The most passes of a lock.
+const MOST_PASSES: u64 = 255;
+
+/// What a caller calls with: its number, and how many of its calls are counted.
 ///
-/// A lock gives a pass to each caller (`Shared::pass`), and takes all of them back at its end (`Shared::finish`). One that is let go is missing
-/// there.
+/// A lock takes all passes back at its end (`Shared::finish`, `Unlogged::finish`). One that was
+/// dropped is missing there.
 #[derive(Drop)]
 pub struct Pass<L: Ledger> {
     pub(crate) caller: u64,
@@ -28,11 +32,113 @@ impl<L: Ledger> Model for Pass<L> {
 }
 
 impl<L: Ledger> Pass<L> {
-    /// Which caller it is: from 1, and no other pass of the same lock has its number. This takes no memory.
+    /// Returns which caller it is.
+    ///
+    /// No two passes of a lock have the same number. Nothing is allocated.
     pub fn caller(&self) -> u64
         ensures { result ≡ self.now.caller }
     {
         self.caller
+    }
+}
+
+/// The passes of a lock that no caller has, and the calls that those count which came back.
+///
+/// A lock has 256 parts of a ledger. Each pass that a caller has is one of them, and the rest is
+/// here.
+#[derive(Drop)]
+pub struct Passes<L: Ledger> {
+    rest: Share<L>,
+    given: u64,
+    back: u64,
+}
+
+impl<L: Ledger> Model for Passes<L> {
+    ghost use Rattle.std.specs.Prelude.{◌≡◌, ◌+◌, ◌≤◌};
+    ghost use Rattle.eden_shared.specs.Passes.{PassesView};
+
+    ghost Value = { PassesView };
+
+    ghost view = { λ passes. record { given = passes.given; back = passes.back; amount = passes.rest.amount } };
+
+    ghost invariant = { λ passes. (passes.rest.parts + passes.given ≡ 256 + passes.back) × (passes.back ≤ passes.given) × (passes.given ≤ 255) };
+}
+
+impl<L: Ledger> Passes<L> {
+    /// Makes the passes of a lock, of which none is given yet.
+    pub(crate) fn new(rest: Share<L>) -> Passes<L>
+        requires parts { rest.parts ≡ 256 }
+        ensures { result ≡ record { given = 0; back = 0; amount = rest.amount } }
+    {
+        Passes {
+            rest,
+            given: 0,
+            back: 0,
+        }
+    }
+
+    /// Returns how many passes callers have.
+    pub(crate) fn out(&self) -> u64
+        ensures { result + self.now.back ≡ self.now.given }
+    {
+        self.given - self.back
+    }
+
+    /// Gives a pass to one more caller, under the next number: 1, 2 and so on.
+    ///
+    /// `CallersSpent` if 255 passes were given. Nothing is allocated.
+    pub fn give(&mut self) -> Result<Pass<L>, CallersSpent>
+        ensures pass { IfOk result (λ pass. pass ≡ record { caller = self.old.given + 1; amount = 0 }) }
+        ensures given { OnOk result (self.new ≡ record { given = self.old.given + 1; back = self.old.back; amount = self.old.amount }) }
+        ensures most { self.new.given ≤ 255 }
+        ensures spent { OnErr result ((self.old.given ≡ 255) × (self.new ≡ self.old)) }
+    {
+        if self.given >= MOST_PASSES {
+            return Err(CallersSpent);
+        }
+        let Passes { rest, given, .. } = self;
+        let share = rest.split_off(1, 0);
+        *given += 1;
+        Ok(Pass {
+            caller: *given,
+            share,
+        })
+    }
+
+    /// Takes a pass back, with the calls that it counts.
+    ///
+    /// Nothing is allocated.
+    pub fn take_back(&mut self, pass: Pass<L>)
+        requires whole { L.parts ≡ 256 }
+        ensures { self.new ≡ record { given = self.old.given; back = self.old.back + 1; amount = self.old.amount + pass.amount } }
+    {
+        let Passes { rest, back, .. } = self;
+        rest.merge(pass.share);
+        *back += 1;
+    }
+
+    /// Takes these passes back.
+    #[tactic(auto, using(crate::proofs::Counting::made_by_snoc))]
+    pub(crate) fn take_all_back(&mut self, passes: Vec<Pass<L>>)
+        requires whole { L.parts ≡ 256 }
+        ensures given { self.new.given ≡ self.old.given }
+        ensures back { self.new.back ≡ self.old.back + length passes.items }
+        ensures amount { self.new.amount ≡ self.old.amount + made_by passes.items }
+    {
+        for pass in passes {
+            self.take_back(pass);
+        }
+    }
+
+    /// Shows that the passes count all calls of the book, if all of them are back.
+    pub(crate) fn settle(&mut self, book: &mut Book<L>)
+        requires whole { L.parts ≡ 256 }
+        requires all_back { self.old.back ≡ self.old.given }
+        ensures total { book.old.total ≡ self.old.amount }
+        ensures same_book { book.new.total ≡ book.old.total }
+        ensures same { self.new ≡ self.old }
+    {
+        book.audit(&mut self.rest);
     }
 }
 

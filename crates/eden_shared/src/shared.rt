@@ -6,10 +6,11 @@ ghost use Rattle.eden_history.specs.Worlds.{WorldState};
 ghost use Rattle.eden_messages.specs.Replies.{reply_of};
 ghost use Rattle.eden_objects.specs.Commits.{commit_map};
 ghost use Rattle.eden_query.specs.Raws.{NamesCommits, is_answerable, patterns_of, told};
-ghost use Rattle.eden_shared.specs.Gives.{HeldBy, MadeBy};
+ghost use Rattle.eden_shared.specs.Gives.{IsHeld, IsMade, IsTurnOf};
 ghost use Rattle.eden_shared.specs.Passes.{made_by};
+ghost use Rattle.eden_shared.specs.Reached.{IsDescended};
 
-use crate::pass::{CallersSpent, Pass};
+use crate::pass::{CallersSpent, Pass, Passes};
 use eden_history::{Answer, Change};
 use eden_ids::{Naming, NoMemory};
 use eden_messages::Request;
@@ -18,11 +19,8 @@ use eden_query::{Raw, Served};
 use std::error::Error;
 use std::fmt;
 use std::marker::PhantomData;
-use std::sync::ledger::{Blank, Book, Ledger, Share};
+use std::sync::ledger::{Blank, Book, Ledger};
 use std::sync::{Mutex, Wait};
-
-/// The most passes of a lock.
-const MOST_PASSES: u64 = 255;
 
 /// What was held for a request under the lock, with the number of the call.
 #[derive(Drop)]
@@ -38,45 +36,34 @@ pub struct Ticketed<N: Naming + Drop> {
     pub ghost answerable: { is_answerable (commit_map store) raw ≡ true },
 }
 
-/// What stands under the lock: the server, how many calls it took, the shares of no caller, and how many passes were given.
+/// What is under the lock: the server, how many calls it took, and the passes that no caller has.
 #[derive(Drop)]
 struct Locked<N: Naming + Drop, T: Served<N>, L: Ledger> {
     naming: PhantomData<N>,
     object: T,
     book: Book<L>,
-    rest: Share<L>,
-    passes: u64,
+    passes: Passes<L>,
     // The stored history has an entry for each call.
     ghost counted: { T.stored object ≡ Some book.total },
-    // Each pass has one part, and at least one is left.
-    ghost cut: { rest.parts + passes ≡ 256 },
-    ghost some: { 0 < rest.parts },
-    // All calls are of passes.
-    ghost unused: { rest.amount ≡ 0 },
+    // No pass is back yet, and all calls are of passes that are out.
+    ghost none_back: { passes.back ≡ 0 },
+    ghost unused: { passes.amount ≡ 0 },
+    // The server descends by these calls from one of which nothing was asked.
+    ghost descends: { IsDescended T.stored T.apply_gives T.hold_gives book.total object },
 }
 
 impl<N: Naming + Drop, T: Served<N>, L: Ledger> Locked<N, T, L> {
-    /// A pass for one more caller.
+    /// Gives a pass to one more caller.
     fn pass(&mut self) -> Result<Pass<L>, CallersSpent>
-        ensures caller { IfOk result (λ pass. pass.caller ≡ self.new.passes) }
-        ensures unused { IfOk result (λ pass. pass.amount ≡ 0) }
-        ensures counted { OnOk result (self.new.passes ≡ self.old.passes + 1) }
-        ensures most { self.new.passes ≤ 255 }
-        ensures spent { OnErr result (self.old.passes ≡ 255) }
+        ensures pass { IfOk result (λ pass. pass ≡ record { caller = self.old.passes.given + 1; amount = 0 }) }
+        ensures given { OnOk result (self.new.passes.given ≡ self.old.passes.given + 1) }
+        ensures most { self.new.passes.given ≤ 255 }
+        ensures spent { OnErr result (self.old.passes.given ≡ 255) }
     {
-        if self.passes >= MOST_PASSES {
-            return Err(CallersSpent);
-        }
-        let Locked { rest, passes, .. } = self;
-        let share = rest.split_off(1, 0);
-        *passes += 1;
-        Ok(Pass {
-            caller: *passes,
-            share,
-        })
+        self.passes.give()
     }
 
-    /// Makes a change for a caller, and counts it.
+    /// Makes a caller's change, and counts it.
     fn change(&mut self, pass: &mut Pass<L>, change: &Change) -> Result<(u64, Answer), NoMemory>
         ensures caller { pass.new.caller ≡ pass.old.caller }
         ensures share { OnOk result (pass.new.amount ≡ pass.old.amount + 1) }
@@ -98,7 +85,7 @@ impl<N: Naming + Drop, T: Served<N>, L: Ledger> Locked<N, T, L> {
         Ok((ticket, answer))
     }
 
-    /// Holds for a caller what a request asks for, and counts it.
+    /// Holds what a caller's request asks for, and counts it.
     fn hold(&mut self, pass: &mut Pass<L>, request: &Request) -> Result<Ticketed<N>, NoMemory>
         ensures caller { pass.new.caller ≡ pass.old.caller }
         ensures share { OnOk result (pass.new.amount ≡ pass.old.amount + 1) }
@@ -125,13 +112,15 @@ impl<N: Naming + Drop, T: Served<N>, L: Ledger> Locked<N, T, L> {
 
 /// A server that several callers ask and change, one call at a time.
 ///
-/// The server stores its history, and a call's ticket is the number of its entry there.
+/// The server stores its history. The ticket of a call is the number of its entry there.
 #[derive(Drop)]
 pub struct Shared<N: Naming + Drop, T: Served<N>, L: Ledger> {
     held: Mutex<Locked<N, T, L>>,
 }
 
-/// Not all passes of a lock were handed in. The lock and those that were are given back as they were.
+/// Not all passes of a lock were handed in.
+///
+/// The lock and the passes that were handed in are unchanged.
 #[derive(Drop)]
 pub struct PassMissing<N: Naming + Drop, T: Served<N>, L: Ledger> {
     /// The lock.
@@ -155,8 +144,12 @@ impl<N: Naming + Drop, T: Served<N>, L: Ledger> fmt::Display for PassMissing<N, 
 impl<N: Naming + Drop, T: Served<N> + Drop, L: Ledger> Error for PassMissing<N, T, L> {}
 
 impl<N: Naming + Drop, T: Served<N>, L: Ledger> Shared<N, T, L> {
-    /// A server of which nothing was asked yet, with the ledger of its calls, which is cut into 256 parts: one for each pass, and one that stays.
-    /// This takes no memory.
+    /// Puts a server behind a lock.
+    ///
+    /// Nothing was asked of the server yet. The blank becomes the ledger of its calls, with 256
+    /// parts: one for each pass, and one that the lock keeps. Nothing is allocated. No clause can
+    /// say what is behind the lock. What it keeps is said by its calls, and at the end by `finish`.
+    #[tactic(auto, using(crate::proofs::Reaching::begins_descended))]
     pub fn new(object: T, blank: Blank) -> Shared<N, T, L>
         requires fresh { T.stored object ≡ Some 0 }
         requires name { blank.name ≡ L.name }
@@ -169,15 +162,15 @@ impl<N: Naming + Drop, T: Served<N>, L: Ledger> Shared<N, T, L> {
                 naming: PhantomData,
                 object,
                 book,
-                rest,
-                passes: 0,
+                passes: Passes::new(rest),
             }),
         }
     }
 
-    /// A pass for one more caller, under a number of its own: 1, 2 and so on. This takes no memory.
+    /// Gives a pass to one more caller, under a number of its own: 1, 2 and so on.
     ///
-    /// `CallersSpent` comes once 255 passes were given.
+    /// `CallersSpent` if 255 passes were given. Nothing is allocated. That no two passes have the
+    /// same number is tested, since no clause sees two calls.
     pub fn pass(&self, rt: &impl Wait) -> Result<Pass<L>, CallersSpent>
         ensures caller { IfOk result (λ pass. (1 ≤ pass.caller) × (pass.caller ≤ 255)) }
         ensures unused { IfOk result (λ pass. pass.amount ≡ 0) }
@@ -185,9 +178,10 @@ impl<N: Naming + Drop, T: Served<N>, L: Ledger> Shared<N, T, L> {
         self.held.lock(rt).pass()
     }
 
-    /// Makes a change, in one hold of the lock: the call's ticket, and what `Served::apply` answers.
+    /// Makes a change, in one hold of the lock.
     ///
-    /// `NoMemory` comes where a growth was refused. No ticket is taken then.
+    /// Returns the call's ticket, and what `Served::apply` answers. `NoMemory` if an allocation
+    /// fails. No ticket is taken then.
     pub fn change(
         &self,
         rt: &impl Wait,
@@ -197,16 +191,17 @@ impl<N: Naming + Drop, T: Served<N>, L: Ledger> Shared<N, T, L> {
         ensures caller { pass.new.caller ≡ pass.old.caller }
         ensures share { OnOk result (pass.new.amount ≡ pass.old.amount + 1) }
         ensures ticket { IfOk result (λ made. pass.new.amount ≤ made.0) }
-        ensures answer { IfOk result (λ made. MadeBy N.id T.stored T.stands_for T.apply_gives pass.old.caller made.0 change.now made.1) }
+        ensures answer { IfOk result (λ made. IsMade (IsTurnOf T.stored) N.id T.stands_for T.apply_gives pass.old.caller made.0 change.now made.1) }
         ensures unchanged { OnErr result (pass.new ≡ pass.old) }
     {
         self.held.lock(rt).change(pass, change)
     }
 
-    /// What a request asks for, as it stands now, and the objects of now, in one hold of the lock: what `Served::hold` gives, and the call's
-    /// ticket. The reply is made of the two without the lock, whatever is changed in between.
+    /// Holds what a request asks for and the objects, in one hold of the lock.
     ///
-    /// `NoMemory` comes where a growth was refused. No ticket is taken then.
+    /// Returns what `Served::hold` gives, and the call's ticket. The reply is made of these without
+    /// the lock, whatever is changed meanwhile. `NoMemory` if an allocation fails. No ticket is
+    /// taken then.
     pub fn hold(
         &self,
         rt: &impl Wait,
@@ -216,25 +211,26 @@ impl<N: Naming + Drop, T: Served<N>, L: Ledger> Shared<N, T, L> {
         ensures caller { pass.new.caller ≡ pass.old.caller }
         ensures share { OnOk result (pass.new.amount ≡ pass.old.amount + 1) }
         ensures ticket { IfOk result (λ ticketed. pass.new.amount ≤ ticketed.ticket) }
-        ensures held { IfOk result (λ ticketed.
-            HeldBy T.stored T.stands_for T.held T.hold_gives pass.old.caller ticketed.ticket request.now ticketed.raw ticketed.store) }
+        ensures held { IfOk result (λ ticketed. IsHeld (IsTurnOf T.stored) T.stands_for T.held T.hold_gives
+            pass.old.caller ticketed.ticket request.now ticketed.raw ticketed.store) }
         ensures unchanged { OnErr result (pass.new ≡ pass.old) }
     {
         self.held.lock(rt).hold(pass, request)
     }
 
-    /// The server, once all passes are handed in: it took as many calls as they made. This takes no memory.
+    /// Returns the server, once all passes are handed in.
     ///
-    /// `PassMissing` comes where fewer passes are handed in than were given.
-    #[tactic(auto, using(crate::proofs::Counting::made_by_snoc))]
+    /// The server has taken exactly the calls that the passes count. `PassMissing` if fewer passes
+    /// are handed in than were given. Nothing is allocated.
     pub fn finish(self, passes: Vec<Pass<L>>) -> Result<T, PassMissing<N, T, L>>
         requires whole { L.parts ≡ 256 }
         ensures count { IfOk result (λ object. T.stored object ≡ Some (made_by passes.items)) }
+        ensures descends { IfOk result (λ object. IsDescended T.stored T.apply_gives T.hold_gives (made_by passes.items) object) }
         ensures back { IfErr result (λ missing. missing.passes ≡ passes) }
     {
         let Shared { held } = self;
         let locked = held.into_inner();
-        if passes.len() as u64 != locked.passes {
+        if passes.len() as u64 != locked.passes.out() {
             let shared = Shared {
                 held: Mutex::new(locked),
             };
@@ -243,13 +239,11 @@ impl<N: Naming + Drop, T: Served<N>, L: Ledger> Shared<N, T, L> {
         let Locked {
             object,
             mut book,
-            mut rest,
+            passes: mut all,
             ..
         } = locked;
-        for pass in passes {
-            rest.merge(pass.share);
-        }
-        book.audit(&mut rest);
+        all.take_all_back(passes);
+        all.settle(&mut book);
         Ok(object)
     }
 }

@@ -4,8 +4,9 @@ use Rattle.std.specs.Io.KnownBytes.{Consumes, IsAtEnd}
 use Rattle.std.proofs.KnownBytes.{Appends-nil, Appends-trans, Consumes-nil, Consumes-trans}
 use Rattle.eden_stream.specs.Grammars.{Grammar, IsGrammar}
 use Rattle.eden_stream.specs.Stories.{IsStory, Story}
-use Rattle.eden_stream.specs.Pumps.{Faults, Losses, Ran, Tellings}
-use Rattle.eden_stream.specs.internal.Steps.{Receives, Sends, TakesTurn, Tears}
+use Rattle.eden_stream.specs.Pumps.{Faults, Halts, Losses, Ran, Tellings}
+use Rattle.eden_stream.specs.internal.Steps.{Receives, Sends, TakesTurn}
+use Rattle.eden_stream.specs.Torn.{Tears}
 use Rattle.eden_stream.specs.declared.pump.Turn.{Turn}
 use Rattle.eden_stream.specs.declared.pump.Turn.TheVariants.{Taken, Faulty, NoMemory, Waiting}
 
@@ -121,6 +122,11 @@ module _ {E : Type 0} {grammar : Grammar E} (law : IsGrammar grammar) where
     written = ran.written;
   }
 
+-- the pumping can't go on after what was told
+pub ran_halted : {E : Type 0} {grammar : Grammar E} (next : Story E) {r0 r1 w0 w1 : Option (List ℕ)} {ended : Bool} {count : ℕ} {held waiting : List ℕ}
+    → Ran grammar (Tellings next) r0 r1 w0 w1 ended count held waiting → Ran grammar (Halts grammar next ended) r0 r1 w0 w1 ended count held waiting
+ran_halted next ran = ran_stays ran ran.cut (inl ran.says)
+
 -- what is told of items that a fault ends is lost with them
 faults_lose : {E : Type 0} {grammar : Grammar E} {next : Story E} → IsStory grammar next → (ended : Bool) (held : List ℕ) (fault : E) (stream : List ℕ) (items : List (List ℕ)) (text : List ℕ)
     → Faults grammar next ended held fault stream items text → next.lost items text
@@ -128,10 +134,6 @@ faults_lose lawful ended held fault stream items text (inl f) = lawful.stops ite
 faults_lose lawful ended held fault stream items text (inr f) = f.0
 
 module _ {E : Type 0} {grammar : Grammar E} {next : Story E} (lawful : IsStory grammar next) {r0 r1 w0 w1 : Option (List ℕ)} {ended : Bool} {count : ℕ} where
-  -- what was told is lost where the pumping can't go on
-  pub ran_lost : {held waiting : List ℕ} → Ran grammar (Tellings next) r0 r1 w0 w1 ended count held waiting → Ran grammar (Losses grammar next ended) r0 r1 w0 w1 ended count held waiting
-  ran_lost {waiting = waiting} ran = ran_stays ran ran.cut (inl (lawful.stops ran.items (ran.sent ++ waiting) ran.says))
-
   -- after any turn the account goes on, with as many items or one more
   pub ran_turned : {Says : List ℕ → List (List ℕ) → List ℕ → Type 0} {held old : List ℕ} (ran : Ran grammar Says r0 r1 w0 w1 ended count held old) (left new : List ℕ) (turn : Turn E)
       → TakesTurn grammar next ended ran.stream ran.items ran.sent left new turn → (number : ℕ) × Ran grammar (Losses grammar next ended) r0 r1 w0 w1 ended number left new

@@ -5,3 +5,8 @@ pub mod LineAnswers
 pub mod LineCuts
 pub mod LineEndings
 pub mod LineFinds
+pub mod LineSays
+pub mod ScriptEnds
+pub mod FrameCuts
+pub mod FrameEndings
+pub mod Replying

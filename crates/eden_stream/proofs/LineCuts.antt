@@ -1,12 +1,14 @@
 -- How the first line that is held is taken from a stream, and what its lines are.
-use Rattle.std.proofs.Common.{Bool, true, false, cond, ◌-◌, ◌≡◌, ◌≢◌, ℕ, ◌<◌, ◌⊎◌, inl, inr, List, [], ◌∷◌, ◌++◌, length, get_or, take, drop, refl, sym, ap, ◌∙◌, subst, arith, append_assoc, append-nil, length-append}
+use Rattle.std.proofs.Common.{Bool, true, false, cond, ◌-◌, ◌≡◌, ◌≢◌, ℕ, ◌<◌, ◌⊎◌, inl, inr, List, [], ◌∷◌, ◌++◌, length, get_or, take, drop, Option, refl, sym, ap, ◌∙◌, subst, arith, append_assoc, append-nil, length-append}
+use Rattle.std.specs.Io.KnownBytes.{IsAtEnd}
 use Rattle.std.specs.Str.Lines.{lines, strip_carriage_return}
 use Rattle.std.proofs.Math.Dec.{eqb}
 use Rattle.std.proofs.lemmas.Bool.{cases_lt, eqb-true}
 use Rattle.std.proofs.lemmas.List.{get_or-take}
 use Rattle.std.proofs.lemmas.List.Elements.{All-append, All-cons, All-tail, All-take}
-use Rattle.eden_stream.specs.Lines.{HasNoBreak, IsComment, IsSkipped}
-use Rattle.eden_stream.specs.internal.LineSteps.{BeginsWith, CutsLines, IsBehind, IsKept, Shortens}
+use Rattle.eden_stream.specs.LineGrammar.{CutsLines, IsBehind, IsKept}
+use Rattle.eden_stream.specs.Lines.{AreBeforeLong, AreFirstLines, HasNoBreak, IsComment, IsSkipped}
+use Rattle.eden_stream.specs.internal.LineSteps.{BeginsWith, IsLongUnended, Shortens}
 use Rattle.eden_stream.proofs.Cuts.{lines-append, lines-last, lines-line, whole-line}
 
 strip_by : (line : List ℕ) (b : Bool) → eqb (get_or line (length line - 1) 0) 13 ≡ b → IsComment line → IsComment (cond b (take (length line - 1) line) line)
@@ -94,9 +96,39 @@ behind_lines stream items held behind =
     ap lines behind.split ∙ lines-append behind.whole behind.rest behind.ends_lines ∙ ap (λ done. done ++ lines behind.rest) (sym behind.items_are)
 
 -- the lines that were taken are the first of the stream
-pub more_lines : (ended : Bool) (stream : List ℕ) (items : List (List ℕ)) (held : List ℕ) → CutsLines ended stream items held → (more : List (List ℕ)) × (lines stream ≡ items ++ more)
-more_lines ended stream items held (inl behind) = (lines behind.rest, behind_lines stream items held behind)
-more_lines ended stream items held (inr done) = ([], sym done.2 ∙ sym (append-nil items))
+pub first_lines : (r1 : Option (List ℕ)) (ended : Bool) (stream : List ℕ) (items : List (List ℕ)) (held : List ℕ) → (ended ≡ true → IsAtEnd r1) → CutsLines ended stream items held
+    → AreFirstLines r1 stream items
+first_lines r1 ended stream items held at_end (inl behind) = record {
+  front = behind.whole;
+  rest = behind.rest;
+  split = behind.split;
+  first_are = behind.items_are;
+  ended = inl behind.ends_lines;
+}
+first_lines r1 ended stream items held at_end (inr done) = record {
+  front = stream;
+  rest = [];
+  split = sym (append-nil stream);
+  first_are = done.2;
+  ended = inr (refl, at_end done.0);
+}
+
+-- what is held is no comment, so it is the rest
+kept_whole : (rest held : List ℕ) → IsKept rest held → ¬ IsComment held → rest ≡ held
+kept_whole rest held (inl e) plain = e
+kept_whole rest held (inr k) plain = absurd (plain (ap (λ bytes. get_or bytes 0 0) k.4))
+
+pub before_long : (ended : Bool) (stream : List ℕ) (items : List (List ℕ)) (held : List ℕ) → CutsLines ended stream items held → IsLongUnended held → AreBeforeLong stream items held
+before_long ended stream items held (inl behind) long = record {
+  front = behind.whole;
+  split = behind.split ∙ ap (λ bytes. behind.whole ++ bytes) (kept_whole behind.rest held behind.kept long.1);
+  first_are = behind.items_are;
+  ended = behind.ends_lines;
+  unended = long.0;
+  plain = long.1;
+  long = long.2;
+}
+before_long ended stream items held (inr done) long = absurd (omega (arith, ap length done.1, long.2))
 
 -- where nothing is held they are all of them
 pub all_lines : (ended : Bool) (stream : List ℕ) (items : List (List ℕ)) (held : List ℕ) → held ≡ [] → CutsLines ended stream items held → lines stream ≡ items
@@ -108,19 +140,19 @@ nothing_begins : (ended : Bool) (held line left : List ℕ) → held ≡ [] → 
 nothing_begins ended held line left none (inl b) = omega (arith, ap length (sym none ∙ b.1), length-append b.0 (10 ∷ left))
 nothing_begins ended held line left none (inr b) = omega (arith, ap length none, b.2)
 
--- the first line that is held is taken; where it has its end, whether or not the stream has ended
-pub takes_first : (ended more : Bool) (stream : List ℕ) (items : List (List ℕ)) (held line left : List ℕ) → CutsLines more stream items held → BeginsWith ended held line left
+-- the first line that is held is taken
+pub takes_first : (ended : Bool) (stream : List ℕ) (items : List (List ℕ)) (held line left : List ℕ) → CutsLines ended stream items held → BeginsWith ended held line left
     → (item : List ℕ) × IsSame item line × CutsLines ended stream (items ++ item ∷ []) left
-takes_first ended more stream items held line left (inl behind) (inl b) =
+takes_first ended stream items held line left (inl behind) (inl b) =
     let real = real_of behind.rest held b.0 left behind.kept b.1 b.2 in
     let same = subst (IsSame (strip_carriage_return real.real)) (sym b.3) real.same in
     (strip_carriage_return real.real, same, inl (takes_whole stream items held real.real left behind real.cut real.unended))
-takes_first ended more stream items held line left (inl behind) (inr b) =
+takes_first ended stream items held line left (inl behind) (inr b) =
     let unended = rest_unended behind.rest held behind.kept b.1 in
     let some = rest_some behind.rest held behind.kept b.2 in
     let all = behind_lines stream items held behind ∙ ap (λ last. items ++ last) (lines-last behind.rest unended some) in
     (behind.rest, subst (IsSame behind.rest) (sym b.3) (rest_same behind.rest held behind.kept), inr (b.0, b.4, sym all))
-takes_first ended more stream items held line left (inr done) first = absurd (nothing_begins ended held line left done.1 first)
+takes_first ended stream items held line left (inr done) first = absurd (nothing_begins ended held line left done.1 first)
 
 -- a line that is no comment is the line of the stream itself
 pub same_line : (item line : List ℕ) → IsSame item line → ¬ IsComment line → item ≡ line

@@ -61,4 +61,4 @@ found_whole ended held end (Skipped whole) here j =
 found_whole ended held end Partial here j = absurd j
 found_whole ended held end (Faulty fault) here j =
     let raw = take end held in
-    (refl, (strip_carriage_return raw, drop (end + 1) held, j, inl (raw, breaks_cut held end here, here.before, refl)))
+    (refl, inl (strip_carriage_return raw, drop (end + 1) held, j, inl (raw, breaks_cut held end here, here.before, refl)))

@@ -4,7 +4,8 @@ use Rattle.eden_stream.specs.Scripts.{in_front}
 use Rattle.eden_stream.specs.declared.machine.Answered.{Answered}
 use Rattle.eden_stream.specs.declared.machine.Answered.TheVariants.{Done, BadLine, NoMemory}
 
--- The script took the line: it printed some bytes, and goes on as a script that the machine stands for now.
+-- The script took the line: it printed some bytes, and goes on as a script that the machine stands
+-- for now.
 pub record TakesLine (stands_now : (List (List ℕ) → Option (List ℕ)) → Type 0) (script : List (List ℕ) → Option (List ℕ)) (line old new : List ℕ) : Type 0 where
   pub printed : List ℕ
   pub next : List (List ℕ) → Option (List ℕ)
@@ -17,7 +18,7 @@ abbrev pub RefusesLine : (List (List ℕ) → Option (List ℕ)) → List ℕ �
 RefusesLine script line = (more : List (List ℕ)) → script (line ∷ more) ≡ None
 
 -- What each answer to a line says, where the text grew from old to new.
-abbrev pub AnswersLine : ((List (List ℕ) → Option (List ℕ)) → Type 0) → (List (List ℕ) → Option (List ℕ)) → List ℕ → List ℕ → List ℕ → Answered → Type 0
-AnswersLine stands_now script line old new Done = TakesLine stands_now script line old new
-AnswersLine stands_now script line old new BadLine = RefusesLine script line × (new ≡ old)
-AnswersLine stands_now script line old new NoMemory = (extra : List ℕ) × (new ≡ old ++ extra)
+abbrev pub AnswersLine : ((List (List ℕ) → Option (List ℕ)) → Type 0) → ((List (List ℕ) → Option (List ℕ)) → List ℕ → Type 0) → (List (List ℕ) → Option (List ℕ)) → List ℕ → List ℕ → List ℕ → Answered → Type 0
+AnswersLine stands_now refused_now script line old new Done = TakesLine stands_now script line old new
+AnswersLine stands_now refused_now script line old new BadLine = RefusesLine script line × (new ≡ old) × refused_now script line
+AnswersLine stands_now refused_now script line old new NoMemory = (extra : List ℕ) × (new ≡ old ++ extra)

@@ -3,7 +3,8 @@ use Rattle.std.specs.Prelude.{Bool, true, false, ℕ, ◌+◌, ◌<◌, ◌≤�
 use Rattle.eden_stream.specs.declared.framing.Next.{Next}
 use Rattle.eden_stream.specs.declared.framing.Next.TheVariants.{Item, Skipped, Partial, Faulty}
 
--- What a way of cutting says. `ended` is whether no more bytes come, `items` those that are cut off, and `held` what is kept of the bytes behind them.
+-- What a way of cutting says. `ended` is whether no more bytes come, `items` those that are cut
+-- off, and `held` what is kept of the bytes after them.
 pub record Grammar (E : Type 0) : Type 1 where
   -- the stream so far is these items, and what is kept of the rest
   pub cut : Bool → List ℕ → List (List ℕ) → List ℕ → Type 0
@@ -22,7 +23,8 @@ pub record IsGrammar {E : Type 0} (grammar : Grammar E) : Type 0 where
   pub grows : (stream : List ℕ) (items : List (List ℕ)) (held got : List ℕ) → grammar.cut false stream items held → grammar.cut false (stream ++ got) items (held ++ got)
   pub ends : (stream : List ℕ) (items : List (List ℕ)) (held : List ℕ) → grammar.cut false stream items held → grammar.cut true stream items held
 
--- The kept bytes begin with an item, which has `size` bytes from `place` on, and ends where `whole` bytes do.
+-- The kept bytes begin with an item, which has `size` bytes from `place` on, and ends where `whole`
+-- bytes do.
 pub record HasItem {E : Type 0} (grammar : Grammar E) (ended : Bool) (held : List ℕ) (place size whole : ℕ) : Type 0 where
   pub some : 0 < whole
   pub within : whole ≤ length held
@@ -38,7 +40,7 @@ pub record HasSilent {E : Type 0} (grammar : Grammar E) (ended : Bool) (held : L
   pub takes : (stream : List ℕ) (items : List (List ℕ)) → grammar.cut ended stream items held
       → (item : List ℕ) × grammar.silent item × grammar.cut ended stream (items ++ item ∷ []) (drop whole held)
 
--- What stands at the front of the kept bytes.
+-- What the kept bytes begin with.
 abbrev pub Finds : {E : Type 0} → Grammar E → Bool → List ℕ → Next E → Type 0
 Finds grammar ended held (Item place size whole) = HasItem grammar ended held place size whole
 Finds grammar ended held (Skipped whole) = HasSilent grammar ended held whole

@@ -2,8 +2,17 @@ pub mod Answers
 pub mod Counts
 pub mod Ends
 pub mod Grammars
+pub mod LineEnds
+pub mod LineGrammar
 pub mod Lines
 pub mod Pumps
 pub mod Scripts
 pub mod Stories
+pub mod Torn
+pub mod FrameAnswers
+pub mod FrameEnds
+pub mod FrameGrammar
+pub mod FrameLaws
+pub mod Frames
+pub mod FrameTellings
 pub mod internal

@@ -1,5 +1,6 @@
 -- What the implementation uses alone.
-pub mod Grown
 pub mod LineLaws
 pub mod LineSteps
 pub mod Steps
+pub mod FrameLaws
+pub mod Fronts

@@ -1,9 +1,9 @@
 //! How a stream is cut into items while it comes.
 ghost use Rattle.std.specs.Prelude.{◌≤◌, ℕ, List, length};
 
-use super::held::Held;
+use super::buffer::Buffer;
 
-/// What stands at the front of the held bytes.
+/// What the held bytes begin with.
 #[derive(Clone, Copy)]
 pub enum Next<E> {
     /// An item, which has `size` bytes from `place` on, and ends where `whole`
@@ -14,7 +14,7 @@ pub enum Next<E> {
         whole: usize,
     },
 
-    /// An item that asks for no answer, and ends where so many bytes do.
+    /// An item that asks for no answer, of this many bytes.
     Skipped(usize),
 
     /// No item that is all there.
@@ -31,9 +31,9 @@ pub trait Framing<E: Copy> {
     // What the items are.
     ghost grammar: { Grammar E };
 
-    /// What stands at the front of the held bytes, where `ended` says that no
+    /// Returns what the held bytes begin with. `ended` says that no
     /// more come. It may let bytes go that no item needs.
-    fn next(held: &mut Held, ended: bool) -> Next<E>
+    fn next(held: &mut Buffer, ended: bool) -> Next<E>
         ensures finds { Finds grammar ended held.new result }
         ensures kept { (stream : List ℕ) (items : List (List ℕ)) → grammar.cut ended stream items held.old → grammar.cut ended stream items held.new }
         ensures room { length held.new ≤ length held.old };

@@ -1,18 +1,18 @@
-//! The run of a script of lines.
-ghost use Rattle.std.specs.Prelude.{◌≡◌, false, ℕ, ◌+◌, ◌<◌, ◌≤◌, ◌↔◌, List, Option, Result, length, IsErrOf, IsTrue};
+//! A stream of lines, and the answering of them.
+ghost use Rattle.std.specs.Prelude.{◌≡◌, false, ℕ, ◌+◌, ◌^◌, ◌<◌, ◌≤◌, ◌↔◌, List, [], Option, Result, length, IsErrOf, IsTrue};
 ghost use Rattle.std.specs.Str.Lines.{strip_carriage_return};
 ghost use Rattle.eden_stream.specs.Counts.{Rose, RoseBy};
-ghost use Rattle.eden_stream.specs.Ends.{Ends};
+ghost use Rattle.eden_stream.specs.LineEnds.{EndsTellingLines};
+ghost use Rattle.eden_stream.specs.LineGrammar.{line_grammar};
 ghost use Rattle.eden_stream.specs.Lines.{HasNoBreak, IsComment};
-ghost use Rattle.eden_stream.specs.internal.LineSteps.{FindsLine, Judges, line_grammar, line_story, run_as};
-ghost use Rattle.eden_stream.specs.internal.LineLaws.{line_laws, story_laws};
+ghost use Rattle.eden_stream.specs.internal.LineSteps.{FindsLine, Judges, run_as};
+ghost use Rattle.eden_stream.specs.internal.LineLaws.{line_laws};
 
+use super::buffer::Buffer;
 use super::counts::{CountedRead, CountedWrite};
 use super::framing::{Framing, Next};
-use super::held::Held;
-use super::machine::{Answered, LineMachine};
-use super::pump::{Stop, pump_items};
-use super::teller::{Answer, Teller};
+use super::pump::{Stop, pump_within};
+use super::teller::Teller;
 use std::alloc::Global;
 use thiserror::Error;
 
@@ -38,25 +38,22 @@ pub enum RunFault {
     #[error("the reads are spent")]
     TurnsSpent,
 
-    /// A growth was refused.
+    /// An allocation failed.
     #[error("out of memory")]
     NoMemory,
 }
 
 /// A stream cut into lines.
-pub(crate) struct Lines;
+pub struct Lines;
 
-/// Has a machine answer lines.
-pub(crate) struct Scripted;
-
-/// Whether the line begins with `#`.
+/// Returns whether the line begins with `#`.
 fn is_comment(line: &[u8]) -> bool
     ensures { IsTrue result ↔ IsComment line.now }
 {
     matches!(line, [b'#', ..])
 }
 
-/// The line less the one carriage return at its end, if it has one.
+/// Returns the line less the one carriage return at its end, if any.
 fn without_return(line: &[u8]) -> &[u8]
     ensures { result.now ≡ strip_carriage_return line.now }
 {
@@ -66,7 +63,7 @@ fn without_return(line: &[u8]) -> &[u8]
     }
 }
 
-/// What a line asks for that is the front of `whole` bytes.
+/// Returns what a line asks for that is the front of `whole` bytes.
 fn item_at_front(line: &[u8], whole: usize) -> Next<()>
     ensures { Judges line.now whole result }
 {
@@ -83,9 +80,10 @@ fn item_at_front(line: &[u8], whole: usize) -> Next<()>
     }
 }
 
-/// What is held where no line ends in it and more bytes may come. Of a comment
-/// only the first byte stays.
-fn unended_front(held: &mut Held) -> Next<()>
+/// Returns what is held if no line ends in it and more bytes may come.
+///
+/// Of a comment only the first byte stays.
+fn unended_front(held: &mut Buffer) -> Next<()>
     requires { HasNoBreak held.old }
     ensures { FindsLine false held.old held.new result }
 {
@@ -99,8 +97,8 @@ fn unended_front(held: &mut Held) -> Next<()>
     Next::Partial
 }
 
-/// The first line that is held.
-fn next_line(held: &mut Held, ended: bool) -> Next<()>
+/// Returns the first line that is held.
+fn next_line(held: &mut Buffer, ended: bool) -> Next<()>
     ensures { FindsLine ended held.old held.new result }
 {
     match held.find_break() {
@@ -114,28 +112,14 @@ fn next_line(held: &mut Held, ended: bool) -> Next<()>
 impl Framing<()> for Lines {
     ghost grammar = { line_grammar };
 
-    fn next(held: &mut Held, ended: bool) -> Next<()> {
+    fn next(held: &mut Buffer, ended: bool) -> Next<()> {
         next_line(held, ended)
     }
 
     ghost lawful = { line_laws };
 }
 
-impl<M: LineMachine> Teller<Lines, M, ()> for Scripted {
-    ghost story = { λ _ before now. line_story M.stands_for before now };
-
-    fn tell(&self, machine: &mut M, line: &[u8], text: &mut Vec<u8>) -> Answer<()> {
-        match machine.answer(line, text) {
-            Answered::Done => Answer::Told,
-            Answered::BadLine => Answer::Fault(()),
-            Answered::NoMemory => Answer::NoMemory,
-        }
-    }
-
-    ghost lawful = { λ _ before now. story_laws M.stands_for before now (M.lawful now) };
-}
-
-/// How a run ended, by the pump.
+/// Returns how a run ended, by the pump.
 fn run_outcome(outcome: Result<u64, Stop<()>>) -> Result<u64, RunFault>
     ensures { result ≡ run_as outcome }
 {
@@ -149,46 +133,52 @@ fn run_outcome(outcome: Result<u64, Stop<()>>) -> Result<u64, RunFault>
     }
 }
 
-/// Runs the lines of a script: reads them from `reader`, has `machine` answer
-/// them in turn, writes what they print to `writer`, and gives how many there
-/// were.
+/// Has the lines of a stream answered, and returns how many there were.
+///
+/// It reads them from `reader`, has `teller` answer them in turn for `server`,
+/// and writes the answers to `writer`.
 ///
 /// A line ends at an LF, with a CR before it or without one; the last one may
 /// lack its end, and then keeps its CR. An empty line and one that begins with
-/// `#` are counted and say nothing. A comment may have any length; any other
-/// line has at most 65,536 bytes, its end not counted.
+/// `#` are counted, and the teller is not asked. A comment may have any length;
+/// any other line has at most 65,536 bytes, its end not counted.
 ///
-/// A read asks for 64 KiB. All lines that are there are answered, and what they
-/// print is written, before the next read; it is written earlier too, whenever
-/// there are 64 KiB of it.
+/// A read asks for 64 KiB. All lines that are there are answered, and the
+/// answers are written, before the next read; they are written earlier too,
+/// whenever there are 64 KiB of them. At most `most_reads` reads are made, which
+/// may be 2^47.
 ///
 /// # Errors
 ///
-/// - `BadLine`: the machine refuses the line of this number, or it is too long,
-///   which is said as soon as 65,538 bytes of it are there with no LF. What the
-///   lines before it print is written.
+/// - `BadLine`: the teller refuses the line of this number, or it is too long.
+///   That is said as soon as 65,538 bytes of it are there with no LF. The answers
+///   to the lines before it are written.
 /// - `Read`: a read gave an error other than `Interrupted`, which only means
-///   that nothing came. What the whole lines print that were read is written.
+///   that nothing came. The answers to the whole lines that were read are
+///   written.
 /// - `Write`: a write gave an error other than `Interrupted`, or that one more
 ///   than 1,000 times in a row, or took none of some bytes.
-/// - `TurnsSpent`: 1,000,000 reads did not come to the end. What the whole lines
-///   print that were read is written.
-/// - `NoMemory`: a growth was refused, of the buffer of 64 KiB, of the held
-///   bytes, or in the machine. What some of the first lines print is written.
-pub fn run_lines<R: CountedRead, W: CountedWrite, M: LineMachine>(
+/// - `TurnsSpent`: `most_reads` reads did not come to the end. The answers to the
+///   whole lines that were read are written.
+/// - `NoMemory` if an allocation fails. The answers to some first lines are
+///   written.
+pub fn tell_lines<R: CountedRead, W: CountedWrite, T, S: Teller<Lines, T, ()>>(
     alloc: Global,
     reader: &mut R,
     writer: &mut W,
-    machine: &mut M,
+    teller: &S,
+    server: &mut T,
+    most_reads: u64,
 ) -> Result<u64, RunFault>
-    ensures ends { (script : List (List ℕ) → Option (List ℕ)) → M.stands_for machine.old script
-        → Ends script (R.remaining reader.old) (R.remaining reader.new) (W.contents writer.old) (W.contents writer.new) result }
+    requires { most_reads ≤ 2 ^ 47 }
+    ensures ends { (before : T) → (S.story teller.now before server.old).told [] []
+        → EndsTellingLines (S.story teller.now before server.new) (R.remaining reader.old) (R.remaining reader.new) (W.contents writer.old) (W.contents writer.new) result }
     ensures read { IsErrOf result RunFault.Read → Rose (R.failed reader.old) (R.failed reader.new) }
     ensures write { IsErrOf result RunFault.Write → Rose (W.failed writer.old) (W.failed writer.new) }
-    ensures turns_spent { IsErrOf result RunFault.TurnsSpent → RoseBy 1000000 (R.called reader.old) (R.called reader.new) }
-    ensures turns { R.called reader.new ≤ R.called reader.old + 1000000 }
+    ensures turns_spent { IsErrOf result RunFault.TurnsSpent → RoseBy most_reads (R.called reader.old) (R.called reader.new) }
+    ensures turns { R.called reader.new ≤ R.called reader.old + most_reads }
 {
-    run_outcome(pump_items::<Lines, R, W, M, Scripted, ()>(
-        alloc, reader, writer, &Scripted, machine,
+    run_outcome(pump_within::<Lines, R, W, T, S, ()>(
+        alloc, reader, writer, teller, server, most_reads,
     ))
 }

@@ -1,20 +1,21 @@
 //! The pump that cuts a stream into items and has them answered.
-ghost use Rattle.std.specs.Prelude.{◌≡◌, ◌≢◌, Bool, ℕ, ◌+◌, ◌<◌, ◌≤◌, ◌++◌, [], List, Result, length, take, drop, IsErrOf};
+ghost use Rattle.std.specs.Prelude.{◌≡◌, ◌≢◌, Bool, ℕ, ◌+◌, ◌^◌, ◌<◌, ◌≤◌, ◌++◌, [], List, Result, length, take, drop, IsErrOf};
 ghost use Rattle.std.specs.Bool.{OnFalse, OnTrue};
 ghost use Rattle.eden_stream.specs.Counts.{Rose, RoseBy};
-ghost use Rattle.eden_stream.specs.internal.Grown.{Grew};
+ghost use Rattle.eden_stream.specs.Counts.{Grew};
 ghost use Rattle.eden_stream.specs.Pumps.{Ends};
-ghost use Rattle.eden_stream.specs.internal.Steps.{Sends, Tears, TakesTurn};
+ghost use Rattle.eden_stream.specs.internal.Steps.{Sends, TakesTurn};
+ghost use Rattle.eden_stream.specs.Torn.{Tears};
 
+use super::buffer::Buffer;
 use super::counts::{CountedRead, CountedWrite};
 use super::framing::{Framing, Next};
-use super::held::Held;
-use super::teller::{Answer, Teller};
+use super::teller::{Step, Teller};
 use super::transfer::{Received, receive, send, send_if_full};
 use std::alloc::Global;
 
-/// The most reads of one call.
-const MOST_READS: u64 = 1_000_000;
+/// The most reads of one call, where nothing else is said.
+pub(crate) const MOST_READS: u64 = 1_000_000;
 
 /// How many bytes one read asks for: 64 KiB.
 const READ_SIZE: usize = 65_536;
@@ -34,7 +35,7 @@ pub enum Stop<E> {
     /// The input did not end within 1,000,000 reads.
     TurnsSpent,
 
-    /// A growth was refused.
+    /// An allocation failed.
     NoMemory,
 }
 
@@ -47,14 +48,14 @@ enum Turn<E> {
     /// It can't be answered.
     Faulty(E),
 
-    /// A growth was refused.
+    /// An allocation failed.
     NoMemory,
 
     /// It is not all there yet.
     Waiting,
 }
 
-/// The `size` bytes from `place` on.
+/// Returns the `size` bytes from `place` on.
 fn item_of(bytes: &[u8], place: usize, size: usize) -> &[u8]
     requires { place + size ≤ length bytes.now }
     ensures { result.now ≡ take size (drop place bytes.now) }
@@ -63,10 +64,11 @@ fn item_of(bytes: &[u8], place: usize, size: usize) -> &[u8]
     &behind[..size]
 }
 
-/// Takes the first item that is held, where all of it is there. With no memory
-/// the text is as it was.
+/// Takes the first item that is held, if all of it is there.
+///
+/// With no memory the text is as it was.
 fn answer_first<F: Framing<E>, T, S: Teller<F, T, E>, E: Copy>(
-    held: &mut Held,
+    held: &mut Buffer,
     ended: bool,
     teller: &S,
     server: &mut T,
@@ -82,12 +84,12 @@ fn answer_first<F: Framing<E>, T, S: Teller<F, T, E>, E: Copy>(
         Next::Item { place, size, whole } => {
             let before = text.len();
             match teller.tell(server, item_of(held.as_slice(), place, size), text) {
-                Answer::Told => {
+                Step::Told => {
                     held.drop_first(whole);
                     Turn::Taken
                 }
-                Answer::Fault(fault) => Turn::Faulty(fault),
-                Answer::NoMemory => {
+                Step::Fault(fault) => Turn::Faulty(fault),
+                Step::NoMemory => {
                     text.truncate(before);
                     Turn::NoMemory
                 }
@@ -102,8 +104,9 @@ fn answer_first<F: Framing<E>, T, S: Teller<F, T, E>, E: Copy>(
     }
 }
 
-/// Writes the waiting text: after an item where there are 64 KiB of it, and
-/// else all of it. Says whether nothing failed.
+/// Writes the waiting text, and returns whether nothing failed.
+///
+/// After an item it writes only if there are 64 KiB of text.
 fn write_waiting<W: CountedWrite, E: Copy>(
     turn: Turn<E>,
     writer: &mut W,
@@ -121,24 +124,26 @@ fn write_waiting<W: CountedWrite, E: Copy>(
     }
 }
 
-/// The pumping, with a buffer for one read.
+/// Pumps with a buffer for one read, in at most this many reads.
 fn pump_with<F: Framing<E>, R: CountedRead, W: CountedWrite, T, S: Teller<F, T, E>, E: Copy>(
     alloc: Global,
     reader: &mut R,
     writer: &mut W,
     teller: &S,
     server: &mut T,
+    most_reads: u64,
     buffer: &mut [u8],
 ) -> Result<u64, Stop<E>>
-    requires { length buffer.old ≡ 65536 }
+    requires most { most_reads ≤ 2 ^ 47 }
+    requires size { length buffer.old ≡ 65536 }
     ensures ends { (before : T) → (S.story teller.now before server.old).told [] []
         → Ends F.grammar (S.story teller.now before server.new) (R.remaining reader.old) (R.remaining reader.new) (W.contents writer.old) (W.contents writer.new) result }
     ensures read { IsErrOf result Stop.Read → Rose (R.failed reader.old) (R.failed reader.new) }
     ensures write { IsErrOf result Stop.Write → Rose (W.failed writer.old) (W.failed writer.new) }
-    ensures turns_spent { IsErrOf result Stop.TurnsSpent → RoseBy 1000000 (R.called reader.old) (R.called reader.new) }
-    ensures turns { R.called reader.new ≤ R.called reader.old + 1000000 }
+    ensures turns_spent { IsErrOf result Stop.TurnsSpent → RoseBy most_reads (R.called reader.old) (R.called reader.new) }
+    ensures turns { R.called reader.new ≤ R.called reader.old + most_reads }
 {
-    let mut held = Held::new(alloc);
+    let mut held = Buffer::new(alloc);
     let mut text = Vec::new(alloc);
     let mut count: u64 = 0;
     let mut reads: u64 = 0;
@@ -159,7 +164,7 @@ fn pump_with<F: Framing<E>, R: CountedRead, W: CountedWrite, T, S: Teller<F, T, 
                 if ended {
                     return Ok(count);
                 }
-                if reads == MOST_READS {
+                if reads == most_reads {
                     return Err(Stop::TurnsSpent);
                 }
                 reads += 1;
@@ -174,9 +179,48 @@ fn pump_with<F: Framing<E>, R: CountedRead, W: CountedWrite, T, S: Teller<F, T, 
     }
 }
 
-/// Answers the items of a stream: reads it from `reader`, cuts it as `F` says,
-/// has `teller` answer each item for `server`, writes the answers to `writer`,
-/// and gives how many items there were.
+/// Answers items as `pump_items` does, in at most this many reads.
+pub(crate) fn pump_within<
+    F: Framing<E>,
+    R: CountedRead,
+    W: CountedWrite,
+    T,
+    S: Teller<F, T, E>,
+    E: Copy,
+>(
+    alloc: Global,
+    reader: &mut R,
+    writer: &mut W,
+    teller: &S,
+    server: &mut T,
+    most_reads: u64,
+) -> Result<u64, Stop<E>>
+    requires { most_reads ≤ 2 ^ 47 }
+    ensures ends { (before : T) → (S.story teller.now before server.old).told [] []
+        → Ends F.grammar (S.story teller.now before server.new) (R.remaining reader.old) (R.remaining reader.new) (W.contents writer.old) (W.contents writer.new) result }
+    ensures read { IsErrOf result Stop.Read → Rose (R.failed reader.old) (R.failed reader.new) }
+    ensures write { IsErrOf result Stop.Write → Rose (W.failed writer.old) (W.failed writer.new) }
+    ensures turns_spent { IsErrOf result Stop.TurnsSpent → RoseBy most_reads (R.called reader.old) (R.called reader.new) }
+    ensures turns { R.called reader.new ≤ R.called reader.old + most_reads }
+{
+    match vec![in alloc; 0; READ_SIZE] {
+        Ok(mut buffer) => pump_with::<F, R, W, T, S, E>(
+            alloc,
+            reader,
+            writer,
+            teller,
+            server,
+            most_reads,
+            &mut buffer,
+        ),
+        Err(_) => Err(Stop::NoMemory),
+    }
+}
+
+/// Answers the items of a stream, and returns how many there were.
+///
+/// It reads the stream from `reader`, cuts it as `F` says, has `teller` answer
+/// each item for `server`, and writes the answers to `writer`.
 ///
 /// A read asks for 64 KiB. All items that are there are answered, and the
 /// answers are written, before the next read; they are written earlier too,
@@ -185,7 +229,7 @@ fn pump_with<F: Framing<E>, R: CountedRead, W: CountedWrite, T, S: Teller<F, T, 
 ///
 /// # Errors
 ///
-/// - `Item`: the item of this number can't be answered, or the bytes behind the
+/// - `Item`: the item of this number can't be answered, or the bytes after the
 ///   items before it can't become one. The answers to those are written.
 /// - `Read`: a read gave an error other than `Interrupted`, which only means
 ///   that nothing came. The answers to all items that were read are written.
@@ -194,7 +238,7 @@ fn pump_with<F: Framing<E>, R: CountedRead, W: CountedWrite, T, S: Teller<F, T, 
 ///   the answers are written.
 /// - `TurnsSpent`: 1,000,000 reads did not come to the end. The answers to all
 ///   items that were read are written.
-/// - `NoMemory`: a growth was refused, of the buffer of 64 KiB, of the held
+/// - `NoMemory` if an allocation fails, of the buffer of 64 KiB, of the held
 ///   bytes, or in the teller. The answers to some first items are written.
 pub fn pump_items<F: Framing<E>, R: CountedRead, W: CountedWrite, T, S: Teller<F, T, E>, E: Copy>(
     alloc: Global,
@@ -210,10 +254,5 @@ pub fn pump_items<F: Framing<E>, R: CountedRead, W: CountedWrite, T, S: Teller<F
     ensures turns_spent { IsErrOf result Stop.TurnsSpent → RoseBy 1000000 (R.called reader.old) (R.called reader.new) }
     ensures turns { R.called reader.new ≤ R.called reader.old + 1000000 }
 {
-    match vec![in alloc; 0; READ_SIZE] {
-        Ok(mut buffer) => {
-            pump_with::<F, R, W, T, S, E>(alloc, reader, writer, teller, server, &mut buffer)
-        }
-        Err(_) => Err(Stop::NoMemory),
-    }
+    pump_within::<F, R, W, T, S, E>(alloc, reader, writer, teller, server, MOST_READS)
 }

@@ -5,14 +5,14 @@ use super::framing::Framing;
 
 /// What a server made of an item.
 #[derive(Clone, Copy)]
-pub enum Answer<E> {
-    /// It was answered, and what that prints stands at the text's end.
+pub enum Step<E> {
+    /// It was answered, and what that prints is at the text's end.
     Told,
 
     /// It can't be answered.
     Fault(E),
 
-    /// A growth was refused. The text may have grown.
+    /// An allocation failed. The text may have grown.
     NoMemory,
 }
 
@@ -24,7 +24,7 @@ pub trait Teller<F: Framing<E>, T, E: Copy> {
     ghost story: { Self → T → T → Story E };
 
     /// Answers one item, and appends what it prints to `text`.
-    fn tell(&self, server: &mut T, item: &[u8], text: &mut Vec<u8>) -> Answer<E>
+    fn tell(&self, server: &mut T, item: &[u8], text: &mut Vec<u8>) -> Step<E>
         requires { F.grammar.item item.now }
         ensures { (before : T) (items : List (List ℕ)) (sent : List ℕ) → (story self.now before server.old).told items (sent ++ text.old.items)
             → Tells (story self.now before server.new) items sent item.now text.old.items text.new.items result };

@@ -3,11 +3,12 @@ ghost use Rattle.std.specs.Prelude.{◌≡◌, ◌+◌, ◌<◌, ◌≤◌, [], 
 ghost use Rattle.std.specs.Bool.{OnFalse, OnTrue};
 ghost use Rattle.std.specs.Io.KnownBytes.{Appends};
 ghost use Rattle.eden_stream.specs.Counts.{Rose, RoseBy};
-ghost use Rattle.eden_stream.specs.internal.Grown.{Grew};
-ghost use Rattle.eden_stream.specs.internal.Steps.{HasReceived, Sends, Tears};
+ghost use Rattle.eden_stream.specs.Counts.{Grew};
+ghost use Rattle.eden_stream.specs.internal.Steps.{HasReceived, Sends};
+ghost use Rattle.eden_stream.specs.Torn.{Tears};
 
+use super::buffer::Buffer;
 use super::counts::{CountedRead, CountedWrite};
-use super::held::Held;
 use std::io::ErrorKind;
 
 /// A text of this many bytes is written at once: 64 KiB.
@@ -31,11 +32,11 @@ pub(crate) enum Received {
     NoMemory,
 }
 
-/// Reads once into `buffer`, and puts what came behind the bytes that are held.
+/// Reads once into `buffer`, and appends what came to the bytes that are held.
 pub(crate) fn receive<R: CountedRead>(
     reader: &mut R,
     buffer: &mut [u8],
-    held: &mut Held,
+    held: &mut Buffer,
 ) -> Received
     requires { 0 < length buffer.old }
     ensures bytes { HasReceived (R.remaining reader.old) (R.remaining reader.new) held.old held.new result }
@@ -61,9 +62,11 @@ pub(crate) fn receive<R: CountedRead>(
     }
 }
 
-/// Writes the text, again and again while the device takes only a part, and
-/// says whether it is all written.
-fn write_text<W: CountedWrite>(writer: &mut W, text: &[u8]) -> bool
+/// Writes a text, and returns whether it is all written.
+///
+/// It goes on while the device takes only a part, and after up to 1,000 interruptions in a row. If
+/// it fails, some first bytes of the text are written. It does not flush. Does not allocate.
+pub fn write_text<W: CountedWrite>(writer: &mut W, text: &[u8]) -> bool
     ensures written { OnTrue result (Appends (W.contents writer.old) (W.contents writer.new) text.now) }
     ensures torn { OnFalse result (Tears (W.contents writer.old) (W.contents writer.new) text.now) }
     ensures failed { OnFalse result (Rose (W.failed writer.old) (W.failed writer.new)) }

@@ -14,7 +14,7 @@ use Rattle.eden_treediff.specs.Merges.{differences, merge_rows, paths_of, same_f
 abbrev pub Rise : List Row → Type 0
 Rise rows = IsStrictlySortedBy (slice_cmp nat_cmp) (paths_of rows)
 
--- it has just the paths at which the two lists have another file
+-- it has exactly the paths at which the two lists have different files
 abbrev pub MergesTell : Type 0
 MergesTell = (rs ss : List Row) → Rise rs → Rise ss → (p : List ℕ) → list_any (λ q. same_path p q) (merge_rows rs ss) ≡ not (same_found (find_row p rs) (find_row p ss))
 
@@ -22,11 +22,12 @@ MergesTell = (rs ss : List Row) → Rise rs → Rise ss → (p : List ℕ) → l
 abbrev pub MergesRise : Type 0
 MergesRise = (rs ss : List Row) → Rise rs → Rise ss → IsStrictlySortedBy (slice_cmp nat_cmp) (merge_rows rs ss)
 
--- nothing differs from itself
+-- no list differs from itself
 abbrev pub SameMerge : Type 0
 SameMerge = (rs : List Row) → merge_rows rs rs ≡ []
 
--- the merge of the files of two commits is the difference of their maps, in a store whose ids a naming gives
+-- the merge of the files of two commits is the difference of their maps, in a store whose
+-- ids a naming gives
 abbrev pub MergesAreDifferences : Type 0
 MergesAreDifferences = (name : List ℕ → List ℕ → Id) (held : List Held) → IsClosed held → AllNamed name held → (first second : Id) (rs ss : List Row)
     → commit_rows held first ≡ Some rs → commit_rows held second ≡ Some ss

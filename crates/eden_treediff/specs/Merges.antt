@@ -1,4 +1,5 @@
--- The difference of two lists of files, each in byte order of the paths, as one pass over both.
+-- The difference of two lists of files, each in byte order of the paths, as one pass over
+-- both.
 use Rattle.std.specs.Prelude.{ℕ, Bool, true, false, ◌&&◌, if◌then◌else◌, List, [], ◌∷◌, map, filter, Option, Some, None}
 use Rattle.std.specs.Ordering.{nat_cmp}
 use Rattle.std.specs.Cmp.Lexicographic.{slice_cmp}
@@ -10,7 +11,8 @@ use Rattle.eden_ids.specs.FileMaps.{FileMap, differ, listing, same_kind}
 use Rattle.eden_ids.specs.Sameness.{same_id}
 use Rattle.eden_objects.specs.Commits.{Row}
 
--- the paths on which two file maps differ, ascending; none where one of the two is no map
+-- the paths at which two file maps differ, ascending; `None` if one of the maps is
+-- missing
 abbrev pub differences : Option FileMap → Option FileMap → Option (List (List ℕ))
 differences None second = None
 differences (Some f) None = None
@@ -46,7 +48,7 @@ abbrev pub merge_rows : List Row → List Row → List (List ℕ)
 merge_rows [] ss = paths_of ss
 merge_rows (r ∷ rs) ss = merge_row r (merge_rows rs) ss
 
--- an absent file counts as a value
+-- two optional files are the same: both absent, or the same kind and blob
 abbrev pub same_found : Option (Kind × Id) → Option (Kind × Id) → Bool
 same_found None None = true
 same_found (Some f) (Some g) = same_kind f.0 g.0 && same_id f.1 g.1

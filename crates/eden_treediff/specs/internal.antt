@@ -1,4 +1,4 @@
--- Words that the code alone uses.
+-- Definitions that the code alone uses.
 pub mod Columns
 pub mod Merging
 pub mod Pairs

@@ -1,4 +1,4 @@
-//! The rows at which two directories of the same names differ.
+//! The rows at which two directories with the same names differ.
 ghost use Rattle.std.specs.Prelude.{◌≡◌, IfOk, IfSome, min};
 ghost use Rattle.eden_treediff.specs.internal.Columns.{AreChanges, entries_lent, first_row, rows_after};
 
@@ -8,7 +8,7 @@ use eden_objects::Rows;
 use std::alloc::Global;
 use std::marker::Model;
 
-/// Rows in ascending order, of which those that were passed are left out.
+/// Rows in ascending order, without those that were passed.
 #[derive(Drop)]
 pub(crate) struct Ahead {
     rows: Vec<usize>,
@@ -30,7 +30,7 @@ impl Ahead {
         Ahead { rows, passed: 0 }
     }
 
-    /// The first row, or else this end.
+    /// Returns the first row, or `end` if there is none.
     fn first_or(&self, end: usize) -> usize
         ensures { result ≡ first_row self.now end }
     {
@@ -50,7 +50,7 @@ impl Ahead {
     }
 }
 
-/// The rows to come at which the ids of the entries differ, and those at which the kinds do.
+/// The rows ahead where the entries differ, in ids or kinds.
 #[derive(Drop)]
 pub(crate) struct Changed {
     ids: Ahead,
@@ -58,8 +58,10 @@ pub(crate) struct Changed {
 }
 
 impl Changed {
-    /// The rows of two directories. There are none to tell where a directory is missing, or the names are not the same: then the entries
-    /// are not those of the same rows.
+    /// Returns the rows at which two directories differ.
+    ///
+    /// It is `None` if a directory is missing or the names differ, since then rows do not
+    /// correspond.
     pub(crate) fn between(
         alloc: Global,
         left: &Option<Rows<'_>>,
@@ -81,7 +83,7 @@ impl Changed {
         }))
     }
 
-    /// The first row at which something differs, or else this end.
+    /// Returns the first row that differs, or `end`.
     pub(crate) fn first_or(&self, end: usize) -> usize
         ensures { result ≡ min (first_row self.now.ids end) (first_row self.now.kinds end) }
     {

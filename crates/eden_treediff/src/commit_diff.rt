@@ -1,4 +1,4 @@
-//! The paths on which two commits differ.
+//! The paths at which two commits differ.
 
 ghost use Rattle.std.specs.Prelude.{◌≡◌, ◌≢◌, Some, None, IfOk, IfErr};
 ghost use Rattle.eden_objects.specs.Commits.{commit_map, commit_rows};
@@ -13,7 +13,7 @@ use eden_ids::{Id, Naming, NoMemory, Path};
 use eden_objects::{CommitFault, NoCommit, Store};
 use std::alloc::Global;
 
-/// The tree of a commit, of which the empty commit has none.
+/// Returns the tree of a commit, or `None` for the empty commit.
 #[tactic(auto, using(crate::proofs::Sides::empty_side, crate::proofs::Sides::side_rows_are, eden_objects::proofs::TreeOf::seen_tree, crate::proofs::Sides::no_side))]
 fn side_of<N: Naming + Drop>(store: &Store<N>, commit: Id) -> Result<Option<Id>, NoCommit>
     ensures { IsSideOf store.now commit result }
@@ -28,7 +28,7 @@ fn side_of<N: Naming + Drop>(store: &Store<N>, commit: Id) -> Result<Option<Id>,
     }
 }
 
-/// The paths on which two trees differ and that a filter admits.
+/// Returns the admitted paths at which two trees differ.
 fn paths_between<N: Naming + Drop>(
     alloc: Global,
     store: &Store<N>,
@@ -58,13 +58,19 @@ fn paths_between<N: Naming + Drop>(
     Ok(found.paths)
 }
 
-/// The paths on which two commits differ and that a filter admits, in byte order: of a file that one of them alone has, and at which they
-/// have files of other bytes or of another kind.
+/// Returns the admitted paths at which two commits differ.
 ///
-/// `NoCommit` comes where one of the ids is no commit's; `NoMemory` may stand in place of any answer where a growth was refused.
-/// Directories with one id on both sides are not read, nor are those below which the filter admits nothing (`Filter::admits_below`), and
-/// no path is made that it does not admit. Two trees with different ids may hold the same files: then nothing is named. No pair of trees
-/// that was read whole is read again where it named no path, wherever and however often the two stand in the commits.
+/// They are in byte order. The commits differ at a path if one of them alone has a file
+/// there, or if their files have different bytes or kinds. Directories with the same id
+/// on both sides are not read, nor are those below which the filter admits nothing
+/// (`Filter::admits_below`). No path is made that the filter does not admit. Trees with
+/// different ids that hold the same files contribute no path. A pair of trees that was
+/// read whole without finding a path is not read again.
+///
+/// # Errors
+///
+/// - `NoCommit` if one of the ids is not that of a commit.
+/// - `NoMemory` if an allocation fails; it may be returned instead of any other answer.
 #[tactic(auto, using(crate::proofs::Sides::no_first, crate::proofs::Sides::no_second))]
 pub fn diff_admitted<N: Naming + Drop>(
     alloc: Global,
@@ -82,12 +88,17 @@ pub fn diff_admitted<N: Naming + Drop>(
     Ok(paths_between(alloc, store, tree, other, filter)?)
 }
 
-/// The paths on which two commits differ, in byte order: those of a file that one of them alone has, and those at which they have
-/// files of other bytes or of another kind.
+/// Returns the paths at which two commits differ, in byte order.
 ///
-/// `NoCommit` comes where one of the ids is no commit's; `NoMemory` may stand in place of any answer where a growth was refused.
-/// Directories with one id on both sides are not read. Two trees with different ids may hold the same files: then nothing is named. No
-/// pair of trees is read twice without naming a path, wherever and however often the two stand in the commits.
+/// They differ at a path if one of them alone has a file there, or if their files have
+/// different bytes or kinds. Directories with the same id on both sides are not read.
+/// Trees with different ids that hold the same files contribute no path, and no pair of
+/// trees is read twice without finding a path.
+///
+/// # Errors
+///
+/// - `NoCommit` if one of the ids is not that of a commit.
+/// - `NoMemory` if an allocation fails; it may be returned instead of any other answer.
 pub fn diff<N: Naming + Drop>(
     alloc: Global,
     store: &Store<N>,

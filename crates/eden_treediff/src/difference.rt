@@ -1,4 +1,5 @@
-//! The walk over two trees, directory by directory, that names the paths on which they differ.
+//! The walk over two trees, directory by directory, that finds the paths at which they
+//! differ.
 
 ghost use Rattle.std.specs.Prelude.{◌≡◌, ◌++◌, ◌∷◌, [], IfOk, OnOk, true};
 ghost use Rattle.eden_globs.specs.Filters.{admits};
@@ -16,7 +17,7 @@ use eden_ids::{Id, Naming, NoMemory, Path};
 use eden_objects::{Rows, Store};
 use std::alloc::Global;
 
-/// The paths that were found so far, and the directory that is read.
+/// The paths found so far, and the directory that is read.
 #[derive(Drop)]
 pub(crate) struct Found {
     pub(crate) front: Front,
@@ -24,7 +25,9 @@ pub(crate) struct Found {
 }
 
 impl Found {
-    /// Adds a file of the directory that is read, if it is wanted.
+    /// Adds a file's path, if the filter admits it.
+    ///
+    /// The file is in the directory that is read.
     fn add(&mut self, filter: &Filter, name: &[u8]) -> Result<(), NoMemory>
         requires { IsPath (self.old.front ++ name.now) }
         ensures paths { OnOk result (self.new.paths.items
@@ -38,7 +41,7 @@ impl Found {
     }
 }
 
-/// Whether both trees are missing, or are one.
+/// Returns true if both trees are missing, or they are the same.
 fn is_one_tree(first: Option<Id>, second: Option<Id>) -> bool
     ensures { result ≡ is_one_tree first second }
 {
@@ -49,7 +52,7 @@ fn is_one_tree(first: Option<Id>, second: Option<Id>) -> bool
     }
 }
 
-/// The entries of a tree, if it is not missing.
+/// Returns the entries of a tree, or `None` if it is missing.
 fn rows_of<N: Naming + Drop>(store: &Store<N>, side: Option<Id>) -> Option<Rows<'_>>
     requires { IsSide store.now side }
     ensures { entries_lent result ≡ side_entries store.now side }
@@ -60,12 +63,16 @@ fn rows_of<N: Naming + Drop>(store: &Store<N>, side: Option<Id>) -> Option<Rows<
     }
 }
 
-/// Adds the wanted paths on which two trees differ, directory by directory, and says whether the two are known to hold the same files.
-/// What both have under one id is not read, nor is a directory below which nothing is wanted.
+/// Adds the admitted paths at which two trees differ.
 ///
-/// The entries of two directories of the same names are compared as whole columns, first of ids and then of kinds. A pair of trees that
-/// was read whole and names no path is remembered, and is not read again; of one that was not read whole nothing is known, since elsewhere another
-/// part of it may be wanted.
+/// Returns true only if the two are known to hold the same files. What both have under
+/// one id is not read, nor is a directory below which nothing is admitted. The entries of
+/// directories with the same names are compared as whole columns, first ids and then
+/// kinds.
+///
+/// A pair of trees that was read whole and has no differing path is remembered, and is
+/// not read again. A pair that was not read whole is not remembered, since another part
+/// of it may be admitted elsewhere.
 pub(crate) fn walk<N: Naming + Drop>(
     alloc: Global,
     store: &Store<N>,
@@ -86,7 +93,7 @@ pub(crate) fn walk<N: Naming + Drop>(
     ensures settled { OnOk result (AreSettled store.now settled.new) }
     ensures kept { OnOk result (KeepsSettled settled.old settled.new) }
     ensures same { IfOk result (λ same. same ≡ true → is_known settled.new first second ≡ true) }
-    // Where everything is wanted, it says so of all that do.
+    // If everything is admitted, it is true for all pairs that hold the same files.
     ensures known { IfOk result (λ same. filter.now ≡ [] → HoldSame store.now first second → same ≡ true) }
 {
     store.closed_law();

@@ -7,16 +7,17 @@ use eden_ids::{Id, NoMemory};
 use std::alloc::Global;
 use std::collections::BTreeSet;
 
-/// Pairs of trees that hold the same files, although their ids may differ. A missing tree holds no file.
+/// Pairs of trees with the same files, perhaps under different ids.
 ///
-/// The pairs are kept in order, so that ids that were chosen to slow a search down don't.
+/// A missing tree holds no file. The pairs are kept in order, so that a client cannot
+/// slow look-ups down by its choice of ids.
 #[derive(Drop)]
 pub(crate) struct Settled {
     pairs: BTreeSet<(Option<Id>, Option<Id>)>,
 }
 
 impl Settled {
-    /// No pair yet.
+    /// Returns an empty set of pairs.
     pub(crate) fn new(alloc: Global) -> Settled
         ensures { NoneSettled result }
     {
@@ -25,14 +26,14 @@ impl Settled {
         }
     }
 
-    /// Whether the pair is remembered.
+    /// Returns true if the pair is remembered.
     pub(crate) fn has(&self, first: Option<Id>, second: Option<Id>) -> bool
         ensures { result ≡ is_settled self.now first second }
     {
         self.pairs.contains(&(first, second))
     }
 
-    /// Remembers the pair.
+    /// Remembers a pair.
     pub(crate) fn add(&mut self, first: Option<Id>, second: Option<Id>) -> Result<(), NoMemory>
         ensures { OnOk result (Updates sides_cmp self.old.pairs self.new.pairs (first, second) true) }
     {

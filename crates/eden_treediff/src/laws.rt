@@ -1,11 +1,11 @@
-//! What the definitions of a difference promise, each as the contract of a function with no work to do.
+//! Laws of differences, as the contract of a function that does nothing.
 
 ghost use Rattle.eden_treediff.specs.Laws.{MergesAreDifferences, MergesRise, MergesTell, SameMerge};
 
-/// The merge of two lists of files.
+/// States what the merge of two lists of files is.
 #[tactic(auto, using(crate::proofs::Exact::exact_law, crate::proofs::Ascending::ascending_law, crate::proofs::Exact::same_law, crate::proofs::Listed::listed_law))]
 pub fn merge_law()
-    // It has just the paths at which the two lists have another file.
+    // It has exactly the paths at which the two lists have different files.
     ensures tells { MergesTell }
     // It ascends in byte order.
     ensures rises { MergesRise }

@@ -1,4 +1,14 @@
-//! The paths on which two commits of a store differ, found by one walk over both trees.
+//! The paths at which two commits of a store differ.
+//!
+//! `diff` walks both trees together, directory by directory. Directories with the same id
+//! on both sides are not read. If two directories have the same names, their columns of
+//! ids and kinds are compared whole (`eden_lanes`), and only the rows that differ are
+//! visited. Pairs of trees that were found to hold the same files under different ids are
+//! remembered and not read again.
+//!
+//! `diff_admitted` does the same for the paths that a filter admits, and reads no
+//! directory below which the filter admits nothing. `merge_law` states what a difference
+//! is.
 //!
 //! ```rust
 //! use eden_ids::{GitNaming, Id};

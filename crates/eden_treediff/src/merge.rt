@@ -15,15 +15,15 @@ use std::alloc::Global;
 use std::cmp::Ordering;
 use std::marker::Model;
 
-/// The entries of two directories in the order of their keys, those of one key as one pair.
+/// The entries of two directories, in key order and paired.
 ///
-/// Its value is what is left of both. While the names are the same, row for row, it is known beforehand which rows differ, and no other
-/// is read.
+/// Its value is the rest of both. If the rests have the same names, row by row, the rows
+/// that differ are known beforehand, and no other is read.
 #[derive(Drop)]
 pub(crate) struct Merge<'a> {
     left: Side<'a>,
     right: Side<'a>,
-    /// The rows that differ, where the names of what is left are the same.
+    /// The rows that differ, if the rests have the same names.
     changed: Option<Changed>,
 }
 
@@ -39,7 +39,9 @@ impl<'a> Model for Merge<'a> {
 }
 
 impl<'a> Merge<'a> {
-    /// Before the first entries. The columns of two directories of the same names are compared here.
+    /// Returns the merge of two directories, before the first entries.
+    ///
+    /// If they have the same names, their columns are compared here.
     pub(crate) fn new(
         alloc: Global,
         left: Option<Rows<'a>>,
@@ -55,7 +57,7 @@ impl<'a> Merge<'a> {
         })
     }
 
-    /// Goes on to the first row that differs, where the rows are known that do.
+    /// Skips to the first row that differs, if these rows are known.
     fn skip_alike(&mut self)
         ensures { IsLeftOut self.old self.new }
     {
@@ -66,21 +68,21 @@ impl<'a> Merge<'a> {
         }
     }
 
-    /// The next entry of the left side.
+    /// Returns the next entry of the left side.
     fn left_entry(&self) -> Option<RawEntry<'a>>
         ensures { option_plain result ≡ first_of self.now.0 }
     {
         self.left.next()
     }
 
-    /// The next entry of the right side.
+    /// Returns the next entry of the right side.
     fn right_entry(&self) -> Option<RawEntry<'a>>
         ensures { option_plain result ≡ first_of self.now.1 }
     {
         self.right.next()
     }
 
-    /// Goes on behind the next entry of the left side. The sides then no longer stand at one row.
+    /// Skips the next entry of the left side. The sides are then at different rows.
     fn skip_left(&mut self)
         ensures { self.new ≡ (drop 1 self.old.0, self.old.1) }
     {
@@ -88,7 +90,7 @@ impl<'a> Merge<'a> {
         self.left.pass();
     }
 
-    /// Goes on behind the next entry of the right side. The sides then no longer stand at one row.
+    /// Skips the next entry of the right side. The sides are then at different rows.
     fn skip_right(&mut self)
         ensures { self.new ≡ (self.old.0, drop 1 self.old.1) }
     {
@@ -96,7 +98,7 @@ impl<'a> Merge<'a> {
         self.right.pass();
     }
 
-    /// Goes on behind the next entries of both sides.
+    /// Skips the next entries of both sides.
     fn skip_both(&mut self)
         ensures { self.new ≡ (drop 1 self.old.0, drop 1 self.old.1) }
     {
@@ -108,7 +110,9 @@ impl<'a> Merge<'a> {
         }
     }
 
-    /// The next pair, if there is one. Entries that both sides have alike may be left out before it.
+    /// Returns the next pair, if there is one.
+    ///
+    /// Entries that are the same on both sides may be left out before it.
     pub(crate) fn next(&mut self) -> Option<Pair<'a>>
         ensures { IsNextOf self.old self.new result }
     {

@@ -1,4 +1,4 @@
-//! One pair of entries of two directories: what it says, and which of the two comes first.
+//! A pair of entries of two directories.
 ghost use Rattle.std.specs.Prelude.{◌≡◌, None, Some};
 ghost use Rattle.eden_git.specs.Entries.{option_plain};
 ghost use Rattle.eden_treediff.specs.internal.Pairs.{directory, directory_of, is_changed, name_of, order_of, same_mode};
@@ -8,7 +8,9 @@ use eden_ids::{Id, Kind, is_same_kind};
 use eden_objects::{RawEntry, key_order};
 use std::cmp::Ordering;
 
-/// The next entry of each of two directories, both where they have one key.
+/// The next entry of each of two directories.
+///
+/// Both are present if they have the same key.
 #[derive(Clone, Copy)]
 pub(crate) struct Pair<'a> {
     pub(crate) first: Option<RawEntry<'a>>,
@@ -16,7 +18,7 @@ pub(crate) struct Pair<'a> {
 }
 
 impl<'a> Pair<'a> {
-    /// Whether the entry is one side's alone, or those of both are not the same.
+    /// Returns true if the sides differ, or one has no entry.
     pub(crate) fn is_changed(&self) -> bool
         ensures { result ≡ is_changed (option_plain self.now.first) (option_plain self.now.second) }
     {
@@ -28,7 +30,7 @@ impl<'a> Pair<'a> {
         }
     }
 
-    /// The name.
+    /// Returns the name.
     pub(crate) fn name(&self) -> &'a [u8]
         ensures { result.now ≡ name_of (option_plain self.now.first) (option_plain self.now.second) }
     {
@@ -39,7 +41,7 @@ impl<'a> Pair<'a> {
         }
     }
 
-    /// The name and the trees of a directory, if it is one.
+    /// Returns the name and trees of a directory, if it is one.
     pub(crate) fn directory(&self) -> Option<(&'a [u8], Option<Id>, Option<Id>)>
         ensures { directory_read result ≡ directory (option_plain self.now.first) (option_plain self.now.second) }
     {
@@ -52,7 +54,7 @@ impl<'a> Pair<'a> {
     }
 }
 
-/// The entry's name and these trees, if it is a directory.
+/// Returns the entry's name and these trees, if it is a directory.
 fn directory_of<'a>(
     entry: &RawEntry<'a>,
     first: Option<Id>,
@@ -66,7 +68,7 @@ fn directory_of<'a>(
     }
 }
 
-/// Whether both are directories, or files of one kind.
+/// Returns true if both are directories, or files of the same kind.
 fn is_same_mode(kind: Option<Kind>, other: Option<Kind>) -> bool
     ensures { result ≡ same_mode kind other }
 {
@@ -77,7 +79,9 @@ fn is_same_mode(kind: Option<Kind>, other: Option<Kind>) -> bool
     }
 }
 
-/// How the keys of two entries stand, a missing one behind each other; `None` where both are missing.
+/// Compares the keys of two entries.
+///
+/// A missing one sorts after any other. It is `None` if both are missing.
 pub(crate) fn order_of(
     first: &Option<RawEntry<'_>>,
     second: &Option<RawEntry<'_>>,

@@ -1,22 +1,24 @@
-//! What is left of the entries of one directory.
+//! The rest of the entries of one directory.
 ghost use Rattle.std.specs.Prelude.{◌≡◌, length, slice_get};
 ghost use Rattle.eden_git.specs.Entries.{option_plain};
 ghost use Rattle.eden_treediff.specs.internal.Columns.{entries_lent, passed};
 
 use eden_objects::{RawEntry, Rows};
 
-/// The entries of a directory from a row on; a missing directory has none.
+/// The entries of a directory from a row on.
+///
+/// A missing directory has none.
 #[derive(Drop)]
 pub(crate) struct Side<'a> {
     pub(crate) rows: Option<Rows<'a>>,
-    /// The row that comes next.
+    /// The next row.
     pub(crate) row: usize,
     /// The number of rows.
     pub(crate) end: usize,
 }
 
 impl<'a> Side<'a> {
-    /// All entries.
+    /// Returns all entries of a directory.
     pub(crate) fn new(rows: Option<Rows<'a>>) -> Side<'a>
         ensures rows { result.rows ≡ rows.entry }
         ensures row { result.row ≡ 0 }
@@ -29,7 +31,7 @@ impl<'a> Side<'a> {
         Side { rows, row: 0, end }
     }
 
-    /// The next entry, if there is one.
+    /// Returns the next entry, if there is one.
     pub(crate) fn next(&self) -> Option<RawEntry<'a>>
         ensures { option_plain result ≡ slice_get (entries_lent self.now.rows) self.now.row }
     {
@@ -39,7 +41,7 @@ impl<'a> Side<'a> {
         }
     }
 
-    /// Goes on behind the next entry, if there is one.
+    /// Skips the next entry, if there is one.
     pub(crate) fn pass(&mut self)
         ensures { self.new ≡ passed self.old }
     {

@@ -16,12 +16,12 @@ use Rattle.eden_wire.proofs.FieldLaws.{query_takes, query_again, position_takes,
 
 -- ---- version and tag
 
-record HasTag (body : List ℕ) (tag : ℕ) (rest : List ℕ) : Type 0 where
-  parts : body ≡ 2 ∷ tag ∷ rest
-  limit : length body ≤ 16777216
-  rest_fits : IsBytes rest
+pub record HasTag (body : List ℕ) (tag : ℕ) (rest : List ℕ) : Type 0 where
+  pub parts : body ≡ 2 ∷ tag ∷ rest
+  pub limit : length body ≤ 16777216
+  pub rest_fits : IsBytes rest
 
-tag_takes : (body : List ℕ) (x : ℕ × List ℕ) → IsBytes body → tag_at body ≡ Ok x → HasTag body x.0 x.1
+pub tag_takes : (body : List ℕ) (x : ℕ × List ℕ) → IsBytes body → tag_at body ≡ Ok x → HasTag body x.0 x.1
 unfolding tag_at
 tag_takes body x fits e =
     let g = guard_ok (ltb 16777216 (length body)) TooLarge (byte_at body >>= λ v. cond (eqb v.0 2) (byte_at v.1) (Err Version)) x e in
@@ -32,7 +32,7 @@ tag_takes body x fits e =
     let both = Takes-then body (a.0.0 ∷ []) a.0.1 (x.0 ∷ []) x.1 t0.0 t1.0 in
     record { parts = both.parts ∙ ap (λ (v : ℕ). v ∷ x.0 ∷ x.1) (eqb-true a.0.0 2 h.0); limit = ltb-false _ _ g.0; rest_fits = both.rest_fits }
 
-tag_again : (tag : ℕ) (rest : List ℕ) → length (2 ∷ tag ∷ rest) ≤ 16777216 → tag_at (2 ∷ tag ∷ rest) ≡ Ok (tag, rest)
+pub tag_again : (tag : ℕ) (rest : List ℕ) → length (2 ∷ tag ∷ rest) ≤ 16777216 → tag_at (2 ∷ tag ∷ rest) ≡ Ok (tag, rest)
 unfolding tag_at
 tag_again tag rest limit =
     let few : ltb 16777216 (length (2 ∷ tag ∷ rest)) ≡ false = le-ltb _ _ limit in
@@ -99,7 +99,7 @@ below_takes bytes y fits e =
     (ap (λ (r : List ℕ). 2 ∷ 4 ∷ r) (all_taken bytes _ c.0.1 three end.1), (t0.1, t1.1, t2.1))
 
 -- what follows a known tag, told of the tag that was read
-tagged : (known tag : ℕ) (rest spelled : List ℕ) → eqb tag known ≡ true → 2 ∷ known ∷ rest ≡ spelled → 2 ∷ tag ∷ rest ≡ spelled
+pub tagged : (known tag : ℕ) (rest spelled : List ℕ) → eqb tag known ≡ true → 2 ∷ known ∷ rest ≡ spelled → 2 ∷ tag ∷ rest ≡ spelled
 tagged known tag rest spelled e is = ap (λ (n : ℕ). 2 ∷ n ∷ rest) (eqb-true tag known e) ∙ is
 
 spells_request : (body : List ℕ) (known tag : ℕ) (rest : List ℕ) (request : Request) → HasTag body tag rest → eqb tag known ≡ true

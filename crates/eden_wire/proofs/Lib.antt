@@ -2,5 +2,6 @@ mod Loops
 mod Numbers
 mod FieldLaws
 pub mod BodyLaws
+mod AskedLaws
 mod Lists
 mod Written

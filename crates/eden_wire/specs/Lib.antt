@@ -1,3 +1,4 @@
 pub mod Reading
+pub mod Asking
 pub mod Laws
 pub mod internal

@@ -1,4 +1,5 @@
--- Reading a body from left to right: what it holds, or the first fault that is met. A field is a value and the bytes after it.
+-- Reading a body from left to right: what it holds, or the first fault that is met. A
+-- field is a value and the bytes after it.
 use Rattle.std.specs.Prelude.{◌≡◌, ◌≢◌, ℕ, zero, suc, Bool, true, ◌&&◌, ◌||◌, List, [], ◌∷◌, length, take, drop, Option, Some, None, is_none, Result, Ok, Err, nat_lt, ◌==◌, if◌then◌else◌}
 use Rattle.std.specs.Int.{Width, w16, w32, w64, byte_len, from_be_bytes}
 use Rattle.std.specs.Ordering.{nat_cmp, is_lt}
@@ -28,7 +29,8 @@ abbrev pub ◌>>=◌ : {A B : Type 0} → Result A DecodeFault → (A → Result
 (Ok x) >>= f = f x
 (Err fault) >>= f = Err fault
 
--- what was returned, seen by view, is what reading gives; only NoMemory may stand in its place
+-- what was returned, seen through `view`, is what reading gives; only NoMemory may come
+-- in its place
 abbrev pub Gives : {X Y : Type 0} → (X → Y) → Result X DecodeFault → Result Y DecodeFault → Type 0
 Gives view (Ok x) read = read ≡ Ok (view x)
 Gives view (Err fault) read = fault ≢ NoMemory → read ≡ Err fault
@@ -42,7 +44,8 @@ byte_at (byte ∷ rest) = Ok (byte, rest)
 abbrev pub number_at : Width → List ℕ → Result (ℕ × List ℕ) DecodeFault
 number_at w bytes = if nat_lt (length bytes) (byte_len w) then Err CutShort else Ok (from_be_bytes w (take (byte_len w) bytes), drop (byte_len w) bytes)
 
--- a count is read, and is a fault above its limit or at 0, before the bytes that it counts are looked for
+-- a count is read, and is a fault above its limit or at 0, before the bytes that it
+-- counts are looked for
 unfoldable pub text_at : ℕ → List ℕ → Result (List ℕ × List ℕ) DecodeFault
 text_at limit bytes = do
   count ← number_at w16 bytes
@@ -87,7 +90,7 @@ patterns_at (suc count) bytes = do
 abbrev pub filter_of : List (List ℕ) → Result (List (List ℕ)) DecodeFault
 filter_of patterns = if is_none (filter_fault patterns) then Ok patterns else Err BadField
 
--- a filter is one field: its patterns are judged when the last of them is there
+-- a filter is one field: its patterns are checked when the last of them is there
 unfoldable pub filter_at : List ℕ → Result (List (List ℕ) × List ℕ) DecodeFault
 filter_at bytes = do
   count ← byte_at bytes
@@ -108,23 +111,24 @@ mark_at bytes = do
   mark ← mark_of_byte byte.0
   Ok (mark, byte.1)
 
--- the path is above the one before it, if there is one
+-- the path sorts after the last one, if there is one
 abbrev pub is_above : Option (List ℕ) → List ℕ → Bool
 is_above None path = true
 is_above (Some last) path = is_lt (slice_cmp nat_cmp last path)
 
--- the path lies below the directory, if there is one
+-- the path is below the directory, if there is one
 abbrev pub is_within : Option (List ℕ) → List ℕ → Bool
 is_within None path = true
 is_within (Some prefix) path = lies_below path prefix
 
--- a path that may come after a last one, in a list of what lies below a directory or of any paths
+-- a path that may follow a last one, in a list of a directory or of any paths
 unfoldable pub next_at : Option (List ℕ) → Option (List ℕ) → List ℕ → Result (List ℕ × List ℕ) DecodeFault
 next_at prefix last bytes = do
   path ← path_at bytes
   if is_above last path.0 && is_within prefix path.0 then Ok path else Err BadField
 
--- so many items, each read by what it may come after: the path of the one before it, or a last path
+-- `count` items, each read by what it may follow: the path of the one before it, or a
+-- last path
 unfoldable pub items_at : {A : Type 0} → (A → List ℕ) → (Option (List ℕ) → List ℕ → Result (A × List ℕ) DecodeFault) → ℕ → Option (List ℕ) → List ℕ
     → Result (List A × List ℕ) DecodeFault
 items_at path item_at zero last bytes = Ok ([], bytes)
@@ -133,7 +137,7 @@ items_at path item_at (suc count) last bytes = do
   others ← items_at path item_at count (Some (path first.0)) first.1
   Ok (first.0 ∷ others.0, others.1)
 
--- so many paths that ascend, each below the directory if there is one
+-- `count` paths that ascend, each below the directory if there is one
 abbrev pub paths_at : Option (List ℕ) → ℕ → Option (List ℕ) → List ℕ → Result (List (List ℕ) × List ℕ) DecodeFault
 paths_at prefix count last bytes = items_at (λ path. path) (next_at prefix) count last bytes
 
@@ -148,7 +152,7 @@ marked_at last bytes = do
   path ← path_at mark.1
   if is_above last path.0 then Ok (record { mark = mark.0; path = path.0 }, path.1) else Err BadField
 
--- so many marked paths that ascend
+-- `count` marked paths that ascend
 abbrev pub list_at : ℕ → Option (List ℕ) → List ℕ → Result (List Marked × List ℕ) DecodeFault
 list_at count last bytes = items_at (λ marked. marked.path) marked_at count last bytes
 
@@ -170,7 +174,7 @@ bytes_at bytes = do
   if nat_lt 8388608 count.0 then Err BadField else
       if nat_lt (length count.1) count.0 then Err CutShort else Ok (take count.0 count.1, drop count.0 count.1)
 
--- a file, or the lack of one
+-- a file, or its absence
 unfoldable pub content_at : List ℕ → Result (Option Content × List ℕ) DecodeFault
 content_at bytes = do
   byte ← byte_at bytes
@@ -179,7 +183,7 @@ content_at bytes = do
     held ← bytes_at byte.1
     Ok (Some (record { kind = kind; bytes = held.0 }), held.1)
 
--- the cause of a byte, with its number; the last one has none, which is written as 0
+-- the cause of a byte, with its number; the last cause has none, which is written as 0
 abbrev pub cause_of : ℕ → ℕ → Result Cause DecodeFault
 cause_of byte value =
     if byte == 1 then Ok (causes.Stale value) else
@@ -196,14 +200,14 @@ cause_at bytes = do
 
 -- ---- bodies
 
--- the version is 2, and the tag stands behind it; a body has 16,777,216 bytes at the most
+-- the version is 2, and the tag comes after it; a body has at most 16,777,216 bytes
 unfoldable pub tag_at : List ℕ → Result (ℕ × List ℕ) DecodeFault
 tag_at body =
     if nat_lt 16777216 (length body) then Err TooLarge else do
       version ← byte_at body
       if version.0 == 2 then byte_at version.1 else Err Version
 
--- no byte may stand after the last field
+-- no byte may come after the last field
 abbrev pub ended : {A : Type 0} → A → List ℕ → Result A DecodeFault
 ended message rest = if length rest == 0 then Ok message else Err Trailing
 
@@ -233,7 +237,7 @@ list_request_at bytes = do
   filter ← filter_at prefix.1
   ended (Below query.0 prefix.0 filter.0) filter.1
 
--- the request that a body spells, or the first fault
+-- the request that a body encodes, or the first fault
 unfoldable pub read_request : List ℕ → Result Request DecodeFault
 read_request body = do
   tag ← tag_at body
@@ -271,7 +275,7 @@ refused_at bytes = do
   cause ← cause_at query.1
   ended (Refused query.0 cause.0) cause.1
 
--- each of the paths lies below the prefix that was read before them
+-- each of the paths is below the prefix that was read before them
 unfoldable pub list_is_at : List ℕ → Result Reply DecodeFault
 list_is_at bytes = do
   query ← query_at bytes
@@ -280,7 +284,7 @@ list_is_at bytes = do
   paths ← path_listing_at (Some prefix.0) prefix.1
   ended (ListIs query.0 position.0 prefix.0 paths.0) paths.1
 
--- the reply that a body spells, or the first fault
+-- the reply that a body encodes, or the first fault
 unfoldable pub read_reply : List ℕ → Result Reply DecodeFault
 read_reply body = do
   tag ← tag_at body

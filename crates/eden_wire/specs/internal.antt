@@ -1,2 +1,2 @@
--- Words that the code alone uses.
+-- Definitions that the code alone uses.
 pub mod Listing

@@ -1,4 +1,4 @@
-//! Bodies read: a request or a reply of its bytes.
+//! Decoding: a request or a reply from the bytes of its body.
 
 ghost use Rattle.std.specs.Prelude.{◌≡◌, None, Ok, IfOk};
 ghost use Rattle.std.specs.Option.{option_copied};
@@ -13,15 +13,15 @@ use crate::fault::DecodeFault;
 use crate::fields::{
     byte_of, cause_of, content_of, filter_of, mark_of, path_of, position_of, query_of, u32_of,
 };
-use eden_frames::BODY_LIMIT;
 use eden_history::Marked;
 use eden_ids::{Path, Sequence};
 use eden_messages::{Reply, Request};
+use eden_stream::BODY_LIMIT;
 use std::alloc::Global;
 
-/// The tag that stands behind the version.
+/// Reads the version and the tag after it.
 #[tactic(auto, unfolding(crate::specs::Reading::tag_at))]
-fn tag_of(body: &[u8]) -> Result<(u8, &[u8]), DecodeFault>
+pub(crate) fn tag_of(body: &[u8]) -> Result<(u8, &[u8]), DecodeFault>
     ensures { Gives (λ x. (x.0, x.1.now)) result (tag_at body.now) }
 {
     if body.len() > BODY_LIMIT {
@@ -34,7 +34,9 @@ fn tag_of(body: &[u8]) -> Result<(u8, &[u8]), DecodeFault>
     byte_of(rest)
 }
 
-/// Whether the path is above the one before it, if there is one.
+/// Returns true if the path sorts after the last one.
+///
+/// It also does if there is none.
 fn is_above(last: Option<&Path>, path: &Path) -> bool
     ensures { result ≡ reading.is_above (option_copied last.entry) path.now }
 {
@@ -44,7 +46,9 @@ fn is_above(last: Option<&Path>, path: &Path) -> bool
     }
 }
 
-/// Whether the path lies below the directory, if there is one.
+/// Returns true if the path is below the directory.
+///
+/// It also is if there is none.
 fn is_within(prefix: Option<&Path>, path: &Path) -> bool
     ensures { result ≡ reading.is_within (option_copied prefix.entry) path.now }
 {
@@ -54,7 +58,9 @@ fn is_within(prefix: Option<&Path>, path: &Path) -> bool
     }
 }
 
-/// A path that may come after these, in a list of what lies below a directory or of any paths.
+/// Reads a path that may follow these in a list.
+///
+/// The list is that of a directory or of any paths.
 #[tactic(auto, unfolding(crate::specs::Reading::next_at))]
 fn next_of<'a>(
     alloc: Global,
@@ -71,7 +77,9 @@ fn next_of<'a>(
     Ok((path, rest))
 }
 
-/// So many paths, of which each is above the one before it, and below the directory if there is one. No room is kept for a count
+/// Reads `count` paths, each after the one before it.
+///
+/// Each must be below the directory, if there is one. No room is reserved for a count
 /// that was only read.
 fn paths_of<'a>(
     alloc: Global,
@@ -104,7 +112,7 @@ fn path_listing_of<'a>(
     Ok((Sequence::from_vec(list), rest))
 }
 
-/// A marked path that may come after these.
+/// Reads a marked path that may follow these.
 #[tactic(auto, unfolding(crate::specs::Reading::marked_at))]
 fn marked_of<'a>(
     alloc: Global,
@@ -121,7 +129,9 @@ fn marked_of<'a>(
     Ok((Marked { mark, path }, rest))
 }
 
-/// So many marked paths, of which each is above the one before it. No room is kept for a count that was only read.
+/// Reads `count` marked paths, each after the one before it.
+///
+/// No room is reserved for a count that was only read.
 fn list_of(alloc: Global, count: u32, bytes: &[u8]) -> Result<(Vec<Marked>, &[u8]), DecodeFault>
     ensures { Gives (λ x. (x.0.items, x.1.now)) result (list_at count None bytes.now) }
 {
@@ -144,7 +154,7 @@ fn listing_of(alloc: Global, bytes: &[u8]) -> Result<(Sequence<Marked>, &[u8]), 
     Ok((Sequence::from_vec(list), rest))
 }
 
-/// The message that was read, where no byte stands after its last field.
+/// Returns the message that was read, if nothing follows it.
 fn whole<T: Drop>(message: T, rest: &[u8]) -> Result<T, DecodeFault>
     ensures { result ≡ ended message rest.now }
 {
@@ -279,7 +289,7 @@ fn list_is_of(alloc: Global, bytes: &[u8]) -> Result<Reply, DecodeFault>
 }
 
 #[tactic(auto, unfolding(crate::specs::Reading::read_request))]
-fn request_of(alloc: Global, body: &[u8]) -> Result<Request, DecodeFault>
+pub(crate) fn request_of(alloc: Global, body: &[u8]) -> Result<Request, DecodeFault>
     ensures { Gives (λ request. request) result (read_request body.now) }
 {
     let (tag, rest) = tag_of(body)?;
@@ -307,28 +317,38 @@ fn reply_of(alloc: Global, body: &[u8]) -> Result<Reply, DecodeFault>
     }
 }
 
-/// Reads the body of a request: exactly the bodies that spell one are read.
+/// Reads the body of a request: accepts exactly the bodies that encode one.
 ///
-/// A body longer than 16,777,216 bytes is `TooLarge`. Then the first fault from the left is told: `CutShort` where the body
-/// ends inside a field, `Version` and `BadTag` for its first two bytes, `BadField` for a value that may not stand in a field,
-/// and `Trailing` for a byte after the last field. `NoMemory` may stand in place of any answer where a growth was refused.
+/// # Errors
+///
+/// `TooLarge` if the body has more than 16,777,216 bytes. Else the first fault from the
+/// left:
+///
+/// - `CutShort` if the body ends inside a field.
+/// - `Version` or `BadTag` if one of its first two bytes is wrong.
+/// - `BadField` if a field has an invalid value.
+/// - `Trailing` if there are bytes after the last field.
+///
+/// `NoMemory` if an allocation fails; it may be returned instead of any other answer.
 pub fn decode_request(alloc: Global, body: &[u8]) -> Result<Request, DecodeFault>
     ensures spelled { IfOk result (λ request. SpellsRequest body.now request) }
     ensures all { (request : Request) → SpellsRequest body.now request → Gives (λ r. r) result (Ok request) }
-    // Which fault it is.
+    // The fault is this one.
     ensures exact { Gives (λ request. request) result (read_request body.now) }
 {
     request_of(alloc, body)
 }
 
-/// Reads the body of a reply: exactly the bodies that spell one are read.
+/// Reads the body of a reply: accepts exactly the bodies that encode one.
 ///
-/// The faults are those of `decode_request`, in the same order. A path that isn't above the one before it is `BadField`, and so is a
-/// path that is told to lie below a directory and doesn't.
+/// # Errors
+///
+/// As of `decode_request`, in the same order. `BadField` also if a path does not sort
+/// after the one before it, or is not below the directory of its list.
 pub fn decode_reply(alloc: Global, body: &[u8]) -> Result<Reply, DecodeFault>
     ensures spelled { IfOk result (λ reply. SpellsReply body.now reply) }
     ensures all { (reply : Reply) → SpellsReply body.now reply → Gives (λ r. r) result (Ok reply) }
-    // Which fault it is.
+    // The fault is this one.
     ensures exact { Gives (λ reply. reply) result (read_reply body.now) }
 {
     reply_of(alloc, body)

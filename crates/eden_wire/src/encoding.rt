@@ -1,9 +1,9 @@
-//! Bodies written, and the frames around them.
+//! Encoding: bodies, and the frames around them.
 
 ghost use Rattle.std.specs.Prelude.{◌≡◌, ◌≢◌, ◌<◌, ◌≤◌, ◌^◌, ◌↔◌, ◌++◌, ◌∷◌, List, ℕ, length, Err, OnOk, IfOk};
 ghost use Rattle.eden_ids.specs.Fronts.{KeepsFront};
 ghost use Rattle.eden_messages.specs.Spells.{query_bytes, position_bytes, text_bytes, filter_bytes, paths_bytes, mark_byte, marked_bytes, list_bytes, kind_byte, content_bytes, cause_bytes, request_bytes, reply_bytes, SpellsRequest, SpellsReply};
-ghost use Rattle.eden_frames.specs.Frames.{frame};
+ghost use Rattle.eden_stream.specs.Frames.{frame};
 
 use crate::fault::EncodeFault;
 use bytes::BufMut;
@@ -13,9 +13,9 @@ use eden_ids::{Content, Kind, Path};
 use eden_messages::{Cause, Query, Reply, Request, request_text_law};
 use std::alloc::{AllocError, Global};
 
-/// Puts the bytes behind the others.
+/// Adds the bytes after the others.
 #[tactic(auto, using(eden_ids::proofs::Fronts::grown_keeps))]
-fn put_bytes(out: &mut Vec<u8>, bytes: &[u8]) -> Result<(), AllocError>
+pub(crate) fn put_bytes(out: &mut Vec<u8>, bytes: &[u8]) -> Result<(), AllocError>
     ensures told { OnOk result (out.new.items ≡ out.old.items ++ bytes.now) }
     ensures front { KeepsFront out.old.items out.new.items }
 {
@@ -53,10 +53,11 @@ fn put_text(out: &mut Vec<u8>, text: &[u8]) -> Result<(), AllocError>
 
 #[tactic(auto, using(eden_messages::proofs::Filters::patterns_few, eden_messages::proofs::Filters::patterns_short))]
 fn put_filter(out: &mut Vec<u8>, filter: &Filter) -> Result<(), AllocError>
-    ensures { OnOk result (out.new.items ≡ out.old.items ++ filter_bytes filter.now) }
+    ensures told { OnOk result (out.new.items ≡ out.old.items ++ filter_bytes filter.now) }
+    ensures front { KeepsFront out.old.items out.new.items }
 {
     let patterns = filter.patterns();
-    out.put_u8(patterns.len() as u8)?;
+    put_bytes(out, &[patterns.len() as u8])?;
     for pattern in patterns {
         put_text(out, pattern)?;
     }
@@ -151,7 +152,7 @@ fn put_cause(out: &mut Vec<u8>, cause: Cause) -> Result<(), AllocError>
     put_bytes(out, &value.to_be_bytes())
 }
 
-/// What each body begins with: the version, the tag and the query.
+/// Writes the beginning of each body: the version, the tag and the query.
 #[tactic(auto, using(eden_ids::proofs::Fronts::grown_keeps))]
 fn put_head(out: &mut Vec<u8>, tag: u8, query: &Query) -> Result<(), AllocError>
     ensures told { OnOk result (out.new.items ≡ out.old.items ++ (2 ∷ tag ∷ query_bytes query.now)) }
@@ -163,8 +164,9 @@ fn put_head(out: &mut Vec<u8>, tag: u8, query: &Query) -> Result<(), AllocError>
     Ok(())
 }
 
-fn put_request(out: &mut Vec<u8>, request: &Request) -> Result<(), AllocError>
-    ensures { OnOk result (out.new.items ≡ out.old.items ++ request_bytes request.now) }
+pub(crate) fn put_request(out: &mut Vec<u8>, request: &Request) -> Result<(), AllocError>
+    ensures told { OnOk result (out.new.items ≡ out.old.items ++ request_bytes request.now) }
+    ensures front { KeepsFront out.old.items out.new.items }
 {
     match request {
         Request::Basis { query, filter } => {
@@ -260,10 +262,14 @@ fn put_reply(out: &mut Vec<u8>, reply: &Reply) -> Result<(), AllocError>
     }
 }
 
-/// The frame of a request: four bytes of length, and the body that spells it. Each request has such a body, which is never too long.
+/// Returns the frame of a request: four bytes of length, and its body.
 ///
-/// `NoMemory` comes where a growth was refused.
-#[tactic(auto, unfolding(eden_frames::specs::Frames::frame))]
+/// Each request has a body, which is never too long.
+///
+/// # Errors
+///
+/// - `NoMemory` if an allocation fails.
+#[tactic(auto, unfolding(eden_stream::specs::Frames::frame))]
 pub fn encode_request(alloc: Global, request: &Request) -> Result<Vec<u8>, EncodeFault>
     ensures read_back { IfOk result (λ bytes. (body : List ℕ) × SpellsRequest body request.now × (bytes.items ≡ frame body)) }
     ensures spelled { (body : List ℕ) → SpellsRequest body request.now → IfOk result (λ bytes. bytes.items ≡ frame body) }
@@ -278,10 +284,15 @@ pub fn encode_request(alloc: Global, request: &Request) -> Result<Vec<u8>, Encod
     Ok(frame)
 }
 
-/// Writes the frame of a reply behind a text: four bytes of length, and the body that spells it, which is the only thing that is written.
+/// Writes the frame of a reply after a text: four bytes of length, and its body.
 ///
-/// `AllocError` comes where a growth was refused. A part of the frame may stand at the text's end then, and what stood before it is as it was.
-#[tactic(auto, unfolding(eden_frames::specs::Frames::frame))]
+/// The reply's body must not be too long (`Reply::body_len`).
+///
+/// # Errors
+///
+/// - `AllocError` if an allocation fails. The text may then end with a part of the frame;
+///   what was there before is unchanged.
+#[tactic(auto, unfolding(eden_stream::specs::Frames::frame))]
 pub fn append_reply(text: &mut Vec<u8>, reply: &Reply) -> Result<(), AllocError>
     requires fits { length (reply_bytes reply.now) ≤ 16777216 }
     ensures exact { OnOk result (text.new.items ≡ text.old.items ++ frame (reply_bytes reply.now)) }
@@ -296,11 +307,16 @@ pub fn append_reply(text: &mut Vec<u8>, reply: &Reply) -> Result<(), AllocError>
     Ok(())
 }
 
-/// The frame of a reply: four bytes of length, and the body that spells it.
+/// Returns the frame of a reply: four bytes of length, and its body.
 ///
-/// `TooLarge` comes exactly where the body would be longer than 16,777,216 bytes, and before any memory is taken; `NoMemory`
-/// where a growth was refused. A reply whose paths don't ascend, or don't lie below the directory that they are told of, has a
-/// frame too, but no body spells it, and it isn't read again.
+/// A reply whose paths do not ascend, or are not below the directory of their list, has a
+/// frame too, but it cannot be decoded again.
+///
+/// # Errors
+///
+/// - `TooLarge` exactly if the body would have more than 16,777,216 bytes; it is returned
+///   before anything is allocated.
+/// - `NoMemory` if an allocation fails.
 pub fn encode_reply(alloc: Global, reply: &Reply) -> Result<Vec<u8>, EncodeFault>
     ensures spelled { (body : List ℕ) → SpellsReply body reply.now → IfOk result (λ bytes. bytes.items ≡ frame body) }
     ensures exact { IfOk result (λ bytes. bytes.items ≡ frame (reply_bytes reply.now)) }

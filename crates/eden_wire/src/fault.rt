@@ -1,16 +1,16 @@
-//! Why a message has no frame, and why bytes are no message.
+//! Why a message cannot be encoded, and why bytes cannot be decoded.
 
 use bytes::TryGetError;
 use std::alloc::{AllocError, AllocFailed};
 use thiserror::Error;
 
-/// Why a message has no frame.
+/// Why a message cannot be encoded.
 #[derive(Clone, Copy, Debug, PartialEq, Eq, Error)]
 pub enum EncodeFault {
-    /// The body would be longer than 16,777,216 bytes.
+    /// The body would have more than 16,777,216 bytes.
     #[error("TooLarge")]
     TooLarge,
-    /// A growth was refused.
+    /// An allocation failed.
     #[error("NoMemory")]
     NoMemory,
 }
@@ -26,29 +26,31 @@ impl From<AllocError> for EncodeFault {
     }
 }
 
-/// Why a body spells no message. A body that is too long is told as such; else it is read field by field, and the first
-/// fault is told.
+/// Why a body is not a message.
+///
+/// A body that is too long is reported as such. Any other is read field by field, and the
+/// first fault is reported.
 #[derive(Clone, Copy, Debug, PartialEq, Eq, Error)]
 pub enum DecodeFault {
     /// The body ends inside a field.
     #[error("CutShort")]
     CutShort,
-    /// The body is longer than 16,777,216 bytes.
+    /// The body has more than 16,777,216 bytes.
     #[error("TooLarge")]
     TooLarge,
-    /// The tag is none of a message that can come here.
+    /// The tag is not that of a message that is expected here.
     #[error("BadTag")]
     BadTag,
-    /// A field's value is none that may stand there.
+    /// A field has an invalid value.
     #[error("BadField")]
     BadField,
-    /// Bytes stand after the last field.
+    /// There are bytes after the last field.
     #[error("Trailing")]
     Trailing,
     /// The body is of another version of the format.
     #[error("Version")]
     Version,
-    /// A growth was refused.
+    /// An allocation failed.
     #[error("NoMemory")]
     NoMemory,
 }

@@ -1,4 +1,4 @@
-//! The fields that bodies are made of, read one after another.
+//! The fields of bodies, read one after another.
 
 ghost use Rattle.std.specs.Prelude.{◌≡◌, map};
 ghost use Rattle.std.specs.Int.{w16, w32, w64};
@@ -12,7 +12,9 @@ use eden_ids::{Content, Id, Kind, Path, PathFault, Sequence};
 use eden_messages::{Cause, Query};
 use std::alloc::Global;
 
-/// A byte, and the bytes after it. Each reader below gives a field in this way, or the first fault in it.
+/// Reads a byte, and returns it with the bytes after it.
+///
+/// Each reader below returns a field in this way, or the first fault in it.
 pub(crate) fn byte_of(bytes: &[u8]) -> Result<(u8, &[u8]), DecodeFault>
     ensures { Gives (λ x. (x.0, x.1.now)) result (byte_at bytes.now) }
 {
@@ -45,7 +47,7 @@ fn u64_of(bytes: &[u8]) -> Result<(u64, &[u8]), DecodeFault>
     Ok((number, rest))
 }
 
-/// Bytes behind their count, of which there are at least one and at most `limit`.
+/// Reads a count of two bytes and that many bytes: at least one and at most `limit`.
 #[tactic(auto, unfolding(crate::specs::Reading::text_at))]
 fn text_of(limit: u16, bytes: &[u8]) -> Result<(&[u8], &[u8]), DecodeFault>
     ensures { Gives (λ x. (x.0.now, x.1.now)) result (text_at limit bytes.now) }
@@ -128,7 +130,7 @@ fn parsed_filter(alloc: Global, patterns: &[&[u8]]) -> Result<Filter, DecodeFaul
     }
 }
 
-/// So many patterns, where they stand in the bytes.
+/// Reads `count` patterns, without copying them.
 fn patterns_of(alloc: Global, count: u8, bytes: &[u8]) -> Result<(Vec<&[u8]>, &[u8]), DecodeFault>
     ensures { Gives (λ x. (map (λ p. p.now) x.0.items, x.1.now)) result (patterns_at count bytes.now) }
 {
@@ -188,7 +190,7 @@ fn kind_of_byte(byte: u8) -> Result<Kind, DecodeFault>
     }
 }
 
-/// The bytes of a file behind their count. None is copied before all of them are there.
+/// Reads the count and the bytes of a file. Copies nothing before all of them are there.
 #[tactic(auto, unfolding(crate::specs::Reading::bytes_at))]
 fn bytes_of(bytes: &[u8]) -> Result<(&[u8], &[u8]), DecodeFault>
     ensures { Gives (λ x. (x.0.now, x.1.now)) result (bytes_at bytes.now) }
@@ -204,7 +206,7 @@ fn bytes_of(bytes: &[u8]) -> Result<(&[u8], &[u8]), DecodeFault>
     Ok(rest.split_at(len))
 }
 
-/// A file, or the lack of one.
+/// Reads a file, or its absence.
 #[tactic(auto, unfolding(crate::specs::Reading::content_at))]
 pub(crate) fn content_of(
     alloc: Global,

@@ -1,16 +1,30 @@
-//! What reading and spelling promise together, each as the contract of a function with no work to do.
+//! Laws of encoding and decoding, each as the contract of a function that does nothing.
 
+ghost use Rattle.eden_wire.specs.Asking.{AskedAreReadBack, ReadAskedAreSpelled};
 ghost use Rattle.eden_wire.specs.Laws.{RequestsAreReadBack, ReadRequestsAreSpelled, RepliesAreReadBack, ReadRepliesAreSpelled};
 
-/// The body that spells a request is decoded to it, and a body that was decoded to a request spells it.
+/// States that the body of a request is decoded to it.
+///
+/// Conversely, a body that was decoded to a request encodes it.
 pub fn request_law()
     ensures decoded { RequestsAreReadBack }
     ensures encoded { ReadRequestsAreSpelled }
 {}
 
-/// The body that spells a reply is decoded to it, and a body that was decoded to a reply spells it. A reply with paths out of order, or
-/// beside the directory that they are told of, has no spelling: it is encoded, and not decoded again.
+/// States that the body of a reply is decoded to it.
+///
+/// Conversely, a body that was decoded to a reply encodes it. A reply with paths out of
+/// order, or not below the directory of their list, has no valid encoding: it can be
+/// encoded, but not decoded again.
 pub fn reply_law()
     ensures decoded { RepliesAreReadBack }
     ensures encoded { ReadRepliesAreSpelled }
+{}
+
+/// States that the body of what is asked is decoded to it.
+///
+/// Conversely, a body that was decoded to what is asked encodes it.
+pub fn asked_law()
+    ensures decoded { AskedAreReadBack }
+    ensures encoded { ReadAskedAreSpelled }
 {}

@@ -1,7 +1,15 @@
-//! Requests and replies as bytes: each message has at most one spelling, and exactly the bodies that spell one are read.
+//! The encoding of requests and replies as bytes.
 //!
-//! `specs/Reading.antt` says what reading a body gives, or the first fault that is met; what bytes spell a message is defined in
-//! eden_messages' `specs/Spells.antt`. Nothing here stands on a mount, so a client links no more than the messages.
+//! `encode_request` and `encode_reply` return the frame of a message: four bytes of
+//! length, and its body. `decode_request` and `decode_reply` read a body. Each message
+//! has at most one encoding, and exactly the bodies that encode a message are accepted;
+//! any other is refused with the first `DecodeFault` from the left. A request may come after
+//! a patience, which says for how long its reply may wait. `append_asked` and `decode_asked`
+//! write and read both.
+//!
+//! The bytes of a message are defined in eden_messages' `specs/Spells.antt`, and the
+//! faults in `specs/Reading.antt`. Nothing here depends on a mount, so a client links
+//! only the messages.
 //!
 //! ```rust
 //! use eden_ids::Path;
@@ -24,11 +32,13 @@
 //! ```
 #![tactic(auto)]
 
+pub use crate::asking::{Asked, append_asked, decode_asked};
 pub use crate::decoding::{decode_reply, decode_request};
 pub use crate::encoding::{append_reply, encode_reply, encode_request};
 pub use crate::fault::{DecodeFault, EncodeFault};
-pub use crate::laws::{reply_law, request_law};
+pub use crate::laws::{asked_law, reply_law, request_law};
 
+mod asking;
 mod decoding;
 mod encoding;
 mod fault;

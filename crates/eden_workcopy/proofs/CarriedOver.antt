@@ -17,16 +17,15 @@ use Rattle.eden_ids.proofs.Sifted.{has-sifted, keys-sifted, sifted}
 use Rattle.eden_ids.proofs.TreeQuestions.{any_witness}
 use Rattle.eden_history.specs.declared.change.ChangeFault.{ChangeFault}
 use Rattle.eden_history.specs.declared.change.ChangeFault.TheVariants.{NotADirectory, IsADirectory, NoEntry, IntoItself, PathTooLong}
-use Rattle.eden_history.specs.Carried.{carried, carried_files}
+use Rattle.eden_overlay.specs.Carried.{breaks, carried, carried_files}
 use Rattle.eden_history.specs.Changes.{below}
 use Rattle.eden_history.specs.DirRenames.{breaks_a_path, dir_renamed, free_fault, has_file_upward, rename_dir_fault, source_fault}
-use Rattle.eden_history.proofs.CarriedLemmas.{below-trans, carried-back, carried-below, file_at-carried, nested}
-use Rattle.eden_workcopy.specs.Layers.{Layer, over}
-use Rattle.eden_moves.specs.Moves.{breaks}
+use Rattle.eden_overlay.proofs.CarriedLemmas.{below-trans, carried-back, carried-below, file_at-carried, nested}
+use Rattle.eden_overlay.specs.Layers.{Layer, over}
 use Rattle.eden_workcopy.specs.internal.Carrying.{each_carried, one_carried, way_fault}
 use Rattle.eden_workcopy.proofs.Reverted.{over-forgotten}
-use Rattle.eden_workcopy.proofs.Touched.{set_over}
-use Rattle.eden_workcopy.proofs.Works.{file_below}
+use Rattle.eden_overlay.proofs.Touched.{set_over}
+use Rattle.eden_overlay.proofs.Overs.{file_below}
 
 -- ---- one file is taken away
 

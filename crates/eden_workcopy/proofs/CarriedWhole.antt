@@ -11,12 +11,12 @@ use Rattle.eden_ids.specs.FileMaps.{FileMap, file_at, has_file_below, paths, sam
 use Rattle.eden_ids.specs.Texts.{AreTexts}
 use Rattle.eden_ids.proofs.FileMapLemmas.{held, same_file_map, unlisted}
 use Rattle.eden_ids.proofs.TreeQuestions.{any_none, any_some}
-use Rattle.eden_history.specs.Carried.{carried, carried_files}
+use Rattle.eden_overlay.specs.Carried.{breaks, carried, carried_files}
 use Rattle.eden_history.specs.DirRenames.{breaks_a_path}
-use Rattle.eden_history.proofs.CarriedLemmas.{carried-below, file_at-carried}
-use Rattle.eden_history.proofs.DirRenameLaws.{names_alone, names_joined, parts_joined}
+use Rattle.eden_overlay.proofs.CarriedLemmas.{carried-below, file_at-carried}
+use Rattle.eden_overlay.proofs.Joined.{names_alone, names_joined, parts_joined}
 use Rattle.eden_ids.specs.declared.id.Id.{Id}
-use Rattle.eden_moves.specs.Moves.{Moves, breaks, dir_moved, is_path, seen_through}
+use Rattle.eden_moves.specs.Moves.{Moves, dir_moved, is_path, seen_through}
 use Rattle.eden_moves.proofs.Renames.{seen-dir_moved}
 use Rattle.eden_moves.proofs.Settled.{no_long}
 use Rattle.eden_objects.specs.Objects.{Held}
@@ -24,8 +24,8 @@ use Rattle.eden_objects.specs.Files.{commit_files}
 use Rattle.eden_objects.specs.Passing.{IsWithin}
 use Rattle.eden_objects.specs.declared.size.Size.{Size}
 use Rattle.eden_objects.proofs.Fitting.{no_fault as legal}
-use Rattle.eden_workcopy.specs.Layers.{Layer, or_below, over}
-use Rattle.eden_workcopy.proofs.Overs.{file_at-over}
+use Rattle.eden_overlay.specs.Layers.{Layer, or_below, over}
+use Rattle.eden_overlay.proofs.Overs.{file_at-over}
 use Rattle.std.proofs.lemmas.List.{length-append}
 
 stands : (files : FileMap) (p : List ℕ) → list_any (λ q. same_path p q) (paths files) ≡ true → IsSome (file_at files p)

@@ -13,8 +13,8 @@ use Rattle.eden_ids.proofs.FileMapLemmas.{has-listing, same_file_map, same_path-
 use Rattle.eden_moves.specs.Moves.{Moves, seen_through, unsettled}
 use Rattle.eden_moves.proofs.Settled.{settled}
 use Rattle.eden_workcopy.specs.internal.Agreements.{kept_below, kept_each}
-use Rattle.eden_workcopy.specs.Layers.{Layer, or_below, over}
-use Rattle.eden_workcopy.proofs.Overs.{file_at-over}
+use Rattle.eden_overlay.specs.Layers.{Layer, or_below, over}
+use Rattle.eden_overlay.proofs.Overs.{file_at-over}
 
 abbrev pub listed : List ℕ → List (List ℕ) → Bool
 listed q ps = list_any (λ p. same_path q p) ps

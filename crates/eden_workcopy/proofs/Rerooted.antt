@@ -13,10 +13,9 @@ use Rattle.eden_objects.specs.declared.fault.CommitFault.{CommitFault}
 use Rattle.eden_objects.specs.declared.fault.CommitFault.TheVariants.{NoCommit, NoMemory}
 use Rattle.eden_treediff.specs.Merges.{differences}
 use Rattle.eden_workcopy.specs.internal.Agreements.{Agrees, AllAgree, IsKept, IsLean, IsNearer, kept_below, kept_each, kept_entry}
-use Rattle.eden_workcopy.specs.Layers.{Layer, Entry, over}
-use Rattle.eden_workcopy.proofs.Overs.{over-nothing}
-use Rattle.eden_workcopy.proofs.Touched.{has-touched, set_over}
-use Rattle.eden_workcopy.proofs.Works.{file_below}
+use Rattle.eden_overlay.specs.Layers.{Layer, Entry, over}
+use Rattle.eden_overlay.proofs.Overs.{file_below, over-nothing}
+use Rattle.eden_overlay.proofs.Touched.{has-touched, set_over}
 use Rattle.std.proofs.lemmas.Bool.{not-false}
 use Rattle.std.proofs.Math.Bool.{or-true}
 

@@ -16,9 +16,9 @@ use Rattle.eden_ids.specs.Texts.{AreTexts}
 use Rattle.eden_ids.proofs.TextLemmas.{texts_insert, texts_remove}
 use Rattle.eden_ids.proofs.FileMapLemmas.{same_path-is, same_file_map, IsFileMap-insert, IsFileMap-remove, put_option-at}
 use Rattle.eden_history.specs.Renames.{place_fault}
-use Rattle.eden_workcopy.specs.Layers.{Layer, or_below, over}
+use Rattle.eden_overlay.specs.Layers.{Layer, or_below, over}
 use Rattle.eden_workcopy.specs.Reverts.{revert_fault}
-use Rattle.eden_workcopy.proofs.Overs.{file_at-over}
+use Rattle.eden_overlay.proofs.Overs.{file_at-over}
 use Rattle.eden_workcopy.proofs.Works.{place_free}
 
 -- a path that takes the file of another map

@@ -28,8 +28,8 @@ use Rattle.eden_moves.specs.Moves.{Moves, at_paths, is_path, seen_through}
 use Rattle.eden_moves.proofs.Seen.{seen-unmoved}
 use Rattle.eden_workcopy.specs.declared.work.WorkCopy.{WorkCopy}
 use Rattle.eden_workcopy.specs.Meanings.{base_of, means, FitsIn}
-use Rattle.eden_workcopy.specs.Layers.{Layer, Entry, or_below, over}
-use Rattle.eden_workcopy.proofs.Overs.{file_at-over, over-nothing, over-insert, over-remove, over-move, here_below, left_below}
+use Rattle.eden_overlay.specs.Layers.{Layer, Entry, over}
+use Rattle.eden_overlay.proofs.Overs.{over-nothing, over-insert, over-remove, over-move, here_below, left_below}
 use Rattle.std.proofs.lemmas.Bool.{or_parts}
 
 some_rows : (held : List Held) (o : Option (List Row)) → is_some o ≡ true → map_of_rows held o ≡ Some (files_of (map_of_rows held o))
@@ -73,13 +73,6 @@ new_fits held root moves layer closed small e unmoved is =
 none_of : (held : List Held) (o : Option (List Row)) → is_some o ≡ false → map_of_rows held o ≡ None
 none_of held None e = refl
 none_of held (Some rows) e = absurd (cc)
-
--- at a path of the overlay, and at another
-pub file_told : (base : FileMap) (layer : Layer) (p : List ℕ) (file : Option Content) → fin.get layer p ≡ Some file → file_at (over base layer) p ≡ file
-file_told base layer p file is = file_at-over base layer p ∙ ap (λ o. or_below o (file_at base p)) is
-
-pub file_below : (base : FileMap) (layer : Layer) (p : List ℕ) → fin.get layer p ≡ None → file_at (over base layer) p ≡ file_at base p
-file_below base layer p is = file_at-over base layer p ∙ ap (λ o. or_below o (file_at base p)) is
 
 -- ---- files below a path
 

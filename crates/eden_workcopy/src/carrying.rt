@@ -1,4 +1,4 @@
-//! The files below a directory, each carried to the same place below another.
+//! The files below a directory, each moved by itself to the same place below another.
 
 ghost use Rattle.std.specs.Prelude.{◌≡◌, ◌≢◌, true, false, None, Some, if◌then◌else◌, IfOk, IfErr, OnOk, is_some};
 ghost use Rattle.std.specs.List.{list_any, AllByRecursion};
@@ -6,21 +6,19 @@ ghost use Rattle.std.specs.FinMap as fin;
 ghost use Rattle.eden_ids.specs.FileMaps.{file_at, paths, put_option};
 ghost use Rattle.eden_ids.specs.Paths.{lies_below, path_fault};
 ghost use Rattle.eden_objects.specs.Files.{commit_files};
-ghost use Rattle.eden_history.specs.Carried.{carried};
+ghost use Rattle.eden_overlay.specs.Carried.{breaks};
 ghost use Rattle.eden_history.specs.Changes.{below};
-ghost use Rattle.eden_moves.specs.Moves.{breaks};
 ghost use Rattle.eden_workcopy.specs.internal.Carrying.{each_carried, way_fault};
-ghost use Rattle.eden_workcopy.specs.Layers.{over};
+ghost use Rattle.eden_overlay.specs.Layers.{over};
 ghost use Rattle.eden_workcopy.specs.Meanings.{means, FitsIn};
 
-use crate::overlay::Overlay;
 use crate::work::WorkCopy;
 use eden_history::{ChangeFault, free_fault};
 use eden_ids::{Content, FileTree, Naming, NoMemory, Path, has_file};
-use eden_moves::carried_path;
 use eden_objects::Store;
+use eden_overlay::{CarryFault, Overlay, carried_path};
 
-/// Why a directory can't be put at a new path, as far as its own files have no say in it.
+/// Returns why a directory can't be at a new path, whichever files it has.
 pub(crate) fn way_fault<T: FileTree>(files: &T, old: &Path, new: &Path) -> Option<ChangeFault>
     ensures { result ≡ way_fault (T.files files.now) old.now new.now }
 {
@@ -31,7 +29,7 @@ pub(crate) fn way_fault<T: FileTree>(files: &T, old: &Path, new: &Path) -> Optio
     }
 }
 
-/// Lets no file be seen at a path of which nothing is said: where one lies below, the overlay says that none stands there.
+/// Lets no file be seen at a path of which the overlay says nothing.
 fn hide<B: FileTree>(base: &B, overlay: &mut Overlay, path: Path) -> Result<(), NoMemory>
     requires { fin.get overlay.old path ≡ None }
     ensures { OnOk result (over (B.files base.now) overlay.new ≡ fin.remove (over (B.files base.now) overlay.old) path) }
@@ -42,8 +40,9 @@ fn hide<B: FileTree>(base: &B, overlay: &mut Overlay, path: Path) -> Result<(), 
     Ok(())
 }
 
-/// Takes the file that is seen at a path away, and gives it back. What the overlay said is moved, and the bytes of a file below it are
-/// copied.
+/// Removes the file that is seen at a path, and returns it.
+///
+/// What the overlay said is moved; the bytes of a file below it are copied.
 fn take<B: FileTree>(
     base: &B,
     overlay: &mut Overlay,
@@ -60,20 +59,19 @@ fn take<B: FileTree>(
     Ok(file)
 }
 
-/// Carries the file at each of some paths below the old path.
+/// Moves the file at each of some paths below the old path.
 fn carry_each<B: FileTree>(
     base: &B,
     overlay: &mut Overlay,
     moved: Vec<Path>,
     old: &Path,
     new: &Path,
-) -> Result<(), ChangeFault>
+) -> Result<(), CarryFault>
     requires { AllByRecursion (λ path. lies_below path old.now ≡ true) moved.items }
     ensures files { OnOk result (over (B.files base.now) overlay.new
         ≡ each_carried old.now new.now (over (B.files base.now) overlay.old) moved.items) }
     ensures accepts { OnOk result (list_any (breaks old.now new.now) moved.items ≡ false) }
-    ensures cause { IfErr result (λ fault. fault ≢ ChangeFault.NoMemory → fault ≡ ChangeFault.PathTooLong) }
-    ensures refuses { IfErr result (λ fault. fault ≢ ChangeFault.NoMemory → list_any (breaks old.now new.now) moved.items ≡ true) }
+    ensures refuses { IfErr result (λ fault. fault ≢ CarryFault.NoMemory → list_any (breaks old.now new.now) moved.items ≡ true) }
 {
     for path in moved {
         let place = carried_path(overlay.allocator(), &path, old, new)?;
@@ -84,22 +82,21 @@ fn carry_each<B: FileTree>(
 }
 
 impl WorkCopy {
-    /// What is to be said of the paths over the commit alone where each file below the old path is carried to the same place below the new
-    /// one.
+    /// Returns an overlay over the commit alone that shows the files after a directory's rename.
     ///
-    /// `PathTooLong` comes where one would come to stand at what is no path, and `NoMemory` where a growth was refused.
+    /// `PathTooLong` if a file would be at what is not a path, and `NoMemory` if an allocation
+    /// fails.
     pub(crate) fn carried<N: Naming + Drop>(
         &self,
         store: &Store<N>,
         old: &Path,
         new: &Path,
-    ) -> Result<Overlay, ChangeFault>
+    ) -> Result<Overlay, CarryFault>
         requires { FitsIn store.now self.now }
         ensures files { IfOk result (λ overlay. over (commit_files store.now self.now.root) overlay
             ≡ each_carried old.now new.now (means store.now self.now) (below old.now (paths (means store.now self.now)))) }
         ensures accepts { IfOk result (λ _. list_any (breaks old.now new.now) (below old.now (paths (means store.now self.now))) ≡ false) }
-        ensures cause { IfErr result (λ fault. fault ≢ ChangeFault.NoMemory → fault ≡ ChangeFault.PathTooLong) }
-        ensures refuses { IfErr result (λ fault. fault ≢ ChangeFault.NoMemory
+        ensures refuses { IfErr result (λ fault. fault ≢ CarryFault.NoMemory
             → list_any (breaks old.now new.now) (below old.now (paths (means store.now self.now))) ≡ true) }
     {
         let moved = self.list_below(store, old)?;

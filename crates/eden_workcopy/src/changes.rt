@@ -1,4 +1,4 @@
-//! Changes that are judged before they are made.
+//! Changes that are refused if the working copy has no room for them.
 
 ghost use Rattle.std.specs.Prelude.{◌≡◌, ◌≢◌, None, Some, IfOk, IfErr, OnOk, OnErr};
 ghost use Rattle.std.specs.FinMap as fin;
@@ -14,9 +14,9 @@ use eden_ids::{Kind, Naming, NoMemory, Path, path_law};
 use eden_objects::Store;
 
 impl WorkCopy {
-    /// The kind and the bytes of the file at a path.
+    /// Returns the kind and the bytes of the file at a path.
     ///
-    /// Refused, in this order, as `NotADirectory`, `IsADirectory` or `NoEntry`. It takes no memory.
+    /// Refused, in this order, as `NotADirectory`, `IsADirectory` or `NoEntry`. Does not allocate.
     pub fn read<'a, N: Naming + Drop>(
         &'a self,
         store: &'a Store<N>,
@@ -30,10 +30,10 @@ impl WorkCopy {
         self.over(store).read(path)
     }
 
-    /// Puts a file at a path, in place of the one that stands there.
+    /// Puts a file at a path, replacing any there.
     ///
-    /// Refused, in this order, as `NotADirectory`, `IsADirectory` or `TooLarge`; `NoMemory` comes where a growth was refused. After a
-    /// refusal nothing has changed.
+    /// Refused, in this order, as `NotADirectory`, `IsADirectory` or `TooLarge`. `NoMemory` if an
+    /// allocation fails. After a refusal nothing has changed.
     pub fn write<N: Naming + Drop>(
         &mut self,
         store: &Store<N>,
@@ -58,10 +58,10 @@ impl WorkCopy {
         Ok(())
     }
 
-    /// Takes the file at a path away.
+    /// Removes the file at a path.
     ///
-    /// Refused, in this order, as `NotADirectory`, `IsADirectory` or `NoEntry`; `NoMemory` comes where a growth was refused. After a
-    /// refusal nothing has changed.
+    /// Refused, in this order, as `NotADirectory`, `IsADirectory` or `NoEntry`. `NoMemory` if an
+    /// allocation fails. After a refusal nothing has changed.
     pub fn remove<N: Naming + Drop>(
         &mut self,
         store: &Store<N>,
@@ -83,11 +83,12 @@ impl WorkCopy {
         Ok(())
     }
 
-    /// Takes the file at a path away and puts it at another, in place of the one that stands there.
+    /// Moves the file at a path to another, replacing any there.
     ///
-    /// Refused, in this order, as `NotADirectory`, `IsADirectory` or `NoEntry` for the old path, and, where the two differ, as
-    /// `NotADirectory` or `IsADirectory` for the new one, all judged before the change; `NoMemory` comes where a growth was refused. After
-    /// a refusal nothing has changed. A rename of a file to itself changes nothing.
+    /// Refused, in this order: for the old path as `NotADirectory`, `IsADirectory` or `NoEntry`;
+    /// for the new one, if it is another, as `NotADirectory` or `IsADirectory`. `NoMemory` if an
+    /// allocation fails. After a refusal nothing has changed. A rename of a file to itself changes
+    /// nothing.
     pub fn rename<N: Naming + Drop>(
         &mut self,
         store: &Store<N>,
@@ -119,11 +120,12 @@ impl WorkCopy {
 
     /// Moves each file below one path to the same place below another.
     ///
-    /// Refused, in this order and all judged before the change: as `NotADirectory` where a file stands at the old path or above it, or as
-    /// `NoEntry` where none stands below it; where the two paths differ, as `IntoItself` where the new one lies below the old one, as
-    /// `NotADirectory` or `IsADirectory` where a file stands at the new path or above it, or files below it, or as `PathTooLong` where a
-    /// file would come to stand at what is no path. `NoMemory` comes where a growth was refused. After a refusal nothing has changed. A
-    /// rename of a directory to itself changes nothing.
+    /// Refused, in this order: as `NotADirectory` if a file is at the old path or above it; as
+    /// `NoEntry` if no file is below it. If the new path is another: as `IntoItself` if it is below
+    /// the old one; as `NotADirectory` if a file is at the new path or above it; as `IsADirectory`
+    /// if a file is below it; as `PathTooLong` if a file would be at what is not a path. `NoMemory`
+    /// if an allocation fails. After a refusal nothing has changed. A rename of a directory to
+    /// itself changes nothing.
     pub fn rename_dir<N: Naming + Drop>(
         &mut self,
         store: &Store<N>,
@@ -154,7 +156,7 @@ impl WorkCopy {
         Ok(())
     }
 
-    /// A working copy that is equal to this one. `NoMemory` comes where a growth was refused.
+    /// Returns a working copy that is equal to this one. `NoMemory` if an allocation fails.
     pub fn copy(&self) -> Result<WorkCopy, NoMemory>
         ensures { IfOk result (λ work. work ≡ self.now) }
     {

@@ -1,17 +1,18 @@
-//! What renamed directories and an overlay say together, over the commit alone.
+//! Renamed directories and an overlay, made one overlay over the commit alone.
 
 ghost use Rattle.std.specs.Prelude.{◌≡◌, IfOk};
 ghost use Rattle.eden_objects.specs.Files.{commit_files};
 ghost use Rattle.eden_workcopy.specs.internal.Agreements.{flat_or};
-ghost use Rattle.eden_workcopy.specs.Layers.{over};
+ghost use Rattle.eden_overlay.specs.Layers.{over};
 ghost use Rattle.eden_workcopy.specs.Meanings.{means, FitsIn};
 
-use crate::overlay::Overlay;
+use crate::reroot::keep_listed;
 use crate::work::WorkCopy;
 use eden_ids::{Naming, NoMemory};
 use eden_objects::Store;
+use eden_overlay::Overlay;
 
-/// The overlay that was made, or else the one that is there.
+/// Returns the overlay that was made, or else the one that is there.
 pub(crate) fn flat_or<'a>(flat: &'a Option<Overlay>, overlay: &'a Overlay) -> &'a Overlay
     ensures { result.now ≡ flat_or flat.now overlay.now }
 {
@@ -22,10 +23,10 @@ pub(crate) fn flat_or<'a>(flat: &'a Option<Overlay>, overlay: &'a Overlay) -> &'
 }
 
 impl WorkCopy {
-    /// What is to be said over the commit alone, so that the same files are seen; none where no directory was renamed, since the overlay says
-    /// just that then.
+    /// Returns an overlay over the commit alone that shows the same files.
     ///
-    /// It grows with the files that stand in renamed directories or stood there: the contents of those that are seen are copied.
+    /// `None` if no directory was renamed: then its own overlay is that. The work grows with the
+    /// files that renamed directories have or had. The contents of those that are seen are copied.
     pub(crate) fn flat<N: Naming + Drop>(
         &self,
         store: &Store<N>,
@@ -40,12 +41,11 @@ impl WorkCopy {
         commit.texts_law();
         let paths = self.moves.unsettled(&commit)?;
         let mut flat = self.overlay.copy()?;
-        self.overlay
-            .keep_listed(&self.base(store), &mut flat, &paths)?;
+        keep_listed(&self.base(store), &self.overlay, &mut flat, &paths)?;
         Ok(Some(flat))
     }
 
-    /// The same as an overlay of its own.
+    /// Returns the same as an owned overlay.
     pub(crate) fn flat_copy<N: Naming + Drop>(&self, store: &Store<N>) -> Result<Overlay, NoMemory>
         requires { FitsIn store.now self.now }
         ensures { IfOk result (λ overlay. over (commit_files store.now self.now.root) overlay ≡ means store.now self.now) }

@@ -3,20 +3,19 @@
 ghost use Rattle.std.specs.Prelude.{◌≡◌, IfOk};
 ghost use Rattle.eden_ids.specs.FileMaps.{paths};
 ghost use Rattle.eden_history.specs.Changes.{below};
-ghost use Rattle.eden_workcopy.specs.Listings.{admitted};
+ghost use Rattle.eden_overlay.specs.Listings.{admitted};
 ghost use Rattle.eden_workcopy.specs.Meanings.{means, FitsIn};
 
-use crate::weaving::weave;
 use crate::work::WorkCopy;
 use eden_globs::Filter;
 use eden_ids::{Naming, NoMemory, Path};
 use eden_objects::Store;
 
 impl WorkCopy {
-    /// The paths of the files that a filter admits, in byte order.
+    /// Returns the paths of the files that a filter admits, in byte order.
     ///
-    /// `NoMemory` comes where a growth was refused. The files of the commit are listed once,
-    /// where renamed directories show them, and woven with the paths that were changed.
+    /// `NoMemory` if an allocation fails. It lists the commit's files once, as renamed directories
+    /// show them, and weaves the changed paths in.
     pub fn list<N: Naming + Drop>(
         &self,
         store: &Store<N>,
@@ -26,14 +25,14 @@ impl WorkCopy {
         ensures { IfOk result (λ paths. paths.items ≡ admitted wanted.now (means store.now self.now)) }
     {
         let alloc = self.overlay.allocator();
-        let rows = self.base(store).list(alloc, wanted)?;
-        weave(alloc, rows, &mut self.overlay.entries(), wanted)
+        let listed = self.base(store).list(alloc, wanted)?;
+        self.overlay.list_over(listed, wanted)
     }
 
-    /// The paths of the files below a directory, in byte order.
+    /// Returns the paths of the files below a directory, in byte order.
     ///
-    /// `NoMemory` comes where a growth was refused. Of the commit the directories on the way
-    /// are searched and those below the path are read, and no others are.
+    /// `NoMemory` if an allocation fails. Of the commit it reads the directories on the way there
+    /// and those below the path.
     pub(crate) fn list_below<N: Naming + Drop>(
         &self,
         store: &Store<N>,
@@ -44,7 +43,7 @@ impl WorkCopy {
     {
         let alloc = self.overlay.allocator();
         let wanted = Filter::all(alloc);
-        let rows = self.base(store).list_below(alloc, top, &wanted)?;
-        weave(alloc, rows, &mut self.overlay.below(top), &wanted)
+        let listed = self.base(store).list_below(alloc, top, &wanted)?;
+        self.overlay.list_below_over(listed, top)
     }
 }

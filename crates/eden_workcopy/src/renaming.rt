@@ -1,16 +1,22 @@
-//! The rename of a directory that nothing stands against: what the overlay says is carried as a whole, and the files below it are seen at
-//! the new place.
+//! The rename of a directory, once nothing refuses it but perhaps the length of a path.
+//!
+//! What the overlay says is carried as a whole, and the files below the overlay are seen at the new
+//! place.
 
 ghost use Rattle.std.specs.Prelude.{◌≡◌, ◌≢◌, ◌++◌, ◌∷◌, ℕ, List, false, true, None, Some, IsSome, IfOk, IfErr, OnOk, OnErr, length};
 ghost use Rattle.std.specs.FinMap as fin;
+ghost use Rattle.std.specs.List.{list_any};
+ghost use Rattle.eden_ids.specs.FileMaps.{paths};
 ghost use Rattle.eden_ids.specs.Paths.{components, lies_below};
 ghost use Rattle.eden_ids.specs.Sameness.{same_bytes};
 ghost use Rattle.eden_ids.specs.Texts.{AreTexts};
-ghost use Rattle.eden_history.specs.Carried.{carried_files};
+ghost use Rattle.eden_overlay.specs.Carried.{breaks, carried_files};
+ghost use Rattle.eden_history.specs.Changes.{below};
 ghost use Rattle.eden_history.specs.DirRenames.{breaks_a_path, dir_renamed, rename_dir_fault, source_fault};
-ghost use Rattle.eden_moves.specs.Moves.{breaks, is_path};
+ghost use Rattle.eden_moves.specs.Moves.{is_path};
 ghost use Rattle.eden_objects.specs.Passing.{IsWithin};
-ghost use Rattle.eden_workcopy.specs.internal.Carrying.{way_fault, IsCarried};
+ghost use Rattle.eden_overlay.specs.Layers.{IsCarried};
+ghost use Rattle.eden_workcopy.specs.internal.Carrying.{each_carried, way_fault};
 ghost use Rattle.eden_workcopy.specs.Meanings.{base_of, means, FitsIn};
 
 use crate::work::WorkCopy;
@@ -18,15 +24,16 @@ use eden_history::ChangeFault;
 use eden_ids::{FileTree, Naming, Path, is_path, path_law};
 use eden_moves::{Moved, Moves, joined};
 use eden_objects::{Passes, Size, Store};
+use eden_overlay::CarryFault;
 
-/// How many components a path has.
+/// Returns how many components a path has.
 fn depth(path: &[u8]) -> usize
     ensures { result ≡ length (components path.now) }
 {
     path.split(|byte| *byte == b'/').count()
 }
 
-/// Whether a directory's path is one, and so is that of each file below it, where these go no further than a size tells.
+/// Returns whether a directory and each file below it have paths, if these are within a size.
 fn has_room(directory: &[u8], size: Size) -> bool
     ensures { result ≡ true → (rest : List ℕ) → IsWithin size rest → is_path (directory.now ++ 47 ∷ rest) ≡ true }
 {
@@ -35,7 +42,7 @@ fn has_room(directory: &[u8], size: Size) -> bool
         && depth(directory).saturating_add(size.depth) <= 64
 }
 
-/// The same of a directory whose path is told in two parts, one behind the other.
+/// Returns the same of a directory whose path is made of two parts.
 fn has_room_behind(front: &[u8], rest: &[u8], size: Size) -> bool
     ensures { result ≡ true → (file : List ℕ) → IsWithin size file → is_path ((front.now ++ rest.now) ++ 47 ∷ file) ≡ true }
 {
@@ -45,7 +52,7 @@ fn has_room_behind(front: &[u8], rest: &[u8], size: Size) -> bool
     }
 }
 
-/// Whether the bytes of two parts, the one behind the other, are a path.
+/// Returns whether two parts, one after the other, are a path.
 fn is_path_of(front: &[u8], rest: &[u8]) -> bool
     ensures { result ≡ is_path (front.now ++ rest.now) }
 {
@@ -55,7 +62,8 @@ fn is_path_of(front: &[u8], rest: &[u8]) -> bool
     }
 }
 
-/// What has a place below the new path, of that which stands below the old one. A search for what has none passes it over.
+/// The files below the old path that have a path below the new one. A search for others passes
+/// them.
 #[derive(Drop)]
 struct Placed<'a> {
     old: &'a Path,
@@ -63,7 +71,7 @@ struct Placed<'a> {
 }
 
 impl Passes for Placed<'_> {
-    ghost use Rattle.eden_history.specs.Carried.{carried};
+    ghost use Rattle.eden_overlay.specs.Carried.{carried};
     ghost use Rattle.eden_moves.specs.Moves.{is_path};
 
     ghost passes = { λ placed path. is_path (carried placed.old.now placed.new.now path) };
@@ -84,8 +92,9 @@ impl Passes for Placed<'_> {
     }
 }
 
-/// Whether what a file below the old path would stand at below the new one is no path. It takes no memory, and reads no directory whose size
-/// tells that there is room for its files.
+/// Returns whether a file below the old path would have no path below the new one.
+///
+/// Does not allocate. It reads no directory whose size says that there is room for its files.
 fn breaks_a_path<N: Naming + Drop>(base: &Moved<'_, N>, old: &Path, new: &Path) -> bool
     ensures { result ≡ breaks_a_path base.now old.now new.now }
 {
@@ -93,19 +102,19 @@ fn breaks_a_path<N: Naming + Drop>(base: &Moved<'_, N>, old: &Path, new: &Path) 
 }
 
 impl WorkCopy {
-    /// Moves what the overlay says below one path to the same place below another, and what is seen below the overlay with it. The renamed
-    /// directories stay as they are where no file below the overlay stands in this one, nor at the new place.
+    /// Moves what the overlay says below one path to below another, and what is seen below it too.
+    ///
+    /// The renamed directories stay as they are if no file below the overlay is at either place.
     fn carry_layers<N: Naming + Drop>(
         &mut self,
         store: &Store<N>,
         old: &Path,
         new: &Path,
-    ) -> Result<(), ChangeFault>
+    ) -> Result<(), CarryFault>
         ensures root { self.new.root ≡ self.old.root }
         ensures beneath { OnOk result (base_of store.now self.new ≡ carried_files (base_of store.now self.old) old.now new.now) }
         ensures over { OnOk result (IsCarried self.old.overlay old.now new.now self.new.overlay) }
         ensures accepts { OnOk result ((p : List ℕ) → IsSome (fin.get self.old.overlay p) → lies_below p old.now ≡ true → breaks old.now new.now p ≡ false) }
-        ensures cause { IfErr result (λ fault. fault ≢ ChangeFault.NoMemory → fault ≡ ChangeFault.PathTooLong) }
         ensures same { OnErr result (self.new ≡ self.old) }
     {
         store.commit_files(self.root).texts_law();
@@ -123,50 +132,51 @@ impl WorkCopy {
         Ok(())
     }
 
-    /// Moves each file below one path to the same place below another, seen or not. `PathTooLong` comes where a path would come to be none,
-    /// and `NoMemory` where a growth was refused. Both change nothing.
+    /// Moves each file below one path to the same place below another, seen or hidden.
     ///
-    /// Of what stands below the overlay no directory is read whose size tells that there is room for its files at the new path.
+    /// `PathTooLong` if one would be at what is not a path, and `NoMemory` if an allocation fails.
+    /// Both change nothing. Of the commit no directory is read whose size says that there is room
+    /// for its files at the new path.
     fn carry_whole<N: Naming + Drop>(
         &mut self,
         store: &Store<N>,
         old: &Path,
         new: &Path,
-    ) -> Result<(), ChangeFault>
+    ) -> Result<(), CarryFault>
         requires { FitsIn store.now self.old }
         ensures root { self.new.root ≡ self.old.root }
         ensures below { OnOk result (AreTexts (base_of store.now self.new)) }
         ensures accepts { OnOk result (breaks_a_path (means store.now self.old) old.now new.now ≡ false) }
         ensures files { OnOk result (means store.now self.new ≡ carried_files (means store.now self.old) old.now new.now) }
-        ensures cause { IfErr result (λ fault. fault ≢ ChangeFault.NoMemory → fault ≡ ChangeFault.PathTooLong) }
         ensures same { OnErr result (self.new ≡ self.old) }
     {
         path_law(new);
         if breaks_a_path(&self.base(store), old, new) {
-            return Err(ChangeFault::PathTooLong);
+            return Err(CarryFault::PathTooLong);
         }
         self.carry_layers(store, old, new)?;
         Ok(())
     }
 
-    /// Moves each file below one path that is seen there to the same place below another, and says all over the commit alone.
-    /// `PathTooLong` comes where a path would come to be none, and `NoMemory` where a growth was refused. Both change nothing.
+    /// Moves each file that is seen below one path, and makes the overlay lie over the commit
+    /// alone.
+    ///
+    /// `PathTooLong` if one would be at what is not a path, and `NoMemory` if an allocation fails.
+    /// Both change nothing.
     fn carry_files<N: Naming + Drop>(
         &mut self,
         store: &Store<N>,
         old: &Path,
         new: &Path,
-    ) -> Result<(), ChangeFault>
-        requires fits { FitsIn store.now self.old }
-        requires source { source_fault (means store.now self.old) old.now ≡ None }
-        requires distinct { same_bytes old.now new.now ≡ false }
-        requires way { way_fault (means store.now self.old) old.now new.now ≡ None }
+    ) -> Result<(), CarryFault>
+        requires { FitsIn store.now self.old }
         ensures root { self.new.root ≡ self.old.root }
         ensures below { OnOk result (AreTexts (base_of store.now self.new)) }
-        ensures accepts { OnOk result (rename_dir_fault (means store.now self.old) old.now new.now ≡ None) }
-        ensures files { OnOk result (means store.now self.new ≡ dir_renamed (means store.now self.old) old.now new.now) }
-        ensures refuses { IfErr result (λ fault. fault ≢ ChangeFault.NoMemory
-            → rename_dir_fault (means store.now self.old) old.now new.now ≡ Some fault) }
+        ensures accepts { OnOk result (list_any (breaks old.now new.now) (below old.now (paths (means store.now self.old))) ≡ false) }
+        ensures files { OnOk result (means store.now self.new
+            ≡ each_carried old.now new.now (means store.now self.old) (below old.now (paths (means store.now self.old)))) }
+        ensures refuses { IfErr result (λ fault. fault ≢ CarryFault.NoMemory
+            → list_any (breaks old.now new.now) (below old.now (paths (means store.now self.old))) ≡ true) }
         ensures same { OnErr result (self.new ≡ self.old) }
     {
         store.closed_law();
@@ -175,10 +185,11 @@ impl WorkCopy {
         Ok(())
     }
 
-    /// Moves each file below one path to the same place below another, where nothing stands against that but that a path may come to be
-    /// none: that is refused as `PathTooLong`. `NoMemory` comes where a growth was refused. Both change nothing.
+    /// Moves each file below one path to the same place below another.
     ///
-    /// Where the path of a file that is not seen would come to be none, each file that is seen is carried by itself.
+    /// `PathTooLong` if one would be at what is not a path, and `NoMemory` if an allocation fails.
+    /// Both change nothing. Nothing else refuses the rename. If only a hidden file would have no
+    /// path, each file that is seen is moved by itself.
     pub(crate) fn carry_dir<N: Naming + Drop>(
         &mut self,
         store: &Store<N>,
@@ -199,8 +210,12 @@ impl WorkCopy {
     {
         match self.carry_whole(store, old, new) {
             Ok(()) => Ok(()),
-            Err(ChangeFault::NoMemory) => Err(ChangeFault::NoMemory),
-            Err(_) => self.carry_files(store, old, new),
+            Err(CarryFault::NoMemory) => Err(ChangeFault::NoMemory),
+            Err(CarryFault::PathTooLong) => match self.carry_files(store, old, new) {
+                Ok(()) => Ok(()),
+                Err(CarryFault::NoMemory) => Err(ChangeFault::NoMemory),
+                Err(CarryFault::PathTooLong) => Err(ChangeFault::PathTooLong),
+            },
         }
     }
 }

@@ -6,20 +6,20 @@ ghost use Rattle.eden_ids.specs.FileMaps.{FileMap, differ, file_at, has, listing
 ghost use Rattle.eden_objects.specs.Commits.{commit_map};
 ghost use Rattle.eden_objects.specs.Files.{commit_files};
 ghost use Rattle.eden_workcopy.specs.internal.Agreements.{IsKept, IsLean, kept_below, kept_each, kept_entry};
-ghost use Rattle.eden_workcopy.specs.Layers.{over};
+ghost use Rattle.eden_overlay.specs.Layers.{over};
 ghost use Rattle.eden_workcopy.specs.Meanings.{means, touched_set, FitsIn};
 
 use crate::flat::flat_or;
-use crate::overlay::Overlay;
 use crate::work::WorkCopy;
 use crate::working::lent;
 use eden_ids::{Content, FileTree, Id, Naming, NoMemory, Path, is_same_file};
 use eden_moves::Moves;
 use eden_objects::{CommitFault, Store};
+use eden_overlay::Overlay;
 use eden_treediff::diff;
 
-/// Whether this file is seen at a path where an overlay lies over a tree.
-#[tactic(auto, using(crate::proofs::Works::file_told, crate::proofs::Works::file_below))]
+/// Returns whether this file is seen at a path of a tree with an overlay over it.
+#[tactic(auto, using(eden_overlay::proofs::Overs::file_told, eden_overlay::proofs::Overs::file_below))]
 fn is_seen<B: FileTree>(base: &B, overlay: &Overlay, path: &[u8], file: &Option<Content>) -> bool
     ensures { result ≡ same_file file.now (file_at (over (B.files base.now) overlay.now) path.now) }
 {
@@ -29,7 +29,7 @@ fn is_seen<B: FileTree>(base: &B, overlay: &Overlay, path: &[u8], file: &Option<
     }
 }
 
-/// Takes over what is said of a touched path, unless the new commit has the same file there.
+/// Adds what is said of a touched path, unless the same file is seen there already.
 fn keep_entry<B: FileTree>(
     base: &B,
     next: &mut Overlay,
@@ -46,7 +46,7 @@ fn keep_entry<B: FileTree>(
     Ok(())
 }
 
-/// Says of a path, unless it was touched, what the old commit has there.
+/// Says of a path what a tree has there, unless the path was touched.
 fn keep_below<R: FileTree>(
     root: &R,
     touched: &Overlay,
@@ -64,46 +64,47 @@ fn keep_below<R: FileTree>(
     Ok(())
 }
 
-impl Overlay {
-    /// What the same touched paths say over another commit.
-    fn over_another<B: FileTree>(&self, base: &B) -> Result<Overlay, NoMemory>
-        ensures { IfOk result (λ next. (root : FileMap) → IsKept (over root self.now) (B.files base.now) next (fin.keys self.now)) }
-    {
-        let mut next = Overlay::new(self.allocator());
-        for entry in self.entries() {
-            keep_entry(base, &mut next, entry)?;
-        }
-        Ok(next)
+/// Returns what the same touched paths say over another commit.
+fn over_another<B: FileTree>(overlay: &Overlay, base: &B) -> Result<Overlay, NoMemory>
+    ensures { IfOk result (λ next. (root : FileMap) → IsKept (over root overlay.now) (B.files base.now) next (fin.keys overlay.now)) }
+{
+    let mut next = Overlay::new(overlay.allocator());
+    for entry in overlay.entries() {
+        keep_entry(base, &mut next, entry)?;
     }
+    Ok(next)
+}
 
-    /// Says in another overlay what a tree has at the untouched ones of some paths: where they are those on which it differs from the tree
-    /// below the other overlay, the same is seen over that.
-    pub(crate) fn keep_listed<R: FileTree>(
-        &self,
-        root: &R,
-        next: &mut Overlay,
-        paths: &[Path],
-    ) -> Result<(), NoMemory>
-        ensures each { OnOk result (next.new ≡ kept_each (R.files root.now) self.now next.old paths.now) }
-        ensures files { OnOk result ((base : FileMap) → paths.now ≡ listing (differ (R.files root.now) base)
-            → IsKept (over (R.files root.now) self.now) base next.old (fin.keys self.now) → over base next.new ≡ over (R.files root.now) self.now) }
-        ensures lean { OnOk result ((base : FileMap) → paths.now ≡ listing (differ (R.files root.now) base)
-            → IsKept (over (R.files root.now) self.now) base next.old (fin.keys self.now) → IsLean (over (R.files root.now) self.now) base next.new) }
-    {
-        for path in paths {
-            keep_below(root, self, next, path)?;
-        }
-        Ok(())
+/// Says in another overlay what a tree has at those of some paths that were not touched.
+///
+/// If these are the paths at which the tree differs from the one below the other overlay, the same
+/// files are seen there.
+pub(crate) fn keep_listed<R: FileTree>(
+    root: &R,
+    touched: &Overlay,
+    next: &mut Overlay,
+    paths: &[Path],
+) -> Result<(), NoMemory>
+    ensures each { OnOk result (next.new ≡ kept_each (R.files root.now) touched.now next.old paths.now) }
+    ensures files { OnOk result ((base : FileMap) → paths.now ≡ listing (differ (R.files root.now) base)
+        → IsKept (over (R.files root.now) touched.now) base next.old (fin.keys touched.now) → over base next.new ≡ over (R.files root.now) touched.now) }
+    ensures lean { OnOk result ((base : FileMap) → paths.now ≡ listing (differ (R.files root.now) base)
+        → IsKept (over (R.files root.now) touched.now) base next.old (fin.keys touched.now) → IsLean (over (R.files root.now) touched.now) base next.new) }
+{
+    for path in paths {
+        keep_below(root, touched, next, path)?;
     }
+    Ok(())
 }
 
 impl WorkCopy {
-    /// A working copy that holds the same files over another commit. Of its paths those alone count as touched at which it differs from
-    /// that commit.
+    /// Returns a working copy that holds the same files over another commit.
     ///
-    /// `NoCommit` comes where the id is no commit's, `NoMemory` where a growth was refused. Only the paths that a change touched and those
-    /// on which the two commits differ are looked at, each in one of the commits, and bytes are copied only where the new commit has
-    /// another file. What stands in renamed directories, and stood there, counts as touched: no directory of the new working copy is renamed.
+    /// Its touched paths are among those at which it differs from that commit, and no directory of
+    /// it is renamed. `NoCommit` if the id is not that of a commit in the store, and `NoMemory` if
+    /// an allocation fails. It looks at the touched paths, at those on which the two commits
+    /// differ, and at the files that renamed directories have or had. It copies bytes only if the
+    /// new commit has another file.
     pub fn reroot<N: Naming + Drop>(
         &self,
         store: &Store<N>,
@@ -123,8 +124,13 @@ impl WorkCopy {
         let flat = self.flat(store)?;
         let touched = flat_or(&flat, &self.overlay);
         let base = store.commit_files(commit);
-        let mut overlay = touched.over_another(&base)?;
-        touched.keep_listed(&store.commit_files(self.root), &mut overlay, &paths)?;
+        let mut overlay = over_another(touched, &base)?;
+        keep_listed(
+            &store.commit_files(self.root),
+            touched,
+            &mut overlay,
+            &paths,
+        )?;
         Ok(WorkCopy {
             root: commit,
             moves: Moves::new(alloc),

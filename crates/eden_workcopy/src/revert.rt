@@ -1,4 +1,4 @@
-//! A path that goes back to what the root's commit has there.
+//! The changes at a path, taken back.
 
 ghost use Rattle.std.specs.Prelude.{◌≡◌, ◌≢◌, false, None, Some, is_some, IfOk, IfErr, OnOk, OnErr};
 ghost use Rattle.eden_ids.specs.FileMaps.{file_at, put_option};
@@ -13,7 +13,7 @@ use eden_ids::{Content, Naming, Path, has_file};
 use eden_objects::Store;
 
 impl WorkCopy {
-    /// Why the root's file can't stand at a path.
+    /// Returns why the file of the root's commit can't be at a path.
     fn revert_fault<N: Naming + Drop>(&self, store: &Store<N>, path: &Path) -> Option<ChangeFault>
         ensures { result ≡ revert_fault (means store.now self.now) (commit_files store.now self.now.root) path.now }
     {
@@ -25,7 +25,7 @@ impl WorkCopy {
         }
     }
 
-    /// Says of a path what the root's commit has there.
+    /// Puts at a path what the root's commit has there, as an entry of the overlay.
     fn restore<N: Naming + Drop>(
         &mut self,
         store: &Store<N>,
@@ -44,11 +44,12 @@ impl WorkCopy {
         Ok(())
     }
 
-    /// Takes every change at a path back: the file of the root's commit stands there again, or none where it has none.
+    /// Takes every change at a path back: it holds what the root's commit has there, a file or
+    /// none.
     ///
-    /// Where the root's commit has a file there, it is refused, in this order, as `NotADirectory` or `IsADirectory`. After a refusal
-    /// nothing has changed. It takes no memory, but for a path below a directory that was renamed, or below the place that one was renamed to:
-    /// `NoMemory` may come there alone.
+    /// If the commit has a file there and the path has no room for it: `NotADirectory` or
+    /// `IsADirectory`, in this order. After a refusal nothing has changed. It takes no memory,
+    /// except below a renamed directory's old or new path: there `NoMemory` if an allocation fails.
     pub fn revert<N: Naming + Drop>(
         &mut self,
         store: &Store<N>,

@@ -1,4 +1,4 @@
-//! The paths that a change touched, and one that is set.
+//! The touched paths, and one that is set.
 
 ghost use Rattle.std.specs.Prelude.{◌≡◌, ◌++◌, ◌∷◌, [], List, IfOk, OnOk, OnErr, is_some};
 ghost use Rattle.std.specs.FinMap as fin;
@@ -9,7 +9,7 @@ ghost use Rattle.eden_workcopy.specs.Meanings.{means, touched_of};
 use crate::work::WorkCopy;
 use eden_ids::{Content, NoMemory, Path};
 
-/// Adds the path of an entry, with whether a file stands there.
+/// Adds the path of an entry, and whether a file is there.
 fn add(touched: &mut Vec<(Path, bool)>, entry: &(Path, Option<Content>)) -> Result<(), NoMemory>
     ensures { OnOk result (touched.new.items ≡ touched.old.items ++ ((entry.now.0, is_some entry.now.1) ∷ [])) }
 {
@@ -19,11 +19,11 @@ fn add(touched: &mut Vec<(Path, bool)>, entry: &(Path, Option<Content>)) -> Resu
 }
 
 impl WorkCopy {
-    /// The paths that a change touched, in byte order, each with whether a file stands there now. Elsewhere the working copy holds what its
-    /// root's commit holds, where renamed directories show it.
+    /// Returns the touched paths, in byte order, each with whether a file is there now.
     ///
-    /// `NoMemory` comes where a growth was refused.
-    #[tactic(auto, using(crate::proofs::Touched::seen_more))]
+    /// At any other path it holds what its root's commit holds, as renamed directories show it.
+    /// `NoMemory` if an allocation fails.
+    #[tactic(auto, using(eden_overlay::proofs::Touched::seen_more))]
     pub fn touched(&self) -> Result<Vec<(Path, bool)>, NoMemory>
         ensures { IfOk result (λ touched. touched.items ≡ touched_of self.now) }
     {
@@ -34,7 +34,7 @@ impl WorkCopy {
         Ok(touched)
     }
 
-    /// The same as `set`, where the overlay is told too.
+    /// Does what `set` does. Its contract says what becomes of the overlay too.
     pub(crate) fn put(&mut self, path: Path, file: Option<Content>) -> Result<(), NoMemory>
         ensures root { self.new.root ≡ self.old.root }
         ensures moves { self.new.moves ≡ self.old.moves }
@@ -46,10 +46,10 @@ impl WorkCopy {
         Ok(())
     }
 
-    /// Says what stands at a path, or that nothing does, without judging whether it can.
+    /// Puts a file at a path, or removes the one there, and asks nothing.
     ///
-    /// The caller keeps the condition that root and changes make a file map: no file may stand above or below another. `NoMemory` comes
-    /// where a growth was refused, and changes nothing.
+    /// The caller sees to it that root and changes make a file map: no file above or below another.
+    /// `NoMemory` if an allocation fails; then nothing changes.
     pub fn set(&mut self, path: Path, file: Option<Content>) -> Result<(), NoMemory>
         ensures root { self.new.root ≡ self.old.root }
         ensures moves { self.new.moves ≡ self.old.moves }

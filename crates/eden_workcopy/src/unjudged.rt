@@ -1,4 +1,4 @@
-//! Changes that were judged before.
+//! Changes that refuse nothing: the caller has asked before.
 
 ghost use Rattle.std.specs.Prelude.{◌≡◌, None, Some, List, OnOk, OnErr};
 ghost use Rattle.std.specs.FinMap as fin;
@@ -12,10 +12,10 @@ use eden_ids::{Content, Kind, Naming, NoMemory, Path, path_law};
 use eden_objects::Store;
 
 impl WorkCopy {
-    /// Puts a file at a path, in place of the one that stands there, without judging whether it can stand there.
+    /// Puts a file at a path, replacing any there, and does not check that it can be there.
     ///
-    /// Where nothing stands against it, as `write_fault` tells, root and changes still make a file map. `NoMemory` comes where a growth
-    /// was refused, and changes nothing.
+    /// If `write_fault` reports nothing, root and changes still make a file map. `NoMemory` if an
+    /// allocation fails; then nothing changes.
     pub fn put_file(&mut self, path: &Path, kind: Kind, bytes: &[u8]) -> Result<(), NoMemory>
         ensures root { self.new.root ≡ self.old.root }
         ensures files { OnOk result ((held : List Held)
@@ -31,9 +31,10 @@ impl WorkCopy {
         Ok(())
     }
 
-    /// Takes the file at a path away, if one stands there.
+    /// Removes the file at a path, if there is one.
     ///
-    /// Root and changes still make a file map. `NoMemory` comes where a growth was refused, and changes nothing.
+    /// Root and changes still make a file map. `NoMemory` if an allocation fails; then nothing
+    /// changes.
     pub fn take_file(&mut self, path: &Path) -> Result<(), NoMemory>
         ensures root { self.new.root ≡ self.old.root }
         ensures files { OnOk result ((held : List Held) → means held self.new ≡ fin.remove (means held self.old) path.now) }
@@ -45,11 +46,11 @@ impl WorkCopy {
         Ok(())
     }
 
-    /// Takes the file at one path away and puts it at another, in place of the one that stands there, without judging whether it can stand
-    /// there. Where the two paths are one, or no file stands at the first, it changes nothing.
+    /// Moves the file at one path to another, and does not ask whether it can be there.
     ///
-    /// Where nothing stands against it, as `rename_fault` tells, root and changes still make a file map. `NoMemory` comes where a growth
-    /// was refused, and changes nothing.
+    /// It replaces the file there. If the two paths are the same, or there is no file at the first,
+    /// nothing changes. If `rename_fault` reports nothing, root and changes still make a file map.
+    /// `NoMemory` if an allocation fails; then nothing changes.
     pub fn move_file<N: Naming + Drop>(
         &mut self,
         store: &Store<N>,
@@ -72,7 +73,7 @@ impl WorkCopy {
         Ok(())
     }
 
-    /// The same, where the caller has a copy of the file that stands at the first path.
+    /// Moves a file as `move_file` does, if `content` is the file at the first path.
     pub fn shift_file(&mut self, old: &Path, new: &Path, content: Content) -> Result<(), NoMemory>
         ensures root { self.new.root ≡ self.old.root }
         ensures files { OnOk result ((held : List Held) → file_at (means held self.old) old.now ≡ Some content

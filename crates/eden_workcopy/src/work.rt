@@ -1,4 +1,4 @@
-//! A working copy, and what is asked of it over a store.
+//! A working copy, and why a change of it is refused.
 
 ghost use Rattle.std.specs.Prelude.{◌≡◌, ◌≢◌, None, Some, IfOk, IfErr, OnOk, OnErr, is_some, if◌then◌else◌, nat_lt, nat_eq, ◌<◌, ◌&&◌, take, length};
 ghost use Rattle.std.specs.List.{slice_index_or};
@@ -11,19 +11,18 @@ ghost use Rattle.eden_history.specs.Renames.{absent_fault, rename_fault, renamed
 ghost use Rattle.eden_ids.specs.Sameness.{same_bytes};
 ghost use Rattle.eden_workcopy.specs.Meanings.{means, FitsIn};
 
-use crate::overlay::Overlay;
 use eden_history::{ChangeFault, absent_fault, place_fault, rename_fault, write_fault};
 use eden_ids::{Content, Id, Kind, Naming, NoMemory, Path, Sequence};
 use eden_moves::Moves;
 use eden_objects::{NoCommit, Store};
+use eden_overlay::Overlay;
 use std::alloc::Global;
 
-/// The files of a commit, directories of it that were renamed, and over them the files that were written, renamed or removed since.
+/// The files of a commit, and over them those that were written, removed or renamed since.
 ///
-/// It keeps the commit's id, its root, which of the commit's directories are seen where, and what became of each path that a change touched.
-/// What it holds is told over a store that has the root's commit. Condition of each call that takes a store: the store has it, and there root
-/// and changes make a file map, as they do in the store over which the working copy was made and changed, and in each that has all objects of
-/// that one.
+/// It holds files only together with a store that has its root's commit. A call that takes a store
+/// needs that there root and changes make a file map. They do in the store over which the working
+/// copy was made and changed, and in each store that has all objects of that one.
 #[derive(Drop)]
 pub struct WorkCopy {
     pub(crate) root: Id,
@@ -32,9 +31,9 @@ pub struct WorkCopy {
 }
 
 impl WorkCopy {
-    /// A working copy that holds the files of a commit.
+    /// Returns a working copy that holds the files of a commit.
     ///
-    /// `NoCommit` comes where the id is no commit's. It takes no memory.
+    /// `NoCommit` if the id is not that of a commit in the store. Does not allocate.
     #[tactic(auto, using(crate::proofs::Works::new_files, crate::proofs::Works::new_fits, eden_history::proofs::Committed::commit_unmapped))]
     pub fn new<N: Naming + Drop>(
         alloc: Global,
@@ -58,23 +57,23 @@ impl WorkCopy {
         }
     }
 
-    /// The commit over which the changes were made.
+    /// Returns the commit over which the changes were made.
     pub fn root(&self) -> Id
         ensures { result ≡ self.now.root }
     {
         self.root
     }
 
-    /// Which directories of the commit were renamed, and where they are seen. Where none was the commit's files are seen at their own paths.
+    /// Returns which directories of the commit were renamed, and where they are seen.
     pub fn moves(&self) -> &Moves
         ensures { result.now ≡ self.now.moves }
     {
         &self.moves
     }
 
-    /// The kind and the bytes of the file at a path, if one stands there.
+    /// Returns the kind and the bytes of the file at a path.
     ///
-    /// Unlike `read` it does not tell why none does. It takes no memory.
+    /// `None` if there is no file, for whatever reason: `read` says why. Does not allocate.
     pub fn file<'a, N: Naming + Drop>(
         &'a self,
         store: &'a Store<N>,
@@ -85,7 +84,9 @@ impl WorkCopy {
         self.over(store).file(path)
     }
 
-    /// Why no file can stand at a path: a file stands above it, or files stand below it. It takes no memory.
+    /// Returns why no file can be at a path: a file is above it, or files are below it.
+    ///
+    /// Does not allocate.
     pub fn place_fault<N: Naming + Drop>(
         &self,
         store: &Store<N>,
@@ -96,7 +97,7 @@ impl WorkCopy {
         place_fault(&self.over(store), path)
     }
 
-    /// Why no file at a path can be read, removed or renamed. It takes no memory.
+    /// Returns why no file at a path can be read, removed or renamed. Does not allocate.
     pub fn absent_fault<N: Naming + Drop>(
         &self,
         store: &Store<N>,
@@ -107,7 +108,7 @@ impl WorkCopy {
         absent_fault(&self.over(store), path)
     }
 
-    /// Why bytes can't be written at a path. It takes no memory.
+    /// Returns why these bytes can't be written at a path. Does not allocate.
     pub fn write_fault<N: Naming + Drop>(
         &self,
         store: &Store<N>,
@@ -119,7 +120,9 @@ impl WorkCopy {
         write_fault(&self.over(store), path, bytes)
     }
 
-    /// Why a file can't be renamed: the old path is judged first, and where the two are one, the new one is not. It takes no memory.
+    /// Returns why a file can't be renamed. Does not allocate.
+    ///
+    /// What refuses the old path comes first. If both paths are the same, the new one is not asked.
     pub fn rename_fault<N: Naming + Drop>(
         &self,
         store: &Store<N>,

@@ -1,26 +1,23 @@
-//! A working copy over its store: what is asked of its files, where the root's commit is found once for all questions.
+//! A working copy together with its store: a tree of files that is asked.
 
-ghost use Rattle.std.specs.Prelude.{◌≡◌, ◌∷◌, ◌++◌, [], Some, None, IfOk, IfErr, is_some};
-ghost use Rattle.std.specs.List.{list_any};
+ghost use Rattle.std.specs.Prelude.{◌≡◌, Some, None, IfOk, IfErr};
 ghost use Rattle.eden_ids.specs.FileMaps.{file_at, has_file_below, lent};
 ghost use Rattle.eden_history.specs.Renames.{absent_fault};
-ghost use Rattle.eden_workcopy.specs.Layers.{over};
-ghost use Rattle.eden_workcopy.specs.internal.Blocks.{before};
+ghost use Rattle.eden_overlay.specs.Layers.{over};
 ghost use Rattle.eden_workcopy.specs.Meanings.{base_of, means};
 
-use crate::entries_walk::Walk;
-use crate::overlay::Overlay;
 use crate::work::WorkCopy;
-use arrayvec::ArrayVec;
 use eden_history::{ChangeFault, place_fault};
 use eden_ids::{Content, FileTree, Kind, Naming, NoMemory, Path};
 use eden_moves::Moved;
 use eden_objects::{Passes, Size, Store};
+use eden_overlay::Overlay;
 use std::marker::Model;
 
-/// A working copy over its store: the root's commit, found once, directories of it that were renamed, and what was changed over it.
+/// A working copy together with its store: the tree of files that it holds there.
 ///
-/// Its value is the file map that it holds there. It borrows both, and takes no memory.
+/// Its value is that file map. It borrows both, takes no memory, and finds the root's commit once
+/// for all questions.
 #[derive(Drop)]
 pub struct Working<'a, N: Naming + Drop> {
     base: Moved<'a, N>,
@@ -32,7 +29,7 @@ impl<'a, N: Naming + Drop> Model for Working<'a, N> {
     ghost use Rattle.std.specs.FinMap as fin;
     ghost use Rattle.eden_ids.specs.contracts.content.Content as content;
     ghost use Rattle.eden_ids.specs.FileMaps.{FileMap};
-    ghost use Rattle.eden_workcopy.specs.Layers.{over};
+    ghost use Rattle.eden_overlay.specs.Layers.{over};
 
     ghost Value = { FileMap };
 
@@ -41,7 +38,7 @@ impl<'a, N: Naming + Drop> Model for Working<'a, N> {
     ghost view = { λ w. over w.base w.overlay.now };
 }
 
-/// The kind and the bytes of a file.
+/// Returns the kind and the bytes of a file.
 pub(crate) fn lent(file: &Option<Content>) -> Option<(Kind, &[u8])>
     ensures { lent result ≡ file.now }
 {
@@ -51,32 +48,7 @@ pub(crate) fn lent(file: &Option<Content>) -> Option<(Kind, &[u8])>
     }
 }
 
-/// A path with a byte behind it. In byte order the paths below a path begin with the slash behind it, and end with the next byte.
-pub(crate) fn edge(path: &Path, byte: u8) -> ArrayVec<u8, 1025>
-    ensures { result.items ≡ path.now ++ byte ∷ [] }
-{
-    let mut edge = ArrayVec::new();
-    if edge.try_extend_from_slice(path.as_bytes()).is_err() {
-        // A path has 1,024 bytes at the most.
-        unreachable!()
-    }
-    edge.push(byte);
-    edge
-}
-
-/// Whether a file stands at the path of some entry before another path.
-fn has_present(mut entries: Walk<'_>, end: &[u8]) -> bool
-    ensures { result ≡ list_any (λ e. is_some e.1) (before end.now entries.entry) }
-{
-    while let Some(entry) = entries.next_before(end) {
-        if entry.1.is_some() {
-            return true;
-        }
-    }
-    false
-}
-
-/// What an overlay speaks of: what stands there below it is not seen.
+/// The paths of which an overlay says something. The files below it are not seen there.
 #[derive(Drop)]
 struct Spoken<'a> {
     overlay: &'a Overlay,
@@ -97,8 +69,8 @@ impl Passes for Spoken<'_> {
     }
 }
 
-/// The file that is seen at a path where an overlay lies over other files.
-#[tactic(auto, using(crate::proofs::Works::file_told, crate::proofs::Works::file_below))]
+/// Returns the file that is seen at a path of files with an overlay over them.
+#[tactic(auto, using(eden_overlay::proofs::Overs::file_told, eden_overlay::proofs::Overs::file_below))]
 fn file_over<'a, N: Naming + Drop>(
     base: &Moved<'a, N>,
     overlay: &'a Overlay,
@@ -112,37 +84,37 @@ fn file_over<'a, N: Naming + Drop>(
     }
 }
 
-/// Whether files are seen below a path where an overlay lies over other files: one of the overlay, or one of those of which it says nothing.
-/// Of the overlay only the entries below the path are looked at, and the search ends at the first file that is seen.
+/// Returns whether a file is seen below a path of files with an overlay over them.
+///
+/// Of the overlay only the entries below the path are looked at. The search ends at the first file
+/// that is seen.
 fn has_below_over<N: Naming + Drop>(base: &Moved<'_, N>, overlay: &Overlay, path: &Path) -> bool
     ensures { result ≡ has_file_below (over base.now overlay.now) path.now }
 {
-    let entries = overlay.entries_from(edge(path, b'/').as_slice());
-    let end = edge(path, b'/' + 1);
-    if has_present(entries, end.as_slice()) {
+    if overlay.has_file_below(path) {
         return true;
     }
     base.has_below_but(path, &Spoken { overlay })
 }
 
 impl<'a, N: Naming + Drop> Working<'a, N> {
-    /// What is seen where an overlay lies over other files.
+    /// Returns the files that are seen with an overlay over others.
     pub(crate) fn of(base: Moved<'a, N>, overlay: &'a Overlay) -> Working<'a, N>
         ensures { result ≡ over base.entry overlay.now }
     {
         Working { base, overlay }
     }
 
-    /// The kind and the bytes of the file at a path, if one stands there. It takes no memory.
+    /// Returns the kind and the bytes of the file at a path, if there is one. Does not allocate.
     pub fn file(&self, path: &[u8]) -> Option<(Kind, &'a [u8])>
         ensures { lent result ≡ file_at self.now path.now }
     {
         file_over(&self.base, self.overlay, path)
     }
 
-    /// The kind and the bytes of the file at a path.
+    /// Returns the kind and the bytes of the file at a path.
     ///
-    /// Refused, in this order, as `NotADirectory`, `IsADirectory` or `NoEntry`. It takes no memory.
+    /// Refused, in this order, as `NotADirectory`, `IsADirectory` or `NoEntry`. Does not allocate.
     pub fn read(&self, path: &Path) -> Result<(Kind, &'a [u8]), ChangeFault>
         ensures accepts { IfOk result (λ _. absent_fault self.now path.now ≡ None) }
         ensures reads { IfOk result (λ seen. file_at self.now path.now ≡ Some (record { kind = seen.0; bytes = seen.1.now })) }
@@ -157,7 +129,7 @@ impl<'a, N: Naming + Drop> Working<'a, N> {
         }
     }
 
-    /// The file at a path, in memory of its own, if one stands there. `NoMemory` comes where a growth was refused.
+    /// Returns a copy of the file at a path, if there is one. `NoMemory` if an allocation fails.
     pub fn file_copy(&self, path: &Path) -> Result<Option<Content>, NoMemory>
         ensures { IfOk result (λ file. file ≡ file_at self.now path.now) }
     {
@@ -178,14 +150,14 @@ impl<'a, N: Naming + Drop> FileTree for Working<'a, N> {
 }
 
 impl WorkCopy {
-    /// The files over a store that the overlay lies over, as a tree. It takes no memory.
+    /// Returns the files below the overlay as a tree. Does not allocate.
     pub(crate) fn base<'a, N: Naming + Drop>(&'a self, store: &'a Store<N>) -> Moved<'a, N>
         ensures { result ≡ base_of store.now self.now }
     {
         Moved::of(store.commit_files(self.root), &self.moves)
     }
 
-    /// The working copy over a store, as a tree of files. It takes no memory.
+    /// Returns the files that it holds over a store, as a tree. Does not allocate.
     pub fn over<'a, N: Naming + Drop>(&'a self, store: &'a Store<N>) -> Working<'a, N>
         ensures { result ≡ means store.now self.now }
     {

@@ -9,8 +9,8 @@ use Rattle.eden_ids.specs.Paths.{lies_below}
 use Rattle.eden_ids.specs.FileMaps.{FileMap, file_at, no_files, paths, same_path}
 use Rattle.eden_ids.specs.Sameness.{same_bytes}
 use Rattle.eden_ids.proofs.FileMapLemmas.{file_at-insert, file_at-none, same_file_map, same_path-is, same_path-refl}
-use Rattle.eden_history.specs.Carried.{carried, carried_files, carried_rule}
-use Rattle.eden_history.proofs.CarriedLemmas.{carried-back, carried-below, file_at-carried}
+use Rattle.eden_overlay.specs.Carried.{carried, carried_files, carried_rule}
+use Rattle.eden_overlay.proofs.CarriedLemmas.{carried-back, carried-below, file_at-carried}
 use Rattle.eden_history.specs.declared.change.Change.{Change}
 use Rattle.eden_history.specs.declared.change.Change.TheVariants.{Write, Remove, Rename, RenameDir, Checkout, Reset, Flush, Remount, Import}
 use Rattle.eden_history.specs.DirRenames.{breaks_a_path, rename_dir_fault, source_fault, target_fault}

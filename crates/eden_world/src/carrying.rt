@@ -1,9 +1,10 @@
-//! The rename of a directory over a whole file map: why it is refused, and what it makes of the files.
+//! The rename of a directory over a whole file map: why it is refused, and the files
+//! after it.
 
 ghost use Rattle.std.specs.Prelude.{◌≡◌, None, IfOk, OnOk, false, true};
 ghost use Rattle.eden_ids.specs.Paths.{IsPath, lies_below};
 ghost use Rattle.eden_ids.specs.FileMaps.{file_at};
-ghost use Rattle.eden_history.specs.Carried.{carried, carried_files};
+ghost use Rattle.eden_overlay.specs.Carried.{carried, carried_files};
 ghost use Rattle.eden_history.specs.DirRenames.{breaks_a_path, dir_renamed, rename_dir_fault, target_fault};
 ghost use Rattle.eden_world.specs.internal.Carrying.{breaks, carried_onto};
 
@@ -13,7 +14,7 @@ use std::alloc::Global;
 
 // ---- why it is refused
 
-/// What a path below the one would be below the other.
+/// Returns a path's bytes as they are below another directory.
 fn carried_bytes(alloc: Global, path: &Path, old: &Path, new: &Path) -> Result<Vec<u8>, NoMemory>
     requires { lies_below path.now old.now ≡ true }
     ensures { IfOk result (λ bytes. bytes.items ≡ carried old.now new.now path.now) }
@@ -23,7 +24,7 @@ fn carried_bytes(alloc: Global, path: &Path, old: &Path, new: &Path) -> Result<V
     Ok(bytes)
 }
 
-/// Whether a path is one of those that move, and would be none where it went.
+/// Returns true if a path moves and would then be invalid.
 fn breaks(alloc: Global, path: &Path, old: &Path, new: &Path) -> Result<bool, NoMemory>
     ensures { IfOk result (λ broken. broken ≡ breaks old.now new.now path.now) }
 {
@@ -36,7 +37,7 @@ fn breaks(alloc: Global, path: &Path, old: &Path, new: &Path) -> Result<bool, No
     }
 }
 
-/// Whether a file would go to what is no path.
+/// Returns true if a file would get an invalid path.
 fn breaks_a_path(alloc: Global, files: &Files, old: &Path, new: &Path) -> Result<bool, NoMemory>
     ensures { IfOk result (λ broken. broken ≡ breaks_a_path files.now old.now new.now) }
 {
@@ -48,7 +49,7 @@ fn breaks_a_path(alloc: Global, files: &Files, old: &Path, new: &Path) -> Result
     Ok(false)
 }
 
-/// Why the directory can't be put at the new path.
+/// Returns why the directory cannot be put at the new path.
 fn target_fault(
     alloc: Global,
     files: &Files,
@@ -69,7 +70,9 @@ fn target_fault(
     Ok(None)
 }
 
-/// Why a directory can't be renamed: what stands against the old path is told first, and where the two paths are one, nothing else is.
+/// Returns why a directory cannot be renamed.
+///
+/// The old path is checked first; if the two paths are equal, nothing else is.
 pub(crate) fn rename_dir_fault(
     alloc: Global,
     files: &Files,
@@ -89,9 +92,9 @@ pub(crate) fn rename_dir_fault(
 
 // ---- the files after it
 
-/// The same place below the new path as a path has below the old one.
+/// Returns a path's place below the new path.
 ///
-/// Condition: it is a path.
+/// It is the same as the path has below the old one. It must be a valid path.
 fn carried_path(alloc: Global, path: &Path, old: &Path, new: &Path) -> Result<Path, NoMemory>
     requires below { lies_below path.now old.now ≡ true }
     requires whole { IsPath (carried old.now new.now path.now) }
@@ -104,7 +107,9 @@ fn carried_path(alloc: Global, path: &Path, old: &Path, new: &Path) -> Result<Pa
     )
 }
 
-/// Puts the file at a path of the old files where it stands after the rename; what stood below the new path is left out.
+/// Puts an old path's file at its path after the rename.
+///
+/// Files that were below the new path are left out.
 fn carry(
     alloc: Global,
     next: &mut Files,
@@ -130,9 +135,9 @@ fn carry(
     next.insert(path.copy()?, content)
 }
 
-/// The files after the rename of a directory to another path.
+/// Returns the files after the rename of a directory to another path.
 ///
-/// Condition: each file goes to a path.
+/// Each file must get a valid path.
 fn carried_files(alloc: Global, files: &Files, old: &Path, new: &Path) -> Result<Files, NoMemory>
     requires { breaks_a_path files.now old.now new.now ≡ false }
     ensures { IfOk result (λ next. next ≡ carried_files files.now old.now new.now) }
@@ -144,9 +149,7 @@ fn carried_files(alloc: Global, files: &Files, old: &Path, new: &Path) -> Result
     Ok(next)
 }
 
-/// Renames a directory.
-///
-/// Condition: nothing refuses it.
+/// Renames a directory. Nothing may refuse it.
 pub(crate) fn move_directory(
     alloc: Global,
     files: &mut Files,

@@ -1,4 +1,4 @@
-//! Whole file maps of what a tree of files holds.
+//! Whole file maps of trees of files.
 
 ghost use Rattle.std.specs.Prelude.{◌≡◌, IfOk, map};
 ghost use Rattle.eden_ids.specs.FileMaps.{file_at, lent, paths, tabulate};
@@ -9,7 +9,9 @@ use eden_ids::{Content, FileTree, Files, Id, Kind, Naming, NoMemory, Path};
 use eden_objects::{CommitFault, Store};
 use std::alloc::Global;
 
-/// The files of a commit, each with its path, its kind and its blob; none where the id is no commit's.
+/// Returns a commit's files with path, kind and blob.
+///
+/// There are none if the id is not that of a commit.
 #[tactic(auto, using(crate::proofs::Listed::rows_paths, crate::proofs::Listed::no_rows))]
 fn rows_of<N: Naming + Drop>(
     alloc: Global,
@@ -27,7 +29,9 @@ fn rows_of<N: Naming + Drop>(
     }
 }
 
-/// The paths of a commit's files, in byte order; none where the id is no commit's.
+/// Returns the paths of a commit's files, in byte order.
+///
+/// There are none if the id is not that of a commit.
 fn paths_of_commit<N: Naming + Drop>(
     alloc: Global,
     store: &Store<N>,
@@ -43,7 +47,7 @@ fn paths_of_commit<N: Naming + Drop>(
     Ok(list)
 }
 
-/// What a tree holds at some paths. The last path is looked at first.
+/// Returns the files of a tree at some paths. The last path is visited first.
 #[tactic(auto, using(crate::proofs::Tabulating::begins, crate::proofs::Tabulating::goes_on))]
 pub(crate) fn files_at<T: FileTree>(
     alloc: Global,
@@ -61,7 +65,9 @@ pub(crate) fn files_at<T: FileTree>(
     Ok(files)
 }
 
-/// The files of a commit, all of them; none where the id is no commit's.
+/// Returns all files of a commit.
+///
+/// There are none if the id is not that of a commit.
 #[tactic(auto, using(crate::proofs::Tabulating::tabulated_itself))]
 pub(crate) fn files_of_commit<N: Naming + Drop>(
     alloc: Global,

@@ -1,10 +1,15 @@
-//! The plain, slow program that computes what a mount's definitions say: a mount with its whole history.
+//! The model of a mount with its whole history: a plain, slow program that computes the
+//! definitions.
 //!
-//! It keeps whole file maps and looks at every path and every event, so that it can be read beside the definitions in eden_history and
-//! eden_messages. What is asked of a single path, as why a change of it is refused, it asks eden_history's functions over trees of files. The
-//! programs that keep less are measured by it, and none of them stands on it. The plain types of which the definitions speak are handed on
-//! from here, what a change is answered with under the name `Made`, since `Answer` is what a caller is told of any call; and so are the
-//! counting devices, and eden_headline's law over the same definitions.
+//! A `World` keeps whole file maps, one for each row, and visits every path and every
+//! event. So it can be read beside the definitions in eden_history and eden_messages.
+//! Only questions about single paths, such as why a change is refused, are left to
+//! eden_history's functions over trees of files. The programs that keep less are tested
+//! against it, and none of them depends on it.
+//!
+//! The plain types of the definitions are re-exported here; eden_history's `Answer` is
+//! named `Made`, since `Answer` is that of any call. So are the counting devices of
+//! eden_stream, and eden_headline's law over the same definitions.
 //!
 //! ```rust
 //! use eden_history::{Answer, Change};
@@ -26,7 +31,8 @@ pub use eden_history::{
     Answer as Made, Change, ChangeFault, Mark, Marked, Mode, MountFault, Position, SinceFault,
 };
 pub use eden_ids::Files;
-pub use eden_messages::{Answer, Call, Cause, Query, Reply, Request};
+pub use eden_logs::{Answer, Call};
+pub use eden_messages::{Cause, Query, Reply, Request};
 pub use eden_stream::{Counted, Faults};
 
 mod carrying;

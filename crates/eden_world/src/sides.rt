@@ -1,4 +1,5 @@
-//! A change of the root over whole file maps: what it makes of the files, and which paths are told of it.
+//! A change of the root over whole file maps: the files after it, and the paths that it
+//! names.
 
 ghost use Rattle.std.specs.Prelude.{◌≡◌, IfOk};
 ghost use Rattle.eden_ids.specs.FileMaps.{differ, listing, path_set, paths, union};
@@ -13,7 +14,7 @@ use eden_ids::{Content, Files, Id, Naming, NoMemory, Path, PathTable, is_same_at
 use eden_objects::Store;
 use std::alloc::Global;
 
-/// The paths at which one of three file maps has a file, in byte order.
+/// Returns the paths of three file maps, in byte order.
 #[tactic(auto, using(eden_ids::proofs::Tables::union_three))]
 fn paths_of_all(
     alloc: Global,
@@ -30,7 +31,7 @@ fn paths_of_all(
     table.list(alloc)
 }
 
-/// The paths on which two file maps differ, in byte order.
+/// Returns the paths at which two file maps differ, in byte order.
 pub(crate) fn differing(alloc: Global, one: &Files, other: &Files) -> Result<Vec<Path>, NoMemory>
     ensures { IfOk result (λ list. list.items ≡ listing (differ one.now other.now)) }
 {
@@ -42,7 +43,7 @@ pub(crate) fn differing(alloc: Global, one: &Files, other: &Files) -> Result<Vec
     Ok(list)
 }
 
-/// The paths of two lists, each once, in byte order.
+/// Returns the paths of two lists, each once, in byte order.
 #[tactic(auto, using(crate::proofs::SideLaws::union_nothing))]
 fn joined(alloc: Global, first: &[Path], second: &[Path]) -> Result<Vec<Path>, NoMemory>
     ensures { IfOk result (λ list. list.items ≡ listing (union (path_set first.now) (path_set second.now))) }
@@ -53,8 +54,10 @@ fn joined(alloc: Global, first: &[Path], second: &[Path]) -> Result<Vec<Path>, N
     table.list(alloc)
 }
 
-/// What a checkout is judged by, as whole file maps: what a working copy holds, the commit below it, the commit that is checked out, the
-/// paths that are not clean, and what the working copy holds at these.
+/// The file maps from which a checkout is decided.
+///
+/// They are those of the working copy, of the commit below it and of the commit that is
+/// checked out. With them are the dirty paths and the files of the working copy at these.
 #[derive(Drop)]
 pub(crate) struct SideMaps {
     work: Files,
@@ -72,7 +75,7 @@ impl SideMaps {
     ghost use Rattle.eden_objects.specs.Files.{commit_files};
     ghost use Rattle.eden_history.specs.Checkouts.{checked_out, conflicts, unclean};
 
-    /// What a checkout of a commit over a row is judged by.
+    /// Returns the file maps for a checkout over a row.
     #[tactic(auto, using(crate::proofs::SideLaws::dirty_tabulated))]
     pub(crate) fn of<N: Naming + Drop>(
         alloc: Global,
@@ -98,7 +101,7 @@ impl SideMaps {
         })
     }
 
-    /// Who tells what becomes of a path.
+    /// Returns these maps as `Sides`, which decides what happens to a path.
     fn sides(&self) -> Sides<'_, Files, Files, Files, Files>
         ensures work { result.work.now ≡ self.now.work }
         ensures root { result.root.now ≡ self.now.root }
@@ -113,7 +116,7 @@ impl SideMaps {
         }
     }
 
-    /// The files after a checkout in a mode. The last path is looked at first.
+    /// Returns the files after a checkout in a mode. The last path is visited first.
     #[tactic(auto, using(crate::proofs::Tabulating::begins, crate::proofs::Tabulating::goes_on, crate::proofs::SideLaws::all_tabulated))]
     pub(crate) fn files_after(&self, alloc: Global, mode: Mode) -> Result<Files, NoMemory>
         ensures { IfOk result (λ files. files ≡ checked_out mode self.now.work self.now.root self.now.target) }
@@ -129,7 +132,7 @@ impl SideMaps {
         Ok(files)
     }
 
-    /// The conflicts of a checkout, in byte order.
+    /// Returns the conflicts of a checkout, in byte order.
     pub(crate) fn conflicts(&self, alloc: Global) -> Result<Vec<Path>, NoMemory>
         ensures { IfOk result (λ list. list.items ≡ listing (conflicts self.now.work self.now.root self.now.target)) }
     {
@@ -140,7 +143,9 @@ impl SideMaps {
         Ok(list)
     }
 
-    /// Which paths are told of a checkout to these files: the unclean ones, and those that its event names, both in byte order.
+    /// Returns a checkout's unclean paths and the paths that it names.
+    ///
+    /// The checkout leaves these files. Both lists are in byte order.
     #[tactic(auto, using(crate::proofs::SideLaws::unclean_joined, crate::proofs::SideLaws::named_joined))]
     pub(crate) fn told(
         &self,

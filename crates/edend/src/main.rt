@@ -1,16 +1,14 @@
-//! `edend run` runs a script from standard input, and writes what it prints to standard output. `edend serve --port P --connections N` runs one up to
-//! its line `listen`, and then serves the mount on 127.0.0.1 while the lines after it change it; with `--stay` until they end. With
-//! `--objects FILE` both first put the objects of that file, as `git cat-file --batch` prints them.
+//! Runs scripts of changes to a mount, and serves the mount over TCP.
 //!
-//! `edend --version` writes its name and version there.
+//! `edend run` runs a script from standard input, and writes what it prints to standard output. `edend serve --port P --connections N` runs
+//! one up to its line `listen`. Then it serves the mount on 127.0.0.1 while the lines after it change the mount; with `--stay` until they end.
+//! With `--objects FILE` both first put the objects of that file, as `git cat-file --batch` prints them. `edend --version` prints its name and
+//! version.
 //!
-//! Status 0: the script was run or served, or the version was asked for. 1: a line of the script can't be read, or an object can't be put, which
-//! standard error tells. 2: the command line is refused, or asks for help. 3: reading, writing or memory failed, the reads were spent, or the
-//! port can't be listened at; standard error tells which. 4: the audit of what was served names a fault, which standard output tells.
+//! `eden_programs::edend` says what each status means.
 #![tactic(auto)]
 
-use eden_command::words;
-use eden_programs::{Shelf, edend};
+use eden_programs::{Shelf, command_words, edend};
 use std::fs::File;
 use std::io;
 use std::process::ExitCode;
@@ -31,7 +29,7 @@ impl<'a> Shelf for Disk<'a> {
 
 fn main(rt: HostRuntime) -> ExitCode {
     let mut errors = rt.stderr();
-    let status = match words(&rt, &mut errors, "edend") {
+    let status = match command_words(&rt, &mut errors, "edend") {
         Ok(words) => edend(
             &rt,
             rt.alloc(),

@@ -1,18 +1,15 @@
-//! `follow connect --port P --mirror M --life L --rounds N PATTERN..` keeps a mirror of the mount that `edend serve` serves at that port of this
-//! machine, and tells where it is placed and what it holds. Where standard error is a terminal it shows there how many contents have come.
+//! Keeps mirrors of a mount.
 //!
-//! `follow demo` has two writers change a mount while two followers keep mirrors of it, each in a thread of its own; then it audits the mount's
-//! history, judges the followers, and writes what it found.
+//! `follow connect --port P --mirror M --life L --rounds N PATTERN..` keeps a mirror of the mount that `edend serve` serves at that port of
+//! this machine. It prints where the mirror is and what it holds. If standard error is a terminal, it shows there how many contents have come.
 //!
-//! `follow --version` writes its name and version.
+//! `follow demo` has two writers change a mount while two followers keep mirrors of it, each in a thread of its own. Then it audits the
+//! mount's history, compares the followers with the mount, and prints what it found. `follow --version` prints its name and version.
 //!
-//! Status 0: the mirror is placed, the audit is well and the followers agree, or the version was asked for. 1: the mirror is placed nowhere. 2: the
-//! command line or a pattern is refused, or help is asked for. 3: writing or memory failed, or there was no connection; standard error tells
-//! which. 4: the audit refused the logs, or the followers differ.
+//! `eden_programs::follow` says what each status means.
 #![tactic(auto)]
 
-use eden_command::words;
-use eden_programs::{Screen, follow};
+use eden_programs::{Screen, command_words, follow};
 use std::io::IsTerminal;
 use std::process::ExitCode;
 
@@ -23,7 +20,7 @@ fn main(rt: HostRuntime) -> ExitCode {
     } else {
         Screen::None
     };
-    let status = match words(&rt, &mut errors, "follow") {
+    let status = match command_words(&rt, &mut errors, "follow") {
         Ok(words) => follow(
             &rt,
             rt.alloc(),

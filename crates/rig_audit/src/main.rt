@@ -6,13 +6,13 @@
 
 use anyhow::Result;
 use eden_accumulate::Mount;
-use eden_audit::{Answer, Audited, Call, CallLog, LogEntry, audit};
 use eden_globs::Filter;
 use eden_history::Change;
 use eden_ids::{GitNaming, Id, Kind, Path, Sequence};
 use eden_messages::{Query, Request};
 use eden_objects::Store;
 use eden_query::{Served, reply_to};
+use eden_shared::{Answer, Audited, Call, CallLog, LogEntry, audit};
 use rig_kit::nanoseconds;
 use std::alloc::Global;
 use std::time::{CpuClock, Duration};
@@ -20,13 +20,16 @@ use std::time::{CpuClock, Duration};
 /// How many calls are made.
 const CALLS: u64 = 100_000;
 
-/// A mount of the empty commit that stores its history, and whose journal keeps all of it.
-fn opened(alloc: Global) -> Result<Audited<GitNaming>> {
+/// A mount of the empty commit, whose journal keeps all of it.
+fn mounted(alloc: Global) -> Result<Mount<GitNaming>> {
     let store = Store::new(alloc, GitNaming);
-    Ok(Audited::new(
-        alloc,
-        Mount::mount(alloc, store, Id::ZERO, 1, 1_000_000_000)?,
-    )?)
+    Ok(Mount::mount(alloc, store, Id::ZERO, 1, 1_000_000_000)?)
+}
+
+/// The same mount, which stores its history.
+fn opened(alloc: Global) -> Result<Audited<GitNaming>> {
+    let mount = mounted(alloc)?;
+    Ok(Audited::new(alloc, mount)?)
 }
 
 /// The write of one of 1,000 files.
@@ -88,41 +91,70 @@ fn call(
     })?)
 }
 
+/// Makes all calls, and notes them.
+fn call_all(
+    alloc: Global,
+    audited: &mut Audited<GitNaming>,
+    entries: &mut Vec<LogEntry>,
+) -> Result<()> {
+    for turn in 0..CALLS {
+        call(alloc, audited, entries, turn)?;
+    }
+    Ok(())
+}
+
 /// Makes all calls, and gives the log of the one that made them.
 fn calls(alloc: Global, audited: &mut Audited<GitNaming>) -> Result<CallLog> {
     let mut entries = Vec::new(alloc);
-    for turn in 0..CALLS {
-        call(alloc, audited, &mut entries, turn)?;
-    }
+    call_all(alloc, audited, &mut entries)?;
     Ok(CallLog {
         caller: 1,
         entries: Sequence::from_vec(entries),
     })
 }
 
-/// Audits a log, tells what the audit says, and gives the time that it took.
-fn told(rt: &HostRuntime, audited: &mut Audited<GitNaming>, log: CallLog) -> Result<Duration> {
-    let logs = vec![in rt.alloc(); log]?;
+/// Audits logs, tells what the audit says, and what time the calls since a beginning and the audit
+/// took.
+fn tell(
+    rt: &HostRuntime,
+    audited: &mut Audited<GitNaming>,
+    logs: &[CallLog],
+    begun: Duration,
+) -> Result<()> {
     let start = rt.thread_cpu_time()?;
-    let said = audit(rt.alloc(), audited, logs.as_slice());
-    let time = rt.thread_cpu_time()?.saturating_sub(start);
+    let said = audit(rt.alloc(), audited, logs);
+    let end = rt.thread_cpu_time()?;
     match said {
         Ok(()) => println!(rt; "audit: Ok")?,
         Err(fault) => println!(rt; "audit: {fault}")?,
     }
-    Ok(time)
+    eprintln!(rt;
+        "{CALLS} calls: {} ms, audit {} ms",
+        nanoseconds(start.saturating_sub(begun)) / 1_000_000,
+        nanoseconds(end.saturating_sub(start)) / 1_000_000
+    )?;
+    Ok(())
+}
+
+/// Audits the log of calls that began then.
+fn judge(
+    rt: &HostRuntime,
+    audited: &mut Audited<GitNaming>,
+    log: CallLog,
+    begun: Duration,
+) -> Result<()> {
+    let logs = vec![in rt.alloc(); log]?;
+    tell(rt, audited, logs.as_slice(), begun)
+}
+
+/// Makes all calls, and judges them.
+fn measure(rt: &HostRuntime, audited: &mut Audited<GitNaming>) -> Result<()> {
+    let begun = rt.thread_cpu_time()?;
+    let log = calls(rt.alloc(), audited)?;
+    judge(rt, audited, log, begun)
 }
 
 fn main(rt: HostRuntime) -> Result<()> {
     let mut audited = opened(rt.alloc())?;
-    let start = rt.thread_cpu_time()?;
-    let log = calls(rt.alloc(), &mut audited)?;
-    let made = rt.thread_cpu_time()?.saturating_sub(start);
-    let judged = told(&rt, &mut audited, log)?;
-    eprintln!(rt;
-        "{CALLS} calls: {} ms, audit {} ms",
-        nanoseconds(made) / 1_000_000,
-        nanoseconds(judged) / 1_000_000
-    )?;
-    Ok(())
+    measure(&rt, &mut audited)
 }

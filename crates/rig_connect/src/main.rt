@@ -5,24 +5,23 @@
 
 use anyhow::Result;
 use eden_connect::{Quiet, connect_program};
-use eden_edend::Objects;
 use eden_globs::Filter;
 use eden_history::Position;
 use eden_ids::Id;
 use eden_messages::{Query, Reply, Request};
-use eden_serve::Unobserved;
-use eden_stay::stay_program;
+use eden_sockets::Place;
 use eden_stream::Counted;
 use eden_wire::encode_request;
 use rig_kit::nanoseconds;
 use std::alloc::Global;
+use std::fs::{File, Files};
 use std::net::{Net, TcpListener, TcpStream};
 use std::sync::Wait;
 use std::sync::atomic::{AtomicBool, Ordering};
 use std::thread;
 use std::thread::Threads;
 use std::time::{Clock, Instant};
-use test_serve::{Feed, ask, connect, free_port};
+use test_serve::{Feed, ask, connect, free_port, stay};
 
 /// How many files a poll tells.
 const CHANGED: [u64; 4] = [0, 100, 1_000, 10_000];
@@ -173,8 +172,9 @@ fn take_basis<R: Net<Stream = TcpStream> + Clock>(
     let _ready = connect(rt, port)?;
     let filter = Filter::all(alloc);
     let mut text = Vec::new(alloc);
+    let place = Place::Port(port);
     let start = Instant::now(rt).ok()?;
-    let ended = connect_program(rt, alloc, &mut text, port, 1, 1, 1, &filter, &mut Quiet);
+    let ended = connect_program(rt, alloc, &mut text, place, 1, 1, 1, &filter, &mut Quiet);
     let time = nanoseconds(start.elapsed(rt).ok()?);
     let paths = text.iter().filter(|byte| **byte == b'\n').count() as u64;
     ended.ok()?;
@@ -184,19 +184,20 @@ fn take_basis<R: Net<Stream = TcpStream> + Clock>(
     })
 }
 
-/// Runs a daemon that stays, with this script and these lines behind it, until the flag is set. Tells whether that ends well.
-fn stay<R: Threads + Wait + Clock + Net<Listener = TcpListener, Stream = TcpStream> + Sync>(
-    rt: &R,
-    alloc: Global,
-    port: u16,
-    script: &[u8],
-    lines: &[u8],
-    ended: &AtomicBool,
-) -> bool {
+/// Runs a daemon with this script and then these lines, until the flag is set.
+///
+/// Returns whether it ends well.
+fn stay_until<
+    R: Threads
+        + Wait
+        + Clock
+        + Files<File = File>
+        + Net<Listener = TcpListener, Stream = TcpStream>
+        + Sync,
+>(rt: &R, alloc: Global, port: u16, script: &[u8], lines: &[u8], ended: &AtomicBool) -> bool {
     let feed = Feed::new(rt, script, lines, b"".as_slice(), ended);
     let mut writer = Counted::new(Vec::new(alloc));
-    let objects = Objects::new(alloc);
-    stay_program(rt, alloc, objects, feed, &mut writer, port, 64, &Unobserved).is_ok()
+    stay(rt, alloc, feed, &mut writer, port, 64).is_ok()
 }
 
 /// Tells of how many files a client was told, and in what time.
@@ -228,7 +229,7 @@ fn main(rt: HostRuntime) -> Result<()> {
                 ended.store(true, Ordering::SeqCst);
                 told
             },
-            || stay(&rt, alloc, port, script.as_slice(), b"".as_slice(), &ended),
+            || stay_until(&rt, alloc, port, script.as_slice(), b"".as_slice(), &ended),
         );
         let what = format!(in alloc; "a poll, files told of {changed}")?;
         tell(&rt, what.as_str(), told)?;
@@ -244,7 +245,7 @@ fn main(rt: HostRuntime) -> Result<()> {
                 ended.store(true, Ordering::SeqCst);
                 told
             },
-            || stay(&rt, alloc, port, script.as_slice(), LINES, &ended),
+            || stay_until(&rt, alloc, port, script.as_slice(), LINES, &ended),
         );
         let what = format!(in alloc; "polls over {connections} connections at once")?;
         tell(&rt, what.as_str(), told)?;
@@ -258,7 +259,7 @@ fn main(rt: HostRuntime) -> Result<()> {
             ended.store(true, Ordering::SeqCst);
             told
         },
-        || stay(&rt, alloc, port, script.as_slice(), b"".as_slice(), &ended),
+        || stay_until(&rt, alloc, port, script.as_slice(), b"".as_slice(), &ended),
     );
     tell(&rt, "a basis and its contents, files", told)
 }

@@ -11,7 +11,8 @@ use eden_follow::{Follower, VouchFault, vouch};
 use eden_globs::Filter;
 use eden_history::Change;
 use eden_ids::{GitNaming, NoMemory};
-use eden_messages::{Answer, Outcome, Reply, Request};
+use eden_logs::Answer;
+use eden_messages::{Outcome, Reply, Request};
 use eden_shared::{
     AuditFault, Audited, CallLog, Desk, OpenGate, Pass, Shared, audit, serve_shared,
 };

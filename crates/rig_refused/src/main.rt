@@ -37,6 +37,7 @@ use crate::steps::{CONFLICT_THEN_FORCE, IMPORT_THEN_CHECKOUT, RENAME_DIRECTORY, 
 use anyhow::{Result, bail};
 use std::env;
 use std::sync::Wait;
+use std::time::Clock;
 
 /// What is called one after another.
 const NAMES: &[&str] = &[
@@ -80,7 +81,7 @@ fn make_low(rt: &HostRuntime, name: &str) -> Result<u64> {
 }
 
 /// Makes the calls of a name. Gives how often one answered that memory was refused.
-fn make(rt: &HostRuntime, wait: &impl Wait, name: &str) -> Result<u64> {
+fn make(rt: &HostRuntime, wait: &(impl Wait + Clock), name: &str) -> Result<u64> {
     match name {
         "serving" => serve_frames(rt),
         "staying" => stay(rt, wait),
@@ -103,7 +104,7 @@ fn number(word: Option<&String>, other: u64) -> Result<u64> {
 }
 
 /// Makes the calls of these names. Gives how often one answered that memory was refused.
-fn make_all(rt: &HostRuntime, wait: &impl Wait, names: &[&str]) -> Result<u64> {
+fn make_all(rt: &HostRuntime, wait: &(impl Wait + Clock), names: &[&str]) -> Result<u64> {
     let mut count = 0_u64;
     for name in names {
         println!(rt; "{name}")?;

@@ -1,11 +1,11 @@
 //! Audits of what was drawn by lot: callers note what the world answers, and a mount that stores its history is audited by that.
 
 use crate::comparing::Pair;
-use eden_audit::{Answer, AuditFault, Audited, Call, CallLog, LogEntry, audit};
 use eden_history::{Change, ChangeFault};
 use eden_ids::{GitNaming, Id, Sequence};
 use eden_messages::{Query, Request};
 use eden_query::Served;
+use eden_shared::{Answer, AuditFault, Audited, Call, CallLog, LogEntry, audit};
 use eden_world::World;
 use std::alloc::Global;
 use std::process::Abort;

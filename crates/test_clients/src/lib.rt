@@ -5,11 +5,15 @@
 #[cfg(test)]
 mod directory_tests;
 #[cfg(test)]
+mod faithful_tests;
+#[cfg(test)]
 mod listener;
 #[cfg(test)]
 mod lost_tests;
 #[cfg(test)]
 mod many_tests;
+#[cfg(test)]
+mod memory_tests;
 #[cfg(test)]
 mod output_tests;
 #[cfg(test)]

@@ -2,7 +2,7 @@
 
 use crate::listener::Act;
 use crate::talks::{Row, follow, open_port};
-use eden_connect::{ProgramFault, Quiet};
+use eden_connect::{ConnectFault, Quiet};
 use std::test::Fail;
 
 /// One file.
@@ -18,7 +18,7 @@ const BOTH: &str =
 
 const MOVED: &str = "placed 8 1 0000000000000000000000000000000000000000\nfiles 1\nplain 1 a\n";
 
-const LOST: Result<(), ProgramFault> = Err(ProgramFault::NoConnection);
+const LOST: Result<(), ConnectFault> = Err(ConnectFault::NoConnection);
 
 const ROWS: &[Row] = &[
     // Nothing is lost.
@@ -82,7 +82,7 @@ const ROWS: &[Row] = &[
         files: ONE,
         acts: &[Act::Remount(1)],
         rounds: 1,
-        ended: Err(ProgramFault::Unplaced),
+        ended: Err(ConnectFault::Unplaced),
         text: "unplaced\nfiles 0\n",
     },
     Row {
@@ -97,7 +97,7 @@ const ROWS: &[Row] = &[
         files: ONE,
         acts: &[Act::Remount(2)],
         rounds: 2,
-        ended: Err(ProgramFault::Unplaced),
+        ended: Err(ConnectFault::Unplaced),
         text: "unplaced\nfiles 1\nplain 1 a\n",
     },
     // Fifteen connections are lost, and sixteen.

@@ -3,9 +3,10 @@
 use crate::listener::{Act, listen, read_frame};
 use crate::talks::{mount_of, open_port, talk};
 use eden_accumulate::Mount;
-use eden_connect::{ProgramFault, Quiet, connect_program};
+use eden_connect::{ConnectFault, Quiet, connect_program};
 use eden_globs::Filter;
 use eden_ids::{GitNaming, Kind};
+use eden_sockets::Place;
 use std::alloc::Global;
 use std::net::{Net, TcpListener, TcpStream};
 use std::test::Fail;
@@ -70,7 +71,7 @@ fn told_to<R>(
     rt: &R,
     alloc: Global,
     room: usize,
-) -> Result<(Result<(), ProgramFault>, Vec<u8>), Fail>
+) -> Result<(Result<(), ConnectFault>, Vec<u8>), Fail>
 where
     R: Net<Listener = TcpListener, Stream = TcpStream> + Threads + Sync,
 {
@@ -79,9 +80,10 @@ where
     let mut output = Sink::new(alloc);
     output.full_at = room;
     let filter = Filter::all(alloc);
+    let place = Place::Port(port);
     let (ended, _) = thread::join(
         rt,
-        || connect_program(rt, alloc, &mut output, port, 1, 1, 1, &filter, &mut Quiet),
+        || connect_program(rt, alloc, &mut output, place, 1, 1, 1, &filter, &mut Quiet),
         || listen(alloc, &listener, &mut mount, &[Act::Serve]),
     );
     Ok((ended, output.bytes))
@@ -91,7 +93,7 @@ where
 fn full_output(rt: HostRuntime) -> Result<(), Fail> {
     for room in [0, 10] {
         let (ended, output) = told_to(&rt, rt.alloc(), room)?;
-        assert_eq!(rt; ended, Err(ProgramFault::Write));
+        assert_eq!(rt; ended, Err(ConnectFault::Write));
         assert!(rt; output.as_slice() == &b"placed 7 1 "[..room]);
     }
     Ok(())
@@ -111,9 +113,10 @@ where
     let (listener, port) = open_port(rt)?;
     let filter = Filter::parse(alloc, &[b"d/**".as_slice()])?;
     let mut output = Vec::new(alloc);
+    let place = Place::Port(port);
     let (_, request) = thread::join(
         rt,
-        || connect_program(rt, alloc, &mut output, port, 5, 6, 1, &filter, &mut Quiet),
+        || connect_program(rt, alloc, &mut output, place, 5, 6, 1, &filter, &mut Quiet),
         move || first_request(alloc, &listener),
     );
     Ok(request)

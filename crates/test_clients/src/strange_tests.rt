@@ -2,7 +2,7 @@
 
 use crate::listener::Act;
 use crate::talks::Row;
-use eden_connect::ProgramFault;
+use eden_connect::ConnectFault;
 use std::test::Fail;
 
 /// Two files.
@@ -13,7 +13,7 @@ const PLACED: &str =
 
 const NOWHERE: &str = "unplaced\nfiles 0\n";
 
-const UNPLACED: Result<(), ProgramFault> = Err(ProgramFault::Unplaced);
+const UNPLACED: Result<(), ConnectFault> = Err(ConnectFault::Unplaced);
 
 /// To the first question: the position is of another generation than 8.
 const STALE: Act = Act::Say(
@@ -124,7 +124,7 @@ const ROWS: &[Row] = &[
         files: TWO,
         acts: &[DRAWN; 16],
         rounds: 1,
-        ended: Err(ProgramFault::NoConnection),
+        ended: Err(ConnectFault::NoConnection),
         text: "",
     },
     // Its list comes twice: the second one stands for the content of `a`, which is asked for again.

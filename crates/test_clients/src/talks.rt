@@ -2,11 +2,12 @@
 
 use crate::listener::{Act, listen};
 use eden_accumulate::Mount;
-use eden_connect::{ProgramFault, Progress, Quiet, connect_program};
+use eden_connect::{ConnectFault, Progress, Quiet, connect_program};
 use eden_globs::Filter;
 use eden_history::Change;
 use eden_ids::{GitNaming, Id};
 use eden_objects::Store;
+use eden_sockets::Place;
 use std::alloc::Global;
 use std::net::{Net, TcpListener, TcpStream};
 use std::test::Fail;
@@ -15,7 +16,7 @@ use std::thread::Threads;
 use test_kit::write;
 
 /// How a client ended, and what it wrote.
-pub(crate) type Told = (Result<(), ProgramFault>, Vec<u8>);
+pub(crate) type Told = (Result<(), ConnectFault>, Vec<u8>);
 
 /// A listener on a port that the system chooses, and the port.
 pub(crate) fn open_port<R: Net<Listener = TcpListener, Stream = TcpStream>>(
@@ -60,7 +61,7 @@ pub(crate) fn follow<R: Net<Stream = TcpStream>, P: Progress>(
         rt,
         alloc,
         &mut output,
-        port,
+        Place::Port(port),
         1,
         1,
         rounds,
@@ -102,7 +103,7 @@ pub(crate) struct Row {
     pub(crate) files: &'static [(&'static str, &'static str)],
     pub(crate) acts: &'static [Act],
     pub(crate) rounds: u32,
-    pub(crate) ended: Result<(), ProgramFault>,
+    pub(crate) ended: Result<(), ConnectFault>,
     pub(crate) text: &'static str,
 }
 

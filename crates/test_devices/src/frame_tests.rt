@@ -1,10 +1,9 @@
 //! Answers by an echoing teller over devices that give and take little at a time.
-ghost use Rattle.eden_frames.specs.FrameAnswers.{AnswersBody, answers_story};
+ghost use Rattle.eden_stream.specs.FrameAnswers.{AnswersBody, answers_story};
 ghost use Rattle.test_devices.specs.Echoes.{echoed};
 
 use super::{Endless, Sink, Source};
-use eden_frames::{FrameFault, Frames, ServeFault, tell_frames};
-use eden_stream::{Answer, Counted, Faults, Teller};
+use eden_stream::{Counted, Faults, FrameFault, Frames, ServeFault, Step, Teller, tell_frames};
 use std::alloc::Global;
 use std::io::Read;
 use std::test::*;
@@ -14,26 +13,26 @@ use std::test::*;
 #[derive(Drop)]
 struct Echo;
 
-fn echo_body(body: &[u8], text: &mut Vec<u8>) -> Answer<FrameFault>
+fn echo_body(body: &[u8], text: &mut Vec<u8>) -> Step<FrameFault>
     ensures { AnswersBody echoed body.now text.old.items text.new.items result }
 {
     if matches!(body, [b'!', ..]) {
-        return Answer::Fault(FrameFault::BadTag);
+        return Step::Fault(FrameFault::BadTag);
     }
     match text.extend_from_slice(body) {
         Ok(()) => match text.push(b'\n') {
-            Ok(()) => Answer::Told,
-            Err(_) => Answer::NoMemory,
+            Ok(()) => Step::Told,
+            Err(_) => Step::NoMemory,
         },
-        Err(_) => Answer::NoMemory,
+        Err(_) => Step::NoMemory,
     }
 }
 
 impl Teller<Frames, (), FrameFault> for Echo {
     ghost story = { λ _ _ _. answers_story echoed };
 
-    #[tactic(auto, using(eden_frames::proofs::Replying::answers_tell))]
-    fn tell(&self, _server: &mut (), body: &[u8], text: &mut Vec<u8>) -> Answer<FrameFault> {
+    #[tactic(auto, using(eden_stream::proofs::Replying::answers_tell))]
+    fn tell(&self, _server: &mut (), body: &[u8], text: &mut Vec<u8>) -> Step<FrameFault> {
         echo_body(body, text)
     }
 

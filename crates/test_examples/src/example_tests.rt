@@ -4,9 +4,12 @@
 // docs/examples.py, which `./test` runs, compares them.
 
 ghost use Rattle.std.specs.Prelude.{◌≡◌};
+ghost use Rattle.eden_history.specs.Worlds.{WorldState};
 
 use crate::following::following;
+use eden_shared::Origin;
 use std::alloc::Global;
+use std::fs::{File, Files};
 use std::marker::Brand;
 use std::net::{Net, TcpListener, TcpStream};
 use std::process::Abort;
@@ -21,13 +24,12 @@ use test_serve::free_port;
 fn examples(rt: HostRuntime) -> Result<(), Fail> {
     let alloc = rt.alloc();
     eden_ids_example(&rt, alloc)?;
-    eden_numbers_example(&rt, alloc)?;
     eden_stream_example(&rt, alloc)?;
-    eden_frames_example(&rt, alloc)?;
-    eden_head_example(&rt, alloc)?;
     eden_globs_example(&rt, alloc)?;
     eden_lanes_example(&rt, alloc)?;
     eden_segments_example(&rt, alloc)?;
+    eden_sockets_example(&rt)?;
+    eden_overlay_example(&rt, alloc)?;
     eden_git_example(&rt, alloc)?;
     eden_objects_example(&rt, alloc)?;
     eden_batch_example(&rt, alloc)?;
@@ -46,16 +48,13 @@ fn examples(rt: HostRuntime) -> Result<(), Fail> {
     eden_ranges_example(&rt, alloc)?;
     eden_accumulate_example(&rt, alloc)?;
     eden_query_example(&rt, alloc)?;
-    eden_audit_example(&rt, alloc)?;
-    eden_shared_example::<HostRuntime, Brand>(&rt, alloc, Blank::new(256))?;
-    eden_command_example(&rt, alloc)?;
+    let (blank, other) = (Blank::new(256), Blank::new(256));
+    eden_shared_example::<HostRuntime, Brand, Brand>(&rt, alloc, blank, other)?;
     eden_script_example(&rt, alloc)?;
     eden_edend_example(&rt, alloc)?;
     eden_demo_example(&rt, alloc)?;
     eden_connect_example(&rt, alloc)?;
-    eden_resident_example(&rt, alloc)?;
     eden_serve_example(&rt, alloc, free_port(&rt)?)?;
-    eden_stay_example(&rt, alloc, free_port(&rt)?)?;
     eden_programs_example(&rt, alloc)?;
     eden_world_example(&rt, alloc)?;
     test_kit_example(&rt, alloc)?;
@@ -86,45 +85,20 @@ fn eden_ids_example(rt: &impl Abort, alloc: Global) -> Result<(), Fail> {
     Ok(())
 }
 
-fn eden_numbers_example(rt: &impl Abort, _alloc: Global) -> Result<(), Fail> {
-    use eden_numbers::number;
-
-    assert_eq!(rt; number(b"65536".as_slice()), Some(65_536));
-    assert_eq!(rt; number(b"065536".as_slice()), None);
-    Ok(())
-}
-
 fn eden_stream_example(rt: &impl Abort, alloc: Global) -> Result<(), Fail> {
-    use eden_stream::{Counted, Faults};
+    use eden_stream::{Counted, Faults, FrameFault, ServeFault};
     use std::io::Read;
 
     let mut reader = Counted::new(b"some bytes".as_slice());
     let mut place = [0; 4];
     assert_eq!(rt; reader.read(&mut place)?, 4);
     assert_eq!(rt; (reader.calls(), reader.faults()), (1, 0));
-    Ok(())
-}
-
-fn eden_frames_example(rt: &impl Abort, alloc: Global) -> Result<(), Fail> {
-    use eden_frames::{FrameFault, ServeFault};
-
+    // What ended the serving of frames.
     let fault = ServeFault::Frame {
         number: 2,
         fault: FrameFault::TooLarge,
     };
     assert!(rt; format!(in alloc; "{fault}")?.as_bytes() == b"frame 2: TooLarge".as_slice());
-    Ok(())
-}
-
-fn eden_head_example(rt: &impl Abort, alloc: Global) -> Result<(), Fail> {
-    use eden_head::HeadWord;
-
-    let (head, mut writer) = HeadWord::new(alloc)?;
-    let mut follower = head.split(&mut writer);
-    assert_eq!(rt; head.load(&mut follower), 0);
-    head.raise(&mut writer, 5);
-    head.raise(&mut writer, 3);
-    assert_eq!(rt; head.load(&mut follower), 5);
     Ok(())
 }
 
@@ -162,7 +136,7 @@ fn eden_segments_example(rt: &impl Abort, alloc: Global) -> Result<(), Fail> {
     let mut table = Table::new(alloc);
     table.add(Id([1; 20]), Shared::new(alloc, 1)?)?;
 
-    // A copy keeps the rows that it has, and either grows by itself.
+    // A copy keeps its rows, and each of the two tables grows by itself.
     let copy = table.share()?;
     if table.get(Id([2; 20])).is_none() {
         table.add(Id([2; 20]), Shared::new(alloc, 2)?)?;
@@ -172,12 +146,56 @@ fn eden_segments_example(rt: &impl Abort, alloc: Global) -> Result<(), Fail> {
     Ok(())
 }
 
+fn eden_sockets_example<
+    R: Abort + Files<File = File> + Net<Listener = TcpListener, Stream = TcpStream>,
+>(rt: &R) -> Result<(), Fail> {
+    use eden_sockets::{Listener, Place, SocketPath};
+    use std::io::{Read, Write};
+
+    let place = Place::Socket(SocketPath::new("example.socket")?);
+    let listener = Listener::open(rt, place)?;
+    let asking = place.connect(rt)?;
+    let asked = listener.accept()?;
+    (&asking).write_all(b"ping".as_slice())?;
+    let mut said = [0; 4];
+    (&asked).read_exact(&mut said)?;
+    assert!(rt; said == *b"ping");
+    // Both files stay until they are removed, or the next one who listens takes them over.
+    drop(listener);
+    place.remove_files(rt);
+    Ok(())
+}
+
+fn eden_overlay_example(rt: &impl Abort, alloc: Global) -> Result<(), Fail> {
+    use eden_ids::{Content, Kind, Path, Sequence};
+    use eden_overlay::Overlay;
+
+    let notes = Path::parse(alloc, b"notes".as_slice())?;
+    let empty = Content {
+        kind: Kind::Plain,
+        bytes: Sequence::new(alloc),
+    };
+    let mut overlay = Overlay::new(alloc);
+    overlay.set(notes.copy()?, Some(empty))?;
+    // The file is there, of another path nothing is said.
+    assert!(rt; overlay.get(notes.as_bytes()).is_some());
+    assert!(rt; overlay.get(b"other".as_slice()).is_none());
+    // That no file is there is an entry too, until it is forgotten.
+    overlay.set(notes.copy()?, None)?;
+    assert!(rt; overlay.get(notes.as_bytes()).is_some());
+    overlay.forget(notes.as_bytes());
+    assert!(rt; overlay.get(notes.as_bytes()).is_none());
+    Ok(())
+}
+
 fn eden_git_example(rt: &impl Abort, alloc: Global) -> Result<(), Fail> {
-    use eden_git::tree_named;
+    use eden_git::{number, tree_named};
 
     let commit = b"tree 4b825dc642cb6eb9a060e54bf8d69288fbee4904\n".as_slice();
     let tree = tree_named(commit);
     assert!(rt; tree.is_some());
+    assert_eq!(rt; number(b"65536".as_slice()), Some(65_536));
+    assert_eq!(rt; number(b"065536".as_slice()), None);
     Ok(())
 }
 
@@ -247,7 +265,7 @@ fn eden_journal_example(rt: &impl Abort, alloc: Global) -> Result<(), Fail> {
     let mut journal = Journal::new(alloc, 7, Id::ZERO, 1000);
     let delta = FileDelta::created(Path::parse(alloc, b"notes".as_slice())?);
     assert_eq!(rt; journal.add_file(&delta), Ok(2));
-    // Nothing before a flush can be told any more.
+    // Nothing before a flush can be listed any more.
     assert_eq!(rt; journal.flush(), Ok(3));
     assert_eq!(rt; (journal.floor(), journal.held()), (3, 0));
     Ok(())
@@ -318,8 +336,7 @@ fn eden_mirror_example(rt: &impl Abort, alloc: Global) -> Result<(), Fail> {
 fn eden_logs_example(rt: &impl Abort, alloc: Global) -> Result<(), Fail> {
     use eden_history::Change;
     use eden_ids::Sequence;
-    use eden_logs::{CallLog, LogEntry};
-    use eden_messages::{Answer, Call};
+    use eden_logs::{Answer, Call, CallLog, LogEntry};
 
     // A caller that asked for a flush, and was told nothing.
     let entry = LogEntry {
@@ -470,43 +487,28 @@ fn eden_query_example(rt: &impl Abort, alloc: Global) -> Result<(), Fail> {
     Ok(())
 }
 
-fn eden_audit_example(rt: &impl Abort, alloc: Global) -> Result<(), Fail> {
-    use eden_accumulate::Mount;
-    use eden_audit::{Answer, Audited, Call, CallLog, LogEntry, audit};
-    use eden_history::Change;
-    use eden_ids::{GitNaming, Id, Sequence};
-    use eden_objects::Store;
-    use eden_query::Served;
-
-    let store = Store::new(alloc, GitNaming);
-    let mut audited = Audited::new(alloc, Mount::mount(alloc, store, Id::ZERO, 7, 1000)?)?;
-    let answer = Answer::from(audited.apply(1, &Change::Flush)?);
-    let entry = LogEntry {
-        ticket: 1,
-        call: Call::Change(Change::Flush),
-        answer,
-    };
-    let entries = Sequence::from_vec(vec![in alloc; entry]?);
-    let logs = vec![in alloc; CallLog { caller: 1, entries }]?;
-    assert_eq!(rt; audit(alloc, &mut audited, logs.as_slice()), Ok(()));
-    Ok(())
-}
-
-fn eden_shared_example<R: Abort + Wait, L: Ledger>(
+fn eden_shared_example<R: Abort + Wait, L: Ledger, K: Origin>(
     rt: &R,
     alloc: Global,
     blank: Blank,
+    other: Blank,
 ) -> Result<(), Fail>
     requires name { blank.name ≡ L.name }
     requires parts { blank.parts ≡ L.parts }
     requires whole { blank.parts ≡ 256 }
+    requires opens { (world : WorldState) → K.opens world → ⊥ }
+    requires other_name { other.name ≡ K.name }
+    requires other_parts { other.parts ≡ K.parts }
+    requires other_whole { other.parts ≡ 256 }
 {
     use eden_accumulate::Mount;
     use eden_history::Change;
-    use eden_ids::{GitNaming, Id};
+    use eden_ids::{GitNaming, Id, Path};
+    use eden_messages::{Query, Reply, Request};
     use eden_objects::Store;
-    use eden_shared::{Audited, Desk, Shared, audit};
+    use eden_shared::{Audited, Desk, HeadWord, Shared, Unlogged, audit};
 
+    // A mount that stores its history.
     let store = Store::new(alloc, GitNaming);
     let mount = Mount::mount(alloc, store, Id::ZERO, 7, 1000)?;
     let shared = Shared::<GitNaming, _, L>::new(Audited::new(alloc, mount)?, blank);
@@ -517,15 +519,32 @@ fn eden_shared_example<R: Abort + Wait, L: Ledger>(
     let mut audited = shared.finish(vec![in alloc; pass]?)?;
     let logs = vec![in alloc; log]?;
     assert_eq!(rt; audit(alloc, &mut audited, logs.as_slice()), Ok(()));
-    Ok(())
-}
 
-fn eden_command_example(rt: &impl Abort, alloc: Global) -> Result<(), Fail> {
-    use eden_command::fail;
+    // One of which nothing is logged.
+    let store = Store::new(alloc, GitNaming);
+    let mount = Mount::mount(alloc, store, Id::ZERO, 7, 1000)?;
+    let (unlogged, mut passes) = Unlogged::<GitNaming, _, K>::new(mount, other);
+    let mut pass = passes.give()?;
+    let _position = unlogged.change(rt, &mut pass, &Change::Flush)?;
+    let query = Query {
+        mirror: 1,
+        life: 1,
+        number: 1,
+    };
+    let path = Path::parse(alloc, b"a".as_slice())?;
+    let reply = unlogged.ask(rt, &Request::Fetch { query, path })?;
+    assert!(rt; matches!(&reply, Reply::ContentIs { content: None, .. }));
+    passes.take_back(pass);
+    let mount = unlogged.finish(passes)?;
+    assert_eq!(rt; mount.position().sequence, 2);
 
-    let mut errors = Vec::new(alloc);
-    assert_eq!(rt; fail(&mut errors, "edend", "NoMemory"), 3);
-    assert!(rt; errors.as_slice() == b"edend: NoMemory\n".as_slice());
+    // When to ask again.
+    let (head, mut writer) = HeadWord::new(alloc)?;
+    let mut follower = head.split(&mut writer);
+    assert_eq!(rt; head.load(&mut follower), 0);
+    head.raise(&mut writer, 5);
+    head.raise(&mut writer, 3);
+    assert_eq!(rt; head.load(&mut follower), 5);
     Ok(())
 }
 
@@ -566,75 +585,47 @@ fn eden_connect_example<R: Abort + Net<Stream = TcpStream>>(
     rt: &R,
     alloc: Global,
 ) -> Result<(), Fail> {
-    use eden_connect::{ProgramFault, Quiet, connect_program};
+    use eden_connect::{ConnectFault, Quiet, connect_program};
     use eden_globs::Filter;
+    use eden_sockets::Place;
 
     let mut output = Vec::new(alloc);
     let filter = Filter::all(alloc);
     // Mirror 1 in its first life, for one round. Nobody listens on port 1.
-    let ended = connect_program(rt, alloc, &mut output, 1, 1, 1, 1, &filter, &mut Quiet);
-    assert_eq!(rt; ended, Err(ProgramFault::NoConnection));
-    Ok(())
-}
-
-fn eden_resident_example(rt: &(impl Abort + Wait), alloc: Global) -> Result<(), Fail> {
-    use eden_accumulate::Mount;
-    use eden_history::Change;
-    use eden_ids::{GitNaming, Id, Path};
-    use eden_messages::{Query, Reply, Request};
-    use eden_objects::Store;
-    use eden_resident::Resident;
-
-    let store = Store::new(alloc, GitNaming);
-    let mount = Mount::mount(alloc, store, Id::ZERO, 7, 1000)?;
-    let resident = Resident::<GitNaming, _>::new(mount);
-    let _position = resident.change(rt, &Change::Flush)?;
-    let query = Query {
-        mirror: 1,
-        life: 1,
-        number: 1,
-    };
-    let path = Path::parse(alloc, b"a".as_slice())?;
-    let reply = resident.ask(rt, &Request::Fetch { query, path })?;
-    assert!(rt; matches!(&reply, Reply::ContentIs { content: None, .. }));
+    let place = Place::Port(1);
+    let ended = connect_program(rt, alloc, &mut output, place, 1, 1, 1, &filter, &mut Quiet);
+    assert_eq!(rt; ended, Err(ConnectFault::NoConnection));
     Ok(())
 }
 
 fn eden_serve_example<
-    R: Abort + Threads + Wait + Net<Listener = TcpListener, Stream = TcpStream> + Sync,
+    R: Abort
+        + Threads
+        + Wait
+        + Clock
+        + Files<File = File>
+        + Net<Listener = TcpListener, Stream = TcpStream>
+        + Sync,
 >(rt: &R, alloc: Global, port: u16) -> Result<(), Fail> {
-    use eden_serve::serve_program;
+    use eden_edend::Objects;
+    use eden_serve::{Daemon, ScriptInput, Unobserved, Until, run_daemon};
+    use eden_sockets::Place;
     use eden_stream::Counted;
 
     let script = b"mount empty 7 1000\nlisten\nwrite notes plain to\\sdo\n";
+    let mut input = ScriptInput::new(alloc, script.as_slice())?;
     let mut text = Vec::new(alloc);
     let mut writer = Counted::new(&mut text);
     // A port that nobody listens at, and no connection.
-    let ended = serve_program(rt, alloc, script.as_slice(), &mut writer, port, 0);
+    let daemon = Daemon {
+        objects: Objects::new(alloc),
+        place: Place::Port(port),
+        until: Until::Connections(0),
+    };
+    let ended = run_daemon(rt, alloc, daemon, &mut input, &mut writer, &Unobserved);
     assert_eq!(rt; ended, Ok(()));
     assert!(rt; text.starts_with(b"at 7 1 empty\nlistening ".as_slice()));
     assert!(rt; text.ends_with(b"\naudit ok\n".as_slice()));
-    Ok(())
-}
-
-fn eden_stay_example<
-    R: Abort + Threads + Wait + Clock + Net<Listener = TcpListener, Stream = TcpStream> + Sync,
->(rt: &R, alloc: Global, port: u16) -> Result<(), Fail> {
-    use eden_edend::Objects;
-    use eden_serve::Unobserved;
-    use eden_stay::stay_program;
-    use eden_stream::Counted;
-
-    let script = b"mount empty 7 1000\nlisten\nwrite notes plain to\\sdo\n";
-    let mut text = Vec::new(alloc);
-    let mut writer = Counted::new(&mut text);
-    let objects = Objects::new(alloc);
-    let script = script.as_slice();
-    let silent = &Unobserved;
-    // A port that nobody listens at.
-    let ended = stay_program(rt, alloc, objects, script, &mut writer, port, 2, silent);
-    assert_eq!(rt; ended, Ok(()));
-    assert!(rt; text.starts_with(b"at 7 1 empty\nlistening ".as_slice()));
     Ok(())
 }
 

@@ -2,6 +2,7 @@
 
 use eden_programs::{Shelf, edend};
 use std::alloc::Global;
+use std::fs::{File, Files};
 use std::io;
 use std::io::ErrorKind;
 use std::net::{Ipv4Addr, Net, TcpListener, TcpStream};
@@ -47,7 +48,14 @@ pub(crate) fn split_words(alloc: Global, words: &str) -> Result<Vec<String>, Fai
 
 /// What `edend` comes to with words that are parted by spaces, beside one file, a script that can't be read from a place on, and an output and
 /// a place to tell faults that are full at another.
-fn ran<R: Threads + Wait + Clock + Net<Listener = TcpListener, Stream = TcpStream> + Sync>(
+fn ran<
+    R: Threads
+        + Wait
+        + Clock
+        + Files<File = File>
+        + Net<Listener = TcpListener, Stream = TcpStream>
+        + Sync,
+>(
     rt: &R,
     alloc: Global,
     words: &str,
@@ -242,11 +250,14 @@ const ROWS: &[Row] = &[
 ];
 
 /// Whether a program comes to what its row says.
-fn is_as_told<R: Threads + Wait + Clock + Net<Listener = TcpListener, Stream = TcpStream> + Sync>(
-    rt: &R,
-    alloc: Global,
-    row: &Row,
-) -> Result<bool, Fail> {
+fn is_as_told<
+    R: Threads
+        + Wait
+        + Clock
+        + Files<File = File>
+        + Net<Listener = TcpListener, Stream = TcpStream>
+        + Sync,
+>(rt: &R, alloc: Global, row: &Row) -> Result<bool, Fail> {
     let (words, script, fails_at, full_at, status, text, told) = *row;
     let file = OneFile {
         bytes: b"",
@@ -405,11 +416,14 @@ const OBJECTS_ROWS: &[ObjectsRow] = &[
 ];
 
 /// Whether a program that is given objects comes to what its row says.
-fn puts_as_told<R: Threads + Wait + Clock + Net<Listener = TcpListener, Stream = TcpStream> + Sync>(
-    rt: &R,
-    alloc: Global,
-    row: &ObjectsRow,
-) -> Result<bool, Fail> {
+fn puts_as_told<
+    R: Threads
+        + Wait
+        + Clock
+        + Files<File = File>
+        + Net<Listener = TcpListener, Stream = TcpStream>
+        + Sync,
+>(rt: &R, alloc: Global, row: &ObjectsRow) -> Result<bool, Fail> {
     let (words, bytes, fails_at, script, status, text, told) = *row;
     let file = OneFile { bytes, fails_at };
     let (ended, output, errors) = ran(rt, alloc, words, &file, script, ALL, ALL)?;
@@ -502,13 +516,14 @@ pub(crate) fn words_at(alloc: Global, words: &str, port: u16) -> Result<String, 
 }
 
 /// What `edend` tells of a script, where the words have the port for `PORT`, beside objects.
-fn told_at<R: Threads + Wait + Clock + Net<Listener = TcpListener, Stream = TcpStream> + Sync>(
-    rt: &R,
-    alloc: Global,
-    words: &str,
-    script: &str,
-    port: u16,
-) -> Result<(u8, Vec<u8>), Fail> {
+fn told_at<
+    R: Threads
+        + Wait
+        + Clock
+        + Files<File = File>
+        + Net<Listener = TcpListener, Stream = TcpStream>
+        + Sync,
+>(rt: &R, alloc: Global, words: &str, script: &str, port: u16) -> Result<(u8, Vec<u8>), Fail> {
     let words = words_at(alloc, words, port)?;
     let file = OneFile {
         bytes: BATCH,

@@ -1,9 +1,12 @@
-//! `follow` over devices: each status that can be brought about, and what is told with it; and what each fault of a program is called.
+//! `follow` over devices: each status that can be brought about, and what is printed with it; and how each fault of a program is printed.
 
 use crate::daemon_tests::{first_wide, split_words};
-use eden_command::ProgramFault;
+use eden_connect::ConnectFault;
+use eden_demo::DemoFault;
 use eden_logs::AuditFault;
-use eden_programs::{Screen, follow};
+use eden_programs::{Screen, end_connect, end_daemon, end_demo, follow};
+use eden_serve::DaemonFault;
+use eden_stream::RunFault;
 use std::alloc::Global;
 use std::net::{Net, TcpStream};
 use std::sync::Wait;
@@ -127,41 +130,107 @@ fn statuses(rt: HostRuntime) -> Result<(), Fail> {
     Ok(())
 }
 
-/// Each fault, its name, its status, and what standard error is told of it.
-const FAULTS: &[(ProgramFault, &str, u8, &str)] = &[
-    (ProgramFault::BadLine(3), "BadLine", 1, "line 3: BadLine\n"),
-    (ProgramFault::Unplaced, "Unplaced", 1, ""),
-    (ProgramFault::Read, "Read", 3, "edend: Read\n"),
-    (ProgramFault::Write, "Write", 3, "edend: Write\n"),
+/// A fault of `edend`, why it came, the status, and what standard error says.
+type DaemonRow = (DaemonFault, Option<&'static str>, u8, &'static str);
+
+const DAEMON: &[DaemonRow] = &[
     (
-        ProgramFault::TurnsSpent,
-        "TurnsSpent",
+        DaemonFault::Script(RunFault::BadLine(3)),
+        None,
+        1,
+        "line 3: BadLine\n",
+    ),
+    (
+        DaemonFault::Script(RunFault::BadLine(3)),
+        Some("so"),
+        1,
+        "line 3: BadLine: so\n",
+    ),
+    (
+        DaemonFault::Script(RunFault::Read),
+        None,
+        3,
+        "edend: Read\n",
+    ),
+    (
+        DaemonFault::Script(RunFault::Read),
+        Some("so"),
+        3,
+        "edend: Read: so\n",
+    ),
+    (
+        DaemonFault::Script(RunFault::Write),
+        None,
+        3,
+        "edend: Write\n",
+    ),
+    (
+        DaemonFault::Script(RunFault::TurnsSpent),
+        None,
         3,
         "edend: TurnsSpent\n",
     ),
-    (ProgramFault::NoMemory, "NoMemory", 3, "edend: NoMemory\n"),
     (
-        ProgramFault::NoConnection,
-        "NoConnection",
+        DaemonFault::Script(RunFault::NoMemory),
+        None,
         3,
-        "edend: NoConnection\n",
+        "edend: NoMemory\n",
     ),
-    (
-        ProgramFault::Refused(AuditFault::WrongReply),
-        "WrongReply",
-        4,
-        "",
-    ),
-    (ProgramFault::Differ, "Differ", 4, ""),
+    (DaemonFault::NoConnection, None, 3, "edend: NoConnection\n"),
+    (DaemonFault::Audit(AuditFault::WrongReply), None, 4, ""),
 ];
 
+const CONNECT: &[(ConnectFault, Option<&'static str>, u8, &str)] = &[
+    (ConnectFault::Unplaced, None, 1, ""),
+    (ConnectFault::Write, None, 3, "follow: Write\n"),
+    (
+        ConnectFault::NoConnection,
+        Some("so"),
+        3,
+        "follow: NoConnection: so\n",
+    ),
+    (ConnectFault::NoMemory, None, 3, "follow: NoMemory\n"),
+];
+
+const DEMO: &[(DemoFault, u8, &str)] = &[
+    (DemoFault::Write, 3, "follow: Write\n"),
+    (DemoFault::NoMemory, 3, "follow: NoMemory\n"),
+    (DemoFault::NoConnection, 3, "follow: NoConnection\n"),
+    (DemoFault::Refused(AuditFault::WrongReply), 4, ""),
+    (DemoFault::Differ, 4, ""),
+];
+
+/// Returns why a fault came, as the programs are given it.
+fn why_of(alloc: Global, why: Option<&str>) -> Result<Option<String>, Fail> {
+    match why {
+        Some(why) => Ok(Some(String::from_str(alloc, why)?)),
+        None => Ok(None),
+    }
+}
+
 #[test]
-fn faults(rt: HostRuntime) -> Result<(), Fail> {
-    for (fault, name, status, told) in FAULTS {
-        assert!(rt; format!(in rt.alloc(); "{fault}")?.as_str() == *name);
+fn faults_of_edend(rt: HostRuntime) -> Result<(), Fail> {
+    for (fault, why, status, said) in DAEMON {
         let mut errors = Sink::new(rt.alloc());
-        assert_eq!(rt; fault.tell(&mut errors, "edend"), *status);
-        assert!(rt; errors.bytes.as_slice() == told.as_bytes(), "{name}");
+        let why = why_of(rt.alloc(), *why)?;
+        assert_eq!(rt; end_daemon(&mut errors, *fault, why), *status);
+        assert!(rt; errors.bytes.as_slice() == said.as_bytes(), "{fault:?}");
+    }
+    Ok(())
+}
+
+#[test]
+fn faults_of_follow(rt: HostRuntime) -> Result<(), Fail> {
+    for (fault, why, status, said) in CONNECT {
+        let mut errors = Sink::new(rt.alloc());
+        let why = why_of(rt.alloc(), *why)?;
+        assert_eq!(rt; end_connect(&mut errors, *fault, why), *status);
+        assert!(rt; errors.bytes.as_slice() == said.as_bytes(), "{fault:?}");
+    }
+    for (fault, status, said) in DEMO {
+        let mut errors = Sink::new(rt.alloc());
+        assert_eq!(rt; end_demo(&mut errors, *fault), *status);
+        assert!(rt; errors.bytes.as_slice() == said.as_bytes(), "{fault:?}");
     }
     Ok(())
 }

@@ -4,12 +4,10 @@ use crate::daemon_tests::{ALL, OneFile, split_words, words_at};
 use eden_programs::edend;
 use std::alloc::Global;
 use std::io::{Read, Write};
-use std::net::{Net, Shutdown, TcpListener, TcpStream};
-use std::sync::Wait;
+use std::net::{Net, Shutdown, TcpStream};
 use std::sync::atomic::{AtomicBool, Ordering};
 use std::test::Fail;
 use std::thread;
-use std::thread::Threads;
 use std::time::Clock;
 use test_serve::{Feed, connect, free_port};
 
@@ -124,11 +122,7 @@ fn send<R: Net<Stream = TcpStream> + Clock>(
 }
 
 /// Returns the status of the daemon of a row, and what standard error gets. `None` if the client was answered.
-fn observe<R: Threads + Wait + Clock + Net<Listener = TcpListener, Stream = TcpStream> + Sync>(
-    rt: &R,
-    alloc: Global,
-    row: &Row,
-) -> Result<Option<(u8, Vec<u8>)>, Fail> {
+fn observe(rt: &HostRuntime, alloc: Global, row: &Row) -> Result<Option<(u8, Vec<u8>)>, Fail> {
     let (words, script, bytes, _, _) = *row;
     let port = free_port(rt)?;
     let words = split_words(alloc, words_at(alloc, words, port)?.as_str())?;
@@ -160,11 +154,7 @@ fn observe<R: Threads + Wait + Clock + Net<Listener = TcpListener, Stream = TcpS
 }
 
 /// Whether the daemon of a row comes to what the row says.
-fn is_observed<R: Threads + Wait + Clock + Net<Listener = TcpListener, Stream = TcpStream> + Sync>(
-    rt: &R,
-    alloc: Global,
-    row: &Row,
-) -> Result<bool, Fail> {
+fn is_observed(rt: &HostRuntime, alloc: Global, row: &Row) -> Result<bool, Fail> {
     match observe(rt, alloc, row)? {
         Some((status, errors)) => Ok(status == row.3 && errors.as_slice() == row.4.as_bytes()),
         None => Ok(false),

@@ -2,11 +2,11 @@
 
 use crate::audit_tests::{Asks, Entry, Log, Notes, audited, take_all, verdict};
 use crate::calls::{Held, hold, served};
-use eden_audit::{AuditFault, Audited, Settled};
 use eden_globs::Filter;
 use eden_history::Mark;
 use eden_ids::{GitNaming, Kind};
 use eden_query::{answer, append_reply};
+use eden_shared::{AuditFault, Audited, Settled};
 use std::alloc::Global;
 use std::test::Fail;
 use test_wire::{

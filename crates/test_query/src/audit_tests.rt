@@ -1,12 +1,12 @@
 //! Logs that a test writes, beside a mount that was asked for two files.
 
 use crate::calls::opened;
-use eden_audit::{AuditFault, Audited, CallLog, LogEntry, audit};
 use eden_history::{Change, ChangeFault, Mark};
 use eden_ids::{GitNaming, Sequence};
-use eden_messages::{Answer, Call};
+use eden_logs::{Answer, Call};
 use eden_objects::{Object, PutFault, Word};
 use eden_query::Served;
+use eden_shared::{AuditFault, Audited, CallLog, LogEntry, audit};
 use std::alloc::Global;
 use std::test::Fail;
 use test_kit::write;

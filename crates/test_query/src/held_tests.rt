@@ -1,15 +1,16 @@
 //! What was held for a request is answered over the objects that came with it, whatever is imported and changed meanwhile.
 
-use crate::calls::{Held, add_held, answered, mounted};
+use crate::calls::{Held, add_held, answered, hold, mounted};
 use eden_accumulate::Mount;
-use eden_history::{Answer, Change, Mark, Mode};
+use eden_history::{Answer, Change, Mark, Marked, Mode};
 use eden_ids::{GitNaming, Id, Kind};
+use eden_messages::{Cause, Reply};
 use eden_objects::Store;
 use eden_query::Raw;
 use std::alloc::Global;
 use std::test::Fail;
-use test_kit::{Objects, remove, write};
-use test_wire::{Asked, Told, position, reply_of};
+use test_kit::{Objects, path, remove, write};
+use test_wire::{Asked, EMPTY, Told, position, reply_of};
 
 /// Two commits; the second one has another file `a`, and a file `d`.
 const BEFORE: &str =
@@ -120,5 +121,90 @@ fn mount_holds(alloc: Global, objects: &mut Objects) -> Result<bool, Fail> {
 fn what_was_held_stays(rt: HostRuntime) -> Result<(), Fail> {
     let mut objects = Objects::of(rt.alloc(), BEFORE)?;
     assert!(rt; mount_holds(rt.alloc(), &mut objects)?);
+    Ok(())
+}
+
+/// The first file's number.
+const FIRST: u64 = 1_000;
+
+/// One more than the last file's: more files than the journal's newest runs and three of its blocks
+/// hold.
+const END: u64 = 1_300;
+
+/// Pays for these files, and not for as many more.
+const LIMIT: u64 = 40_000;
+
+/// Writes the files of these numbers.
+fn write_files(
+    alloc: Global,
+    mount: &mut Mount<GitNaming>,
+    first: u64,
+    end: u64,
+) -> Result<(), Fail> {
+    for number in first..end {
+        let name = format!(in alloc; "f{number}")?;
+        change(mount, write(alloc, name.as_str(), "1")?)?;
+    }
+    Ok(())
+}
+
+/// Returns whether these are the first files, each created, in order.
+fn are_created(alloc: Global, marked: &[Marked]) -> Result<bool, Fail> {
+    let mut right = marked.len() as u64 == END - FIRST;
+    for (number, it) in (FIRST..END).zip(marked) {
+        let name = format!(in alloc; "f{number}")?;
+        right = right && it.mark == Mark::Created && it.path == path(alloc, name.as_str())?;
+    }
+    Ok(right)
+}
+
+/// Returns whether the reply says that the first files were created, and nothing else.
+fn creates(alloc: Global, reply: &Reply) -> Result<bool, Fail> {
+    match reply {
+        Reply::ChangesAre {
+            target,
+            marked,
+            prefixes,
+            ..
+        } => {
+            let all = *target == position(1 + END - FIRST, EMPTY) && prefixes.is_empty();
+            Ok(all && are_created(alloc, marked.as_slice())?)
+        }
+        _ => Ok(false),
+    }
+}
+
+/// Returns whether the mount refuses a poll since its first position, as the journal has dropped what came after it.
+fn has_dropped(alloc: Global, mount: &mut Mount<GitNaming>) -> Result<bool, Fail> {
+    match hold(alloc, mount, 2, Asked::Poll(1, EMPTY))?.0 {
+        Raw::Refused(_, Cause::Truncated(_)) => Ok(true),
+        _ => Ok(false),
+    }
+}
+
+/// Returns whether what was held is answered the same whatever the journal records, drops and forgets.
+fn is_kept(alloc: Global, mount: &mut Mount<GitNaming>, held: &Held) -> Result<bool, Fail> {
+    let mut right = creates(alloc, &answered(alloc, &held.0, &held.1)?)?;
+    write_files(alloc, mount, END, 2 * END)?;
+    right = right && has_dropped(alloc, mount)?;
+    right = right && creates(alloc, &answered(alloc, &held.0, &held.1)?)?;
+    change(mount, Change::Flush)?;
+    right = right && creates(alloc, &answered(alloc, &held.0, &held.1)?)?;
+    change(mount, Change::Remount { generation: 8 })?;
+    Ok(right && creates(alloc, &answered(alloc, &held.0, &held.1)?)?)
+}
+
+/// Holds a poll of the first files, and returns whether it is kept.
+fn keeps_a_poll(alloc: Global, mount: &mut Mount<GitNaming>) -> Result<bool, Fail> {
+    write_files(alloc, mount, FIRST, END)?;
+    let held = hold(alloc, mount, 1, Asked::Poll(1, EMPTY))?;
+    is_kept(alloc, mount, &held)
+}
+
+#[test]
+fn poll_that_was_held_stays(rt: HostRuntime) -> Result<(), Fail> {
+    let store = Store::new(rt.alloc(), GitNaming);
+    let mut mount = Mount::mount(rt.alloc(), store, Id::ZERO, 7, LIMIT)?;
+    assert!(rt; keeps_a_poll(rt.alloc(), &mut mount)?);
     Ok(())
 }

@@ -1,12 +1,13 @@
 //! A client that sends one frame and reads the reply.
 
 use eden_messages::Reply;
+use eden_sockets::{ListenFault, Listener, Place};
 use eden_wire::decode_reply;
 use std::alloc::Global;
 use std::io::{Read, Write};
 use std::net::{Ipv4Addr, Net, TcpListener, TcpStream};
+use std::thread;
 use std::time::{Clock, Duration};
-use std::{io, thread};
 
 /// For how many milliseconds at most somebody waits for a port to be listened at.
 const PATIENCE: u32 = 10_000;
@@ -14,13 +15,23 @@ const PATIENCE: u32 = 10_000;
 /// A listener on a port of this machine that nobody listened at.
 pub fn listen<R: Net<Listener = TcpListener, Stream = TcpStream>>(
     rt: &R,
-) -> io::Result<TcpListener> {
-    TcpListener::bind(rt, (Ipv4Addr::LOCALHOST, 0))
+) -> Result<Listener, ListenFault> {
+    Listener::at_free_port(rt)
+}
+
+/// The port of a listener, and 0 if it listens at no port.
+pub fn port_of(listener: &Listener) -> u16 {
+    match listener.reached_at() {
+        Place::Port(port) => port,
+        Place::Socket(_) => 0,
+    }
 }
 
 /// A port of this machine that nobody listens at.
-pub fn free_port<R: Net<Listener = TcpListener, Stream = TcpStream>>(rt: &R) -> io::Result<u16> {
-    Ok(listen(rt)?.local_addr()?.port())
+pub fn free_port<R: Net<Listener = TcpListener, Stream = TcpStream>>(
+    rt: &R,
+) -> Result<u16, ListenFault> {
+    Ok(port_of(&listen(rt)?))
 }
 
 /// A connection to a port of this machine, once somebody listens there, ten seconds from now at the most.

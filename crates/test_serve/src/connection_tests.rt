@@ -1,10 +1,10 @@
 //! Connections that are open at once, and a writer meanwhile.
 
 use crate::checking::{Frames, ask_both, make_frames};
-use crate::client::{connect, listen};
+use crate::client::{connect, listen, port_of};
 use crate::serving::{PRINTED, SCRIPT, SEQUENCE, serve};
 use eden_edend::{LineInput, Objects, run_to_listen};
-use eden_serve::{ProgramFault, Unobserved, serve_listener};
+use eden_serve::{DaemonFault, Listening, Unobserved, Until, serve_listener};
 use eden_stream::Counted;
 use std::alloc::Global;
 use std::net::{Net, TcpListener, TcpStream};
@@ -69,11 +69,11 @@ fn are_served<R: Threads + Wait + Clock + Net<Listener = TcpListener, Stream = T
     frames: &Frames,
 ) -> Result<bool, Fail> {
     let listener = listen(rt)?;
-    let port = listener.local_addr()?.port();
+    let port = port_of(&listener);
     let ended = AtomicBool::new(false);
     let (served, right) = thread::join(
         rt,
-        || serve(rt, alloc, SCRIPT, PRINTED, &ended, &listener, count),
+        || serve(rt, alloc, SCRIPT, PRINTED, &ended, listener, count),
         || run_clients(rt, alloc, port, count, frames, &ended),
     );
     Ok(served && right)
@@ -89,36 +89,37 @@ fn connections_at_once(rt: HostRuntime) -> Result<(), Fail> {
 }
 
 /// Serves a mount over a listener that accepts nothing, and gives how that ends.
-fn refused<R: Threads + Wait + Net<Listener = TcpListener, Stream = TcpStream> + Sync>(
+fn refused<R: Threads + Wait + Clock + Net<Listener = TcpListener, Stream = TcpStream> + Sync>(
     rt: &R,
     alloc: Global,
     connections: u64,
     output: &mut Vec<u8>,
-) -> Result<Result<(), ProgramFault>, Fail> {
+) -> Result<Result<(), DaemonFault>, Fail> {
     let listener = listen(rt)?;
-    listener.set_nonblocking(true)?;
-    let mut input = LineInput::new(alloc, SCRIPT)?;
-    let mut reader = Counted::new(&mut input);
+    listener.stop()?;
+    let mut input = Counted::new(LineInput::new(alloc, SCRIPT)?);
     let mut unread = Counted::new(Vec::new(alloc));
-    let opened = run_to_listen(alloc, Objects::new(alloc), &mut reader, &mut unread)?;
+    let opened = run_to_listen(alloc, Objects::new(alloc), &mut input, &mut unread)?;
+    let listening = Listening { opened, listener };
+    let until = Until::Connections(connections);
+    let mut writer = Counted::new(output);
     Ok(serve_listener(
         rt,
         alloc,
-        opened,
-        input,
-        output,
-        &listener,
-        connections,
+        listening,
+        until,
+        &mut input,
+        &mut writer,
         &Unobserved,
     ))
 }
 
 /// How many connections, and what comes of them where none is accepted. A lock has 255 callers, of whom one is the writer.
-const REFUSED: &[(u64, Result<(), ProgramFault>, &[u8])] = &[
+const REFUSED: &[(u64, Result<(), DaemonFault>, &[u8])] = &[
     (0, Ok(()), b"audit ok\n"),
     (3, Ok(()), b"audit ok\n"),
     (254, Ok(()), b"audit ok\n"),
-    (255, Err(ProgramFault::NoConnection), b""),
+    (255, Err(DaemonFault::NoConnection), b""),
 ];
 
 #[test]

@@ -18,10 +18,11 @@
 pub use crate::asking::{
     BIG_SEQUENCE, LINES, QUERY, big_script, fetch_frame, poll_frame, told_up_to,
 };
-pub use crate::client::{ask, connect, free_port, listen, read_reply};
+pub use crate::client::{ask, connect, free_port, listen, port_of, read_reply};
 pub use crate::feed::Feed;
 pub use crate::hostile::{hostile_texts, send_all};
 pub use crate::served::serve_feed;
+pub use crate::staying::stay;
 
 mod asking;
 #[cfg(test)]
@@ -46,5 +47,6 @@ mod serving;
 mod session_tests;
 #[cfg(test)]
 mod stay_tests;
+mod staying;
 #[cfg(test)]
 mod stopping_tests;

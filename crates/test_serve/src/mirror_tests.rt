@@ -1,7 +1,7 @@
 //! Many mirrors at once, while lines change what they follow.
 
 use crate::asking::QUERY;
-use crate::client::{ask, connect, listen};
+use crate::client::{ask, connect, listen, port_of};
 use crate::feed::Feed;
 use crate::served::serve_feed;
 use crate::serving::SCRIPT;
@@ -9,6 +9,7 @@ use eden_connect::{Quiet, connect_program};
 use eden_globs::Filter;
 use eden_ids::Path;
 use eden_messages::{Reply, Request};
+use eden_sockets::Place;
 use eden_wire::encode_request;
 use std::alloc::Global;
 use std::net::{Net, TcpListener, TcpStream};
@@ -47,7 +48,7 @@ fn follow<R: Net<Stream = TcpStream>>(
         rt,
         alloc,
         &mut output,
-        port,
+        Place::Port(port),
         mirror,
         1,
         rounds,
@@ -144,13 +145,13 @@ fn mirrors_at_once(rt: HostRuntime) -> Result<(), Fail> {
     let alloc = rt.alloc();
     for count in [1, 8, 64] {
         let listener = listen(&rt)?;
-        let port = listener.local_addr()?.port();
+        let port = port_of(&listener);
         let ended = AtomicBool::new(false);
         let (served, kept) = thread::join(
             &rt,
             || {
                 let feed = Feed::new(&rt, SCRIPT, LINES, LAST, &ended);
-                serve_feed(&rt, alloc, feed, &listener, 2 * count + 2).is_some()
+                serve_feed(&rt, alloc, feed, listener, 2 * count + 2).is_some()
             },
             || {
                 let follow = |(mirror, rounds)| follow(&rt, alloc, port, mirror, rounds);

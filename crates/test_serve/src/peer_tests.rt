@@ -2,7 +2,7 @@
 
 use crate::asking::{BIG_SEQUENCE, big_script};
 use crate::checking::{Frames, ask_both, make_frames};
-use crate::client::{connect, listen, read_reply};
+use crate::client::{connect, listen, port_of, read_reply};
 use crate::hostile::{hostile_texts, send_all};
 use crate::serving::serve;
 use std::alloc::Global;
@@ -66,13 +66,13 @@ fn is_served_beside<
     R: Threads + Wait + Clock + Net<Listener = TcpListener, Stream = TcpStream> + Sync,
 >(rt: &R, alloc: Global, frames: &Frames, texts: &[Vec<u8>]) -> Result<bool, Fail> {
     let listener = listen(rt)?;
-    let port = listener.local_addr()?.port();
+    let port = port_of(&listener);
     let script = big_script(alloc)?;
     let script = script.as_slice();
     let ended = AtomicBool::new(false);
     let (served, right) = thread::join(
         rt,
-        || serve(rt, alloc, script, PRINTED, &ended, &listener, 7),
+        || serve(rt, alloc, script, PRINTED, &ended, listener, 7),
         || run_peers(rt, alloc, port, frames, texts, &ended),
     );
     Ok(served && right)

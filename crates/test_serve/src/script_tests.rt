@@ -1,11 +1,13 @@
 //! Scripts with their line `listen`: what is printed, and how the program ends.
 
 use crate::checking::{Frames, ask_both, make_frames};
-use crate::client::{connect, free_port, listen};
+use crate::client::{connect, free_port, listen, port_of};
 use crate::serving::{PRINTED, SCRIPT, SEQUENCE};
-use eden_serve::{ProgramFault, serve_program};
-use eden_stream::Counted;
+use eden_serve::{DaemonFault, serve_program};
+use eden_sockets::Place;
+use eden_stream::{Counted, RunFault};
 use std::alloc::Global;
+use std::fs::{File, Files};
 use std::io::Read;
 use std::net::{Ipv4Addr, Net, TcpListener, TcpStream};
 use std::sync::Wait;
@@ -16,7 +18,7 @@ use std::time::Clock;
 use test_devices::{Endless, Sink, Source};
 
 /// How a program ends.
-type End = Result<(), ProgramFault>;
+type End = Result<(), DaemonFault>;
 
 /// No place.
 const ALL: usize = usize::MAX;
@@ -40,7 +42,12 @@ fn text_of(alloc: Global, row: &[u8], port: u16) -> Result<Vec<u8>, Fail> {
 
 /// Whether a program that serves nobody ends so and prints this, over an output that is full at a place.
 fn ends_so<
-    R: Threads + Wait + Net<Listener = TcpListener, Stream = TcpStream> + Sync,
+    R: Threads
+        + Wait
+        + Clock
+        + Files<File = File>
+        + Net<Listener = TcpListener, Stream = TcpStream>
+        + Sync,
     I: Read + Send + Drop,
 >(
     rt: &R,
@@ -52,14 +59,22 @@ fn ends_so<
 ) -> Result<(End, bool), Fail> {
     let mut output = Sink::new(alloc);
     output.full_at = full_at;
-    let end = serve_program(rt, alloc, input, &mut Counted::new(&mut output), port, 0);
+    let place = Place::Port(port);
+    let end = serve_program(rt, alloc, input, &mut Counted::new(&mut output), place, 0);
     let wanted = text_of(alloc, text, port)?;
     let most = wanted.len().min(full_at);
     Ok((end, output.bytes.as_slice() == &wanted[..most]))
 }
 
 /// How a program ends over a source that gives so many bytes a read, and fails at a place; and whether it prints this.
-fn ends_over<R: Threads + Wait + Net<Listener = TcpListener, Stream = TcpStream> + Sync>(
+fn ends_over<
+    R: Threads
+        + Wait
+        + Clock
+        + Files<File = File>
+        + Net<Listener = TcpListener, Stream = TcpStream>
+        + Sync,
+>(
     rt: &R,
     alloc: Global,
     script: &'static [u8],
@@ -75,7 +90,7 @@ fn ends_over<R: Threads + Wait + Net<Listener = TcpListener, Stream = TcpStream>
         source.cut = fails_at;
         let port = free_port(rt)?;
         let ended = ends_so(rt, alloc, source, port, full_at, text)?;
-        if ended.0 != Err(ProgramFault::NoConnection) {
+        if ended.0 != Err(DaemonFault::NoConnection) {
             return Ok(ended);
         }
     }
@@ -83,7 +98,7 @@ fn ends_over<R: Threads + Wait + Net<Listener = TcpListener, Stream = TcpStream>
 }
 
 fn bad(number: u64) -> End {
-    Err(ProgramFault::BadLine(number))
+    Err(DaemonFault::Script(RunFault::BadLine(number)))
 }
 
 /// Scripts that open nothing, what they print, and the number of the line that they end with.
@@ -177,15 +192,15 @@ fn lines_behind_listen(rt: HostRuntime) -> Result<(), Fail> {
 }
 
 /// Where the input fails, and where the output is full; what is printed, up to there; and how the program ends.
-const FAILED: &[(usize, usize, &[u8], ProgramFault)] = &[
-    (0, ALL, b"", ProgramFault::Read),
-    (20, ALL, b"at 7 1 empty\n", ProgramFault::Read),
-    (26, ALL, b"at 7 1 empty\n@audit ok\n", ProgramFault::Read),
-    (30, ALL, b"at 7 1 empty\n@audit ok\n", ProgramFault::Read),
-    (ALL, 0, b"at 7 1 empty\n@audit ok\n", ProgramFault::Write),
-    (ALL, 13, b"at 7 1 empty\n@audit ok\n", ProgramFault::Write),
-    (ALL, 20, b"at 7 1 empty\n@audit ok\n", ProgramFault::Write),
-    (ALL, 35, b"at 7 1 empty\n@audit ok\n", ProgramFault::Write),
+const FAILED: &[(usize, usize, &[u8], RunFault)] = &[
+    (0, ALL, b"", RunFault::Read),
+    (20, ALL, b"at 7 1 empty\n", RunFault::Read),
+    (26, ALL, b"at 7 1 empty\n@audit ok\n", RunFault::Read),
+    (30, ALL, b"at 7 1 empty\n@audit ok\n", RunFault::Read),
+    (ALL, 0, b"at 7 1 empty\n@audit ok\n", RunFault::Write),
+    (ALL, 13, b"at 7 1 empty\n@audit ok\n", RunFault::Write),
+    (ALL, 20, b"at 7 1 empty\n@audit ok\n", RunFault::Write),
+    (ALL, 35, b"at 7 1 empty\n@audit ok\n", RunFault::Write),
 ];
 
 #[test]
@@ -194,7 +209,7 @@ fn devices_that_fail(rt: HostRuntime) -> Result<(), Fail> {
     for (fails_at, full_at, text, fault) in FAILED {
         for most in [ALL, 1] {
             let ended = ends_over(&rt, rt.alloc(), script, most, *fails_at, *full_at, text)?;
-            assert_eq!(rt; ended, (Err(*fault), true));
+            assert_eq!(rt; ended, (Err(DaemonFault::Script(*fault)), true));
         }
     }
     Ok(())
@@ -203,14 +218,21 @@ fn devices_that_fail(rt: HostRuntime) -> Result<(), Fail> {
 #[test]
 fn a_port_in_use(rt: HostRuntime) -> Result<(), Fail> {
     let listener = listen(&rt)?;
-    let port = listener.local_addr()?.port();
+    let port = port_of(&listener);
     let ended = ends_so(&rt, rt.alloc(), SCRIPT, port, ALL, PRINTED)?;
-    assert_eq!(rt; ended, (Err(ProgramFault::NoConnection), true));
+    assert_eq!(rt; ended, (Err(DaemonFault::NoConnection), true));
     Ok(())
 }
 
 /// How a program ends over a script whose lines behind `listen` begin with these bytes, a byte a read, and then are so again and again.
-fn ends_behind<R: Threads + Wait + Net<Listener = TcpListener, Stream = TcpStream> + Sync>(
+fn ends_behind<
+    R: Threads
+        + Wait
+        + Clock
+        + Files<File = File>
+        + Net<Listener = TcpListener, Stream = TcpStream>
+        + Sync,
+>(
     rt: &R,
     alloc: Global,
     endless: &'static [u8],
@@ -226,7 +248,7 @@ fn ends_behind<R: Threads + Wait + Net<Listener = TcpListener, Stream = TcpStrea
         let port = free_port(rt)?;
         let text = b"at 7 1 empty\n@audit ok\n";
         let ended = ends_so(rt, alloc, input, port, ALL, text)?;
-        if ended.0 != Err(ProgramFault::NoConnection) {
+        if ended.0 != Err(DaemonFault::NoConnection) {
             return Ok(ended);
         }
     }
@@ -241,9 +263,9 @@ fn no_number_of_reads_ends_the_lines(rt: HostRuntime) -> Result<(), Fail> {
 }
 
 #[test]
-fn a_comment_may_spend_them(rt: HostRuntime) -> Result<(), Fail> {
+fn no_number_of_reads_ends_a_comment(rt: HostRuntime) -> Result<(), Fail> {
     let ended = ends_behind(&rt, rt.alloc(), b"#", 1_200_000, b"")?;
-    assert_eq!(rt; ended, (Err(ProgramFault::TurnsSpent), true));
+    assert_eq!(rt; ended, (Ok(()), true));
     Ok(())
 }
 
@@ -266,10 +288,11 @@ fn a_program_serves_its_port(rt: HostRuntime) -> Result<(), Fail> {
     let frames = make_frames(rt.alloc(), SEQUENCE)?;
     let port = free_port(&rt)?;
     let alloc = rt.alloc();
+    let place = Place::Port(port);
     let mut output = Vec::new(alloc);
     let (end, right) = thread::join(
         &rt,
-        || serve_program(&rt, alloc, SCRIPT, &mut Counted::new(&mut output), port, 1),
+        || serve_program(&rt, alloc, SCRIPT, &mut Counted::new(&mut output), place, 1),
         || ask_once(&rt, alloc, port, &frames),
     );
     assert_eq!(rt; end, Ok(()));

@@ -3,8 +3,9 @@
 use crate::asking::LINES;
 use crate::feed::Feed;
 use crate::served::serve_feed;
+use eden_sockets::Listener;
 use std::alloc::Global;
-use std::net::TcpListener;
+use std::net::{Net, TcpListener, TcpStream};
 use std::sync::Wait;
 use std::sync::atomic::AtomicBool;
 use std::thread::Threads;
@@ -21,13 +22,15 @@ pub(crate) const SEQUENCE: u64 = 2;
 
 /// Serves what a script opens to so many connections, and writes `w` meanwhile until the flag is set. Says whether that ends well, and this is
 /// what is printed.
-pub(crate) fn serve<R: Threads + Wait + Clock + Sync>(
+pub(crate) fn serve<
+    R: Threads + Wait + Clock + Net<Listener = TcpListener, Stream = TcpStream> + Sync,
+>(
     rt: &R,
     alloc: Global,
     script: &[u8],
     printed: &[u8],
     ended: &AtomicBool,
-    listener: &TcpListener,
+    listener: Listener,
     connections: u64,
 ) -> bool {
     let feed = Feed::new(rt, script, LINES, b"".as_slice(), ended);

@@ -1,12 +1,13 @@
 //! One daemon, one mirror, one round.
 
 use crate::client::free_port;
-use eden_command::ProgramFault;
-use eden_connect::{Quiet, connect_program};
+use eden_connect::{ConnectFault, Quiet, connect_program};
 use eden_globs::Filter;
-use eden_serve::serve_program;
+use eden_serve::{DaemonFault, serve_program};
+use eden_sockets::Place;
 use eden_stream::Counted;
 use std::alloc::Global;
+use std::fs::{File, Files};
 use std::net::{Ipv4Addr, Net, TcpListener, TcpStream};
 use std::sync::Wait;
 use std::test::Fail;
@@ -25,17 +26,24 @@ const TURNS: u32 = 16;
 /// A script with one file.
 const SCRIPT: &[u8] = b"mount empty 7 1000\nwrite a plain 1\nlisten\n";
 
-/// How a program ended, and what it wrote.
-type Told = (Result<(), ProgramFault>, Vec<u8>);
+/// How the daemon ended, and what it wrote.
+type Served = (Result<(), DaemonFault>, Vec<u8>);
+
+/// How the mirror ended, and what it wrote.
+type Told = (Result<(), ConnectFault>, Vec<u8>);
 
 /// Serves one connection.
-fn serve_one<R: Threads + Wait + Net<Listener = TcpListener, Stream = TcpStream> + Sync>(
-    rt: &R,
-    alloc: Global,
-    port: u16,
-) -> Told {
+fn serve_one<
+    R: Threads
+        + Wait
+        + Clock
+        + Files<File = File>
+        + Net<Listener = TcpListener, Stream = TcpStream>
+        + Sync,
+>(rt: &R, alloc: Global, port: u16) -> Served {
+    let place = Place::Port(port);
     let mut output = Vec::new(alloc);
-    let ended = serve_program(rt, alloc, SCRIPT, &mut Counted::new(&mut output), port, 1);
+    let ended = serve_program(rt, alloc, SCRIPT, &mut Counted::new(&mut output), place, 1);
     (ended, output)
 }
 
@@ -44,13 +52,14 @@ fn follow_one<R: Net<Stream = TcpStream> + Clock>(rt: &R, alloc: Global, port: u
     let filter = Filter::all(alloc);
     let mut output = Vec::new(alloc);
     for _ in 0..TRIES {
-        let ended = connect_program(rt, alloc, &mut output, port, 1, 1, 1, &filter, &mut Quiet);
-        if ended != Err(ProgramFault::NoConnection) {
+        let place = Place::Port(port);
+        let ended = connect_program(rt, alloc, &mut output, place, 1, 1, 1, &filter, &mut Quiet);
+        if ended != Err(ConnectFault::NoConnection) {
             return (ended, output);
         }
         thread::sleep(rt, Duration::from_millis(1));
     }
-    (Err(ProgramFault::NoConnection), output)
+    (Err(ConnectFault::NoConnection), output)
 }
 
 /// The port to try in this turn, where nobody listens at it.
@@ -68,7 +77,7 @@ fn port_of<R: Net<Listener = TcpListener, Stream = TcpStream>>(
 }
 
 /// Whether both ends have told what they should.
-fn are_right(alloc: Global, port: u16, served: &Told, followed: &Told) -> Result<bool, Fail> {
+fn are_right(alloc: Global, port: u16, served: &Served, followed: &Told) -> Result<bool, Fail> {
     let printed = format!(in alloc; "at 7 1 empty\nat 7 2 empty\nlistening {port}\naudit ok\n")?;
     let told = b"placed 7 2 0000000000000000000000000000000000000000\nfiles 1\nplain 1 a\n";
     Ok(

@@ -5,14 +5,12 @@ use crate::checking::poll_often;
 use crate::client::free_port;
 use crate::feed::Feed;
 use crate::hostile::{hostile_texts, send_all};
-use eden_command::ProgramFault;
-use eden_edend::Objects;
-use eden_serve::Unobserved;
-use eden_stay::stay_program;
+use crate::staying::stay;
+use eden_serve::DaemonFault;
 use eden_stream::Counted;
 use std::alloc::Global;
+use std::fs::{File, Files};
 use std::net::{Net, TcpListener, TcpStream};
-use std::process::Abort;
 use std::sync::Wait;
 use std::sync::atomic::{AtomicBool, Ordering};
 use std::test::Fail;
@@ -20,27 +18,25 @@ use std::thread;
 use std::thread::Threads;
 use std::time::{Clock, Duration, Instant};
 
-/// Runs a script, and behind it lines that write `w`, in front of so many threads, until the flag is set.
-fn stay<R: Threads + Wait + Clock + Net<Listener = TcpListener, Stream = TcpStream> + Sync>(
+/// Runs a script and then lines that write `w`, with this many threads, until the flag is set.
+fn stay_until<
+    R: Threads
+        + Wait
+        + Clock
+        + Files<File = File>
+        + Net<Listener = TcpListener, Stream = TcpStream>
+        + Sync,
+>(
     rt: &R,
     alloc: Global,
     script: &[u8],
     ended: &AtomicBool,
     port: u16,
     threads: u64,
-) -> Result<(), ProgramFault> {
+) -> Result<(), DaemonFault> {
     let feed = Feed::new(rt, script, LINES, b"".as_slice(), ended);
     let mut writer = Counted::new(Vec::new(alloc));
-    stay_program(
-        rt,
-        alloc,
-        Objects::new(alloc),
-        feed,
-        &mut writer,
-        port,
-        threads,
-        &Unobserved,
-    )
+    stay(rt, alloc, feed, &mut writer, port, threads)
 }
 
 /// Eight clients ask so often each. Says whether all replies are right.
@@ -94,24 +90,27 @@ fn ask_beside<R: Threads + Net<Listener = TcpListener, Stream = TcpStream> + Clo
 }
 
 /// What the program ends with, and what is left once the input of its lines has ended.
-fn run_beside<R: Threads + Wait + Clock + Net<Listener = TcpListener, Stream = TcpStream> + Sync>(
-    rt: &R,
+fn run_beside(
+    rt: &HostRuntime,
     alloc: Global,
     port: u16,
     plan: &Plan,
     ended: &AtomicBool,
-) -> (Result<(), ProgramFault>, Option<Left>) {
+) -> (Result<(), DaemonFault>, Option<Left>) {
     thread::join(
         rt,
-        || stay(rt, alloc, plan.script.as_slice(), ended, port, 8),
+        || stay_until(rt, alloc, plan.script.as_slice(), ended, port, 8),
         || ask_beside(rt, alloc, port, plan, ended),
     )
 }
 
 /// Clients are told what is right beside these peers, and the program ends soon once its lines have, though the peers stay connected.
-fn serves_beside<
-    R: Threads + Wait + Clock + Net<Listener = TcpListener, Stream = TcpStream> + Abort + Sync,
->(rt: &R, alloc: Global, hostile: Vec<Vec<u8>>, times: u32) -> Result<(), Fail> {
+fn serves_beside(
+    rt: &HostRuntime,
+    alloc: Global,
+    hostile: Vec<Vec<u8>>,
+    times: u32,
+) -> Result<(), Fail> {
     let plan = Plan {
         script: big_script(alloc)?,
         hostile,

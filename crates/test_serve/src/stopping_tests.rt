@@ -1,6 +1,6 @@
 //! A device that ends once a flag is set.
 
-use eden_stay::Stoppable;
+use eden_serve::Stoppable;
 use std::io;
 use std::io::{Error, ErrorKind, Read, Write};
 use std::sync::atomic::{AtomicBool, Ordering};

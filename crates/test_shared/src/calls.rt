@@ -3,7 +3,8 @@
 use eden_globs::Filter;
 use eden_history::{Change, Mode, Position};
 use eden_ids::{Id, Sequence};
-use eden_messages::{Call, Query, Request};
+use eden_logs::Call;
+use eden_messages::{Query, Request};
 use eden_objects::{Object, Word};
 use rand_core::utils::NextWord;
 use rand_pcg::Pcg32;

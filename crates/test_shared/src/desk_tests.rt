@@ -4,7 +4,7 @@ ghost use Rattle.std.specs.Prelude.{◌≡◌};
 
 use crate::audits::{Behind, Ended, close, opened};
 use crate::calls::calls_of;
-use eden_messages::Call;
+use eden_logs::Call;
 use eden_shared::{CallLog, Desk, OpenGate, Pass};
 use std::alloc::Global;
 use std::marker::Brand;

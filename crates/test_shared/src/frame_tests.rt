@@ -4,16 +4,19 @@ ghost use Rattle.std.specs.Prelude.{◌≡◌};
 
 use crate::audits::{Behind, close, end_both, opened};
 use eden_ids::{GitNaming, Id};
+use eden_messages::{Query, Request};
 use eden_objects::Store;
 use eden_query::{FrameFault, ServeFault};
-use eden_shared::{Desk, OpenGate, serve_shared};
+use eden_shared::{Desk, Gate, serve_shared};
 use eden_stream::Counted;
 use std::alloc::Global;
 use std::marker::Brand;
 use std::process::Abort;
 use std::sync::Wait;
+use std::sync::atomic::{AtomicU64, Ordering};
 use std::sync::ledger::{Blank, Ledger};
 use std::test::Fail;
+use std::time::Duration;
 use test_kit::{PLACE_BYTES as P, QUERY_BYTES as Q, joined};
 
 /// A fetch of `a`.
@@ -54,7 +57,28 @@ fn made(
     })
 }
 
-fn cases(alloc: Global) -> Result<[Case; 7], Fail> {
+/// A gate that keeps the longest patience, in milliseconds.
+#[derive(Drop)]
+struct Longest {
+    milliseconds: AtomicU64,
+}
+
+impl Gate for Longest {
+    fn before(&self, _request: &Request, patience: Duration) {
+        let milliseconds = u64::try_from(patience.as_millis()).unwrap_or(u64::MAX);
+        self.milliseconds.fetch_max(milliseconds, Ordering::SeqCst);
+    }
+
+    fn between(&self, _query: &Query) {}
+}
+
+/// A fetch of `a` with the longest patience that there is.
+fn patient(alloc: Global) -> Result<Vec<u8>, Fail> {
+    let patience: &[u8] = &[0, 0, 0, 0x23, 2, 5, 0xff, 0xff, 0xff, 0xff];
+    Ok(joined(alloc, &[patience, &[2, 3], &Q, &[0, 1, b'a']])?)
+}
+
+fn cases(alloc: Global) -> Result<[Case; 8], Fail> {
     let (frame, reply) = (fetch(alloc)?, absent(alloc)?);
     let (frame, reply) = (frame.as_slice(), reply.as_slice());
     // A byte more than its fields.
@@ -71,6 +95,7 @@ fn cases(alloc: Global) -> Result<[Case; 7], Fail> {
             stops(2, FrameFault::Trailing),
         )?,
         made(alloc, &[frame, frame], &[reply, reply], Ok(2))?,
+        made(alloc, &[&patient(alloc)?, frame], &[reply, reply], Ok(2))?,
         made(
             alloc,
             &[frame, frame, &[0]],
@@ -86,12 +111,13 @@ fn served<L: Ledger>(
     alloc: Global,
     shared: &Behind<L>,
     desk: &mut Desk<L>,
+    gate: &Longest,
     stream: &[u8],
 ) -> (Vec<u8>, Result<u64, ServeFault>) {
     let mut written = Vec::new(alloc);
     let mut reader = Counted::new(stream);
     let mut writer = Counted::new(&mut written);
-    let end = serve_shared(rt, alloc, &mut reader, &mut writer, shared, desk, &OpenGate);
+    let end = serve_shared(rt, alloc, &mut reader, &mut writer, shared, desk, gate);
     (written, end)
 }
 
@@ -102,11 +128,16 @@ fn serve_all<L: Ledger>(
     shared: &Behind<L>,
     desk: &mut Desk<L>,
 ) -> Result<(), Fail> {
+    let gate = Longest {
+        milliseconds: AtomicU64::new(0),
+    };
     for case in &cases(alloc)? {
-        let (written, end) = served(rt, alloc, shared, desk, case.stream.as_slice());
+        let (written, end) = served(rt, alloc, shared, desk, &gate, case.stream.as_slice());
         assert_eq!(rt; end, case.end);
         assert_eq!(rt; written, case.text);
     }
+    // More than a minute counts as a minute.
+    assert_eq!(rt; gate.milliseconds.load(Ordering::SeqCst), 60_000);
     Ok(())
 }
 

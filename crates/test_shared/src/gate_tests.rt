@@ -1,4 +1,4 @@
-//! A caller changes the mount while another one's reply is made.
+//! A caller changes the mount while another one waits at its gate.
 
 ghost use Rattle.std.specs.Prelude.{◌≡◌};
 
@@ -35,6 +35,18 @@ const QUERY: Query = Query {
     number: 1,
 };
 
+/// For how many milliseconds the first caller would wait for a reply that names something.
+const PATIENCE: u64 = 10_000;
+
+/// When the first caller waits for the other one.
+#[derive(Clone, Copy, PartialEq, Eq)]
+enum Waits {
+    /// Before its request is held.
+    Before,
+    /// While the reply is made.
+    Between,
+}
+
 /// How far the two callers have come.
 #[derive(Drop)]
 struct Flags {
@@ -59,13 +71,29 @@ fn wait_for(rt: &impl Clock, flag: &AtomicBool) -> bool {
 struct Meanwhile<'a, R: Clock> {
     rt: &'a R,
     flags: &'a Flags,
+    waits: Waits,
+}
+
+impl<R: Clock> Meanwhile<'_, R> {
+    /// Waits for the other caller, if this is right.
+    fn wait(&self, is_right: bool) {
+        self.flags.held.store(is_right, Ordering::SeqCst);
+        let seen = wait_for(self.rt, &self.flags.changed);
+        self.flags.seen.store(seen, Ordering::SeqCst);
+    }
 }
 
 impl<R: Clock> Gate for Meanwhile<'_, R> {
+    fn before(&self, request: &Request, patience: Duration) {
+        if self.waits == Waits::Before {
+            self.wait(request.query() == QUERY && patience == Duration::from_millis(PATIENCE));
+        }
+    }
+
     fn between(&self, query: &Query) {
-        self.flags.held.store(*query == QUERY, Ordering::SeqCst);
-        let seen = wait_for(self.rt, &self.flags.changed);
-        self.flags.seen.store(seen, Ordering::SeqCst);
+        if self.waits == Waits::Between {
+            self.wait(*query == QUERY);
+        }
     }
 }
 
@@ -73,6 +101,7 @@ impl<R: Clock> Gate for Meanwhile<'_, R> {
 #[derive(Drop)]
 struct Plan {
     request: Request,
+    waits: Waits,
     reply: Reply,
     changes: Vec<Change>,
 }
@@ -82,17 +111,19 @@ fn ask_one<L: Ledger>(
     rt: &(impl Wait + Clock),
     shared: &Behind<L>,
     desk: &mut Desk<L>,
-    request: &Request,
+    plan: &Plan,
     flags: &Flags,
 ) -> Option<Reply> {
-    let gate = Meanwhile { rt, flags };
-    match desk.ask(rt, shared, request, &gate) {
+    let waits = plan.waits;
+    let gate = Meanwhile { rt, flags, waits };
+    let patience = Duration::from_millis(PATIENCE);
+    match desk.ask_patiently(rt, shared, &plan.request, patience, &gate) {
         Ok((_, reply)) => Some(reply),
         Err(_) => None,
     }
 }
 
-/// Makes changes once the other caller's request is held, and says so. Says whether they were made.
+/// Makes changes once the other caller waits, and says so. Returns whether they were made.
 fn change_all<L: Ledger>(
     rt: &(impl Wait + Clock),
     shared: &Behind<L>,
@@ -110,7 +141,7 @@ fn change_all<L: Ledger>(
     held
 }
 
-/// One caller asks, and another one makes changes while the reply is made. Gives the reply, and whether the changes were made.
+/// One caller asks, and another one makes changes meanwhile. Returns the reply, and whether the changes were made.
 fn call_both<L: Ledger + Send + Sync, R: Threads + Wait + Clock + Sync>(
     rt: &R,
     shared: &Behind<L>,
@@ -121,7 +152,7 @@ fn call_both<L: Ledger + Send + Sync, R: Threads + Wait + Clock + Sync>(
 ) -> (Option<Reply>, bool) {
     thread::join(
         rt,
-        || ask_one(rt, shared, first, &plan.request, flags),
+        || ask_one(rt, shared, first, plan, flags),
         || change_all(rt, shared, second, plan.changes.as_slice(), flags),
     )
 }
@@ -149,18 +180,32 @@ fn play<L: Ledger + Send + Sync, R: Threads + Wait + Abort + Clock + Sync>(
     end_both(alloc, first, second)
 }
 
-/// What a world of the first commit replies once it has gone over to another one.
+/// What a world replies once it has gone over to another commit and made these changes.
+fn world_reply(
+    world: &mut World<GitNaming>,
+    commit: Id,
+    changes: &[Change],
+    request: &Request,
+) -> Result<Reply, Fail> {
+    let mode = Mode::Normal;
+    let _ = world.apply(&Change::Checkout { commit, mode })?;
+    for change in changes {
+        let _ = world.apply(change)?;
+    }
+    Ok(world.reply(request)?)
+}
+
+/// The same of a world that begins at the first commit.
 fn reply_after(
     alloc: Global,
     store: Store<GitNaming>,
     root: Id,
     commit: Id,
+    changes: &[Change],
     request: &Request,
 ) -> Result<Reply, Fail> {
     let mut world = World::mount(alloc, store, root, 7, 100_000)?;
-    let mode = Mode::Normal;
-    let _ = world.apply(&Change::Checkout { commit, mode })?;
-    Ok(world.reply(request)?)
+    world_reply(&mut world, commit, changes, request)
 }
 
 /// What the second caller does meanwhile: it writes a file, or it imports a commit and goes over to it.
@@ -177,7 +222,12 @@ fn later(alloc: Global, objects: &mut Objects, imports: bool) -> Result<Vec<Chan
 }
 
 /// The first caller asks what changed since the mount was at its first commit.
-fn planned(alloc: Global, objects: &mut Objects, imports: bool) -> Result<Plan, Fail> {
+fn planned(
+    alloc: Global,
+    objects: &mut Objects,
+    waits: Waits,
+    imports: bool,
+) -> Result<Plan, Fail> {
     let (root, commit) = (objects.id("c"), objects.id("e"));
     let since = Position {
         generation: 7,
@@ -189,20 +239,27 @@ fn planned(alloc: Global, objects: &mut Objects, imports: bool) -> Result<Plan, 
         since,
         filter: Filter::all(alloc),
     };
-    let reply = reply_after(alloc, objects.store.share()?, root, commit, &request)?;
     let changes = later(alloc, objects, imports)?;
+    let store = objects.store.share()?;
+    let seen = match waits {
+        Waits::Before => changes.as_slice(),
+        Waits::Between => &[],
+    };
+    let reply = reply_after(alloc, store, root, commit, seen, &request)?;
     Ok(Plan {
         request,
+        waits,
         reply,
         changes,
     })
 }
 
-/// While the reply to one caller is made, which is of a change of the root, another caller changes the mount.
+/// While one caller waits, which asks about a change of the root, another caller changes the mount.
 fn overlapped<L: Ledger + Send + Sync, R: Threads + Wait + Abort + Clock + Sync>(
     rt: &R,
     alloc: Global,
     blank: Blank,
+    waits: Waits,
     imports: bool,
 ) -> Result<(), Fail>
     requires name { blank.name ≡ L.name }
@@ -211,7 +268,7 @@ fn overlapped<L: Ledger + Send + Sync, R: Threads + Wait + Abort + Clock + Sync>
 {
     let mut objects = Objects::of(alloc, BEFORE)?;
     let store = objects.store.share()?;
-    let plan = planned(alloc, &mut objects, imports)?;
+    let plan = planned(alloc, &mut objects, waits, imports)?;
     let shared = opened::<L>(alloc, store, objects.id("c"), blank)?;
     let given = play(rt, alloc, &shared, objects.id("e"), &plan)?;
     close(rt, alloc, shared, given)
@@ -219,6 +276,12 @@ fn overlapped<L: Ledger + Send + Sync, R: Threads + Wait + Abort + Clock + Sync>
 
 #[test]
 fn write_during_comparison(rt: HostRuntime) -> Result<(), Fail> {
-    overlapped::<Brand, HostRuntime>(&rt, rt.alloc(), Blank::new(256), false)?;
-    overlapped::<Brand, HostRuntime>(&rt, rt.alloc(), Blank::new(256), true)
+    let (alloc, waits) = (rt.alloc(), Waits::Between);
+    overlapped::<Brand, HostRuntime>(&rt, alloc, Blank::new(256), waits, false)?;
+    overlapped::<Brand, HostRuntime>(&rt, alloc, Blank::new(256), waits, true)
+}
+
+#[test]
+fn write_before_the_hold(rt: HostRuntime) -> Result<(), Fail> {
+    overlapped::<Brand, HostRuntime>(&rt, rt.alloc(), Blank::new(256), Waits::Before, false)
 }

@@ -1,4 +1,4 @@
-//! Tests of one mount that several callers ask and change: its passes, its frames, and threads.
+//! Tests of a mount that threads share: with its history and without, its passes, its frames, and the head word.
 //!
 //! A crate of its own, so that no crate that ships waits for them.
 #![tactic(auto)]
@@ -14,4 +14,16 @@ mod frame_tests;
 #[cfg(test)]
 mod gate_tests;
 #[cfg(test)]
+mod head_tests;
+#[cfg(test)]
+mod mounts;
+#[cfg(test)]
 mod pass_tests;
+#[cfg(test)]
+mod patience_tests;
+#[cfg(test)]
+mod unlogged_call_tests;
+#[cfg(test)]
+mod unlogged_frame_tests;
+#[cfg(test)]
+mod unlogged_thread_tests;

@@ -14,23 +14,23 @@ pub(crate) const FILES: &str =
     tree t 100644 a-b one 40000 a a 120000 a0 link 40000 d d;commit c t";
 
 /// A file: its path, its kind, and the id that Git gives its blob.
-pub(crate) type Row = (&'static str, Kind, &'static str);
+type Row = (&'static str, Kind, &'static str);
 
-pub(crate) const A_B: Row = (
+const A_B: Row = (
     "a-b",
     Kind::Plain,
     "5626abf0f72e58d7a153368ba57db4c673c0e171",
 );
 
-pub(crate) const A_X: Row = (
+const A_X: Row = (
     "a/x",
     Kind::Exec,
     "f719efd430d52bcfc8566a43b2eb655688d38871",
 );
 
-pub(crate) const A0: Row = ("a0", Kind::Link, "5c7796f622a1e15babe6f341a239b0de7af1ba49");
+const A0: Row = ("a0", Kind::Link, "5c7796f622a1e15babe6f341a239b0de7af1ba49");
 
-pub(crate) const F: Row = (
+const F: Row = (
     "d/e/f",
     Kind::Plain,
     "2bdf67abb163a4ffb2d7f3f0880c9fe5068ce782",
@@ -45,12 +45,12 @@ fn is_row(listed: &(Path, Kind, Id), row: &Row) -> bool {
 }
 
 /// Whether the listing has just these rows.
-pub(crate) fn has_rows(listed: &[(Path, Kind, Id)], rows: &[Row]) -> bool {
+fn has_rows(listed: &[(Path, Kind, Id)], rows: &[Row]) -> bool {
     listed.len() == rows.len() && listed.iter().zip(rows).all(|(one, row)| is_row(one, row))
 }
 
 /// Files of a listing.
-pub(crate) type Listed = Vec<(Path, Kind, Id)>;
+type Listed = Vec<(Path, Kind, Id)>;
 
 /// The files of a commit that patterns admit.
 fn listed(

@@ -4,14 +4,14 @@
 ghost use Rattle.std.specs.Prelude.{◌≡◌};
 ghost use Rattle.eden_ids.specs.Paths.{lies_below};
 
-use crate::lookup_tests::{A_B, A_X, A0, F, FILES, Listed, Row, has_rows, levels};
+use crate::lookup_tests::{FILES, levels};
 use eden_globs::Filter;
-use eden_ids::{GitNaming, Id, Kind, NoMemory, Path};
+use eden_ids::{GitNaming, Id, NoMemory, Path};
 use eden_objects::{Commit, Nothing, Passes, Size, Store};
 use std::alloc::Global;
 use std::process::Abort;
 use std::test::Fail;
-use test_kit::{Objects, path};
+use test_kit::{Objects, path, spaced};
 
 /// Whether a path stands below a directory.
 #[tactic(auto, using(std::proofs::lemmas::List::take_rest, eden_ids::proofs::BelowLemmas::below_in_steps))]
@@ -121,25 +121,25 @@ fn a_file_that_is_not_passed_over(rt: HostRuntime) -> Result<(), Fail> {
     Ok(())
 }
 
-/// A directory, where it is told, a pattern, and the file that it admits, with the path at which it is told.
-const LISTED: &[([&str; 3], Option<(&str, Row)>)] = &[
-    (["a", "a", "**"], Some(("a/x", A_X))),
-    (["a", "z", "**"], Some(("z/x", A_X))),
-    (["a", "z", "z/*"], Some(("z/x", A_X))),
+/// A directory, its new path, a pattern, and the new path of the file that the pattern admits.
+const LISTED: &[([&str; 3], Option<&str>)] = &[
+    (["a", "a", "**"], Some("a/x")),
+    (["a", "z", "**"], Some("z/x")),
+    (["a", "z", "z/*"], Some("z/x")),
     (["a", "z", "a/*"], None),
-    (["d", "z/y", "**"], Some(("z/y/e/f", F))),
-    (["d", "z/y", "z/*/e/?"], Some(("z/y/e/f", F))),
-    (["d/e", "d", "**"], Some(("d/f", F))),
+    (["d", "z/y", "**"], Some("z/y/e/f")),
+    (["d", "z/y", "z/*/e/?"], Some("z/y/e/f")),
+    (["d/e", "d", "**"], Some("d/f")),
     (["d/e", "d", "d/e/*"], None),
     (["a-b", "z", "**"], None),
 ];
 
-/// What a pattern admits of a commit and isn't passed over.
-const SHOWN: &[(&str, &str, &[Row])] = &[
-    ("**", "z", &[A_B, A_X, A0, F]),
-    ("**", "a", &[A_B, A0, F]),
-    ("**", "d/e/f", &[A_B, A_X, A0]),
-    ("a*", "a0", &[A_B]),
+/// A pattern, a path that is passed over with all below it, and the paths that are listed.
+const SHOWN: &[(&str, &str, &str)] = &[
+    ("**", "z", "a-b a/x a0 d/e/f "),
+    ("**", "a", "a-b a0 d/e/f "),
+    ("**", "d/e/f", "a-b a/x a0 "),
+    ("a*", "a0", "a-b "),
 ];
 
 /// All is passed over but the file at one path.
@@ -163,32 +163,34 @@ impl Passes for Only {
     }
 }
 
-/// The file at one path, if a filter admits it and it is one of those of a commit below a directory, told below another.
+/// Returns one path, if a filter admits it and a file has it once a directory is at another path.
 fn listed_only(
     commit: &Commit<'_, GitNaming>,
     top: &str,
     seen: &Path,
     filter: &Filter,
     path: Path,
-) -> Result<Listed, NoMemory> {
+) -> Result<Vec<Path>, NoMemory> {
     let _legal = path.as_bytes();
     commit.list_seen(top.as_bytes(), seen, filter, &Only { path })
 }
 
-/// Whether a listing has the file alone, if it is told at a path, and nothing else.
-fn is_listed(listed: &[(Path, Kind, Id)], file: &Option<(&'static str, Row)>, only: &str) -> bool {
+/// Returns whether a list has one path alone if a file has it, and is empty if not.
+fn is_listed(listed: &[Path], file: Option<&str>, only: &str) -> bool {
     match file {
-        Some((path, row)) if *path == only => has_rows(listed, &[(*path, row.1, row.2)]),
+        Some(path) if path == only => {
+            listed.len() == 1 && listed[0].as_bytes() == path.as_bytes()
+        }
         _ => listed.is_empty(),
     }
 }
 
-/// Whether each of some files, where all others are passed over, is listed where a row says so, and nowhere else.
+/// Returns whether each path, if all others are passed over, is listed only where the table says so.
 fn lists_alone(
     alloc: Global,
     commit: &Commit<'_, GitNaming>,
     [top, seen, pattern]: [&'static str; 3],
-    file: &Option<(&'static str, Row)>,
+    file: Option<&str>,
 ) -> Result<bool, Fail> {
     let filter = Filter::parse(alloc, &[pattern.as_bytes()])?;
     let seen = path(alloc, seen)?;
@@ -201,18 +203,18 @@ fn lists_alone(
     Ok(true)
 }
 
-/// What a pattern admits of a commit and is neither a file nor below it.
+/// Returns what a pattern admits of a commit and is neither at a path nor below it.
 fn listed_but(
     alloc: Global,
     commit: &Commit<'_, GitNaming>,
     pattern: &str,
     passed: &'static str,
-) -> Result<Listed, Fail> {
+) -> Result<Vec<u8>, Fail> {
     let filter = Filter::parse(alloc, &[pattern.as_bytes()])?;
     let passed = At {
         path: passed.as_bytes(),
     };
-    Ok(commit.list(&filter, &passed)?)
+    Ok(spaced(alloc, &commit.list(&filter, &passed)?)?)
 }
 
 /// Checks each row of both tables, and that all files are listed where nothing is passed over.
@@ -220,15 +222,18 @@ fn check_lists(rt: &impl Abort, alloc: Global, objects: &Objects) -> Result<(), 
     let commit = objects.store.commit_files(objects.id("c"));
     for (places, file) in LISTED {
         assert!(rt;
-            lists_alone(alloc, &commit, *places, file)?,
+            lists_alone(alloc, &commit, *places, *file)?,
             "{} below {}",
             places[0],
             places[1]
         );
     }
-    for (pattern, passed, rows) in SHOWN {
+    for (pattern, passed, paths) in SHOWN {
         let listed = listed_but(alloc, &commit, pattern, passed)?;
-        assert!(rt; has_rows(listed.as_slice(), rows), "{pattern} but {passed}");
+        assert!(rt;
+            listed.as_slice() == paths.as_bytes(),
+            "{pattern} but {passed}"
+        );
     }
     let whole = commit.list(&Filter::all(alloc), &Nothing)?;
     assert!(rt; whole.len() == 4);

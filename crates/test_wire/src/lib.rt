@@ -11,6 +11,8 @@ pub use crate::messages::{
 pub use crate::plain::{REPLY_TAGS, REQUEST_TAGS, plain_fault};
 
 #[cfg(test)]
+mod asking_tests;
+#[cfg(test)]
 mod message_tests;
 mod messages;
 mod plain;

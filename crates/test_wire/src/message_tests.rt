@@ -6,7 +6,8 @@ use crate::messages::{
 };
 use eden_history::{Change, Mark};
 use eden_ids::Kind;
-use eden_messages::{Answer, Call, Cause, Reply, Request};
+use eden_logs::{Answer, Call};
+use eden_messages::{Cause, Reply, Request};
 use eden_wire::DecodeFault;
 use std::alloc::Global;
 use std::test::Fail;

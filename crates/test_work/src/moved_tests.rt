@@ -1,9 +1,9 @@
 //! Renames of directories over a commit, and where its files are seen then.
 
 use crate::mounted::tell;
-use eden_history::ChangeFault;
 use eden_ids::Path;
-use eden_moves::{Moved, Moves, carried_path};
+use eden_moves::{Moved, Moves};
+use eden_overlay::{CarryFault, carried_path};
 use std::alloc::Global;
 use std::test::Fail;
 use test_kit::{Objects, filter_of, path, spaced};
@@ -13,7 +13,7 @@ use test_kit::{Objects, filter_of, path, spaced};
 type Step = (
     &'static str,
     &'static str,
-    Option<ChangeFault>,
+    Option<CarryFault>,
     &'static str,
     &'static str,
 );
@@ -91,7 +91,7 @@ const RENAMES: &[Step] = &[
     (
         "d",
         DEEP,
-        Some(ChangeFault::PathTooLong),
+        Some(CarryFault::PathTooLong),
         "a=1 d.x=4 d/x=2 ",
         "d/e/y d/x ",
     ),
@@ -136,7 +136,7 @@ impl Renamed {
     }
 
     /// Renames a directory. Returns why it is not renamed.
-    fn rename(&mut self, alloc: Global, old: &str, new: &str) -> Result<Option<ChangeFault>, Fail> {
+    fn rename(&mut self, alloc: Global, old: &str, new: &str) -> Result<Option<CarryFault>, Fail> {
         let (old, new) = (path(alloc, old)?, path(alloc, new)?);
         Ok(self.moves.rename(&old, &new).err())
     }
@@ -153,20 +153,20 @@ impl Renamed {
         Ok(text)
     }
 
-    /// Returns the files that are listed and a pattern admits: all of them, or those below a directory.
+    /// Returns the listed files that a pattern admits: all of them, or those below a directory.
     fn listed(&self, alloc: Global, top: &str, pattern: &str) -> Result<Vec<u8>, Fail> {
         let commit = self.objects.store.commit_files(self.objects.id("c"));
         let moved = Moved::of(commit, &self.moves);
         let filter = filter_of(alloc, pattern)?;
-        let rows = if top.is_empty() {
+        let list = if top.is_empty() {
             moved.list(alloc, &filter)?
         } else {
             moved.list_below(alloc, &path(alloc, top)?, &filter)?
         };
         let mut text = Vec::new(alloc);
-        for (place, kind, blob) in &rows {
-            let bytes = self.objects.store.blob(*blob).unwrap_or(b"".as_slice());
-            tell(place.as_bytes(), Some((*kind, bytes)), &mut text)?;
+        for place in &list {
+            let place = place.as_bytes();
+            tell(place, moved.file(place), &mut text)?;
         }
         Ok(text)
     }
@@ -357,7 +357,7 @@ fn is_copied(alloc: Global, moves: &mut Moves) -> Result<bool, Fail> {
         return Ok(false);
     }
     let refused = moves.begin_rename(&path(alloc, "b")?, &path(alloc, DEEP)?);
-    if refused.err() != Some(ChangeFault::PathTooLong) {
+    if refused.err() != Some(CarryFault::PathTooLong) {
         return Ok(false);
     }
     let copy = moves.copy()?;
@@ -386,7 +386,7 @@ fn is_carried_to(alloc: Global, from: &Path, old: &Path, new: &Path, wanted: Opt
     }
     match (carried_path(alloc, from, old, new), wanted) {
         (Ok(place), Some(wanted)) => place.as_bytes() == wanted.as_bytes(),
-        (answer, wanted) => wanted.is_none() && answer.err() == Some(ChangeFault::PathTooLong),
+        (answer, wanted) => wanted.is_none() && answer.err() == Some(CarryFault::PathTooLong),
     }
 }
 

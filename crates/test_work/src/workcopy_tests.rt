@@ -4,7 +4,8 @@ use crate::steps::{Step, first_wrong_over};
 use eden_history::ChangeFault;
 use eden_ids::{Content, GitNaming, Id, Kind};
 use eden_objects::Store;
-use eden_workcopy::{WorkCopy, touched_law, woven};
+use eden_overlay::woven;
+use eden_workcopy::{WorkCopy, touched_law};
 use std::alloc::Global;
 use std::test::Fail;
 use test_kit::{Objects, filter_of, path, plain, spaced};
@@ -348,9 +349,12 @@ fn woven_text(
 ) -> Result<Vec<u8>, Fail> {
     touched_law();
     let filter = filter_of(alloc, pattern)?;
-    let rows = store.list(work.root(), &filter)?;
+    let mut listed = Vec::new(alloc);
+    for (path, _, _) in store.list(work.root(), &filter)? {
+        listed.push(path)?;
+    }
     let touched = work.touched()?;
-    let paths = woven(alloc, rows, touched.as_slice(), &filter)?;
+    let paths = woven(alloc, listed, touched.as_slice(), &filter)?;
     Ok(spaced(alloc, paths.as_slice())?)
 }
 

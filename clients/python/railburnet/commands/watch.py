@@ -30,6 +30,8 @@ paths that there are or were.
 The command runs in the mount's root, if that is known, so that the paths are right; with --port
 it runs in the directory that one is in."""
 USAGE = "railburnet watch [OPTION..] PATTERN.. -- COMMAND [WORD..]"
+PATIENCE = 20.0
+"""For how many seconds the mount waits with the reply to a poll if nothing changed."""
 EPILOG = """status: 0 with --once; 1 more paths than a frame holds; 2 the command line; 3 no
 mount; 130 interrupted"""
 
@@ -48,8 +50,8 @@ def add_options(parser: argparse.ArgumentParser) -> None:
         type=seconds_of,
         default=0.1,
         metavar="SECONDS",
-        help="how long to wait between two polls, if the mount doesn't "
-        "say by itself that something changed; 0.1 by default",
+        help="how long to wait between two polls, if the mount can't "
+        "wait for a change itself; 0.1 by default",
     )
     parser.add_argument("--directory", metavar="DIR", help="where to run the command")
     parser.add_argument(
@@ -137,10 +139,11 @@ class Watch:
         self._options = options
         self._lost = False
 
-    def poll(self) -> List[bytes]:
-        """The paths that changed since the last poll; none where there is no connection."""
+    def poll(self, patience: float = 0.0) -> List[bytes]:
+        """The paths that changed since the last poll, for which the mount may wait so many seconds;
+        none where there is no connection."""
         try:
-            marked = self._changes.next()
+            marked = self._changes.next(patience)
         except (ConnectionLost, FrameFault) as fault:
             if not self._lost:
                 tell(f"{message_of(fault)}; trying again")
@@ -171,26 +174,35 @@ class Watch:
         """Waits until something changed, and then until nothing has for a moment."""
         paths: Dict[bytes, None] = {}
         while not paths:
-            paths.update(dict.fromkeys(self.poll()))
-            if not paths:
-                self._wait(self._options.every)
-        # The feed has waited for a while already when it rings.
+            paths.update(dict.fromkeys(self._waited(PATIENCE, self._options.every)))
+        # The feed has waited for a while already when it says that something changed.
         settle = max(0.0, self._options.settle - self._pace.settled)
+        every = min(self._options.every, self._options.settle)
         end = time.monotonic() + 20 * self._options.settle
         quiet = time.monotonic() + settle
         while time.monotonic() < min(quiet, end):
-            self._wait(min(self._options.every, self._options.settle), quiet - time.monotonic())
-            more = self.poll()
+            more = self._waited(min(quiet, end) - time.monotonic(), every)
             if more:
                 paths.update(dict.fromkeys(more))
                 quiet = time.monotonic() + settle
         return sorted(paths)
 
-    def _wait(self, seconds: float, most: float = 1.0) -> None:
-        """Waits until something may have changed."""
+    def _waited(self, seconds: float, every: float) -> List[bytes]:
+        """Waits for changes for so many seconds at most: the paths that changed."""
+        begun = time.monotonic()
+        paths = self.poll(seconds)
+        left = begun + seconds - time.monotonic()
+        # A mount that can't wait has answered at once.
+        if not paths and left > 0:
+            self._wait(min(every, left), left)
+        return paths
+
+    def _wait(self, seconds: float, most: float) -> None:
+        """Waits until something may have changed: so many seconds, or, where a bell rings, at
+        most so many."""
         at = self._changes.position
         if at is not None and self._pace.reached(at.generation, at.sequence):
-            self._pace.wait(seconds, max(most, 0.0))
+            self._pace.wait(seconds, min(most, 1.0))
         else:
             # It rang for a change that the mount is about to have.
             time.sleep(0.001)

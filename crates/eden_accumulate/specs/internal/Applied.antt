@@ -1,4 +1,4 @@
--- What a call that makes a change has told, as an answer.
+-- The result of a call that makes a change, as an answer.
 use Rattle.std.specs.Prelude.{◌≡◌, Option, Some, None, Result, Ok, Err}
 use Rattle.eden_history.specs.declared.answer.Answer.{Answer}
 use Rattle.eden_history.specs.declared.answer.Answer.TheVariants.{Refused}
@@ -8,7 +8,7 @@ use Rattle.eden_history.specs.declared.change.ChangeFault.TheVariants.{NoMemory}
 use Rattle.eden_history.specs.Worlds.{Namer}
 use Rattle.eden_accumulate.specs.Mounts.{Answers, Follows, State}
 
--- a refusal is an answer, and a want of memory is none
+-- a refusal is an answer, but `NoMemory` is not
 abbrev pub refused : ChangeFault → Option Answer
 refused NoMemory = None
 refused fault = Some (Refused fault)
@@ -17,7 +17,8 @@ abbrev pub told_as : {A : Type 0} → (A → Answer) → Result A ChangeFault �
 told_as told (Ok made) = Some (told made)
 told_as told (Err fault) = refused fault
 
--- an answer is that of each world for which the mount stood, and the mount follows; with no answer it is as it was
+-- an answer is that of each world of which the mount was the present, and the mount
+-- follows; without an answer it does not change
 abbrev pub Applies : Namer → State → Change → Option Answer → State → Type 0
 Applies name old change (Some answer) new = Answers name old change answer × Follows name old change new
 Applies name old change None new = new ≡ old

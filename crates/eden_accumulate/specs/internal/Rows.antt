@@ -1,4 +1,5 @@
--- A change that makes rows, as all do but an import: what answers it and what follows it, without the naming, on which neither rests.
+-- A change that makes rows, as all do but an import: its answer and the world after it,
+-- without the naming, on which neither depends.
 use Rattle.std.specs.Prelude.{◌≡◌}
 use Rattle.eden_history.specs.declared.answer.Answer.{Answer}
 use Rattle.eden_history.specs.declared.answer.Answer.TheVariants.{Refused}

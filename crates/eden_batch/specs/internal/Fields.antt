@@ -1,4 +1,5 @@
--- What some bytes say of a field that they should begin with, where each value of the field has a text.
+-- What some bytes say of a field that they should begin with, where each value of the field has a
+-- text.
 use Rattle.std.specs.Prelude.{◌≡◌, ℕ, ◌^◌, ◌<◌, List, [], ◌∷◌, ◌++◌, length, decimal, Result, Ok, Err}
 use Rattle.std.specs.Borrow.{Bor}
 use Rattle.hex.specs.Hex.{encode_lower}
@@ -11,7 +12,7 @@ use Rattle.eden_batch.specs.declared.fields.Lack.{Lack}
 use Rattle.eden_batch.specs.declared.fields.Lack.TheVariants as lack
 use Rattle.eden_batch.specs.declared.header.Header.{Header}
 
--- the field's value and what stands behind it; or a part of the field; or what can't become it
+-- the field's value and what comes after it; or a part of the field; or what can't become it
 abbrev pub Reads : {V : Type 0} → (V → Type 0) → (V → List ℕ) → List ℕ → Result (V × Bor (List ℕ)) Lack → Type 0
 Reads IsValue text bytes (Ok read) = IsValue read.0 × (bytes ≡ text read.0 ++ read.1.now)
 Reads {V} IsValue text bytes (Err lack.Partial) =

@@ -1,4 +1,4 @@
--- What stands at the front of a stream of objects.
+-- What a stream of objects begins with.
 use Rattle.std.specs.Prelude.{ℕ, ◌≤◌, ◌<◌, List, length, take}
 use Rattle.eden_batch.specs.Batches.{IsPartial}
 use Rattle.eden_batch.specs.internal.Grammar.{IsFaulty, IsPrinted}

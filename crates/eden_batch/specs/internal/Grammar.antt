@@ -11,7 +11,7 @@ use Rattle.eden_batch.specs.declared.fault.ObjectFault.TheVariants.{BadHeader, C
 abbrev pub IsPrinted : List ℕ → Type 0
 IsPrinted item = (object : Held) × IsObject object × (item ≡ written object)
 
--- what can't become an object stands at the front, for this cause
+-- the bytes begin with what can't become an object, for this cause
 abbrev pub IsFaulty : List ℕ → ObjectFault → Type 0
 IsFaulty bytes BadHeader = HasNoHeader bytes ⊎ LacksLineFeed bytes
 IsFaulty bytes TooLarge = HasLargeHeader bytes

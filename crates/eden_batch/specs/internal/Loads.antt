@@ -1,5 +1,5 @@
 -- What is told of what is being filled with objects.
-use Rattle.std.proofs.Common.{◌≡◌, refl, List, ℕ, ◌++◌, ◌∷◌, map, inl, ◌⊎◌, Result, Ok, Err}
+use Rattle.std.proofs.Common.{◌≡◌, List, ℕ, ◌++◌, ◌∷◌, map, ◌⊎◌, Result, Ok, Err}
 use Rattle.std.specs.List.{All}
 use Rattle.eden_ids.specs.declared.id.Id.{Id}
 use Rattle.eden_git.specs.declared.word.Word.{Word}
@@ -10,10 +10,10 @@ use Rattle.eden_objects.specs.declared.fault.PutFault.TheVariants as put
 use Rattle.eden_stream.specs.Stories.{Story, IsStory}
 use Rattle.eden_stream.specs.declared.pump.Stop.{Stop}
 use Rattle.eden_stream.specs.declared.pump.Stop.TheVariants as stops
-use Rattle.eden_stream.specs.declared.teller.Answer.{Answer}
-use Rattle.eden_stream.specs.declared.teller.Answer.TheVariants as answer
+use Rattle.eden_stream.specs.declared.teller.Step.{Step}
+use Rattle.eden_stream.specs.declared.teller.Step.TheVariants as step
 use Rattle.eden_batch.specs.Batches.{IsObject, written}
-use Rattle.eden_batch.specs.Puttings.{ArePut, IsPutAsOther, IsRefused}
+use Rattle.eden_batch.specs.Puttings.{ArePut, IsPut, IsPutAsOther, IsRefused}
 use Rattle.eden_batch.specs.internal.Grammar.{object_grammar}
 use Rattle.eden_batch.specs.declared.fault.ObjectFault.{ObjectFault}
 use Rattle.eden_batch.specs.declared.fault.ObjectFault.TheVariants.{BadHeader, CutShort, OtherId, Refused, TooLarge}
@@ -28,9 +28,9 @@ Puts (Err put.NoMemory) name word payload old new = new ≡ old
 Puts (Err fault) name word payload old new = (new ≡ old) × (put_word name word payload old ≡ Err fault)
 
 -- what is answered to a refusal
-abbrev pub refusal_of : PutFault → Answer ObjectFault
-refusal_of put.NoMemory = answer.NoMemory
-refusal_of cause = answer.Fault (Refused cause)
+abbrev pub refusal_of : PutFault → Step ObjectFault
+refusal_of put.NoMemory = step.NoMemory
+refusal_of cause = step.Fault (Refused cause)
 
 -- The items are these objects, which were put one after another, and then `held` was held.
 pub record HavePut (name : List ℕ → List ℕ → Id) (old : List Held) (items : List (List ℕ)) (objects held : List Held) : Type 0 where
@@ -44,13 +44,18 @@ pub record Fills (name : List ℕ → List ℕ → Id) (old new : List Held) (no
   pub have : HavePut name old items objects new
   pub ids_are : ids ≡ noted ++ map (λ object. object.id) objects
 
--- All of them were put, and their ids noted; and at the most one object more was put.
-pub record Overfills (name : List ℕ → List ℕ → Id) (old new : List Held) (noted ids : List Id) (items : List (List ℕ)) : Type 0 where
+-- the object of an item is put, under its id
+abbrev pub IsItemPut : (List ℕ → List ℕ → Id) → List ℕ → List Held → List Held → Type 0
+IsItemPut name item held new = (object : Held) × IsObject object × (item ≡ written object) × IsPut name object held new
+
+-- All of them were put, and their ids noted. Then the next item was put, and its id not noted, or
+-- nothing was.
+pub record HaltsAt (name : List ℕ → List ℕ → Id) (old new : List Held) (noted ids : List Id) (items : List (List ℕ)) (item : List ℕ) : Type 0 where
   pub objects : List Held
   pub held : List Held
   pub have : HavePut name old items objects held
   pub ids_are : ids ≡ noted ++ map (λ object. object.id) objects
-  pub grown : (new ≡ held) ⊎ ((object : Held) × (new ≡ object ∷ held))
+  pub grown : (new ≡ held) ⊎ IsItemPut name item held new
 
 -- why an object is not put under its id
 abbrev pub Fails : (List ℕ → List ℕ → Id) → Held → List Held → List Held → ObjectFault → Type 0
@@ -60,7 +65,7 @@ Fails name object held new CutShort = ⊥
 Fails name object held new (Refused cause) = IsRefused name object held cause × (new ≡ held)
 Fails name object held new OtherId = IsPutAsOther name object held new
 
--- All of them were put, and behind them this one fails.
+-- All of them were put, and after them this one fails.
 pub record FailsAt (name : List ℕ → List ℕ → Id) (old new : List Held) (items : List (List ℕ)) (item : List ℕ)
     (fault : ObjectFault) : Type 0 where
   pub objects : List Held
@@ -81,18 +86,16 @@ module _ {I : Type 0} (name : List ℕ → List ℕ → Id) (held : I → List H
   abbrev pub put_story : Filling I → Filling I → Story ObjectFault
   put_story before now = record {
     told = λ items text. AreSame before now × Fills name (held before.into.now) (held now.into.now) before.ids.now.items now.ids.now.items items;
-    lost = λ items text. AreSame before now × Overfills name (held before.into.now) (held now.into.now) before.ids.now.items now.ids.now.items items;
+    lost = λ items text. AreSame before now;
     refused = λ items item fault. FailsAt name (held before.into.now) (held now.into.now) items item fault;
     spent = λ items item text. AreSame before now
-        × Overfills name (held before.into.now) (held now.into.now) before.ids.now.items now.ids.now.items items;
+        × HaltsAt name (held before.into.now) (held now.into.now) before.ids.now.items now.ids.now.items items item;
   }
 
   pub put_laws : (before now : Filling I) → IsStory object_grammar (put_story before now)
   put_laws before now = record {
     passes = λ items item text silent told. absurd silent;
-    stops = λ items text told.
-        let fills = told.1 in
-        (told.0, record { objects = fills.objects; held = held now.into.now; have = fills.have; ids_are = fills.ids_are; grown = inl refl });
+    stops = λ items text told. told.0;
   }
 
 -- how a reading ends, which notes these ids
@@ -100,7 +103,8 @@ abbrev pub with_ids : List Id → Result (Unit {0}) ObjectsFault → Result (Lis
 with_ids ids (Ok done) = Ok ids
 with_ids ids (Err fault) = Err fault
 
--- how a reading ended, by the pump, whose writer does not fail, where the object behind those whose ids are noted has this number
+-- how a reading ended, by the pump, whose writer does not fail, where the object after those whose
+-- ids are noted has this number
 abbrev pub IsReadAs : ℕ → Result ℕ (Stop ObjectFault) → Result (Unit {0}) ObjectsFault → Type 0
 IsReadAs next (Ok count) result = result ≡ Ok tt
 IsReadAs next (Err (stops.Item number fault)) result = result ≡ Err (faults.Object number fault)

@@ -1,4 +1,5 @@
--- Where the first binding to each id stands among the bindings that were made, which are given with the oldest first.
+-- Where the first binding to each id is among the bindings that were made, which are given with the
+-- oldest first.
 use Rattle.std.specs.Prelude.{◌≡◌, ℕ, ◌≤◌, Bool, false, if◌then◌else◌, List, length, take, Option, Some, None}
 use Rattle.std.specs.List.{list_any}
 use Rattle.std.specs.Map.{lookup}
@@ -9,7 +10,7 @@ use Rattle.eden_script.specs.declared.label.Binding.{Binding}
 abbrev pub binds_any : Id → List Binding → Bool
 binds_any id made = list_any (λ binding. same_id binding.id id) made
 
--- none stands before the place, or there is none
+-- none comes before the place, or there is none
 abbrev pub IsFirst : Id → Option ℕ → List Binding → Type 0
 IsFirst id None made = binds_any id made ≡ false
 IsFirst id (Some at) made = (at ≤ length made) × (binds_any id (take at made) ≡ false)

@@ -27,8 +27,8 @@ abbrev pub session_put : Option WorldState → List Held → List Held → List 
 session_put None held more bindings = session_of None more bindings
 session_put (Some world) held more bindings = session_of (Some (over_held world more)) held bindings
 
--- What is held is that of the session: until there is a mount, its objects and bindings; then its bindings, and a mount that stands for the
--- session's world. The mount has taken the store.
+-- What is held is that of the session: until there is a mount, its objects and bindings; then its
+-- bindings, and a mount that stands for the session's world. The mount has taken the store.
 abbrev pub IsSession : Option State → Objects → Session → Type 0
 IsSession None objects session = session ≡ session_at None objects
 IsSession (Some mount) objects session =
@@ -39,7 +39,7 @@ abbrev pub Acts : Option State → Objects → Command → Option State → Obje
 Acts mount objects command next after outcome = (session : Session) → IsSession mount objects session
     → IsSession next after (acted session command).0 × (outcome ≡ (acted session command).1)
 
--- the same, and the line's text stands behind the old one
+-- the same, and the line's text comes after the old one
 abbrev pub Tells : Option State → Objects → Command → Option State → Objects → List ℕ → List ℕ → Type 0
 Tells mount objects command next after old new = (session : Session) → IsSession mount objects session
     → IsSession next after (told session command).0 × (new ≡ old ++ (told session command).1)
@@ -49,7 +49,8 @@ abbrev pub Gave : Result Id PutFault → List Held → List Held → Outcome →
 Gave (Ok id) old new outcome = outcome ≡ Ok (id, new)
 Gave (Err fault) old new outcome = fault ≢ NoMemory → (new ≡ old) × (outcome ≡ Err fault)
 
--- the session stands for a script: for what is printed by the lines that follow on a session of the definitions
+-- the session stands for a script: for what is printed by the lines that follow on a session of the
+-- definitions
 abbrev pub SessionStands : Option State → Objects → (List (List ℕ) → Option (List ℕ)) → Type 0
 SessionStands mount objects script =
     (session : Session) × IsSession mount objects session × ((lines : List (List ℕ)) → script lines ≡ script_text session lines)

@@ -1,4 +1,4 @@
--- How far notes are judged beside the rows of logs.
+-- How far notes are checked against the rows of logs.
 use Rattle.std.specs.Prelude.{◌≡◌, ℕ, true, false, List, [], Contains, All, Option}
 use Rattle.eden_messages.specs.declared.message.Reply.{Reply}
 use Rattle.eden_messages.specs.declared.message.Request.{Request}
@@ -19,12 +19,12 @@ pub record Lists (entries : List LogEntry) (replies : List (ℕ × Reply)) (requ
   pub asked : (ticket : ℕ) (request : Request) → Contains requests (ticket, request) → IsAsked entries ticket request
   pub asks : (ticket : ℕ) (request : Request) → IsAsked entries ticket request → Contains requests (ticket, request)
 
--- behind these notes the rows are marked, and this is the highest ticket of a reply
+-- after these notes the rows are marked, and this is the highest ticket of a reply
 pub record IsAt (earlier : List Note) (rows : List Asked) (highest : Option ℕ) : Type 0 where
   pub marked : All (IsMarked (sent_in earlier)) rows
   pub is_highest : IsHighest (came_in earlier) highest
 
--- what is found of the notes that are left settles them all
+-- what is found of the remaining notes decides for all of them
 pub record Walks (entries : List LogEntry) (whole earlier left : List Note) : Type 0 where
   pub vouched : AreVouched entries earlier left → AreVouched entries [] whole
   pub cause : (f : VouchFault) → FirstCause entries earlier left f → FirstCause entries [] whole f

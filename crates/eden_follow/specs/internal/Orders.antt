@@ -1,4 +1,4 @@
--- Rows in order, so that those of one ticket or of one question stand together.
+-- Sorted rows, so that those of one ticket or of one question are consecutive.
 use Rattle.std.specs.Prelude.{◌<◌, ◌≤◌, ℕ, List, [], length, slice_index_or}
 use Rattle.std.specs.Cmp.Lexicographic.{slice_cmp}
 use Rattle.std.specs.List.Sorted.{IsSortedBy}
@@ -9,7 +9,7 @@ use Rattle.eden_messages.specs.declared.message.Request.TheVariants.{Basis, Poll
 use Rattle.eden_messages.specs.Mirrors.{query_of}
 use Rattle.eden_follow.specs.declared.rows.Asked.{Asked}
 
--- the path of which a content is asked, or what stands below it
+-- the path whose content or list is requested
 abbrev pub path_in : Request → List ℕ
 path_in (Basis query patterns) = []
 path_in (Poll query since patterns) = []
@@ -25,7 +25,7 @@ question_cmp =
 abbrev pub AreInOrder : List Asked → Type 0
 AreInOrder rows = IsSortedBy (λ (a b : Asked). is_lt (question_cmp a.request.now b.request.now)) rows
 
--- all of the list of which this holds stand from the start up to the end
+-- all items of the list for which this holds are from the start up to the end
 pub record IsGroup {X : Type 0} (IsIt : X → Type 0) (xs : List X) (start end : ℕ) : Type 0 where
   pub order : start ≤ end
   pub bound : end ≤ length xs

@@ -8,7 +8,7 @@ abbrev pub is_before : List ℕ → Option Entry → Bool
 is_before wanted None = false
 is_before wanted (Some e) = is_lt (slice_cmp nat_cmp (key e) wanted)
 
--- the first entry that doesn't stand before a key
+-- the first entry that doesn't come before a key
 abbrev pub first_from : List ℕ → List Entry → Option Entry
 first_from wanted [] = None
 first_from wanted (e ∷ es) = if is_before wanted (Some e) then first_from wanted es else Some e

@@ -1,5 +1,5 @@
--- What compiled patterns match, beside what their texts do.
-use Rattle.std.specs.Prelude.{◌≡◌, ◌≤◌, ℕ, Bool, true, false, ◌==◌, List, [], ◌∷◌, length, map, nat_eq}
+-- What compiled patterns match, compared with their texts.
+use Rattle.std.specs.Prelude.{◌≡◌, ◌≤◌, ℕ, Bool, true, false, ◌==◌, List, [], ◌∷◌, ◌++◌, length, map, nat_eq}
 use Rattle.std.specs.Borrow.{Bor}
 use Rattle.std.specs.Global.{Vec}
 use Rattle.std.specs.List.{AllZip, ends_with, slice_index_or, starts_with}
@@ -18,15 +18,16 @@ tokens_match (Run ∷ tokens) name = some_rest (tokens_match tokens) name
 tokens_match (Any ∷ tokens) name = first_then (λ b. true) (tokens_match tokens) name
 tokens_match (Byte c ∷ tokens) name = first_then (λ b. c == b) (tokens_match tokens) name
 
--- tokens match the names that a rest of a part matches
+-- tokens match the same names as the rest of a part
 abbrev pub AreTokensOf : List Token → Bool → List ℕ → Type 0
 AreTokensOf tokens escaped text = (name : List ℕ) → tokens_match tokens name ≡ name_matches escaped text name
 
--- a token may stand for a byte, whatever follows
+-- a token may match a byte, no matter what follows
 abbrev pub StandsFor : Token → Bool → ℕ → Type 0
 StandsFor token escaped byte = (tokens : List Token) (text : List ℕ) → AreTokensOf tokens false text → AreTokensOf (token ∷ tokens) escaped (byte ∷ text)
 
--- a name matches a part; the one that stands for any number of names stands for any one too
+-- a name matches a part; the part that matches any number of names matches any one name
+-- too
 abbrev pub part_matches : Part → List ℕ → Bool
 part_matches AnyNames name = true
 part_matches (Name bytes) name = same_bytes bytes.items name
@@ -41,7 +42,7 @@ is_any_names_part (Prefix bytes) = false
 is_any_names_part (Suffix bytes) = false
 is_any_names_part (Tokens tokens) = false
 
--- a part matches just the names that its text does, and stands for any number of names where its text does
+-- a part matches exactly the names that its text does, and is `**` if its text is
 abbrev pub IsPartOf : Part → List ℕ → Type 0
 IsPartOf part text = (is_any_names_part part ≡ is_any_names text) × ((name : List ℕ) → part_matches part name ≡ name_matches false text name)
 
@@ -52,10 +53,14 @@ AreParts parts texts = AllZip IsPartOf parts texts
 abbrev pub AreCompiled : List (Vec Part) → List (List ℕ) → Type 0
 AreCompiled compiled patterns = AllZip (λ parts pattern. AreParts parts.items (components pattern)) compiled patterns
 
--- what some bytes hold that are lent
+-- the contents of borrowed bytes
 abbrev pub lent : List (Bor (List ℕ)) → List (List ℕ)
 lent names = map (λ n. n.now) names
 
 -- no name is longer than a path
 abbrev pub AreShort : List (List ℕ) → Type 0
 AreShort names = (k : ℕ) → length (slice_index_or names k []) ≤ 1024
+
+-- the name is the last of these
+abbrev pub EndsIn : List (List ℕ) → List ℕ → Type 0
+EndsIn names name = (front : List (List ℕ)) × (names ≡ front ++ name ∷ [])

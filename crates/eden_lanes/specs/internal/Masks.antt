@@ -3,7 +3,7 @@ use Rattle.std.specs.Prelude.{ℕ, Bool, List, cond, map, nat_eq}
 use Rattle.eden_ids.specs.declared.id.Id.{Id}
 use Rattle.eden_ids.specs.Columns.{word}
 
--- whether the n-th words of two ids are the same
+-- the n-th words of two ids are the same
 abbrev pub same_word : ℕ → Id → Id → Bool
 same_word n x y = nat_eq (word n x) (word n y)
 

@@ -10,11 +10,11 @@ abbrev pub pending : List (List ℕ × Bool) → List (List ℕ)
 pending [] = []
 pending (e ∷ es) = cond e.1 (pending es) (e.0 ∷ pending es)
 
--- no path stands twice in the list
+-- no path is in the list twice
 abbrev pub AreDistinct : List (List ℕ) → Type 0
 AreDistinct ps = IsDistinct same_path ps
 
--- no path stands twice in the table, and this many are not answered
+-- no path is in the table twice, and this many are not answered
 pub record IsCounted (left : ℕ) (es : List (List ℕ × Bool)) : Type 0 where
   pub distinct : IsDistinct same_bytes (keys_of es)
   pub count : left ≡ length (pending es)

@@ -9,7 +9,7 @@ use Rattle.eden_messages.specs.Mirrors.{MirrorState, gathers, list_request}
 use Rattle.eden_mirror.specs.declared.mirror.Round.{Round}
 use Rattle.eden_mirror.specs.declared.mirror.Round.TheVariants.{Idle, Asked, Gathering}
 
--- the round that is meant, of a mirror with this last question, place and filter
+-- the round of a mirror with this last question, place and filter
 abbrev pub round_of : Query → Option Position → List (List ℕ) → Round → defined.Round
 round_of query place patterns Idle = defined.Round.Idle
 round_of query place patterns Asked = defined.Round.Asked (list_request query place patterns)

@@ -4,8 +4,6 @@ use Rattle.std.specs.List.{list_any}
 use Rattle.std.specs.List.Sorted.{IsSortedBy}
 use Rattle.std.specs.Ordering.{is_lt}
 use Rattle.std.specs.FinMap as fin
-use Rattle.eden_ids.specs.declared.content.Kind.{Kind}
-use Rattle.eden_ids.specs.declared.id.Id.{Id}
 use Rattle.eden_ids.specs.Paths.{lies_below}
 use Rattle.eden_ids.specs.FileMaps.{FileMap, paths, same_path}
 use Rattle.eden_objects.specs.Passing.{is_shown, told}
@@ -15,7 +13,8 @@ use Rattle.eden_moves.specs.internal.Regions.{is_apart}
 abbrev pub is_pathless : List ℕ → Bool
 is_pathless bytes = not (is_path bytes)
 
--- the files below the commit's directory that is seen at one, told there: those that are seen by it, at paths that a filter admits
+-- the files below the commit's directory that is seen at one, at the paths where they are seen:
+-- those that are seen by it, at paths that a filter admits
 abbrev pub shown_by : FileMap → Moves → List (List ℕ) → Entry → List (List ℕ)
 shown_by files moves patterns (top, None) = []
 shown_by files moves patterns (top, Some source) =
@@ -24,13 +23,9 @@ shown_by files moves patterns (top, Some source) =
 abbrev pub is_listed : List (List ℕ) → List ℕ → Bool
 is_listed ps path = list_any (λ q. same_path path q) ps
 
--- a file's path, its kind and its blob
-abbrev pub Row : Type 0
-Row = List ℕ × Kind × Id
-
--- no row's path comes in byte order before that of the row ahead of it
-abbrev pub AreInOrder : List Row → Type 0
-AreInOrder rows = IsSortedBy (λ (one other : Row). is_lt (by_bytes one.0 other.0)) rows
+-- no path comes in byte order before the one ahead of it
+abbrev pub AreInOrder : List (List ℕ) → Type 0
+AreInOrder ps = IsSortedBy (λ one other. is_lt (by_bytes one other)) ps
 
 -- what is kept at paths, with more at those that pass a test
 abbrev pub IsWith : {X : Type 0} → (List ℕ → Bool) → fin.FinMap by_bytes X → fin.FinMap by_bytes X → Type 0

@@ -7,16 +7,16 @@ use Rattle.eden_ids.specs.Paths.{lies_below}
 use Rattle.eden_objects.specs.Passing.{told}
 use Rattle.eden_moves.specs.Moves.{Entry, Moves, nearest, own_or, source_of}
 
--- the commit's directory that is seen at a directory, whether that is a path or not
+-- the commit's directory that is seen at a directory, whether or not it is a valid path
 abbrev pub seen_dir : Moves → List ℕ → Option (List ℕ)
 seen_dir moves dir = own_or (fin.get moves dir) (source_of moves dir)
 
--- the entry is that of a longer path than so many bytes
+-- the entry's directory is longer than this many bytes
 abbrev pub is_past : ℕ → Option Entry → Bool
 is_past long None = false
 is_past long (Some e) = nat_lt long (length e.0)
 
--- what stands below a directory of so many bytes and isn't seen by it, or is passed over
+-- what is below a directory of this many bytes and is not seen by it, or is passed over
 abbrev pub is_apart : Moves → ℕ → (List ℕ → Bool) → List ℕ → Bool
 is_apart moves long passes path = passes path || is_past long (nearest (fin.entries moves) path)
 

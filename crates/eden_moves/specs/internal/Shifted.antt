@@ -1,13 +1,15 @@
--- Renamed directories while one more is renamed, and before anything is said of the old path and the new one.
+-- Renamed directories while one more is renamed, and before anything is said of the old path and
+-- the new one.
 use Rattle.std.specs.Prelude.{◌≡◌, ℕ, T, if◌then◌else◌, List, [], ◌∷◌, ◌++◌, filter, map, take, drop, Option, None}
 use Rattle.std.specs.FinMap as fin
 use Rattle.std.specs.FinMap.{is_sorted}
 use Rattle.eden_ids.specs.Paths.{lies_below}
-use Rattle.eden_history.specs.Carried.{carried}
+use Rattle.eden_overlay.specs.Carried.{carried}
 use Rattle.eden_moves.specs.Moves.{Entry, Moves, by_bytes, source_dir}
 use Rattle.eden_moves.specs.internal.Told.{IsPlace}
 
--- what was said below the old path is said below the new one, and what was said there before is forgotten
+-- what was said below the old path is said below the new one, and what was said there before is
+-- forgotten
 abbrev pub shifted : (List ℕ → Option (Option (List ℕ))) → List ℕ → List ℕ → List ℕ → Option (Option (List ℕ))
 shifted said old new dir = if lies_below dir new then said (carried new old dir) else if lies_below dir old then None else said dir
 
@@ -18,11 +20,11 @@ IsShifted said old new moves = (dir : List ℕ) → fin.get moves dir ≡ shifte
 abbrev pub shifted_entry : List ℕ → List ℕ → Entry → Entry
 shifted_entry old new e = (carried old new e.0, e.1)
 
--- those that come to stand below the new path
+-- those that come to be below the new path
 abbrev pub arriving : List Entry → List ℕ → List ℕ → List Entry
 arriving es old new = map (shifted_entry old new) (filter (λ e. lies_below e.0 old) es)
 
--- entries put in, one behind the other, where the first of them stands
+-- entries put in, one after the other, at the place of the first of them
 abbrev pub IsPutIn : List Entry → List Entry → List Entry → Type 0
 IsPutIn [] es rs = rs ≡ es
 IsPutIn (m ∷ ms) es rs = (at : ℕ) × IsPlace m.0 es at × (rs ≡ take at es ++ ((m ∷ ms) ++ drop at es))

@@ -1,4 +1,4 @@
--- What is kept of the entries that came while a tree is judged.
+-- What is kept of the earlier entries while a tree is checked.
 use Rattle.std.specs.Prelude.{◌≡◌, ℕ, Bool, true, List, [], ◌∷◌, Option, Some, None}
 use Rattle.std.specs.Borrow.{Bor}
 use Rattle.std.specs.Ordering.{nat_cmp, is_lt}

@@ -1,4 +1,4 @@
--- What is kept of an object beside its payload, and what a look-up tells of it.
+-- What is kept of an object besides its payload, and what a look-up says of it.
 use Rattle.std.specs.Prelude.{◌≡◌, ℕ, ◌≤◌, Bool, ◌&&◌, List, [], ◌∷◌, length, Option, Some, None, Result, Ok, Err, if◌then◌else◌}
 use Rattle.eden_ids.specs.declared.id.Id.{Id}
 use Rattle.eden_ids.specs.Sameness.{same_bytes}
@@ -38,17 +38,18 @@ files_of_entries earlier es = capped (length (entries_rows (tree_rows earlier) e
 abbrev pub files_of_tree : List Held → Id → ℕ
 files_of_tree held id = capped (length (tree_rows held id))
 
--- a tree's depth and reach, by what it names
+-- a tree's depth and reach, by its entries
 abbrev pub SizeFits : List Held → List ℕ → Size → Type 0
 SizeFits earlier payload size =
     (size.depth ≡ entries_depth (tree_depth earlier) (entries_of payload))
     × (size.reach ≡ entries_reach (tree_reach earlier) (entries_of payload))
 
--- and how many files it comes to
+-- and the number of its files
 abbrev pub OutlineFits : List Held → List ℕ → Outline → Type 0
 OutlineFits earlier payload outline = SizeFits earlier payload outline.size × (outline.files ≡ files_of_entries earlier (entries_of payload))
 
--- what is kept of the tree with an id: its depth and its reach, with their limits, and how many files it comes to
+-- what is kept of the tree with an id: its depth and its reach, with their limits, and
+-- the number of its files
 abbrev pub TellsTree : List Held → Id → Outline → Type 0
 TellsTree held id outline = (outline.size.depth ≡ tree_depth held id) × (outline.size.reach ≡ tree_reach held id)
     × (outline.size.depth ≤ 64) × (outline.size.reach ≤ 1024) × (outline.files ≡ files_of_tree held id)
@@ -57,13 +58,13 @@ abbrev pub IfTree : Body → (Outline → Type 0) → Type 0
 IfTree (Tree outline) is = is outline
 IfTree body is = Unit {0}
 
--- what stands in the payload itself: a tree's entries, and the tree that a commit names
+-- what is in the payload itself: a tree's entries, and the tree that a commit names
 abbrev pub IsReadFrom : List ℕ → Body → Type 0
 IsReadFrom payload Blob = Unit {0}
 IsReadFrom payload (Tree outline) = AreColumns payload outline.columns
 IsReadFrom payload (Commit tree) = tree_named payload ≡ Some tree
 
--- an object as it is put behind earlier ones
+-- an object as it is put after earlier ones
 abbrev pub Measures : List Held → Stored → Type 0
 Measures earlier object = IsReadFrom object.payload object.body × IfTree object.body (OutlineFits earlier object.payload)
 

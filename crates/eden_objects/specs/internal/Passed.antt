@@ -1,4 +1,5 @@
--- The rows of a directory of which some are passed over, behind the bytes that its paths begin with.
+-- The rows of a directory, some of which are passed over, after the bytes that its paths
+-- begin with.
 use Rattle.std.specs.Prelude.{◌≡◌, ℕ, Bool, true, false, not, List, ◌++◌, filter, map}
 use Rattle.std.specs.List.{AllByRecursion, list_any}
 use Rattle.eden_ids.specs.Paths.{IsPath, lies_below}
@@ -9,19 +10,19 @@ use Rattle.eden_objects.specs.Passing.{told}
 abbrev pub any_but : (List ℕ → Bool) → List ℕ → List Row → Bool
 any_but passes front rows = list_any (λ row. not (passes (front ++ row.0))) rows
 
--- a path that is not passed over is a path
+-- a path that is not passed over is valid
 abbrev pub IsPathBut : (List ℕ → Bool) → List ℕ → Type 0
 IsPathBut passes path = passes path ≡ false → IsPath path
 
--- each of them that is not passed over has a path
+-- each of them that is not passed over has a valid path
 abbrev pub ArePathsBut : (List ℕ → Bool) → List ℕ → List Row → Type 0
 ArePathsBut passes front rows = AllByRecursion (λ row. IsPathBut passes (front ++ row.0)) rows
 
--- and each below a directory, told as though that stood at another place
+-- and each below a directory, as if that were at another path
 abbrev pub AreToldPaths : (List ℕ → Bool) → List ℕ → List ℕ → List Row → Type 0
 AreToldPaths passes top seen rows = AllByRecursion (λ row. lies_below row.0 top ≡ true → IsPathBut passes (told top seen row.0)) rows
 
--- the rows that are shown, told so
+-- the rows that are shown, with these paths
 abbrev pub retold : List ℕ → List ℕ → Row → Row
 retold top seen row = (told top seen row.0, row.1, row.2)
 

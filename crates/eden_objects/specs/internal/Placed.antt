@@ -1,4 +1,4 @@
--- What the answer of one put call is to an import.
+-- What the result of one put call is to an import.
 use Rattle.std.specs.Prelude.{ℕ}
 use Rattle.eden_objects.specs.declared.fault.PutFault.{PutFault}
 use Rattle.eden_objects.specs.declared.fault.PutFault.TheVariants as puts

@@ -6,7 +6,7 @@ use Rattle.eden_objects.specs.Objects.{Held}
 use Rattle.eden_objects.specs.Commits.{Row}
 use Rattle.eden_objects.specs.Files.{IsTreeIn, rows_at}
 
--- the rows of a commit by its tree, of which the empty commit has none
+-- the rows of a commit by its tree; the empty commit has none
 abbrev pub rows_of_tree : List Held → Result (Option Id) NoCommit → Option (List Row)
 rows_of_tree held (Err fault) = None
 rows_of_tree held (Ok tree) = Some (rows_at held tree)

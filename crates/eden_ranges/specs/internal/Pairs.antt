@@ -1,4 +1,4 @@
--- Pairs of roots that were compared, and what is known of them then.
+-- Pairs of roots that were compared, and what is then known of them.
 use Rattle.std.specs.Prelude.{◌≡◌, ℕ, Bool, true, ◌&&◌, List}
 use Rattle.std.specs.List.{list_any}
 use Rattle.eden_ids.specs.declared.id.Id.{Id}
@@ -12,11 +12,11 @@ use Rattle.eden_ranges.specs.internal.Wanted.{only}
 abbrev pub same_pair : Id × Id → Id × Id → Bool
 same_pair p q = same_id p.0 q.0 && same_id p.1 q.1
 
--- the two roots stand among the pairs, in this order
+-- the two roots are among the pairs, in this order
 abbrev pub has_pair : List (Id × Id) → Id → Id → Bool
 has_pair pairs left reached = list_any (same_pair (left, reached)) pairs
 
--- Two roots can be compared, and the admitted paths on which they differ are among these.
+-- Two roots can be compared, and the admitted paths at which they differ are among these.
 pub record IsCovered (patterns : List (List ℕ)) (commits : Commits) (paths : PathSet) (left reached : Id) : Type 0 where
   pub among : union (only patterns (commits_differ commits left reached)) paths ≡ paths
   pub comparable : is_comparable commits left reached ≡ true

@@ -13,6 +13,6 @@ module _ {V Z : Type 0} where
   abbrev pub frozen_rows : Frozen V Z → List (Id × V)
   frozen_rows frozen = flat_map arc_value frozen
 
-  -- with the rows of the newest segment behind them
+  -- with the rows of the newest segment after them
   abbrev pub stored : Frozen V Z → List (Id × V) → List (Id × V)
   stored frozen newest = frozen_rows frozen ++ newest

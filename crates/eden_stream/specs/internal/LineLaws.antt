@@ -3,9 +3,10 @@ use Rattle.std.proofs.Common.{◌≡◌, true, false, inl, inr, List, [], ◌∷
 use Rattle.std.specs.Prelude.{ℕ}
 use Rattle.eden_stream.specs.Grammars.{IsGrammar}
 use Rattle.eden_stream.specs.Lines.{IsSkipped}
-use Rattle.eden_stream.specs.Scripts.{IsScript, in_front}
+use Rattle.eden_stream.specs.LineGrammar.{CutsLines, IsKept, line_grammar}
+use Rattle.eden_stream.specs.Scripts.{GoesOn, IsScript, in_front}
 use Rattle.eden_stream.specs.Stories.{IsStory}
-use Rattle.eden_stream.specs.internal.LineSteps.{CutsLines, GoesOn, IsKept, line_grammar, line_story}
+use Rattle.eden_stream.specs.internal.LineSteps.{line_story}
 
 grown : (rest held got : List ℕ) → IsKept rest held → IsKept (rest ++ got) (held ++ got)
 grown rest held got (inl e) = inl (ap (λ bytes. bytes ++ got) e)
@@ -35,7 +36,8 @@ line_laws = record {
   ends = ends;
 }
 
-module _ {M : Type 0} (stands_for : M → (List (List ℕ) → Option (List ℕ)) → Type 0) (before now : M)
+module _ {M : Type 0} (stands_for : M → (List (List ℕ) → Option (List ℕ)) → Type 0)
+    (refused_by : M → (List (List ℕ) → Option (List ℕ)) → List ℕ → Type 0) (before now : M)
     (lawful : (script : List (List ℕ) → Option (List ℕ)) → stands_for now script → IsScript script) where
   skips_on : (script : List (List ℕ) → Option (List ℕ)) (items : List (List ℕ)) (item text : List ℕ) → IsSkipped item
       → GoesOn (stands_for now) script items text → GoesOn (stands_for now) script (items ++ item ∷ []) text
@@ -49,7 +51,7 @@ module _ {M : Type 0} (stands_for : M → (List (List ℕ) → Option (List ℕ)
   prints script items text on =
       ap script (sym (append-nil items)) ∙ on.goes_on [] ∙ ap (in_front text) (lawful on.next on.stands).ends ∙ ap Some (append-nil text)
 
-  pub story_laws : IsStory line_grammar (line_story stands_for before now)
+  pub story_laws : IsStory line_grammar (line_story stands_for refused_by before now)
   story_laws = record {
     passes = λ items item text silent told script s. skips_on script items item text silent (told script s);
     stops = λ items text told script s. prints script items text (told script s);

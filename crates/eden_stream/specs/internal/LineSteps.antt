@@ -1,9 +1,9 @@
--- The lines of a stream as items, what a machine tells of them, and what the steps say that find them.
+-- What a machine tells of the lines that it was given, and what the steps say that find lines.
 use Rattle.std.specs.Prelude.{◌≡◌, Bool, true, ℕ, ◌<◌, ◌≤◌, ◌⊎◌, ⊤, List, [], ◌∷◌, ◌++◌, length, take, drop, Option, None, Some, Result, Ok, Err, slice_index}
-use Rattle.std.specs.Str.Lines.{lines, strip_carriage_return}
-use Rattle.eden_stream.specs.Grammars.{Grammar}
-use Rattle.eden_stream.specs.Lines.{HasNoBreak, IsComment, IsSkipped, IsSpoken, IsTooLong, IsWholeLines}
-use Rattle.eden_stream.specs.Scripts.{in_front}
+use Rattle.std.specs.Str.Lines.{strip_carriage_return}
+use Rattle.eden_stream.specs.Ends.{CantRead}
+use Rattle.eden_stream.specs.Lines.{HasNoBreak, IsComment, IsSkipped, IsSpoken, IsTooLong}
+use Rattle.eden_stream.specs.Scripts.{GoesOn}
 use Rattle.eden_stream.specs.Stories.{Story}
 use Rattle.eden_stream.specs.declared.framing.Next.{Next}
 use Rattle.eden_stream.specs.declared.framing.Next.TheVariants.{Item, Skipped, Partial, Faulty}
@@ -12,52 +12,22 @@ use Rattle.eden_stream.specs.declared.lines.RunFault.TheVariants as faults
 use Rattle.eden_stream.specs.declared.pump.Stop as stop
 use Rattle.eden_stream.specs.declared.pump.Stop.TheVariants as stops
 
--- What is held of the rest of a stream: all of it, or of a comment that has not ended its first byte and its last ones.
-abbrev pub IsKept : List ℕ → List ℕ → Type 0
-IsKept rest held = (rest ≡ held)
-    ⊎ ((gone : List ℕ) × (back : List ℕ) × HasNoBreak gone × (rest ≡ 35 ∷ (gone ++ back)) × (held ≡ 35 ∷ back))
+-- The script can't read this item after these, and was given it last.
+pub record HasRefused (refused_now : (List (List ℕ) → Option (List ℕ)) → List ℕ → Type 0) (script : List (List ℕ) → Option (List ℕ)) (items : List (List ℕ)) (item : List ℕ) : Type 0 where
+  pub text : List ℕ
+  pub reads : CantRead script items item text
+  pub on : GoesOn (λ next. refused_now next item) script items text
 
--- The stream is these lines, each with its end, and a rest.
-pub record IsBehind (stream : List ℕ) (items : List (List ℕ)) (held : List ℕ) : Type 0 where
-  pub whole : List ℕ
-  pub rest : List ℕ
-  pub split : stream ≡ whole ++ rest
-  pub ends_lines : IsWholeLines whole
-  pub items_are : items ≡ lines whole
-  pub kept : IsKept rest held
-
--- the stream is these lines and a rest, or it has ended and these are its lines
-abbrev pub CutsLines : Bool → List ℕ → List (List ℕ) → List ℕ → Type 0
-CutsLines ended stream items held = IsBehind stream items held ⊎ ((ended ≡ true) × (held ≡ []) × (items ≡ lines stream))
-
--- the lines that are cut off are followed by one that is too long
-abbrev pub IsBeforeLong : List ℕ → List (List ℕ) → Type 0
-IsBeforeLong stream items = (line : List ℕ) × (left : List ℕ) × CutsLines true stream (items ++ line ∷ []) left × IsTooLong line
-
-abbrev pub line_grammar : Grammar ⊤
-line_grammar = record {
-  cut = CutsLines;
-  item = IsSpoken;
-  silent = IsSkipped;
-  partial = λ ended held. HasNoBreak held × (ended ≡ true → held ≡ []);
-  faulty = λ ended stream items held fault. IsBeforeLong stream items;
-}
-
--- Behind these lines, which print this text, the script goes on as one that the machine stands for.
-pub record GoesOn (stands_now : (List (List ℕ) → Option (List ℕ)) → Type 0) (script : List (List ℕ) → Option (List ℕ)) (items : List (List ℕ)) (text : List ℕ) : Type 0 where
-  pub next : List (List ℕ) → Option (List ℕ)
-  pub stands : stands_now next
-  pub goes_on : (more : List (List ℕ)) → script (items ++ more) ≡ in_front text (next more)
-
-abbrev pub line_story : {M : Type 0} → (M → (List (List ℕ) → Option (List ℕ)) → Type 0) → M → M → Story ⊤
-line_story stands_for before now = record {
+-- What a machine tells of the lines that it was given.
+abbrev pub line_story : {M : Type 0} → (M → (List (List ℕ) → Option (List ℕ)) → Type 0) → (M → (List (List ℕ) → Option (List ℕ)) → List ℕ → Type 0) → M → M → Story ⊤
+line_story stands_for refused_by before now = record {
   told = λ items text. (script : List (List ℕ) → Option (List ℕ)) → stands_for before script → GoesOn (stands_for now) script items text;
   lost = λ items text. (script : List (List ℕ) → Option (List ℕ)) → stands_for before script → script items ≡ Some text;
-  refused = λ items item fault. (script : List (List ℕ) → Option (List ℕ)) → stands_for before script → script (items ++ item ∷ []) ≡ None;
+  refused = λ items item fault. (script : List (List ℕ) → Option (List ℕ)) → stands_for before script → HasRefused (refused_by now) script items item;
   spent = λ items item text. (script : List (List ℕ) → Option (List ℕ)) → stands_for before script → script items ≡ Some text;
 }
 
--- the first line of the bytes, and what is left behind it
+-- the first line of the bytes, and what is left after it
 abbrev pub BeginsWith : Bool → List ℕ → List ℕ → List ℕ → Type 0
 BeginsWith ended held line left =
     ((raw : List ℕ) × (held ≡ raw ++ 10 ∷ left) × HasNoBreak raw × (line ≡ strip_carriage_return raw))
@@ -74,6 +44,10 @@ Judges line whole (Faulty fault) = IsTooLong line
 abbrev pub Shortens : List ℕ → List ℕ → Type 0
 Shortens held left = (left ≡ held) ⊎ (IsComment held × (left ≡ take 1 held))
 
+-- no line ends in the bytes, and they are too many for one whatever follows
+abbrev pub IsLongUnended : List ℕ → Type 0
+IsLongUnended held = HasNoBreak held × (¬ IsComment held) × (65537 < length held)
+
 -- What is found at the front of the held bytes, and how many of them are held still.
 abbrev pub FindsLine : Bool → List ℕ → List ℕ → Next ⊤ → Type 0
 FindsLine ended held now (Item place size whole) = (now ≡ held) × (place ≡ 0) × (size ≤ whole) × (0 < whole) × (whole ≤ length held)
@@ -81,7 +55,7 @@ FindsLine ended held now (Item place size whole) = (now ≡ held) × (place ≡ 
 FindsLine ended held now (Skipped whole) = (now ≡ held) × (0 < whole) × (whole ≤ length held)
     × ((line : List ℕ) × IsSkipped line × BeginsWith ended held line (drop whole held))
 FindsLine ended held now Partial = HasNoBreak held × Shortens held now × (ended ≡ true → now ≡ [])
-FindsLine ended held now (Faulty fault) = (now ≡ held) × ((line : List ℕ) × (left : List ℕ) × IsTooLong line × BeginsWith true held line left)
+FindsLine ended held now (Faulty fault) = (now ≡ held) × (((line : List ℕ) × (left : List ℕ) × IsTooLong line × BeginsWith ended held line left) ⊎ IsLongUnended held)
 
 -- how a run ends, by the pump
 abbrev pub run_as : Result ℕ (stop.Stop ⊤) → Result ℕ fault.RunFault

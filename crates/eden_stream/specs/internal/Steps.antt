@@ -1,5 +1,5 @@
 -- What the steps of the pump say, one by one.
-use Rattle.std.specs.Prelude.{◌≡◌, Bool, ℕ, List, [], ◌∷◌, ◌++◌, take, Option}
+use Rattle.std.specs.Prelude.{◌≡◌, Bool, ℕ, List, [], ◌∷◌, ◌++◌, Option}
 use Rattle.std.specs.Io.KnownBytes.{Appends, Consumes, IsAtEnd}
 use Rattle.eden_stream.specs.Grammars.{Grammar}
 use Rattle.eden_stream.specs.Stories.{Story}
@@ -9,7 +9,8 @@ use Rattle.eden_stream.specs.declared.pump.Turn.TheVariants as turns
 use Rattle.eden_stream.specs.declared.transfer.Received as received
 use Rattle.eden_stream.specs.declared.transfer.Received.TheVariants as receives
 
--- What each turn says, of the bytes that are held now and of the text now, where `sent` was taken from the text before.
+-- What each turn says, of the bytes that are held now and of the text now, where `sent` was taken
+-- from the text before.
 abbrev pub TakesTurn : {E : Type 0} → Grammar E → Story E → Bool → List ℕ → List (List ℕ) → List ℕ → List ℕ → List ℕ → turn.Turn E → Type 0
 TakesTurn grammar story ended stream items sent held text turns.Taken =
     (item : List ℕ) × grammar.cut ended stream (items ++ item ∷ []) held × story.told (items ++ item ∷ []) (sent ++ text)
@@ -20,7 +21,7 @@ TakesTurn grammar story ended stream items sent held text turns.NoMemory =
 TakesTurn grammar story ended stream items sent held text turns.Waiting =
     grammar.cut ended stream items held × grammar.partial ended held × story.told items (sent ++ text)
 
--- some bytes were read, and are held behind the others
+-- some bytes were read, and are held after the others
 abbrev pub Receives : Option (List ℕ) → Option (List ℕ) → List ℕ → List ℕ → Type 0
 Receives r0 r1 held now = (got : List ℕ) × Consumes r0 r1 got × (now ≡ held ++ got)
 
@@ -34,7 +35,3 @@ HasReceived r0 r1 held now receives.NoMemory = (got : List ℕ) × Consumes r0 r
 -- the front of the waiting text was written, and the rest waits still
 abbrev pub Sends : Option (List ℕ) → Option (List ℕ) → List ℕ → List ℕ → Type 0
 Sends w0 w1 waiting left = (sent : List ℕ) × Appends w0 w1 sent × (waiting ≡ sent ++ left)
-
--- some first bytes of the waiting text were written
-abbrev pub Tears : Option (List ℕ) → Option (List ℕ) → List ℕ → Type 0
-Tears w0 w1 waiting = (taken : ℕ) × Appends w0 w1 (take taken waiting)

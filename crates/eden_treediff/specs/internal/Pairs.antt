@@ -11,7 +11,7 @@ use Rattle.eden_ids.specs.FileMaps.{same_kind}
 use Rattle.eden_ids.specs.Sameness.{same_id}
 use Rattle.eden_git.specs.Trees.{Entry, key}
 
--- the next entry on each side, both where they have one key, and what is left on each side
+-- the next entry on each side, both if they have the same key, and the rest of each side
 abbrev pub Next : Type 0
 Next = Option Entry × Option Entry × List Entry × List Entry
 
@@ -28,7 +28,7 @@ abbrev pub first_of : List Entry → Option Entry
 first_of [] = None
 first_of (e ∷ es) = Some e
 
--- how the keys of two entries stand, a missing one behind each other
+-- how the keys of two entries compare; a missing one sorts after any other
 abbrev pub order_of : Option Entry → Option Entry → Option Ordering
 order_of None None = None
 order_of (Some e) None = Some Less

@@ -11,7 +11,7 @@ use Rattle.eden_treediff.specs.declared.known_pairs.Settled.{Settled}
 use Rattle.eden_treediff.specs.Merges.{merge_rows}
 use Rattle.eden_treediff.specs.internal.Walks.{is_one_tree, side_rows}
 
--- a missing tree stands before each other, and trees by their ids
+-- a missing tree sorts before any other, and trees by their ids
 abbrev pub side_cmp : Option Id → Option Id → Ordering
 side_cmp = option_cmp (λ a b. slice_cmp nat_cmp a.0 b.0)
 
@@ -25,7 +25,7 @@ is_settled settled first second = contains sides_cmp settled.pairs (first, secon
 abbrev pub NoneSettled : Settled → Type 0
 NoneSettled settled = (first second : Option Id) → is_settled settled first second ≡ false
 
--- the sides are one, or the pair is remembered
+-- the sides are equal, or the pair is remembered
 abbrev pub is_known : Settled → Option Id → Option Id → Bool
 is_known settled first second = is_one_tree first second || is_settled settled first second
 
@@ -33,7 +33,7 @@ is_known settled first second = is_one_tree first second || is_settled settled f
 abbrev pub KeepsSettled : Settled → Settled → Type 0
 KeepsSettled old new = (first second : Option Id) → is_settled old first second ≡ true → is_settled new first second ≡ true
 
--- the two sides differ on no path
+-- the two sides differ at no path
 abbrev pub HoldSame : List Held → Option Id → Option Id → Type 0
 HoldSame held first second = merge_rows (side_rows held first) (side_rows held second) ≡ []
 

@@ -1,4 +1,4 @@
--- A walk over two trees of a store, of which one may be missing.
+-- A walk over two trees of a store, either of which may be missing.
 use Rattle.std.specs.Prelude.{◌≡◌, ℕ, Bool, true, false, List, [], ◌++◌, map, filter, Option, Some, None, Result, Ok, Err}
 use Rattle.std.specs.Borrow.{Bor}
 use Rattle.eden_ids.specs.declared.id.Id.{Id}
@@ -39,7 +39,7 @@ is_one_tree None None = true
 is_one_tree (Some a) (Some b) = same_id a b
 is_one_tree _ _ = false
 
--- the paths behind the bytes that they begin with
+-- the paths after the bytes that they begin with
 abbrev pub behind : List ℕ → List (List ℕ) → List (List ℕ)
 behind front ps = map (λ p. front ++ p) ps
 

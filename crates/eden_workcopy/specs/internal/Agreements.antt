@@ -4,7 +4,7 @@ use Rattle.std.specs.List.{AllByRecursion}
 use Rattle.std.specs.FinMap as fin
 use Rattle.eden_ids.specs.declared.content.Content.{Content}
 use Rattle.eden_ids.specs.FileMaps.{FileMap, file_at, same_file}
-use Rattle.eden_workcopy.specs.Layers.{Layer, over}
+use Rattle.eden_overlay.specs.Layers.{Layer, over}
 
 -- the file at a path is that of the wanted map
 abbrev pub Agrees : FileMap → FileMap → List ℕ → Type 0
@@ -21,7 +21,8 @@ IsNearer wanted before after = (p : List ℕ) → Agrees wanted before p → Agr
 abbrev pub IsLean : FileMap → FileMap → Layer → Type 0
 IsLean wanted base layer = (p : List ℕ) → IsSome (fin.get layer p) → same_file (file_at wanted p) (file_at base p) ≡ false
 
--- a layer over another commit that agrees at these paths, and still where that commit agrees, and says no more than it must
+-- a layer over another commit that agrees at these paths, and still where that commit agrees, and
+-- says no more than it must
 pub record IsKept (wanted base : FileMap) (next : Layer) (ps : List (List ℕ)) : Type 0 where
   pub here : AllAgree wanted (over base next) ps
   pub there : IsNearer wanted base (over base next)

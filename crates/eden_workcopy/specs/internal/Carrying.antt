@@ -1,14 +1,12 @@
 -- Files that are carried from below one path to below another, one after the other.
-use Rattle.std.specs.Prelude.{◌≡◌, ℕ, List, [], ◌∷◌, Option, Some, None, if◌then◌else◌}
+use Rattle.std.specs.Prelude.{ℕ, List, [], ◌∷◌, Option, Some, if◌then◌else◌}
 use Rattle.std.specs.FinMap as fin
 use Rattle.eden_ids.specs.FileMaps.{FileMap, file_at, put_option}
-use Rattle.eden_ids.specs.declared.content.Content.{Content}
 use Rattle.eden_ids.specs.Paths.{lies_below}
-use Rattle.eden_history.specs.Carried.{carried}
+use Rattle.eden_overlay.specs.Carried.{carried}
 use Rattle.eden_history.specs.DirRenames.{free_fault}
 use Rattle.eden_history.specs.declared.change.ChangeFault.{ChangeFault}
 use Rattle.eden_history.specs.declared.change.ChangeFault.TheVariants.{IntoItself}
-use Rattle.eden_workcopy.specs.Layers.{Layer}
 
 -- the files after the one at a path was carried
 abbrev pub one_carried : List ℕ → List ℕ → FileMap → List ℕ → FileMap
@@ -22,13 +20,3 @@ each_carried old new files (path ∷ paths) = each_carried old new (one_carried 
 -- why a directory can't be put at a new path, as far as its own files have no say in it
 abbrev pub way_fault : FileMap → List ℕ → List ℕ → Option ChangeFault
 way_fault files old new = if lies_below new old then Some IntoItself else free_fault files new
-
--- what is said of a path after what was said below one directory was carried to below another: there what was said at the same place below the
--- old one, nothing below the old one, and of any other path the same
-abbrev pub carried_entry : Layer → List ℕ → List ℕ → List ℕ → Option (Option Content)
-carried_entry layer old new path =
-    if lies_below path new then fin.get layer (carried new old path) else
-    if lies_below path old then None else fin.get layer path
-
-abbrev pub IsCarried : Layer → List ℕ → List ℕ → Layer → Type 0
-IsCarried layer old new next = (path : List ℕ) → fin.get next path ≡ carried_entry layer old new path

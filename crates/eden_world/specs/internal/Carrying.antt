@@ -6,14 +6,15 @@ use Rattle.eden_ids.specs.Paths.{lies_below, path_fault}
 use Rattle.eden_ids.specs.FileMaps.{FileMap}
 use Rattle.eden_history.specs.declared.change.Change.{Change}
 use Rattle.eden_history.specs.declared.change.Change.TheVariants.{RenameDir}
-use Rattle.eden_history.specs.Carried.{carried}
+use Rattle.eden_overlay.specs.Carried.{carried}
 use Rattle.eden_history.specs.DirRenames.{rename_dir_fault}
 
 -- the path is one of those that move, and would be none where it went
 abbrev pub breaks : List ℕ → List ℕ → List ℕ → Bool
 breaks old new path = lies_below path old && is_some (path_fault (carried old new path))
 
--- the map with the file of one path more: at its place below the new path, and nowhere where it stood below that path before
+-- the map with the file of one path more: at its place below the new path, and nowhere where it
+-- stood below that path before
 abbrev pub carried_onto : FileMap → List ℕ → List ℕ → List ℕ → Option Content → FileMap
 carried_onto next old new path None = next
 carried_onto next old new path (Some file) =

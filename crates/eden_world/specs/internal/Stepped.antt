@@ -1,4 +1,4 @@
--- What a change comes to on the rows of a world: an event that is added, or nothing.
+-- What a change does to the rows of a world: it adds an event, or nothing.
 use Rattle.std.specs.Prelude.{◌≡◌, Option, Some, None}
 use Rattle.eden_history.specs.declared.change.Change.{Change}
 use Rattle.eden_history.specs.Worlds.{Event, WorldState, commits_of, now}

@@ -10,7 +10,7 @@ returns-in-Dry-clause-conflicts g c =
     let work = g.W.FileTree.files c.args.sides.now.work.now in
     let root = g.R.FileTree.files c.args.sides.now.root.now in
     let target = g.T.FileTree.files c.args.sides.now.target.now in
-    c.in_ok-push_where.ensures (is_conflict work root target) (always_returns_same _ _ _ (λ a r f k. search (rules, of_calls)))
+    c.in_ok-push_where.ensures.ok (is_conflict work root target) (always_returns_same _ _ _ (λ a r f k. search (rules, of_calls)))
     ∙ ap (λ ps. ps ++ filter (is_conflict work root target) c.args.differing.now) c.new-conflicts.ensures.items
     ∙ conflicts_listed work root target c.args.differing.now c.requires.files c.requires.differing
 
@@ -23,7 +23,7 @@ checked_out-requires g c =
       start = c.requires.start c.in_default.not-Dry;
       found =
           c.deref.ensures.value
-          ∙ c.in_ok-push_where.ensures (is_conflict work root target) (always_returns_same _ _ _ (λ a r f k. search (rules, of_calls)))
+          ∙ c.in_ok-push_where.ensures.ok (is_conflict work root target) (always_returns_same _ _ _ (λ a r f k. search (rules, of_calls)))
           ∙ ap (λ ps. ps ++ filter (is_conflict work root target) c.args.differing.now) c.new-conflicts.ensures.items
           ∙ conflicts_listed work root target c.args.differing.now c.requires.files c.requires.differing;
     }
@@ -33,7 +33,7 @@ returns-in_ok-next-in_default-clause-conflicts g c =
     let work = g.W.FileTree.files c.args.sides.now.work.now in
     let root = g.R.FileTree.files c.args.sides.now.root.now in
     let target = g.T.FileTree.files c.args.sides.now.target.now in
-    c.in_ok-push_where.ensures (is_conflict work root target) (always_returns_same _ _ _ (λ a r f k. search (rules, of_calls)))
+    c.in_ok-push_where.ensures.ok (is_conflict work root target) (always_returns_same _ _ _ (λ a r f k. search (rules, of_calls)))
     ∙ ap (λ ps. ps ++ filter (is_conflict work root target) c.args.differing.now) c.new-conflicts.ensures.items
     ∙ conflicts_listed work root target c.args.differing.now c.requires.files c.requires.differing
 

@@ -41,7 +41,7 @@ invariant_of-dirty g c =
     ∙ ap (λ (m : FileMap). listing (differ files m)) (sym (c.commit_files-root.ensures ∙ ap (commit_files held) c.root-2.ensures)) in record {
       each =
           c.deref-2.ensures.value
-          ∙ c.in_ok-push_where.ensures (λ p. is_some (file_at files p)) (always_returns_same _ _ _ (λ a r f k. search (rules, of_calls)))
+          ∙ c.in_ok-push_where.ensures.ok (λ p. is_some (file_at files p)) (always_returns_same _ _ _ (λ a r f k. search (rules, of_calls)))
           ∙ ap (λ ps. ps ++ filter (λ p. is_some (file_at files p)) c.deref.result.now) c.new-listed.ensures.items
           ∙ ap (filter (λ p. is_some (file_at files p))) changed
           ∙ dirty_listed files root;

@@ -9,5 +9,5 @@ pub returns-in_ok-unclean-in_default : goal.returns-in_ok-unclean-in_default
 returns-in_ok-unclean-in_default g c =
     both_listed c.args.mode c.args.changed.now c.deref.result.now c.in_ok-unclean-in_default.unclean.items
     (differ (means c.args.store.now c.args.next.now) (root_files c.args.store.now c.args.next.now)) _ _ _
-    c.in_default.not-Dry (c.deref.ensures.value ∙ c.in_ok-dirty-in_default.ensures) c.new-table.ensures c.in_ok-add_all-in_default.ensures
-    c.in_ok-add_all-in_default-2.ensures c.in_ok-unclean-in_default.ensures
+    c.in_default.not-Dry (c.deref.ensures.value ∙ c.in_ok-dirty-in_default.ensures) c.new-table.ensures c.in_ok-add_all-in_default.ensures.ok
+    c.in_ok-add_all-in_default-2.ensures.ok c.in_ok-unclean-in_default.ensures

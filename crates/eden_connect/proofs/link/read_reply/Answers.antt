@@ -7,5 +7,5 @@ pub returns-in-Ok : goal.returns-in-Ok
 returns-in-Ok g c = (
   c.in_ok-body.body.items,
   subst (λ body. SpellsReply body c.in-Ok.reply) c.as_slice.ensures.value c.in-Ok.ensures.spelled,
-  receives_frame _ _ _ _ c.in_ok-body.body.items _ c.in_ok-read_piece.ensures c.told_by-len.ensures c.in_ok-body.ensures.len c.in_ok-body.ensures.read,
+  receives_frame _ _ _ _ c.in_ok-body.body.items _ c.in_ok-read_piece.ensures c.read_length-len.ensures c.in_ok-body.ensures.len c.in_ok-body.ensures.read,
 )

@@ -1,6 +1,9 @@
-use Rattle.std.proofs.Common.{refl, sym, ap, ◌∙◌, ◌++◌, ◌∷◌, []}
+use Rattle.std.proofs.Common.{refl, sym, ap, ◌∙◌, ◌++◌, ◌∷◌, [], take, drop}
+use Rattle.std.specs.Prelude.{filter}
 use denote.Param.Always.{mut_next}
-use Rattle.eden_ids.proofs.Calls.{computes_on, kept_more, put_more, put_none}
+use Rattle.eden_ids.proofs.Calls.{computes_on, kept_more, kept_parts, put_more, put_none}
+use Rattle.eden_ids.specs.Fronts.{AddsSome}
+use Rattle.eden_ids.proofs.Fronts.{on_err}
 use Rattle.eden_ids.proofs.wanted.push_where.Goals as goal
 use Rattle.eden_ids.proofs.wanted.push_where.Goals.{then-is_wanted+in_ok-copy+in_ok-push, else-is_wanted}
 
@@ -20,3 +23,18 @@ loop-path-preserved g c = (
         ],
       ),
 )
+
+pub returns-in_err-copy-clause-err : goal.returns-in_err-copy-clause-err
+returns-in_err-copy-clause-err g c = λ h k.
+    let at = c.loop-path.path-index in
+    let from = c.args.from.now in
+    let some : AddsSome (filter h from) c.args.to.now.items c.loop-path.to.items = (filter h (take at from), filter h (drop at from), kept_parts h from at, (c.loop-path.invariant.1 h k).1) in
+    on_err _ some
+
+pub returns-in_err-push-clause-err : goal.returns-in_err-push-clause-err
+returns-in_err-push-clause-err g c = λ h k.
+    let at = c.loop-path.path-index in
+    let from = c.args.from.now in
+    let some : AddsSome (filter h from) c.args.to.now.items c.push.new.self.items =
+    (filter h (take at from), filter h (drop at from), kept_parts h from at, c.in_err-push.ensures.items ∙ (c.loop-path.invariant.1 h k).1) in
+    on_err _ some

@@ -1,6 +1,6 @@
 use Rattle.std.proofs.Common.{◌≡◌, false, map, take}
 use Rattle.std.specs.List.{list_any}
-use Rattle.eden_moves.specs.Moves.{breaks}
+use Rattle.eden_overlay.specs.Carried.{breaks}
 use Rattle.eden_moves.specs.internal.Shifted.{shifted_entry}
 use Rattle.eden_moves.proofs.below.shifted.Given as goal
 

@@ -1,4 +1,4 @@
-use Rattle.std.proofs.Common.{◌≡◌, ◌++◌, map, take}
+use Rattle.std.proofs.Common.{◌≡◌, ◌++◌, take}
 use Rattle.std.specs.List.{flat_map}
 use Rattle.eden_moves.specs.internal.Listed.{shown_by}
 use Rattle.eden_moves.proofs.listing.add_seen_by.Given as goal
@@ -6,4 +6,4 @@ use Rattle.eden_moves.proofs.listing.add_seen_by.Given as goal
 -- what the directories so far show is there
 abbrev pub invariant-loop-entry : goal.invariant-loop-entry
 invariant-loop-entry g l =
-    map (λ row. row.0) l.rows.items ≡ map (λ row. row.0) l.initial.rows.items ++ flat_map (shown_by l.commit l.moves l.wanted) (take l.entry-index l.entries)
+    l.list.items ≡ l.initial.list.items ++ flat_map (shown_by l.commit l.moves l.wanted) (take l.entry-index l.entries)

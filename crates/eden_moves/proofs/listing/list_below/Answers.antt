@@ -17,7 +17,7 @@ paths_below-further-requires g c =
 
 pub returns-then-is_empty : goal.returns-then-is_empty
 returns-then-is_empty g c =
-    c.in_ok-rows.ensures
+    c.in_ok-list.ensures
     ∙ own_alone c.args.commit.now c.args.moves.now c.args.wanted.now c.args.top.now
     (sym (c.paths_below-further.ensures
     ∙ ap (λ top. filter (λ (e : Entry). lies_below e.0 top) c.entries.result.now) c.as_bytes.ensures.bytes
@@ -26,9 +26,9 @@ returns-then-is_empty g c =
 
 pub returns : goal.returns
 returns g c =
-    below_ordered c.args.commit.now c.args.moves.now c.args.wanted.now c.args.top.now c.add_seen_by.new.rows.items c.sort_rows.new.rows.items _ _
-    c.in_ok-sort_rows.ensures.same c.in_ok-sort_rows.ensures.sorted
-    c.in_ok-rows.ensures
+    below_ordered c.args.commit.now c.args.moves.now c.args.wanted.now c.args.top.now c.add_seen_by.new.list.items c.sort_paths.new.paths.items _ _
+    c.in_ok-sort_paths.ensures.same c.in_ok-sort_paths.ensures.sorted
+    c.in_ok-list.ensures
     (c.paths_below-further.ensures
     ∙ ap (λ top. filter (λ (e : Entry). lies_below e.0 top) c.entries.result.now) c.as_bytes.ensures.bytes
     ∙ ap (filter (λ (e : Entry). lies_below e.0 c.args.top.now)) c.entries.ensures)

@@ -7,5 +7,5 @@ use Rattle.eden_moves.proofs.listing.list_unmoved.Goals as goal
 
 pub returns : goal.returns
 returns g c =
-    c.in_ok-rows.ensures
+    c.in_ok-list.ensures
     ∙ ap (λ files. filter (admits c.args.wanted.now) (paths files)) (sym (all_at_paths c.args.commit.now c.texts_law.ensures))

@@ -8,5 +8,5 @@ list_seen-requires g c = λ path below there _.
 
 pub returns : goal.returns
 returns g c =
-    c.in_ok-rows.ensures
+    c.in_ok-list.ensures
     ∙ told_all c.args.commit.now c.args.top.now c.as_bytes.result.now c.all.result c.as_bytes.ensures.bytes c.all.ensures

@@ -1,6 +1,5 @@
 -- The frames tell of the server what they tell at each end.
 use Rattle.eden_query.proofs.Asking.{serving_ends, serving_none, serving_stands}
-use Rattle.eden_query.proofs.Spelled.{answers_spelled}
 use Rattle.eden_query.proofs.serving.serve.Goals as goal
 
 pub returns-clause-asks : goal.returns-clause-asks
@@ -25,8 +24,3 @@ returns-clause-stands g c = λ world s.
     serving_stands gives 0 stands_for before c.tell_frames.new.server (g.R.Read.remaining c.args.reader.now) (g.R.Read.remaining c.tell_frames.new.reader)
     (g.W.Write.contents c.args.writer.now) (g.W.Write.contents c.tell_frames.new.writer) c.tell_frames.result
     (c.tell_frames.ensures.ends before (serving_none gives 0 stands_for before)) world s
-
-pub returns-clause-spelled : goal.returns-clause-spelled
-returns-clause-spelled g c = λ world s.
-    let law = g.T.Served.spelled c.args.server.now world s in
-    answers_spelled world law.0 law.1

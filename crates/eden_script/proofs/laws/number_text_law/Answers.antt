@@ -1,4 +1,4 @@
-use Rattle.eden_numbers.proofs.NumberLemmas.{number_of-some}
+use Rattle.eden_git.proofs.NumberLemmas.{number_of-some}
 use Rattle.eden_script.proofs.laws.number_text_law.Goals as goal
 
 pub returns : goal.returns

@@ -1,7 +1,7 @@
 -- Each turn carries the account on, and each exit closes it.
 use Rattle.std.proofs.Common.{◌≡◌, Bool, true, false, ◌++◌, [], length, drop, inr, refl, ap, arith}
 use Rattle.eden_stream.specs.Pumps.{Ran, Tellings}
-use Rattle.eden_stream.proofs.Account.{ran_ended, ran_got, ran_lost, ran_no_more, ran_received, ran_rests, ran_sent, ran_start, ran_taken, ran_torn, ran_turned}
+use Rattle.eden_stream.proofs.Account.{ran_ended, ran_got, ran_halted, ran_no_more, ran_received, ran_rests, ran_sent, ran_start, ran_taken, ran_torn, ran_turned}
 use Rattle.eden_stream.proofs.pump.pump_with.Given as given
 use Rattle.eden_stream.proofs.pump.pump_with.Goals as goal
 use Rattle.eden_stream.proofs.pump.pump_with.Goals.{In-Waiting}
@@ -70,9 +70,9 @@ returns-then-ended-clause-ends g c = λ before s.
     let now = waits g (goal.at.returns-then-ended-clause-ends g c).In-Waiting before s true c.if-ended.true in
     (c.answer_first-turn.new.held, now.0, now.2)
 
-pub returns-then-reads-eq-MOST_READS-clause-ends : goal.returns-then-reads-eq-MOST_READS-clause-ends
-returns-then-reads-eq-MOST_READS-clause-ends g c = λ before s.
-    let now = waits g (goal.at.returns-then-reads-eq-MOST_READS-clause-ends g c).In-Waiting before s false c.if-ended.false in
+pub returns-then-reads-most_reads-clause-ends : goal.returns-then-reads-most_reads-clause-ends
+returns-then-reads-most_reads-clause-ends g c = λ before s.
+    let now = waits g (goal.at.returns-then-reads-most_reads-clause-ends g c).In-Waiting before s false c.if-ended.false in
     (c.loop-turn.count, c.answer_first-turn.new.held, now.0, now.2)
 
 pub returns-in-Failed-clause-ends : goal.returns-in-Failed-clause-ends
@@ -84,12 +84,11 @@ pub returns-in-NoMemory-receive-clause-ends : goal.returns-in-NoMemory-receive-c
 returns-in-NoMemory-receive-clause-ends g c = λ before s.
     let now = waits g (goal.at.returns-in-NoMemory-receive-clause-ends g c).In-Waiting before s false c.if-ended.false in
     let got = c.in-NoMemory-receive.ensures.bytes in
-    let lawful = g.met.S.Teller.lawful c.args.teller.now before c.answer_first-turn.new.server in
-    (false, c.loop-turn.count, c.answer_first-turn.new.held ++ got.0, ran_lost lawful (ran_got g.met.F.Framing.lawful now.2 got.0 got.1))
+    (false, c.loop-turn.count, c.answer_first-turn.new.held ++ got.0, ran_halted (g.S.Teller.story c.args.teller.now before c.answer_first-turn.new.server) (ran_got g.met.F.Framing.lawful now.2 got.0 got.1))
 
 pub loop-turn-preserved-in-More : goal.loop-turn-preserved-in-More
 loop-turn-preserved-in-More g c = record {
-  room = omega (arith, c.loop-turn.invariant.room, c.in-Waiting.ensures.room, c.in-More.ensures.room, c.loop-turn.auto.buffer, c.requires);
+  room = omega (arith, c.loop-turn.invariant.room, c.in-Waiting.ensures.room, c.in-More.ensures.room, c.loop-turn.auto.buffer, c.requires.size);
   few = omega (arith, c.loop-turn.invariant.few);
   called = omega (arith, c.loop-turn.invariant.called, c.in-More.ensures.called);
   turns = omega (arith, c.loop-turn.invariant.turns, c.in-More.ensures.called_once);
@@ -102,7 +101,7 @@ loop-turn-preserved-in-More g c = record {
 
 pub loop-turn-preserved : goal.loop-turn-preserved
 loop-turn-preserved g c = record {
-  room = omega (arith, c.loop-turn.invariant.room, c.in-Waiting.ensures.room, c.in-Ended.ensures.room, c.loop-turn.auto.buffer, c.requires);
+  room = omega (arith, c.loop-turn.invariant.room, c.in-Waiting.ensures.room, c.in-Ended.ensures.room, c.loop-turn.auto.buffer, c.requires.size);
   few = omega (arith, c.loop-turn.invariant.few);
   called = omega (arith, c.loop-turn.invariant.called, c.in-Ended.ensures.called);
   turns = omega (arith, c.loop-turn.invariant.turns, c.in-Ended.ensures.called_once);

@@ -1,14 +1,14 @@
 -- The account of the pumping, and what its reads have counted.
 use Rattle.std.proofs.Common.{◌+◌, ◌-◌, ◌*◌, ◌≤◌, [], length}
 use Rattle.eden_stream.specs.Counts.{RoseBy}
-use Rattle.eden_stream.specs.internal.Grown.{Grew}
+use Rattle.eden_stream.specs.Counts.{Grew}
 use Rattle.eden_stream.specs.Pumps.{Ran, Tellings}
 use Rattle.eden_stream.proofs.pump.pump_with.Given as goal
 
 abbrev pub invariant-loop-turn : goal.invariant-loop-turn
 invariant-loop-turn g l = record {
   room : l.count + length l.held ≤ 65536 * l.reads;
-  few : l.reads ≤ 1000000;
+  few : l.reads ≤ l.most_reads;
   called : RoseBy l.reads (g.R.Faults.called l.initial.reader) (g.R.Faults.called l.reader);
   turns : g.R.Faults.called l.reader ≤ g.R.Faults.called l.initial.reader + l.reads;
   read_grew : Grew (g.R.Faults.failed l.initial.reader) (g.R.Faults.failed l.reader);
@@ -19,4 +19,4 @@ invariant-loop-turn g l = record {
 }
 
 abbrev pub decreases-loop-turn : goal.decreases-loop-turn
-decreases-loop-turn g l = 65537 * (1000000 - l.reads) + length l.held
+decreases-loop-turn g l = 65537 * (l.most_reads - l.reads) + length l.held

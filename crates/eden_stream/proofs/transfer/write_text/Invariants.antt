@@ -1,7 +1,7 @@
 -- What is written so far is the front of the text. A turn that writes nothing takes one of the tries.
 use Rattle.std.proofs.Common.{length, take, ◌-◌, ◌+◌, ◌*◌, ◌≤◌}
 use Rattle.std.specs.Io.KnownBytes.{Appends}
-use Rattle.eden_stream.specs.internal.Grown.{Grew}
+use Rattle.eden_stream.specs.Counts.{Grew}
 use Rattle.eden_stream.proofs.transfer.write_text.Given as goal
 
 abbrev pub invariant-loop-at : goal.invariant-loop-at

@@ -1,8 +1,8 @@
 use Rattle.std.proofs.Common.{is_some, ap, sym, ◌∙◌}
 use Rattle.eden_ids.specs.FileMaps.{file_at}
-use Rattle.eden_workcopy.specs.Layers.{over}
+use Rattle.eden_overlay.specs.Layers.{over}
 use Rattle.eden_workcopy.proofs.CarriedOver.{none_taken, not_there}
-use Rattle.eden_workcopy.proofs.Overs.{over-remove}
+use Rattle.eden_overlay.proofs.Overs.{over-remove}
 use Rattle.eden_workcopy.proofs.carrying.hide.Goals as goal
 
 pub returns-in_ok-set : goal.returns-in_ok-set

@@ -2,7 +2,7 @@ use Rattle.std.proofs.Common.{ap, sym, ◌∙◌}
 use Rattle.std.specs.FinMap as fin
 use Rattle.eden_ids.specs.FileMaps.{file_at}
 use Rattle.eden_workcopy.proofs.CarriedOver.{taken_untold, untold}
-use Rattle.eden_workcopy.proofs.Works.{file_below, file_told}
+use Rattle.eden_overlay.proofs.Overs.{file_below, file_told}
 use Rattle.eden_workcopy.proofs.carrying.take.Goals as goal
 use Rattle.eden_workcopy.proofs.carrying.take.Goals.{in-Some, in-None+in_ok-file-in-None}
 

@@ -1,6 +1,6 @@
 use Rattle.eden_workcopy.specs.Meanings.{base_of}
-use Rattle.eden_workcopy.proofs.Touched.{touched_listed, touched_present, touched_elsewhere}
-use Rattle.eden_workcopy.proofs.WovenRows.{layer_shown, marks_up}
+use Rattle.eden_overlay.proofs.Touched.{touched_listed, touched_present, touched_elsewhere}
+use Rattle.eden_overlay.proofs.WovenRows.{layer_shown, marks_up}
 use Rattle.eden_workcopy.proofs.laws.touched_law.Goals as goal
 
 pub returns-clause-listed : goal.returns-clause-listed

@@ -1,6 +1,6 @@
 use Rattle.std.proofs.Common.{◌≡◌, false}
 use Rattle.std.specs.List.{list_any}
-use Rattle.eden_history.specs.Carried.{carried_files}
+use Rattle.eden_overlay.specs.Carried.{carried_files}
 use Rattle.eden_world.specs.internal.Carrying.{breaks}
 use Rattle.eden_world.proofs.CarryingLaws.{carry_all}
 use Rattle.eden_world.proofs.carrying.carried_files.Given as goal

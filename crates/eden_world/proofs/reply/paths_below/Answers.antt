@@ -8,5 +8,5 @@ pub returns : goal.returns
 returns c =
     let inside = λ (path : List ℕ). lies_below path c.args.prefix.now in
     c.from_vec.ensures
-    ∙ c.in_ok-push_where.ensures inside (always_returns_same _ _ _ (λ a r f k. search (rules, of_calls)))
+    ∙ c.in_ok-push_where.ensures.ok inside (always_returns_same _ _ _ (λ a r f k. search (rules, of_calls)))
     ∙ ap (λ ps. ps ++ filter inside c.args.paths.now) c.new-list.ensures.items

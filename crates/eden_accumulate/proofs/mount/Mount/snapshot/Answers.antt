@@ -1,7 +1,7 @@
 use Rattle.std.proofs.Common.{T, List, sym, ap, subst, ◌∙◌}
 use Rattle.std.specs.FinMap.{is_sorted}
-use Rattle.eden_workcopy.specs.Layers.{Mark, by_bytes}
-use Rattle.eden_workcopy.proofs.WovenRows.{marks_up}
+use Rattle.eden_overlay.specs.Layers.{Mark, by_bytes}
+use Rattle.eden_overlay.proofs.WovenRows.{marks_up}
 use Rattle.eden_workcopy.specs.Meanings.{touched_of}
 use Rattle.eden_history.specs.Worlds.{now}
 use Rattle.eden_accumulate.specs.Mounts.{State}

@@ -8,9 +8,9 @@ use Rattle.eden_ids.proofs.ByteOrder.{keys_rise}
 use Rattle.eden_ids.proofs.Sifted.{keys-sifted}
 use Rattle.eden_objects.specs.Files.{commit_files}
 use Rattle.eden_moves.specs.Moves.{at_paths, seen_through}
-use Rattle.eden_workcopy.specs.Layers.{by_bytes}
-use Rattle.eden_workcopy.specs.Listings.{shown_over}
-use Rattle.eden_workcopy.proofs.WovenBelow.{files_below, shown_below, sorted_below}
+use Rattle.eden_overlay.specs.Layers.{by_bytes}
+use Rattle.eden_overlay.specs.Listings.{shown_over}
+use Rattle.eden_overlay.proofs.WovenBelow.{files_below, shown_below, sorted_below}
 use Rattle.eden_accumulate.proofs.Seen.{filters_turned, seen_there}
 use Rattle.eden_accumulate.proofs.snapshot.Snapshot.files_below.Goals as goal
 
@@ -34,7 +34,7 @@ returns-clause-files g c =
     let base = at_paths (seen_through (commit_files held root) moves) in
     let seen = seen_there held root moves c.in-Some.commit c.of.result c.in-Some.ensures c.of.ensures in
     c.in_ok-woven.ensures (files_below top base)
-    (c.in_ok-rows.ensures
+    (c.in_ok-listed.ensures
     ∙ ap (λ (m : FileMap). filter (admits wanted) (filter (λ path. lies_below path top) (paths (at_paths m)))) seen
     ∙ ap (filter (admits wanted)) (sym (keys-sifted base (λ path. lies_below path top))))
     ∙ ap (λ ts. filter (admits wanted) (listing (shown_over (files_below top base) ts)))

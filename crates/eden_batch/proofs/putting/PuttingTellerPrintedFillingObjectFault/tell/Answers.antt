@@ -1,8 +1,8 @@
 -- The object of an item is put, and its id noted.
-use Rattle.std.proofs.Common.{◌≢◌, ◌∷◌, ◌++◌, [], ◌∙◌, ap, arith, refl, sym, subst, take, Err, Ok}
+use Rattle.std.proofs.Common.{◌≢◌, ◌∷◌, ◌++◌, [], ◌∙◌, ap, arith, inr, refl, sym, subst, take, Err, Ok}
 use Rattle.std.proofs.lemmas.List.{length-take}
-use Rattle.eden_batch.specs.internal.Loads.{Fills, Overfills}
-use Rattle.eden_batch.proofs.Fillings.{equal_ids, fails_at, fills_more, grows, id_is, never_lacks, other_id, outcome_is, overfills, puts_is, puts_of, same_still, tells_refused, there}
+use Rattle.eden_batch.specs.internal.Loads.{Fills, HaltsAt}
+use Rattle.eden_batch.proofs.Fillings.{equal_ids, fails_at, fills_more, halts_at, id_is, never_lacks, other_id, outcome_is, puts_is, puts_of, same_still, tells_refused, there}
 use Rattle.eden_batch.proofs.putting.PuttingTellerPrintedFillingObjectFault.tell.Goals as goal
 
 pub unreachable-requires : goal.unreachable-requires
@@ -28,10 +28,7 @@ returns-in-Ok-put_object g c = λ before items sent told.
     let puts = c.in-Ok-put_object.ensures.ok in
     let other : id ≢ c.requires.0.id = λ e. other_id id h.id c.if-ne.ensures (e ∙ sym (id_is c.args.item.now c.requires h behind read.0 read.1)) in
     let outcome = outcome_is c.args.item.now c.requires h behind read.0 read.1 name held (Ok (id, new)) puts in (
-      (
-        same_still name taker.held taker.over taker.laws before c.args.filling.now _ told.0 refl refl c.put_object.ensures.only,
-        overfills name old held new before.ids.now.items ids items told.1 (grows name h.word (take h.size behind) held id new puts),
-      ),
+      same_still name taker.held taker.over taker.laws before c.args.filling.now _ told.0 refl refl c.put_object.ensures.only,
       fails_at name old held new before.ids.now.items ids items told.1 c.requires.0 c.args.item.now _ c.requires.1 c.requires.2 (id, other, outcome),
     )
 
@@ -61,14 +58,19 @@ returns-in-Err-push g c = λ before items sent told.
     let taker = g.I.Importer in
     let name = taker.name in
     let h = c.in-Ok.header in
+    let behind = c.in-Ok.behind.now in
     let old = taker.held before.into.now in
     let held = taker.held c.args.filling.now.into.now in
     let new = taker.held c.put_object.new.self in
-    let ids = c.args.filling.now.ids.now.items in (
+    let ids = c.args.filling.now.ids.now.items in
+    let item = c.args.item.now in
+    let read = c.in-Ok.ensures in
+    let id = c.in-Ok-put_object.id in
+    let own = equal_ids id h.id c.if-ne.ensures ∙ id_is item c.requires h behind read.0 read.1 in
+    let outcome = outcome_is item c.requires h behind read.0 read.1 name held (Ok (id, new)) c.in-Ok-put_object.ensures.ok ∙ ap (λ i. Ok (i, new)) own in (
       same_still name taker.held taker.over taker.laws before c.args.filling.now _ told.0 refl refl c.put_object.ensures.only,
-      subst (λ l. Overfills name old new before.ids.now.items l items) (sym c.in-Err-push.ensures.items)
-          (overfills name old held new before.ids.now.items ids items told.1
-          (grows name h.word (take h.size c.in-Ok.behind.now) held c.in-Ok-put_object.id new c.in-Ok-put_object.ensures.ok)),
+      subst (λ l. HaltsAt name old new before.ids.now.items l items item) (sym c.in-Err-push.ensures.items)
+          (halts_at name old held new before.ids.now.items ids items told.1 item (inr (c.requires.0, c.requires.1, c.requires.2, outcome))),
     )
 
 pub returns-in-Err : goal.returns-in-Err

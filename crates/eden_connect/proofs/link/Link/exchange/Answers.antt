@@ -1,5 +1,5 @@
 use Rattle.std.proofs.Common.{subst}
-use Rattle.eden_connect.specs.internal.Exchanges.{Receives}
+use Rattle.eden_connect.specs.Connections.{Receives}
 use Rattle.eden_connect.proofs.Exchanging.{exchanging_more, exchanging_none}
 use Rattle.eden_connect.proofs.link.Link.exchange.Goals as goal
 

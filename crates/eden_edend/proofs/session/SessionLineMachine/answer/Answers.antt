@@ -7,6 +7,7 @@ pub returns-in-Ok-None : goal.returns-in-Ok-None
 returns-in-Ok-None c = λ script stands. (
   refuses_unread c.args.self.now.mount c.args.self.now.objects script c.args.line.now stands c.requires (sym c.in-Ok-None.field-0-is ∙ c.in-Ok-None.ensures),
   refl,
+  stands,
 )
 
 pub returns-in-Ok : goal.returns-in-Ok

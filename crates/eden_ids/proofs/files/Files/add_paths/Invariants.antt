@@ -1,7 +1,8 @@
-use Rattle.std.proofs.Common.{◌≡◌}
+use Rattle.std.proofs.Common.{◌≡◌, ℕ, List, ◌++◌}
 use Rattle.eden_ids.specs.FileMaps.{path_set, paths, union}
 use Rattle.eden_ids.proofs.files.Files.add_paths.Given as goal
 
--- the paths that are left, with what is there, are all of them with what was there
+-- some first paths were added, and the others are left
 abbrev pub invariant-loop-path : goal.invariant-loop-path
-invariant-loop-path l = union (path_set l.path-iterator) l.table ≡ union (path_set (paths l.self)) l.initial.table
+invariant-loop-path l =
+    (added : List (List ℕ)) × (paths l.self ≡ added ++ l.path-iterator) × (l.table ≡ union (path_set added) l.initial.table)

@@ -4,10 +4,11 @@ use Rattle.std.specs.Ordering.{nat_cmp}
 use Rattle.std.specs.Cmp.Lexicographic.{slice_cmp}
 use Rattle.std.specs.List.{AllByRecursion, list_any}
 use Rattle.std.specs.List.Sorted.{IsStrictlySortedBy}
-use Rattle.eden_history.specs.declared.change.ChangeFault.TheVariants.{NoMemory}
+use Rattle.eden_overlay.specs.declared.carried.CarryFault.TheVariants.{NoMemory}
 use Rattle.eden_ids.specs.Paths.{lies_below}
 use Rattle.eden_ids.proofs.ByteOrder.{fin_keys_rise}
-use Rattle.eden_moves.specs.Moves.{Entry, breaks, breaks_an_entry}
+use Rattle.eden_overlay.specs.Carried.{breaks}
+use Rattle.eden_moves.specs.Moves.{Entry, breaks_an_entry}
 use Rattle.eden_moves.proofs.Shifting.{breaks_alike}
 use Rattle.eden_moves.proofs.moves.Moves.arriving.Goals as goal
 

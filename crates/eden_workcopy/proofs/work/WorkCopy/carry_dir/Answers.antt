@@ -1,7 +1,14 @@
-use Rattle.std.proofs.Common.{false, ◌∙◌}
+use Rattle.std.proofs.Common.{◌≡◌, ◌≢◌, true, false, sym, ap, ◌∙◌}
+use Rattle.std.specs.List.{list_any}
 use Rattle.eden_ids.specs.FileMaps.{paths}
+use Rattle.eden_history.specs.Changes.{below}
+use Rattle.eden_overlay.specs.Carried.{breaks}
+use Rattle.eden_overlay.specs.declared.carried.CarryFault.{CarryFault}
+use Rattle.eden_overlay.specs.declared.carried.CarryFault.TheVariants as faults
+use Rattle.eden_workcopy.specs.declared.work.WorkCopy.{WorkCopy}
 use Rattle.eden_workcopy.specs.Meanings.{means}
-use Rattle.eden_workcopy.proofs.CarriedOver.{broken_below, judged}
+use Rattle.eden_workcopy.specs.internal.Carrying.{each_carried}
+use Rattle.eden_workcopy.proofs.CarriedOver.{broken_below, dir_carried, judged}
 use Rattle.eden_workcopy.proofs.work.WorkCopy.carry_dir.Goals as goal
 
 pub returns-in-Ok-clause-accepts : goal.returns-in-Ok-clause-accepts
@@ -10,3 +17,34 @@ returns-in-Ok-clause-accepts g c =
     let old = c.args.old.now in
     let new = c.args.new.now in
     judged files old new false c.requires.source c.requires.distinct c.requires.way (broken_below old new (paths files) ∙ c.in-Ok.ensures.accepts)
+
+pub returns-in-Ok-carry_files-clause-accepts : goal.returns-in-Ok-carry_files-clause-accepts
+returns-in-Ok-carry_files-clause-accepts g c =
+    let held = c.args.store.now in
+    let old = c.args.old.now in
+    let new = c.args.new.now in
+    judged (means held c.args.self.now) old new false c.requires.source c.requires.distinct c.requires.way
+    (ap (λ (work : WorkCopy). list_any (breaks old new) (below old (paths (means held work)))) (sym c.in-Err-PathTooLong.ensures.same)
+    ∙ c.in-Ok-carry_files.ensures.accepts)
+
+pub returns-in-Ok-carry_files-clause-files : goal.returns-in-Ok-carry_files-clause-files
+returns-in-Ok-carry_files-clause-files g c =
+    let held = c.args.store.now in
+    let old = c.args.old.now in
+    let new = c.args.new.now in
+    c.in-Ok-carry_files.ensures.files
+    ∙ ap (λ (work : WorkCopy). each_carried old new (means held work) (below old (paths (means held work)))) c.in-Err-PathTooLong.ensures.same
+    ∙ dir_carried (means held c.args.self.now) old new c.requires.source c.requires.distinct c.requires.way
+
+pub returns-in-Err-PathTooLong-carry_files-clause-refuses : goal.returns-in-Err-PathTooLong-carry_files-clause-refuses
+returns-in-Err-PathTooLong-carry_files-clause-refuses g c =
+    λ other.
+    let held = c.args.store.now in
+    let old = c.args.old.now in
+    let new = c.args.new.now in
+    let fault = c.in-Err-PathTooLong-carry_files.field-0 in
+    let is_other : fault ≢ faults.NoMemory = λ is.
+    let bad : ◌≡◌ {A = CarryFault} faults.PathTooLong faults.NoMemory = sym c.in-Err-PathTooLong-carry_files.field-0-is ∙ is in cc in
+    judged (means held c.args.self.now) old new true c.requires.source c.requires.distinct c.requires.way
+    (ap (λ (work : WorkCopy). list_any (breaks old new) (below old (paths (means held work)))) (sym c.in-Err-PathTooLong.ensures.same)
+    ∙ c.in-Err-PathTooLong-carry_files.ensures.refuses is_other)

@@ -4,7 +4,7 @@ use Rattle.eden_objects.specs.Files.{commit_files}
 use Rattle.eden_ids.specs.FileMaps.{listing}
 use Rattle.eden_moves.specs.Moves.{seen_through, unsettled}
 use Rattle.eden_moves.proofs.Seen.{seen-unmoved}
-use Rattle.eden_workcopy.specs.Layers.{over}
+use Rattle.eden_overlay.specs.Layers.{over}
 use Rattle.eden_workcopy.specs.Meanings.{base_of}
 use Rattle.eden_workcopy.specs.internal.Agreements.{kept_each}
 use Rattle.eden_workcopy.proofs.FlatFiles.{elsewhere, flat_files}

@@ -1,5 +1,5 @@
 use Rattle.eden_workcopy.specs.Meanings.{base_of}
-use Rattle.eden_workcopy.proofs.Touched.{set_over}
+use Rattle.eden_overlay.proofs.Touched.{set_over}
 use Rattle.eden_workcopy.proofs.work.WorkCopy.put.Goals as goal
 
 pub returns-clause-files : goal.returns-clause-files

@@ -5,7 +5,7 @@ use Rattle.eden_ids.specs.Texts.{AreTexts}
 use Rattle.eden_objects.specs.Commits.{commit_map}
 use Rattle.eden_objects.specs.Files.{commit_files}
 use Rattle.eden_workcopy.specs.internal.Agreements.{IsLean}
-use Rattle.eden_workcopy.specs.Layers.{over}
+use Rattle.eden_overlay.specs.Layers.{over}
 use Rattle.eden_objects.proofs.CommitTexts.{commits_texts}
 use Rattle.eden_history.proofs.Spelled.{held_texts}
 use Rattle.eden_moves.specs.Moves.{seen_through}

@@ -1,6 +1,6 @@
 use Rattle.std.proofs.Common.{◌≡◌, ◌++◌}
 use Rattle.std.specs.FinMap as fin
-use Rattle.eden_workcopy.specs.Layers.{marks}
+use Rattle.eden_overlay.specs.Layers.{marks}
 use Rattle.eden_workcopy.proofs.work.WorkCopy.touched.Given as goal
 
 abbrev pub invariant-loop-entry : goal.invariant-loop-entry

@@ -10,6 +10,6 @@ returns c =
     let work = c.args.self.now.work in
     let root = c.args.self.now.root in
     let target = c.args.self.now.target in
-    c.in_ok-push_where.ensures (is_conflict work root target) (always_returns_same _ _ _ (λ a r f k. search (rules, of_calls)))
+    c.in_ok-push_where.ensures.ok (is_conflict work root target) (always_returns_same _ _ _ (λ a r f k. search (rules, of_calls)))
     ∙ ap (λ ps. ps ++ filter (is_conflict work root target) c.deref.result.now) c.new-list.ensures.items
     ∙ conflicts_listed work root target c.deref.result.now (c.deref.ensures.value ∙ c.in_ok-all.ensures)

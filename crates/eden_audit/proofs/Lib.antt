@@ -1,4 +1,0 @@
-pub mod Accounted
-pub mod Marked
-pub mod Retold
-pub mod Walked

@@ -1,3 +1,0 @@
-pub mod FrameCuts
-pub mod FrameEndings
-pub mod Replying

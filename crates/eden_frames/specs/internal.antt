@@ -1,3 +1,0 @@
--- What the implementation uses alone.
-pub mod FrameLaws
-pub mod Fronts

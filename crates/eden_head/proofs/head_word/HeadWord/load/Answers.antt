@@ -1,6 +1,0 @@
-use Rattle.std.proofs.Common.{rules}
-use Rattle.eden_head.proofs.StepsLemmas.{loads}
-use Rattle.eden_head.proofs.head_word.HeadWord.load.Goals as goal
-
-pub load-requires : goal.load-requires
-load-requires c = (search rules, search rules, loads _ _ _)

@@ -1,6 +1,0 @@
-use Rattle.std.proofs.Common.{rules}
-use Rattle.eden_head.proofs.StepsLemmas.{raises}
-use Rattle.eden_head.proofs.head_word.HeadWord.raise.Goals as goal
-
-pub fetch_max-requires : goal.fetch_max-requires
-fetch_max-requires c = (search rules, search rules, raises _ _ _ _)

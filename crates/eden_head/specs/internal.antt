@@ -1,2 +1,0 @@
--- What the implementation uses alone.
-pub mod Steps

@@ -1,0 +1,17 @@
+pub mod Joined
+pub mod CarriedLemmas
+pub mod Placing
+pub mod Flattened
+pub mod Seamed
+pub mod Shifted
+pub mod Overs
+pub mod Touched
+pub mod Walked
+pub mod Within
+pub mod Marked
+pub mod WovenRows
+pub mod WovenBelow
+pub mod CarriedEntries
+pub mod CarriedBlocks
+pub mod Placings
+pub mod CarriedLayers

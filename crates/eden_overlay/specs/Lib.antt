@@ -1,0 +1,4 @@
+pub mod Carried
+pub mod Layers
+pub mod Listings
+pub mod internal

@@ -1,2 +1,0 @@
--- Words that the code alone uses.
-pub mod Steps

@@ -1,0 +1,330 @@
+//! A number of connections, each in a thread of its own, and the audit after them.
+
+ghost use Rattle.std.specs.Prelude.{◌≡◌, ℕ, List, [], Option, Err, IfOk, IfErr};
+ghost use Rattle.eden_script.specs.declared.label.Binding.{Binding};
+ghost use Rattle.eden_serve.specs.Endings.{Ran, ServingEnds};
+
+use crate::auditing::close;
+use crate::changes::{AtDesk, Behind, Lines, Service, Writer};
+use crate::fault::DaemonFault;
+use crate::observing::Observer;
+use crate::program::Until;
+use eden_accumulate::Mount;
+use eden_edend::run_changes;
+use eden_ids::{GitNaming, NoMemory};
+use eden_shared::{Audited, CallLog, CallersSpent, Desk, OpenGate, Pass, Shared, serve_shared};
+use eden_sockets::{Listener, Stream};
+use eden_stream::{Counted, CountedRead, CountedWrite, RunFault, ServeFault};
+use std::alloc::Global;
+use std::sync::Wait;
+use std::sync::ledger::{Blank, Ledger};
+use std::thread;
+use std::thread::{JoinHandle, Scope, Threads};
+
+/// What desks have noted, and their passes.
+#[derive(Drop)]
+struct Kept<L: Ledger> {
+    passes: Vec<Pass<L>>,
+    logs: Vec<CallLog>,
+}
+
+impl<L: Ledger> Kept<L> {
+    fn new(alloc: Global) -> Kept<L> {
+        Kept {
+            passes: Vec::new(alloc),
+            logs: Vec::new(alloc),
+        }
+    }
+
+    /// Takes the pass and the log of a desk.
+    fn add(&mut self, desk: Desk<L>) -> Result<(), NoMemory> {
+        let (pass, log) = desk.finish();
+        self.passes.push(pass)?;
+        self.logs.push(log)?;
+        Ok(())
+    }
+
+    /// Joins threads, and takes their desks.
+    fn join(
+        &mut self,
+        rt: &impl Threads,
+        threads: Vec<JoinHandle<Desk<L>>>,
+    ) -> Result<(), NoMemory> {
+        for thread in threads {
+            self.add(thread.join(rt))?;
+        }
+        Ok(())
+    }
+}
+
+/// Serves a connection to its end. The observer hears of a frame that can't be answered.
+fn serve_one<L: Ledger, V: Observer>(
+    rt: &impl Wait,
+    alloc: Global,
+    shared: &Behind<L>,
+    mut desk: Desk<L>,
+    stream: Stream,
+    observer: &V,
+) -> Desk<L> {
+    let mut reader = Counted::new(&stream);
+    let mut writer = Counted::new(&stream);
+    let served = serve_shared(
+        rt,
+        alloc,
+        &mut reader,
+        &mut writer,
+        shared,
+        &mut desk,
+        &OpenGate,
+    );
+    if let Err(ServeFault::Frame { number, fault }) = served {
+        observer.frame_refused(number, fault);
+    }
+    desk
+}
+
+/// Accepts a connection, and serves it in a thread of its own.
+///
+/// Returns the desk if there is no such thread. It has then served the connection, if one was
+/// accepted.
+fn accept_one<'s, E, L: Ledger + Send + Sync + 's, R: Threads + Wait + Sync, V: Observer + Sync>(
+    scope: &Scope<'s, E>,
+    rt: &'s R,
+    alloc: Global,
+    shared: &'s Behind<L>,
+    listener: &Listener,
+    desk: Desk<L>,
+    observer: &'s V,
+) -> Result<JoinHandle<Desk<L>>, Desk<L>> {
+    let Ok(stream) = listener.accept() else {
+        return Err(desk);
+    };
+    match scope.spawn(move || serve_one(rt, alloc, shared, desk, stream, observer)) {
+        Ok(thread) => Ok(thread),
+        Err(kept) => Err((kept.value)()),
+    }
+}
+
+/// Accepts a connection for each of these desks, and serves all to their ends.
+fn accept_all<'s, E, L: Ledger + Send + Sync + 's, R: Threads + Wait + Sync, V: Observer + Sync>(
+    scope: &Scope<'s, E>,
+    rt: &'s R,
+    alloc: Global,
+    shared: &'s Behind<L>,
+    listener: &Listener,
+    desks: Vec<Desk<L>>,
+    observer: &'s V,
+) -> Result<Kept<L>, NoMemory> {
+    let mut kept = Kept::new(alloc);
+    let mut threads = Vec::new(alloc);
+    for desk in desks {
+        match accept_one(scope, rt, alloc, shared, listener, desk, observer) {
+            Ok(thread) => threads.push(thread)?,
+            Err(desk) => kept.add(desk)?,
+        }
+    }
+    kept.join(rt, threads)?;
+    Ok(kept)
+}
+
+/// Serves a connection for each of these desks, and returns what they keep.
+fn serve_all<L: Ledger + Send + Sync, R: Threads + Wait + Sync, V: Observer + Sync>(
+    rt: &R,
+    alloc: Global,
+    shared: &Behind<L>,
+    listener: &Listener,
+    desks: Vec<Desk<L>>,
+    observer: &V,
+) -> Result<Kept<L>, NoMemory> {
+    thread::scope(
+        thread::scope_env(),
+        rt,
+        |scope| -> Result<Kept<L>, NoMemory> {
+            accept_all(scope, rt, alloc, shared, listener, desks, observer)
+        },
+    )
+}
+
+/// What the writer's thread begins with.
+#[derive(Drop)]
+struct Writing<'a, L: Ledger, I: CountedRead> {
+    desk: Desk<L>,
+    lines: Lines<'a, I>,
+}
+
+/// What the writer's thread ends with.
+#[derive(Drop)]
+struct Wrote<L: Ledger> {
+    desk: Desk<L>,
+    ran: Result<u64, RunFault>,
+}
+
+/// Makes the changes of the lines at a desk, to the end of the input or the first fault.
+///
+/// The observer hears of each change that is refused, and of a line that can't be read.
+#[tactic(auto, using(crate::proofs::LinesEnding::ran))]
+fn write_lines<L: Ledger, R: Wait, I: CountedRead, V: Observer>(
+    rt: &R,
+    alloc: Global,
+    shared: &Behind<L>,
+    writing: Writing<'_, L, I>,
+    observer: &V,
+) -> Wrote<L>
+    ensures { Ran writing.entry.lines.labels writing.entry.lines.from (I.remaining writing.entry.lines.input.now) result.ran }
+{
+    let Writing { mut desk, lines } = writing;
+    let place = AtDesk {
+        rt,
+        shared,
+        desk: &mut desk,
+    };
+    let mut writer = Writer { place, observer };
+    let Lines {
+        input,
+        labels,
+        from,
+    } = lines;
+    let ran = run_changes(alloc, input, &labels, from, &mut writer);
+    if let Err(RunFault::BadLine(number)) = ran {
+        observer.line_refused(number);
+    }
+    Wrote { desk, ran }
+}
+
+/// What all threads end with.
+#[derive(Drop)]
+struct Ended<L: Ledger> {
+    kept: Kept<L>,
+    /// How the lines have ended.
+    ran: Result<u64, RunFault>,
+}
+
+/// Runs the lines in one thread, and a connection for each desk in its own, and joins all.
+///
+/// A desk whose connection can't be accepted does nothing. If no thread can be made, the connection
+/// is served here, and the lines are run after the last connection. `NoMemory` if an allocation
+/// fails, once all threads have ended.
+fn run_threads<
+    L: Ledger + Send + Sync,
+    R: Threads + Wait + Sync,
+    I: CountedRead + Send,
+    V: Observer + Sync,
+>(
+    rt: &R,
+    alloc: Global,
+    shared: &Behind<L>,
+    listener: &Listener,
+    desks: Vec<Desk<L>>,
+    writing: Writing<'_, L, I>,
+    observer: &V,
+) -> Result<Ended<L>, NoMemory>
+    ensures { IfOk result (λ ended. Ran writing.entry.lines.labels writing.entry.lines.from (I.remaining writing.entry.lines.input.now) ended.ran) }
+{
+    let (wrote, kept) = thread::join(
+        rt,
+        move || write_lines(rt, alloc, shared, writing, observer),
+        move || serve_all(rt, alloc, shared, listener, desks, observer),
+    );
+    let Wrote { desk, ran } = wrote;
+    let mut kept = kept?;
+    kept.add(desk)?;
+    Ok(Ended { kept, ran })
+}
+
+/// Makes a mount that stores its history from now on.
+fn store_history(alloc: Global, mount: Mount<GitNaming>) -> Result<Audited<GitNaming>, NoMemory>
+    ensures { IfOk result (λ audited. audited ≡ record { opening = mount; present = mount; entries = [] }) }
+{
+    match Audited::new(alloc, mount) {
+        Ok(audited) => Ok(audited),
+        Err(_) => Err(NoMemory),
+    }
+}
+
+/// Opens a desk at a lock. `CallersSpent` if the lock has given all its passes.
+fn open_desk<L: Ledger>(
+    rt: &impl Wait,
+    alloc: Global,
+    shared: &Behind<L>,
+) -> Result<Desk<L>, CallersSpent> {
+    let pass = shared.pass(rt)?;
+    Ok(Desk::new(alloc, pass))
+}
+
+/// Opens this many desks at a lock.
+#[tactic(auto, using(crate::proofs::Ending::no_connection, crate::proofs::Ending::no_memory))]
+fn open_desks<L: Ledger>(
+    rt: &impl Wait,
+    alloc: Global,
+    shared: &Behind<L>,
+    count: u64,
+) -> Result<Vec<Desk<L>>, DaemonFault>
+    ensures { IfErr result (λ fault. (w : Option (List ℕ)) → (labels : List Binding) (from : ℕ) (r : Option (List ℕ)) → ServingEnds labels from (Until.Connections count) r w w (Err fault)) }
+{
+    let mut desks = Vec::new(alloc);
+    for _ in 0..count {
+        let Ok(desk) = open_desk(rt, alloc, shared) else {
+            return Err(DaemonFault::NoConnection);
+        };
+        if desks.push(desk).is_err() {
+            return Err(DaemonFault::Script(RunFault::NoMemory));
+        }
+    }
+    Ok(desks)
+}
+
+/// Serves this many connections while the lines run, audits them, and writes what that found.
+///
+/// It is as `serve_listener` says, with this kind of ledger in the lock.
+#[tactic(auto, using(crate::proofs::Ending::audit_failed, crate::proofs::Ending::all_ended, crate::proofs::Ending::lines_ended, crate::proofs::Ending::no_connection, crate::proofs::Ending::no_memory))]
+pub(crate) fn serve_connections<
+    L: Ledger + Send + Sync,
+    R: Threads + Wait + Sync,
+    I: CountedRead + Send,
+    W: CountedWrite,
+    V: Observer + Sync,
+>(
+    rt: &R,
+    alloc: Global,
+    blank: Blank,
+    service: Service<'_, I>,
+    count: u64,
+    writer: &mut W,
+    observer: &V,
+) -> Result<(), DaemonFault>
+    requires name { blank.name ≡ L.name }
+    requires parts { blank.parts ≡ L.parts }
+    requires whole { blank.parts ≡ 256 }
+    ensures ends { ServingEnds service.entry.lines.labels service.entry.lines.from (Until.Connections count) (I.remaining service.entry.lines.input.now) (W.contents writer.old) (W.contents writer.new) result }
+{
+    let Service {
+        mount,
+        listener,
+        lines,
+    } = service;
+    let Ok(audited) = store_history(alloc, mount) else {
+        return Err(DaemonFault::Script(RunFault::NoMemory));
+    };
+    let shared: Behind<L> = Shared::new(audited, blank);
+    let Ok(desk) = open_desk(rt, alloc, &shared) else {
+        return Err(DaemonFault::NoConnection);
+    };
+    let desks = match open_desks(rt, alloc, &shared, count) {
+        Ok(desks) => desks,
+        Err(fault) => return Err(fault),
+    };
+    let writing = Writing { desk, lines };
+    let Ok(ended) = run_threads(rt, alloc, &shared, &listener, desks, writing, observer) else {
+        return Err(DaemonFault::Script(RunFault::NoMemory));
+    };
+    let Ended { kept, ran } = ended;
+    let Kept { passes, logs } = kept;
+    let _agreed = match close(alloc, shared, passes, logs, writer) {
+        Ok(agreed) => agreed,
+        Err(fault) => return Err(fault),
+    };
+    match ran {
+        Ok(_) => Ok(()),
+        Err(fault) => Err(DaemonFault::Script(fault)),
+    }
+}

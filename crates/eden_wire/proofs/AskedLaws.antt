@@ -1,0 +1,116 @@
+-- A body is read as what is asked exactly if it spells it.
+use Rattle.std.proofs.Common.{◌≡◌, ℕ, ◌<◌, ◌≤◌, ◌^◌, true, false, cond, eqb, List, ◌∷◌, ◌++◌, length, Result, Ok, Err, refl, sym, ap, subst, ◌∙◌, inl, inr, arith, append_assoc, length-append}
+use Rattle.std.specs.Prelude.{IfOk, OnOk}
+use Rattle.std.specs.Int.{w32, to_be_bytes}
+use Rattle.std.proofs.lemmas.Bool.{eqb-true}
+use Rattle.eden_messages.specs.declared.message.Request.{Request}
+use Rattle.eden_messages.specs.declared.message.Request.TheVariants.{Basis, Poll, Fetch, List as Below}
+use Rattle.eden_messages.specs.Spells.{query_bytes, position_bytes, text_bytes, filter_bytes, request_bytes, IsRequest, SpellsRequest}
+use Rattle.eden_stream.specs.Frames.{frame}
+use Rattle.eden_wire.specs.declared.asking.Asked.{Asked}
+use Rattle.eden_wire.specs.declared.fault.DecodeFault.{DecodeFault}
+use Rattle.eden_wire.specs.Asking.{SpellsAsked, asked_bytes, patience_bytes, read_asked}
+use Rattle.eden_wire.specs.Reading.{◌>>=◌, Gives, number_at, read_request, tag_at}
+use Rattle.eden_wire.proofs.Numbers.{IsBytes, along, bind_ok, number_again, number_takes, wide32}
+use Rattle.eden_wire.proofs.FieldLaws.{chosen}
+use Rattle.eden_wire.proofs.BodyLaws.{HasTag, request_read, request_spelled, tag_again, tag_takes, tagged}
+
+-- a request after these milliseconds
+abbrev behind : ℕ → Request → Asked
+behind patience request = record { patience = patience; request = request }
+
+-- ---- what is written is read
+
+-- no request has the tag of a patience
+no_patience : (request : Request) → length (request_bytes request) ≤ 16777216
+    → (x : ℕ × List ℕ) × (tag_at (request_bytes request) ≡ Ok x) × (eqb x.0 5 ≡ false)
+no_patience (Basis query filter) limit = ((1, query_bytes query ++ filter_bytes filter), tag_again 1 _ limit, refl)
+no_patience (Poll query since filter) limit = ((2, query_bytes query ++ (position_bytes since ++ filter_bytes filter)), tag_again 2 _ limit, refl)
+no_patience (Fetch query path) limit = ((3, query_bytes query ++ text_bytes path), tag_again 3 _ limit, refl)
+no_patience (Below query prefix filter) limit = ((4, query_bytes query ++ (text_bytes prefix ++ filter_bytes filter)), tag_again 4 _ limit, refl)
+
+alone_again : (request : Request) → SpellsRequest (request_bytes request) request → read_asked (request_bytes request) ≡ Ok (behind 0 request)
+unfolding read_asked
+alone_again request spells =
+    let tag = no_patience request spells.limit in
+    rw (tag.1, tag.2, request_read (request_bytes request) request spells) refl
+
+behind_again : (patience : ℕ) (request : Request) → patience < 2 ^ 32 → length (patience_bytes patience ++ request_bytes request) ≤ 16777216
+    → SpellsRequest (request_bytes request) request → read_asked (patience_bytes patience ++ request_bytes request) ≡ Ok (behind patience request)
+unfolding read_asked
+behind_again patience request few limit spells =
+    rw (
+      tag_again 5 (to_be_bytes w32 patience ++ request_bytes request) limit,
+      number_again w32 (2 ^ 32) wide32 patience (request_bytes request) few,
+      request_read (request_bytes request) request spells,
+    ) refl
+
+pub asked_read : (body : List ℕ) (asked : Asked) → SpellsAsked body asked → read_asked body ≡ Ok asked
+asked_read body asked spells =
+    elim spells.bytes [
+      | inl alone ↦
+          let limit = subst (λ (b : List ℕ). length b ≤ 16777216) alone.1 spells.limit in
+          ap read_asked alone.1 ∙ alone_again asked.request (record { fields = spells.fields; bytes = refl; limit = limit })
+          ∙ ap (λ (patience : ℕ). Ok (behind patience asked.request)) (sym alone.0)
+      | inr more ↦
+          let limit = subst (λ (b : List ℕ). length b ≤ 16777216) more spells.limit in
+          let inner : length (request_bytes asked.request) ≤ 16777216 = omega (arith, limit, length-append (patience_bytes asked.patience) (request_bytes asked.request)) in
+          ap read_asked more ∙ behind_again asked.patience asked.request spells.patience limit (record { fields = spells.fields; bytes = refl; limit = inner })
+    ]
+
+-- ---- what is read was written so
+
+spelled_behind : (body : List ℕ) (tag : ℕ) (rest : List ℕ) (asked : Asked) → HasTag body tag rest → eqb tag 5 ≡ true
+    → (number_at w32 rest >>= λ p. read_request p.1 >>= λ r. Ok (behind p.0 r)) ≡ Ok asked → SpellsAsked body asked
+spelled_behind body tag rest asked t is e =
+    let a = bind_ok (number_at w32 rest) (λ p. read_request p.1 >>= λ r. Ok (behind p.0 r)) asked e in
+    let b = bind_ok (read_request a.0.1) (λ r. Ok (behind a.0.0 r)) asked a.2 in
+    let t0 = number_takes w32 (2 ^ 32) wide32 rest a.0 t.rest_fits a.1 in
+    let spells = request_spelled a.0.1 b.0 t0.0.rest_fits b.1 in
+    let parts : rest ≡ to_be_bytes w32 a.0.0 ++ request_bytes b.0 = t0.0.parts ∙ ap (λ (r : List ℕ). to_be_bytes w32 a.0.0 ++ r) spells.bytes in
+    let bytes : body ≡ patience_bytes a.0.0 ++ request_bytes b.0 =
+    t.parts ∙ tagged 5 tag rest (patience_bytes a.0.0 ++ request_bytes b.0) is (ap (λ (r : List ℕ). 2 ∷ 5 ∷ r) parts) in
+    along (λ (y : Asked). SpellsAsked body y) (behind a.0.0 b.0) asked b.2
+    (record { fields = spells.fields; patience = t0.1; bytes = inr bytes; limit = t.limit })
+
+spelled_alone : (body : List ℕ) (asked : Asked) → IsBytes body → (read_request body >>= λ r. Ok (behind 0 r)) ≡ Ok asked → SpellsAsked body asked
+spelled_alone body asked fits e =
+    let a = bind_ok (read_request body) (λ r. Ok (behind 0 r)) asked e in
+    let spells = request_spelled body a.0 fits a.1 in
+    along (λ (y : Asked). SpellsAsked body y) (behind 0 a.0) asked a.2
+    (record { fields = spells.fields; patience = omega arith; bytes = inl (refl, spells.bytes); limit = spells.limit })
+
+pub asked_spelled : (body : List ℕ) (asked : Asked) → IsBytes body → read_asked body ≡ Ok asked → SpellsAsked body asked
+unfolding read_asked
+asked_spelled body asked fits e =
+    let a = bind_ok (tag_at body) (λ t. cond (eqb t.0 5) (number_at w32 t.1 >>= λ p. read_request p.1 >>= λ r. Ok (behind p.0 r)) (read_request body >>= λ r. Ok (behind 0 r))) asked e in
+    let t = tag_takes body a.0 fits a.1 in
+    elim (chosen (eqb a.0.0 5) (number_at w32 a.0.1 >>= λ p. read_request p.1 >>= λ r. Ok (behind p.0 r)) (read_request body >>= λ r. Ok (behind 0 r)) (Ok asked) a.2) [
+      | inl h ↦ spelled_behind body a.0.0 a.0.1 asked t h.0 h.1
+      | inr h ↦ spelled_alone body asked fits h.1
+    ]
+
+-- what a call returned
+pub is_spelled_asked : (body : List ℕ) (r : Result Asked DecodeFault) → IsBytes body → Gives (λ a. a) r (read_asked body) → IfOk r (λ a. SpellsAsked body a)
+is_spelled_asked body (Ok a) fits given = asked_spelled body a fits given
+is_spelled_asked body (Err e) fits given = tt
+
+-- ---- what a call wrote
+
+spells : (asked : Asked) → IsRequest asked.request → asked.patience < 2 ^ 32 → length (asked_bytes asked) ≤ 16777216 → SpellsAsked (asked_bytes asked) asked
+spells asked fields few limit =
+    elim (chosen (eqb asked.patience 0) (request_bytes asked.request) (patience_bytes asked.patience ++ request_bytes asked.request) (asked_bytes asked) refl) [
+      | inl none ↦ record { fields = fields; patience = few; bytes = inl (eqb-true asked.patience 0 none.0, sym none.1); limit = limit }
+      | inr some ↦ record { fields = fields; patience = few; bytes = inr (sym some.1); limit = limit }
+    ]
+
+-- a length and the body
+pub framed : {X E : Type 0} (result : Result X E) (asked : Asked) (len : ℕ) (old mid new : List ℕ) → IsRequest asked.request → asked.patience < 2 ^ 32
+    → len ≡ length (asked_bytes asked) → len ≤ 9350 → mid ≡ old ++ to_be_bytes w32 len → OnOk result (new ≡ mid ++ asked_bytes asked)
+    → OnOk result ((body : List ℕ) × SpellsAsked body asked × (new ≡ old ++ frame body))
+unfolding frame
+framed (Ok x) asked len old mid new fields few is short head told =
+    let body = asked_bytes asked in
+    let front : mid ≡ old ++ to_be_bytes w32 (length body) = head ∙ ap (λ (n : ℕ). old ++ to_be_bytes w32 n) is in
+    (body, spells asked fields few (omega (arith, is, short)), told ∙ ap (λ (m : List ℕ). m ++ body) front ∙ append_assoc old (to_be_bytes w32 (length body)) body)
+framed (Err e) asked len old mid new fields few is short head told = told

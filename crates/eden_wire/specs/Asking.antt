@@ -1,0 +1,46 @@
+-- What is asked with patience: a request, and for how long its reply may wait.
+use Rattle.std.specs.Prelude.{◌≡◌, ◌⊎◌, ℕ, ◌<◌, ◌≤◌, ◌^◌, List, ◌∷◌, ◌++◌, length, Result, Ok, ◌==◌, if◌then◌else◌}
+use Rattle.std.specs.Int.{w32, to_be_bytes}
+use Rattle.eden_ids.specs.Texts.{AreBytes}
+use Rattle.eden_messages.specs.Spells.{IsRequest, request_bytes}
+use Rattle.eden_stream.specs.Frames.{body_limit}
+use Rattle.eden_wire.specs.declared.asking.Asked.{Asked}
+use Rattle.eden_wire.specs.declared.fault.DecodeFault.{DecodeFault}
+use Rattle.eden_wire.specs.Reading.{◌>>=◌, number_at, read_request, tag_at}
+
+-- what comes before a request: the version, the tag 5, and four bytes of milliseconds
+abbrev pub patience_bytes : ℕ → List ℕ
+patience_bytes patience = 2 ∷ 5 ∷ to_be_bytes w32 patience
+
+-- the bytes of a body, which is the request's own if there is no patience
+abbrev pub asked_bytes : Asked → List ℕ
+asked_bytes asked = if asked.patience == 0 then request_bytes asked.request else patience_bytes asked.patience ++ request_bytes asked.request
+
+-- The body encodes what is asked: the request alone, which has no patience, or the patience, which
+-- may be 0, and the request's whole body.
+pub record SpellsAsked (body : List ℕ) (asked : Asked) : Type 0 where
+  pub fields : IsRequest asked.request
+  pub patience : asked.patience < 2 ^ 32
+  pub bytes : ((asked.patience ≡ 0) × (body ≡ request_bytes asked.request)) ⊎ (body ≡ patience_bytes asked.patience ++ request_bytes asked.request)
+  pub limit : length body ≤ body_limit
+
+-- What a body asks, or the first fault. After a patience comes the body of a request, and no other
+-- patience.
+unfoldable pub read_asked : List ℕ → Result Asked DecodeFault
+read_asked body = do
+  tag ← tag_at body
+  if tag.0 == 5 then (do
+    patience ← number_at w32 tag.1
+    request ← read_request patience.1
+    Ok (record { patience = patience.0; request = request }))
+      else (do
+        request ← read_request body
+        Ok (record { patience = 0; request = request }))
+
+-- the body of what is asked is read as that
+abbrev pub AskedAreReadBack : Type 0
+AskedAreReadBack = (body : List ℕ) (asked : Asked) → SpellsAsked body asked → read_asked body ≡ Ok asked
+
+-- a body that is read as what is asked encodes it
+abbrev pub ReadAskedAreSpelled : Type 0
+ReadAskedAreSpelled = (body : List ℕ) (asked : Asked) → AreBytes body → read_asked body ≡ Ok asked → SpellsAsked body asked
