@@ -5,7 +5,7 @@ _railburnet() {
 	COMPREPLY=()
 	while [ "$at" -lt "$COMP_CWORD" ]; do
 		case ${COMP_WORDS[at]} in
-		--port | --host | -C | --root) at=$((at + 1)) ;;
+		--port | --socket | --host | -C | --root) at=$((at + 1)) ;;
 		-*) ;;
 		*)
 			name=${COMP_WORDS[at]}
@@ -17,6 +17,10 @@ _railburnet() {
 	case ${COMP_WORDS[COMP_CWORD - 1]} in
 	-C | --root | --into | --directory | --repository)
 		mapfile -t COMPREPLY < <(compgen -d -- "$word")
+		return
+		;;
+	--socket)
+		mapfile -t COMPREPLY < <(compgen -f -- "$word")
 		return
 		;;
 	esac

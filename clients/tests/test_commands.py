@@ -202,6 +202,7 @@ class Lines(InFolder):
                     "mirror",
                     "options",
                     "output",
+                    "place",
                     "state",
                 )
             },

@@ -113,7 +113,7 @@ class Documents(InFolder):
 
     def test_readme(self) -> None:
         up, watch = (command_of("README.md", f"railburnet {it}") for it in ("up", "watch"))
-        self.assertRegex(self.shell(up), r"\Aup: \S+ at port \d+, 5 files, \d+\.\d s\n\Z")
+        self.assertRegex(self.shell(up), r"\Aup: \S+ at socket \S+, 5 files, \d+\.\d s\n\Z")
         self.watches(watch)
 
     def test_clients(self) -> None:
@@ -121,9 +121,9 @@ class Documents(InFolder):
             command_of("docs/clients.md", f"railburnet {it}")
             for it in ("up", "status", "sync", "list", "since", "watch 'crates")
         )
-        self.assertRegex(self.shell(up), r"\Aup: \S+ at port \d+, 5 files, \d+\.\d s\n\Z")
+        self.assertRegex(self.shell(up), r"\Aup: \S+ at socket \S+, 5 files, \d+\.\d s\n\Z")
         at, head = rf"at (\d+ )(\d+)", self.git("rev-parse", "HEAD")
-        self.assertRegex(self.shell(status), rf"\A\S+ at port \d+\n  {at}, 5 files\n  memory: ")
+        self.assertRegex(self.shell(status), rf"\A\S+ at socket \S+\n  {at}, 5 files\n  memory: ")
         self.write("README.md", "more\n")
         self.shell("railburnet sync")
         names = "CHANGELOG.md\nCONTRIBUTING.md\nREADME.md\n"

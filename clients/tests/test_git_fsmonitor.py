@@ -361,7 +361,7 @@ class Checkouts(InFolder):
         other.top = os.fsencode(os.path.realpath(self.path("other")))
         other.steps.top = other.top
         other.wait()
-        self.assertNotEqual(other.mount().port, self.checkout.mount().port)
+        self.assertNotEqual(other.mount().place, self.checkout.mount().place)
         with open(self.path("other", "new"), "w", encoding="utf-8"):
             pass
         self.assertEqual(other.status(), b"?? new\0")

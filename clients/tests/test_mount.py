@@ -5,6 +5,7 @@ import os
 import re
 import shutil
 import signal
+import stat
 import subprocess
 import unittest
 
@@ -52,7 +53,7 @@ class Mounts(InFolder):
     def up(self, *words):
         """Begins a mount of the directory."""
         printed, said = self.run_it("up", *words, status=0)
-        self.assertRegex(printed, r"\Aup: \S+ at port \d+, [\d,]+ files?")
+        self.assertRegex(printed, r"\Aup: \S+ at (socket \S+|port \d+), [\d,]+ files?")
         return self.mount(), printed, said
 
     def mount(self):
@@ -71,14 +72,14 @@ class Beginnings(Mounts):
         mount, printed, said = self.up()
         self.assertEqual(said, "")
         self.assertRegex(
-            printed, rf"\Aup: {self.path('w')} at port {mount.port}, 2 files, \d+\.\d s\n\Z"
+            printed, rf"\Aup: {self.path('w')} at socket {mount.socket}, 2 files, \d+\.\d s\n\Z"
         )
         self.assertEqual(self.listed(), ["a", "d/b"])
         self.assertEqual(self.listed(at=self.path("w", "d")), ["a", "d/b"])
         self.assertEqual(self.listed("-C", self.path("w", "d"), at="/"), ["a", "d/b"])
         self.assertEqual(
             self.run_it("up", self.path("w"), status=0)[0],
-            f"up: {self.path('w')} at port {mount.port}, 2 files, up already\n",
+            f"up: {self.path('w')} at socket {mount.socket}, 2 files, up already\n",
         )
         self.assertEqual(self.mount(), mount)
         self.assertEqual(
@@ -86,7 +87,7 @@ class Beginnings(Mounts):
         )
         self.assertFalse(mount.feed.lives or mount.edend.lives)
         self.assertEqual(
-            set(os.listdir(state.folder_of(mount.root))), {"generation", "lock", "log", "port"}
+            set(os.listdir(state.folder_of(mount.root))), {"generation", "lock", "log"}
         )
         self.assertIn("no mount of", self.run_it("list", status=3)[1])
         self.assertIn("no mount of", self.run_it("down", status=1)[1])
@@ -98,15 +99,15 @@ class Beginnings(Mounts):
         self.assertEqual(len({text.split(",")[0] for text in printed}), 1)
 
     def test_a_generation_never_comes_twice(self):
-        generations, ports = [], []
+        generations, places = [], []
         for _ in range(3):
             mount, _, _ = self.up()
             generations.append(mount.generation)
-            ports.append(mount.port)
+            places.append(mount.place)
             self.assertIn(f"at {mount.generation} ", self.run_it("list", status=0)[0])
             self.run_it("down", status=0)
         self.assertEqual(generations, sorted(set(generations)))
-        self.assertEqual(len(set(ports)), 1)
+        self.assertEqual(len(set(places)), 1)
 
     def test_a_half_that_died(self):
         for name in ("edend", "feed"):
@@ -120,7 +121,7 @@ class Beginnings(Mounts):
                 "has ended; `railburnet up` there begins it again", self.run_it("list", status=3)[1]
             )
             after, _, _ = self.up()
-            self.assertEqual(after.port, mount.port)
+            self.assertEqual(after.place, mount.place)
             self.assertGreater(after.generation, mount.generation)
 
     def test_nested(self):
@@ -128,7 +129,7 @@ class Beginnings(Mounts):
         self.run_it("up", self.path("w", "d"), status=0)
         self.assertEqual(self.listed(), ["a", "d/b"])
         self.assertEqual(self.listed(at=self.path("w", "d")), ["b"])
-        self.assertEqual(self.run_it("status", status=0)[0].count(" at port "), 2)
+        self.assertEqual(self.run_it("status", status=0)[0].count(" at socket "), 2)
 
     def test_what_cannot_begin(self):
         self.assertIn("is not a directory", self.run_it("up", self.path("w", "a"), status=1)[1])
@@ -180,10 +181,46 @@ class Beginnings(Mounts):
         return state.begun(folder)
 
     def test_a_port_of_ones_own(self):
-        port = self.up()[0].port
-        self.run_it("down", status=0)
-        self.assertEqual(self.up("--port", str(port))[0].port, port)
+        port = free_port()
+        mount, printed, _ = self.up("--port", str(port))
+        self.assertEqual((mount.place, mount.socket), (port, ""))
+        self.assertIn(f" at port {port}, 2 files, ", printed)
         self.assertIn("another setting of --names", self.up("--names")[2])
+        self.assertIn("another setting of --port", self.up("--port", str(free_port()))[2])
+        report = json.loads(self.run_it("status", "--json", status=0)[0])
+        self.assertEqual((report["port"], report["socket"]), (port, None))
+        self.assertIn(f" at port {port}\n", self.run_it("status", status=0)[0])
+        self.assertEqual(self.listed("--port", str(port), at="/"), ["a", "d/b"])
+
+    def test_a_socket_that_nobody_else_can_open(self):
+        mount, _, _ = self.up()
+        status = os.lstat(mount.socket)
+        self.assertTrue(stat.S_ISSOCK(status.st_mode))
+        self.assertEqual(stat.S_IMODE(status.st_mode), 0o600)
+        self.assertEqual(stat.S_IMODE(os.stat(os.path.dirname(mount.socket)).st_mode), 0o700)
+        report = json.loads(self.run_it("status", "--json", status=0)[0])
+        self.assertEqual((report["port"], report["socket"]), (None, mount.socket))
+        self.assertEqual(self.listed("--socket", mount.socket, at="/"), ["a", "d/b"])
+        self.assertEqual(
+            self.listed("--socket", "socket", at=os.path.dirname(mount.socket)), ["a", "d/b"]
+        )
+        # Its files go with the mount, also if edend is killed.
+        os.kill(mount.edend.id, signal.SIGKILL)
+        self.assertTrue(wait_until(lambda: not mount.edend.lives))
+        self.run_it("down", status=0)
+        self.assertEqual(
+            set(os.listdir(state.folder_of(mount.root))), {"generation", "lock", "log"}
+        )
+        said = self.run_it("list", "--socket", mount.socket, status=3)[1]
+        self.assertIn(f"no connection to socket {mount.socket}: No such file", said)
+
+    def test_a_path_that_is_too_long_for_a_socket(self):
+        self.environment["RAILBURNET_STATE"] = self.path("s" * 100)
+        _, printed, said = self.up()
+        self.assertIn(" at port ", printed)
+        self.assertIn("is too long for a socket, so the mount is at a port", said)
+        self.assertEqual(self.listed(), ["a", "d/b"])
+        self.run_it("down", status=0)
 
     def test_stay(self):
         stay = self.started(
@@ -267,7 +304,7 @@ class Questions(Mounts):
     def test_sync(self):
         """A save is in the mount after a sync, each time."""
         mount, _, _ = self.up()
-        with Client(mount.port) as asks:
+        with Client(mount.place) as asks:
             for n in range(50):
                 self.write("a", f"save {n}")
                 position = asks.sync(mount.control)
@@ -294,7 +331,7 @@ class Questions(Mounts):
             while bell.wait(120):
                 pass
         bell.close()
-        with self.assertRaises(ControlFault), Client(mount.port) as asks:
+        with self.assertRaises(ControlFault), Client(mount.place) as asks:
             asks.sync(mount.control)
 
     def test_names(self):
@@ -303,26 +340,26 @@ class Questions(Mounts):
         self.assertTrue(mount.names)
         self.assertIn(", 2 files, names alone, ", printed)
         self.assertEqual(self.listed(), ["a", "d/b"])
-        with Client(mount.port) as asks:
+        with Client(mount.place) as asks:
             position = asks.position()
             self.assertLess(len(asks.fetch(b"a").file.content), 100)
             self.write("a", "y" * 300_000)
             asks.sync(mount.control)
             self.assertEqual([path for _, path in asks.since(position).marked], [b"a"])
-        for port in ([], ["--port", str(mount.port)]):
-            said = self.run_it(*port, "follow", "--into", self.path("m"), status=2)[1]
+        for at in ([], ["--socket", mount.socket]):
+            said = self.run_it(*at, "follow", "--into", self.path("m"), status=2)[1]
             self.assertIn("no contents to copy", said)
         self.assertFalse(os.path.exists(self.path("m")))
 
     def test_a_copy_in_the_directory(self):
         mount, _, _ = self.up()
-        for port in ([], ["--port", str(mount.port)]):
+        for at in ([], ["--socket", mount.socket]):
             for into in (
                 self.path("w"),
                 self.path("w", "copy"),
                 self.path("w", "d", "..", "x", "copy"),
             ):
-                said = self.run_it(*port, "follow", "--into", into, status=2)[1]
+                said = self.run_it(*at, "follow", "--into", into, status=2)[1]
                 self.assertIn("the copy would copy itself", said)
         self.assertEqual(sorted(os.listdir(self.path("w"))), ["a", "d"])
 

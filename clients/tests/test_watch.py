@@ -198,7 +198,7 @@ class Watching(InFolder):
         for words, told, status in (
             (["--port", "1", "a[", "--", "true"], b"no pattern", 2),
             (["--port", "1", "a"], b"a command is needed", 2),
-            (["a", "--", "true"], b"`railburnet up` begins one, and --port names another", 3),
+            (["a", "--", "true"], b"`railburnet up` begins one, and --port or --socket names another", 3),
             (["--port", "0", "a", "--", "true"], b"--port", 2),
             (["--port", "1", "--", "true"], b"required: PATTERN", 2),
         ):

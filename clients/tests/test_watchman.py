@@ -627,7 +627,7 @@ class Lives(Served):
         peer = self.peer()
         told = run("status")
         self.assertEqual(
-            (told.count(" at port "), told.count(", names alone, for watchman")), (2, 1), told
+            (told.count(" at socket "), told.count(", names alone, for watchman")), (2, 1), told
         )
         mount = self.mount()
         self.assertTrue(peer.ask("watch-del", self.top)["watch-del"])

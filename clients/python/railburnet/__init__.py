@@ -1,10 +1,10 @@
 """A client of a Railburnet mount: what changed since a position, which files there are, and a
 mirror.
 
-It speaks frames of version 2 (docs/formats.md) over TCP, and needs Python 3.9 and nothing else.
-Paths, patterns and contents are bytes.
+It speaks frames of version 2 (docs/formats.md) over TCP or a Unix socket, and needs Python 3.9 and
+nothing else. Paths, patterns and contents are bytes.
 
-    client = Client(port=7777)
+    client = Client(7777)
     basis = client.basis([b"src/**"])  # the files, and the position of that answer
     changes = client.since(basis.position, [b"src/**"])  # or PositionRefused: begin again
     client.below(b"src", [b"src/**"])                     # the files below one of changes.prefixes

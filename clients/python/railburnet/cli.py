@@ -50,7 +50,7 @@ COMMANDS = {
         "answers Git as its hook core.fsmonitor", ".commands.git_fsmonitor", False, False
     ),
 }
-VALUED = ("--port", "--host", "-C", "--root")
+VALUED = ("--port", "--socket", "--host", "-C", "--root")
 STATUSES = """status: 0 done; 1 refused, no such file, a copy that isn't equal, or a mount that
 can't begin; 2 the command line; 3 no connection, a reply that can't be read, or a file that
 can't be written; 130 interrupted"""

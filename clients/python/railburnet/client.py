@@ -38,7 +38,7 @@ from .frames import (
     lies_below,
 )
 from .mirror import Mirror, Outcome
-
+from .place import Place, text_of
 
 SILENT = 5.0
 """After how many seconds without an answer somebody is told."""
@@ -53,19 +53,19 @@ class Connection:
 
     def __init__(
         self,
-        port: int,
+        place: Place,
         host: str = "127.0.0.1",
         timeout: float = 30.0,
         silent: Callable[[], None] = lambda: None,
     ) -> None:
         self._timeout, self._silent = timeout, silent
         try:
-            self._socket = socket.create_connection((host, port), timeout)
+            self._socket = _connect(place, host, timeout)
         except OSError as error:
+            where = f"{host} {text_of(place)}" if isinstance(place, int) else text_of(place)
             raise ConnectionLost(
-                error.errno, f"no connection to {host} port {port}: {error.strerror or error}"
+                error.errno, f"no connection to {where}: {error.strerror or error}"
             ) from None
-        self._socket.setsockopt(socket.IPPROTO_TCP, socket.TCP_NODELAY, 1)
         self._socket.setblocking(False)
         self._selector = selectors.DefaultSelector()
         self._selector.register(self._socket, selectors.EVENT_READ)
@@ -138,20 +138,20 @@ class Client:
     lost.
 
     At most `connections` are made for one question or one round; then ConnectionLost is raised.
-    The port may be a function, which is asked before each connection. The files that feed keeps
-    for itself below `.git/.railburnet` are in no list. `waits` is given a message, once until an
-    answer comes, when the mount is silent.
+    The place is a port or the path of a Unix socket, or a function that is asked for it before each
+    connection. The files that feed keeps for itself below `.git/.railburnet` are in no list.
+    `waits` is given a message, once until an answer comes, when the mount is silent.
     """
 
     def __init__(
         self,
-        port: Union[int, Callable[[], int]],
+        place: Union[Place, Callable[[], Place]],
         host: str = "127.0.0.1",
         timeout: float = 30.0,
         connections: int = 16,
         waits: Optional[Callable[[str], None]] = None,
     ) -> None:
-        self._port = port
+        self._place = place
         self._host, self._timeout = host, timeout
         self._waits, self._waiting = waits, False
         self._generation = 0
@@ -332,19 +332,36 @@ class Client:
         return self._connection
 
     def _connect(self) -> Connection:
-        port = self._port() if callable(self._port) else self._port
-        return Connection(port, self._host, self._timeout, lambda: self._silent(port))
+        place = self._place() if callable(self._place) else self._place
+        return Connection(place, self._host, self._timeout, lambda: self._silent(place))
 
-    def _silent(self, port: int) -> None:
+    def _silent(self, place: Place) -> None:
         if self._waits is not None and not self._waiting:
             self._waiting = True
             self._waits(
-                f"connected to port {port}, no answer for {SILENT:g} s: are all connections taken?"
+                f"connected to {text_of(place)}, no answer for {SILENT:g} s: "
+                "are all connections taken?"
             )
 
     def _lost(self, fault: Exception) -> None:
         self._fault = fault
         self.close()
+
+
+def _connect(place: Place, host: str, timeout: float) -> socket.socket:
+    """Connects to a port of a machine, or to a socket of this one."""
+    if isinstance(place, int):
+        connected = socket.create_connection((host, place), timeout)
+        connected.setsockopt(socket.IPPROTO_TCP, socket.TCP_NODELAY, 1)
+        return connected
+    connected = socket.socket(socket.AF_UNIX)
+    try:
+        connected.settimeout(timeout)
+        connected.connect(place)
+    except BaseException:
+        connected.close()
+        raise
+    return connected
 
 
 def _changes(reply: Reply) -> ChangesAre:

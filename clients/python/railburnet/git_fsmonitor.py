@@ -273,8 +273,11 @@ def _is_unknown(path: bytes) -> bool:
 class Edend:
     """A connection to edend, for polls with no filter."""
 
-    def __init__(self, port: int, end: float) -> None:
-        self._stream = Stream(AF_INET, ("127.0.0.1", port), end)
+    def __init__(self, port: int, folder: str, end: float) -> None:
+        if port:
+            self._stream = Stream(AF_INET, ("127.0.0.1", port), end)
+        else:
+            self._stream = Stream(AF_UNIX, os.fsencode(os.path.join(folder, "socket")), end)
         self._number = 0
 
     def close(self) -> None:
@@ -385,7 +388,7 @@ def answer(token: str) -> tuple[str, list[bytes]]:
     generation, number, is_whole = synced(folder, end)
     if generation != note.generation:
         raise Amiss("the mount began again while it was asked")
-    edend = Edend(note.port, end)
+    edend = Edend(note.port, folder, end)
     try:
         edend.comes_to(generation, number)
         identity = f"{note.edend[0]}:{note.edend[1]}"

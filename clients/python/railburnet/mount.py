@@ -13,10 +13,12 @@ from functools import partial
 from typing import IO, Callable, List, NamedTuple, Optional, Sequence, Tuple
 
 from . import control, state
+from .place import MOST_SOCKET, Place
 from .state import Mount, Process
 
 CONNECTIONS = 64
 NOTES = ("mount.json", state.BEGINNING)
+SOCKET = "socket"
 PACKAGES = os.path.dirname(os.path.dirname(os.path.realpath(__file__)))
 
 
@@ -84,8 +86,9 @@ def begin(
     """Returns the mount of a directory, and whether this call has begun it.
 
     It mounts HEAD, or the empty commit: with `empty` or `names`, and if the directory is not the
-    top of a checkout with a commit. It returns when edend answers and the mount has all that the
-    directory holds.
+    top of a checkout with a commit. Unless a port is given, the mount is served at a socket that
+    only this user can open. It returns when edend answers and the mount has all that the directory
+    holds.
     """
     root = os.path.realpath(root)
     if not os.path.isdir(root):
@@ -110,7 +113,8 @@ def stop(mount: Mount, timeout: float = 20.0) -> None:
         if any(it.feed == mount.feed for it in noted):
             for it in noted:
                 _end(it, timeout)
-            for name in (*NOTES, "control", "objects", "printed"):
+            # What edend listened at is there if it was killed.
+            for name in (*NOTES, "control", "objects", "printed", SOCKET, f"{SOCKET}.lock"):
                 with contextlib.suppress(FileNotFoundError):
                     os.unlink(os.path.join(folder, name))
 
@@ -174,18 +178,18 @@ class _Beginning:
         for before in map(partial(state.noted, self._folder), NOTES):
             if before is not None:
                 _end(before, 20.0)
-        port = port or _free_port(self._port_before())
+        place = port or self._default_place()
         commit = None if empty or names else self._write_objects()
         words = ["--control", self._control, *self._feed]
         words += ["--names"] if names else []
         words += [] if whole_renames else ["--each-file"]
         words += ["--empty"] if commit is None else ["--commit", f"{commit.id}={commit.mounted}"]
         self._remove("control")
-        feed, edend = self._started(words, port, commit is not None)
+        feed, edend = self._started(words, place, commit is not None)
         try:
             mount = Mount(
                 self._root,
-                port,
+                place if isinstance(place, int) else 0,
                 0,
                 Process.of(edend.pid),
                 Process.of(feed.pid),
@@ -193,12 +197,12 @@ class _Beginning:
                 self._control,
                 whole_renames,
                 self._front,
+                "" if isinstance(place, int) else place,
             )
             state.note(self._folder, mount, state.BEGINNING)
-            self._wait(feed, edend, port)
+            self._wait(feed, edend, place)
             mount = mount._replace(generation=int(control.status(self._control)["generation"]))
             state.note(self._folder, mount)
-            state.replace(self._folder, "port", f"{port}\n")
         except BaseException:
             for process in (feed, edend):
                 process.kill()
@@ -208,13 +212,16 @@ class _Beginning:
             self._remove("objects", "printed", state.BEGINNING)
         return mount
 
-    def _port_before(self) -> Optional[int]:
-        """Returns the port that the directory was served at last."""
-        with contextlib.suppress(FileNotFoundError, ValueError), open(
-            os.path.join(self._folder, "port"), encoding="ascii"
-        ) as file:
-            return int(file.read())
-        return None
+    def _default_place(self) -> Place:
+        """Returns the socket of the folder, or a free port if no socket can have such a path."""
+        path = os.path.join(self._folder, SOCKET)
+        if len(os.fsencode(path)) <= MOST_SOCKET and "\n" not in path:
+            return path
+        self._say(
+            f"the path {path} is too long for a socket, so the mount is at a port, which other "
+            "users can connect to; RAILBURNET_STATE names another state folder"
+        )
+        return _free_port()
 
     def _remove(self, *names: str) -> None:
         for name in names:
@@ -246,7 +253,7 @@ class _Beginning:
         return Commit(head, written.ids[head])
 
     def _started(
-        self, words: List[str], port: int, objects: bool
+        self, words: List[str], place: Place, objects: bool
     ) -> Tuple[subprocess.Popen[bytes], subprocess.Popen[bytes]]:
         """Starts the feed and edend, in sessions of their own, with their messages in the log."""
         # In the folder, which is this user's own, `-m` takes no module of anybody else.
@@ -267,7 +274,7 @@ class _Beginning:
             with feeding.stdout:
                 try:
                     serving = subprocess.Popen(
-                        self._serve(port, objects),
+                        self._serve(place, objects),
                         cwd=self._folder,
                         start_new_session=True,
                         stdin=feeding.stdout,
@@ -280,10 +287,10 @@ class _Beginning:
                     raise MountFault(f"{self._edend}: {error.strerror}") from None
         return feeding, serving
 
-    def _serve(self, port: int, objects: bool) -> List[str]:
+    def _serve(self, place: Place, objects: bool) -> List[str]:
         """Returns the command line of edend."""
-        words = [self._edend, "serve", "--port", str(port), "--connections", str(CONNECTIONS)]
-        words += ["--stay", "--verbose"]
+        words = [self._edend, "serve", "--connections", str(CONNECTIONS), "--stay", "--verbose"]
+        words += ["--port", str(place)] if isinstance(place, int) else ["--socket", place]
         return words + (["--objects", os.path.join(self._folder, "objects")] if objects else [])
 
     def _file(self, name: str, how: int) -> IO[bytes]:
@@ -297,10 +304,11 @@ class _Beginning:
         )
 
     def _wait(
-        self, feed: subprocess.Popen[bytes], edend: subprocess.Popen[bytes], port: int
+        self, feed: subprocess.Popen[bytes], edend: subprocess.Popen[bytes], place: Place
     ) -> None:
         """Waits until edend listens and the feed has told all that there is."""
-        listens = b"listening %d\n" % port
+        where = str(place) if isinstance(place, int) else f"unix {place}"
+        listens = b"listening %s\n" % os.fsencode(where)
         while True:
             for name, process in (("edend", edend), ("feed", feed)):
                 if process.poll() is not None:
@@ -341,13 +349,11 @@ def _told_faults(faults: List[Tuple[str, str]]) -> str:
     return f"left out of the mounted commit: {path} ({why}){more}"
 
 
-def _free_port(before: Optional[int]) -> int:
-    """Returns a port that nobody listens on, that of before if it may be."""
-    for wanted in (before, 0):
-        if wanted is not None:
-            with contextlib.suppress(OSError), socket.create_server(
-                ("127.0.0.1", wanted)
-            ) as server:
-                port: int = server.getsockname()[1]
-                return port
-    raise MountFault("no port is free on 127.0.0.1")
+def _free_port() -> int:
+    """Returns a port that nobody listens on."""
+    try:
+        with socket.create_server(("127.0.0.1", 0)) as server:
+            port: int = server.getsockname()[1]
+            return port
+    except OSError:
+        raise MountFault("no port is free on 127.0.0.1") from None

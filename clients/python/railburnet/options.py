@@ -10,6 +10,7 @@ from . import state
 from .client import Client
 from .frames import MOST_NUMBER, ConnectionLost, patterns_fault
 from .output import say
+from .place import Place, text_of
 from .state import Mount
 
 
@@ -57,6 +58,9 @@ def add_mount(parser: argparse.ArgumentParser) -> None:
         type=port_of,
         default=None,
         help="the port that edend serves (or the variable RAILBURNET_PORT)",
+    )
+    parser.add_argument(
+        "--socket", metavar="PATH", default=None, help="the Unix socket that edend serves"
     )
     parser.add_argument(
         "--host", default="127.0.0.1", help="the machine that edend runs on; 127.0.0.1 by default"
@@ -128,45 +132,47 @@ def check_patterns(patterns: List[bytes]) -> None:
 
 
 class Target:
-    """The mount that a command line names: a port, or a directory whose mount the state folder
-    notes."""
+    """The mount that a command line names: a port, a socket, or a directory whose mount the state
+    folder notes."""
 
     def __init__(self, options: argparse.Namespace) -> None:
-        if options.port is not None and options.root is not None:
-            raise UsageFault("--port and --root both name a mount; give one of them")
+        given = [it for it in ("port", "socket", "root") if getattr(options, it) is not None]
+        if len(given) > 1:
+            raise UsageFault(
+                f"--{given[0]} and --{given[1]} both name a mount; give one of them"
+            )
         self.host: str = options.host
         self._folder = os.fsencode(options.root or ".")
-        self._port: Optional[int] = options.port
+        self._place: Optional[Place] = options.port
+        if options.socket is not None:
+            self._place = os.path.abspath(options.socket)
         named = os.environ.get("RAILBURNET_PORT")
-        if named and options.port is None and options.root is None:
+        if named and not given:
             try:
-                self._port = port_of(named)
+                self._place = port_of(named)
             except argparse.ArgumentTypeError as error:
                 raise UsageFault(f"RAILBURNET_PORT: {error}") from None
 
     def mount(self) -> Optional[Mount]:
         """Returns the mount as the state folder of this machine notes it; None if it notes none."""
-        if self._port is None:
+        if self._place is None:
             return state.find_above(self._folder)
-        if self.host not in ("127.0.0.1", "localhost"):
+        if isinstance(self._place, int) and self.host not in ("127.0.0.1", "localhost"):
             return None
-        return next(
-            (mount for mount in state.all_noted() if mount.port == self._port and mount.lives), None
-        )
+        return next((it for it in state.all_noted() if it.place == self._place and it.lives), None)
 
-    def port(self) -> int:
-        """Returns the mount's port now; a mount that ended and began again may have another."""
-        if self._port is not None:
-            return self._port
+    def place(self) -> Place:
+        """Returns where the mount is now; one that ended and began again may be elsewhere."""
+        if self._place is not None:
+            return self._place
         mount = state.find_above(self._folder)
         if mount is None:
             raise ConnectionLost(errno.ENOTCONN, self._missing())
-        return mount.port
+        return mount.place
 
     def root(self) -> Optional[bytes]:
-        """Returns the mount's root, if it is named by its directory; with a port it is not asked
-        for."""
-        mount = None if self._port is not None else state.find_above(self._folder)
+        """Returns the mount's root, if it is named by its directory; else it is not asked for."""
+        mount = None if self._place is not None else state.find_above(self._folder)
         return None if mount is None else mount.root
 
     def needed(self) -> Mount:
@@ -178,13 +184,13 @@ class Target:
 
     def client(self) -> Client:
         """Returns a client of the mount, which says once that it has to wait."""
-        where: Union[int, Callable[[], int]] = self._port if self._port is not None else self.port
-        self.port()
+        self.place()
+        where: Union[Place, Callable[[], Place]] = self._place or self.place
         return Client(where, self.host, waits=say)
 
     def _missing(self) -> str:
-        if self._port is not None:
-            return f"no mount of this machine is at port {self._port}"
+        if self._place is not None:
+            return f"no mount of this machine is at {text_of(self._place)}"
         dead = next(state.noted_above(self._folder), None)
         if dead is not None:
             path = os.fsdecode(dead.root)
@@ -192,5 +198,5 @@ class Target:
         path = os.fsdecode(os.path.realpath(self._folder))
         return (
             f"no mount of {path} or of a directory above it; `railburnet up` begins one, "
-            "and --port names another"
+            "and --port or --socket names another"
         )

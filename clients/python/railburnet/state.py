@@ -11,6 +11,8 @@ import stat
 import time
 from typing import Any, Callable, Dict, Iterator, NamedTuple, Optional, Tuple
 
+from .place import Place
+
 MOST_GENERATION = 2**64 - 1
 BEGINNING = "beginning.json"
 """Notes a mount that isn't followed yet, so that one that was begun by half can be ended."""
@@ -62,6 +64,7 @@ class Mount(NamedTuple):
 
     root: bytes
     port: int
+    """The port that it is served at, or 0 if it is served at a socket."""
     generation: int
     edend: Process
     feed: Process
@@ -70,6 +73,13 @@ class Mount(NamedTuple):
     whole_renames: bool = True
     front: str = ""
     """Which program has this mount for itself, beside the one that `railburnet up` begins; nothing for that one."""
+    socket: str = ""
+    """The path of the socket that it is served at, if it is at one."""
+
+    @property
+    def place(self) -> Place:
+        """Where it is served."""
+        return self.socket or self.port
 
     @property
     def folder(self) -> str:

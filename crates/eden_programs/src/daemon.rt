@@ -3,20 +3,20 @@
 
 ghost use Rattle.std.specs.Prelude.{◌≡◌, ◌≤◌};
 
-use crate::daemon_words::{Service, Setting, Task, read_words};
+use crate::daemon_words::{Service, Task, read_words};
 use crate::ends::{EDEND, end_daemon, end_unrun};
 use crate::log::Log;
 use crate::objects::{Shelf, first_objects};
+use crate::options::place_name;
 use crate::script::Script;
 use eden_edend::{Objects, run_over};
 use eden_serve::{Daemon, DaemonFault, Observer, ScriptInput, run_daemon};
-use eden_sockets::Place;
+use eden_sockets::{ListenFault, Listener};
 use eden_stream::{Counted, RunFault};
 use std::alloc::{AllocError, Global};
 use std::fs::{File, Files};
-use std::io;
-use std::io::{ErrorKind, Read, Write};
-use std::net::{Ipv4Addr, Net, TcpListener, TcpStream};
+use std::io::{Read, Write};
+use std::net::{Net, TcpListener, TcpStream};
 use std::sync::Wait;
 use std::thread::Threads;
 use std::time::Clock;
@@ -48,51 +48,45 @@ fn work<
 >(
     rt: &R,
     alloc: Global,
-    service: Option<Service>,
+    service: Option<&Service>,
     objects: Objects,
     input: I,
     output: &mut O,
     observer: &V,
 ) -> Result<(), DaemonFault> {
-    let Some(Service { port, until, .. }) = service else {
+    let Some(service) = service else {
         return run_script(alloc, objects, input, output);
     };
     let daemon = Daemon {
         objects,
-        place: Place::Port(port),
-        until,
+        place: service.place,
+        until: service.until,
     };
     let mut reader = ScriptInput::new(alloc, input)?;
     let mut writer = Counted::new(output);
     run_daemon(rt, alloc, daemon, &mut reader, &mut writer, observer)
 }
 
-/// Returns the port of a service if it can't be listened at now, and why.
-fn busy_port<R: Net<Listener = TcpListener, Stream = TcpStream>>(
+/// Returns why nobody can listen at the place of a service now, if so.
+fn listen_fault<R: Files<File = File> + Net<Listener = TcpListener, Stream = TcpStream>>(
     rt: &R,
-    service: Option<Service>,
-) -> Option<(u16, io::Error)> {
-    let Service { port, .. } = service?;
-    match TcpListener::bind(rt, (Ipv4Addr::LOCALHOST, port)) {
-        Ok(_) => None,
-        Err(error) => Some((port, error)),
-    }
+    service: Option<&Service>,
+) -> Option<ListenFault> {
+    let place = service?.place;
+    Listener::open(rt, place).err()
 }
 
-/// Returns whether another program has the port.
-fn is_in_use(port: Option<(u16, io::Error)>) -> bool {
-    matches!(port, Some((_, error)) if error.kind() == ErrorKind::AddrInUse)
-}
-
-/// Returns why the port can't be listened at, if that is known.
-fn port_reason(
+/// Returns why nobody can listen at the place of a service, with its name, if that is known.
+fn place_reason(
     alloc: Global,
-    port: Option<(u16, io::Error)>,
+    service: Option<&Service>,
+    fault: Option<ListenFault>,
 ) -> Result<Option<String>, AllocError> {
-    match port {
-        Some((port, error)) => Ok(Some(format!(in alloc; "port {port}: {error}")?)),
-        None => Ok(None),
-    }
+    let (Some(service), Some(fault)) = (service, fault) else {
+        return Ok(None);
+    };
+    let name = place_name(alloc, &service.place)?;
+    Ok(Some(format!(in alloc; "{name}: {fault}")?))
 }
 
 /// Returns why a fault of the program came.
@@ -100,12 +94,13 @@ fn explain<I>(
     alloc: Global,
     fault: DaemonFault,
     script: &mut Script<I>,
-    setting: Setting,
-    port: Option<(u16, io::Error)>,
+    task: &Task<'_>,
+    busy: Option<ListenFault>,
 ) -> Result<Option<String>, AllocError> {
     let why = match fault {
         DaemonFault::Script(RunFault::BadLine(number)) => return Ok(script.explain(
-            number, setting,
+            number,
+            task.setting(),
         )),
         DaemonFault::Script(RunFault::Read) => match script.failed {
             Some(error) => format!(in alloc; "the script: {error}")?,
@@ -117,7 +112,7 @@ fn explain<I>(
         DaemonFault::Script(RunFault::TurnsSpent) => {
             format!(in alloc; "1,000,000 reads did not reach the end of the script")?
         }
-        DaemonFault::NoConnection => return port_reason(alloc, port),
+        DaemonFault::NoConnection => return place_reason(alloc, task.service.as_ref(), busy),
         _ => return Ok(None),
     };
     Ok(Some(why))
@@ -136,7 +131,7 @@ fn end_well<I, E: Write>(errors: &mut E, is_verbose: bool, script: &mut Script<I
     0
 }
 
-/// Does what a command line asks for, once its objects are put and its port was looked at.
+/// Does what a command line asks for, once its objects are put and its place was looked at.
 fn serve_or_run<
     R: Threads
         + Wait
@@ -150,17 +145,17 @@ fn serve_or_run<
 >(
     rt: &R,
     alloc: Global,
-    service: Option<Service>,
-    setting: Setting,
+    task: &Task<'_>,
+    busy: Option<ListenFault>,
     objects: Objects,
     input: I,
     output: &mut O,
     errors: &mut E,
-    port: Option<(u16, io::Error)>,
 ) -> u8
     ensures { result ≤ 4 }
 {
     let mut script = Script::new(alloc, input);
+    let service = task.service.as_ref();
     let is_verbose = service.is_some_and(|service| service.is_verbose);
     let log = Log::new(rt, &mut *errors, is_verbose);
     let done = work(rt, alloc, service, objects, &mut script, output, &log);
@@ -168,10 +163,38 @@ fn serve_or_run<
     match done {
         Ok(()) => end_well(errors, is_verbose, &mut script),
         Err(fault) => {
-            let why = explain(alloc, fault, &mut script, setting, port);
+            let why = explain(alloc, fault, &mut script, task, busy);
             end_daemon(errors, fault, why.unwrap_or(None))
         }
     }
+}
+
+/// Does what a command line asks for, and returns the status of the program.
+fn run_task<
+    R: Threads
+        + Wait
+        + Clock
+        + Files<File = File>
+        + Net<Listener = TcpListener, Stream = TcpStream>
+        + Sync,
+    S: Shelf,
+    I: Read + Send + Drop,
+    O: Write,
+    E: Write + Send,
+>(rt: &R, alloc: Global, shelf: &S, task: &Task<'_>, input: I, output: &mut O, errors: &mut E) -> u8
+    ensures { result ≤ 4 }
+{
+    let service = task.service.as_ref();
+    let busy = listen_fault(rt, service);
+    if matches!(busy, Some(ListenFault::InUse)) {
+        let why = place_reason(alloc, service, busy);
+        return end_daemon(errors, DaemonFault::NoConnection, why.unwrap_or(None));
+    }
+    let objects = match first_objects(alloc, shelf, task.objects, errors) {
+        Ok(objects) => objects,
+        Err(status) => return status,
+    };
+    serve_or_run(rt, alloc, task, busy, objects, input, output, errors)
 }
 
 /// Runs `edend` with the words of a command line, and returns its status.
@@ -179,8 +202,9 @@ fn serve_or_run<
 /// The first word is the program's name.
 ///
 /// `run` runs a script from the input and writes what it prints to the output, as `eden_edend::run`
-/// does. `serve` serves the mount of a script over TCP, as `eden_serve::run_daemon` does: until N
-/// connections have ended, or with `--stay` until the input has. With `--objects FILE` both first
+/// does. `serve` serves the mount of a script at a port or a Unix socket, as
+/// `eden_serve::run_daemon` does: until N connections have ended, or with `--stay` until the input
+/// has. The files of the socket are removed at the end. With `--objects FILE` both first
 /// put the objects of that file, as `git cat-file --batch` prints them, and bind each commit to the
 /// label of the first 32 digits of its id. `--version` writes name and version to the output.
 ///
@@ -188,9 +212,9 @@ fn serve_or_run<
 /// - 1: a line of the script can't be read: `line N: BadLine: ` and why. Or an object can't be put:
 ///   `edend: object N: `, the fault's name, and why. No line of the script is read then.
 /// - 2: the command line is refused, or asks for help: what `clap` says.
-/// - 3: reading, writing or memory failed, the reads were spent, or the port can't be listened at:
+/// - 3: reading, writing or memory failed, the reads were spent, or nobody can listen there:
 ///   `edend: `, `Read`, `Write`, `NoMemory`, `TurnsSpent` or `NoConnection`, and why, with `object
-///   N: ` before it if the objects were being read. A port that is in use is found before the
+///   N: ` before it if the objects were being read. A place that is in use is found before the
 ///   objects are read. Or the file of objects can't be opened: `edend: FILE: ` and what the system
 ///   says.
 /// - 4: the audit of what was served names a fault, which is in the output.
@@ -228,18 +252,9 @@ pub fn edend<
         Ok(task) => task,
         Err(error) => return end_unrun(output, errors, EDEND, &error),
     };
-    let setting = task.setting();
-    let Task { objects, service } = task;
-    let port = busy_port(rt, service);
-    if is_in_use(port) {
-        let why = port_reason(alloc, port);
-        return end_daemon(errors, DaemonFault::NoConnection, why.unwrap_or(None));
+    let status = run_task(rt, alloc, shelf, &task, input, output, errors);
+    if let Some(service) = &task.service {
+        service.place.remove_files(rt);
     }
-    let objects = match first_objects(alloc, shelf, objects, errors) {
-        Ok(objects) => objects,
-        Err(status) => return status,
-    };
-    serve_or_run(
-        rt, alloc, service, setting, objects, input, output, errors, port,
-    )
+    status
 }

@@ -1,10 +1,18 @@
 //! The command line of `edend`.
 
 use crate::ends::{EDEND, VERSION};
-use crate::options::{number_of, number_option, small_of};
+use crate::options::{number_of, number_option, place_of, with_place};
+use clap::error::ErrorKind;
 use clap::{Arg, ArgAction, ArgMatches, Command, Error};
 use eden_serve::Until;
+use eden_sockets::Place;
 use std::alloc::Global;
+
+/// How many connections there are at most with an audit.
+const MOST_CONNECTIONS: u64 = 64;
+
+/// How many connections there are at most at a time without one.
+const MOST_PLACES: u64 = 1_024;
 
 /// Says what `edend run` is for.
 const ABOUT_RUN: &str = "Runs a script from standard input";
@@ -25,16 +33,19 @@ L, LABEL and TREE are labels: 1 to 32 of a to z and 0 to 9.
 In a word \\\\ is a backslash, \\n a line feed, \\s a space, and \\e nothing.";
 
 /// What `edend serve` is for.
-const ABOUT_SERVE: &str = "Serves a mount over TCP, on 127.0.0.1 alone";
+const ABOUT_SERVE: &str = "Serves a mount at a port of 127.0.0.1, or at a Unix socket";
 
 /// What `edend serve` is for, and the lines that it reads.
-const LONG_ABOUT_SERVE: &str = "Serves a mount over TCP, on 127.0.0.1 alone:
-  edend serve --port P --connections N < FILE
+const LONG_ABOUT_SERVE: &str = "Serves a mount at a port of 127.0.0.1, or at a Unix socket:
+  edend serve --socket PATH --connections N < FILE
+
+Anybody who has an account on the machine can connect to a port. To a socket,
+its owner alone can. It is made with mode 0600, and removed at the end.
 
 Runs the script up to the line `listen` as `edend run` does: lines blob, tree,
-commit and id, then mount, and others. Then it prints `listening P`, and serves
-each connection in a thread of its own. Meanwhile these lines change the mount,
-and print nothing:
+commit and id, then mount, and others. Then it prints `listening P`, or
+`listening unix PATH`, and serves each connection in a thread of its own.
+Meanwhile these lines change the mount, and print nothing:
   write PATH KIND TEXT | remove PATH | rename OLD NEW | renamedir OLD NEW
   checkout L MODE | reset L | flush | remount GENERATION
 
@@ -54,7 +65,7 @@ first 32 digits of its id.";
 #[derive(Clone, Copy)]
 pub(crate) struct Service {
     /// Where it listens.
-    pub(crate) port: u16,
+    pub(crate) place: Place,
     /// How long it serves.
     pub(crate) until: Until,
     /// Whether it prints what is refused, and where its script has ended.
@@ -105,21 +116,13 @@ fn objects_option<'a>(alloc: Global) -> Arg<'a> {
 
 /// Returns `edend serve` with its options.
 fn serve_command<'a>(alloc: Global) -> Result<Command<'a>, Error> {
-    let port = number_option(
-        alloc,
-        "port",
-        "P",
-        1,
-        65_535,
-        "The port to listen at, 1 to 65535",
-    );
     let connections = number_option(
         alloc,
         "connections",
         "N",
         1,
-        64,
-        "How many connections, 1 to 64; with --stay, at a time",
+        MOST_PLACES,
+        "How many connections, 1 to 64; with --stay, 1 to 1024 at a time",
     );
     let stay = Arg::new(alloc, "stay")
         .long("stay")
@@ -131,20 +134,34 @@ fn serve_command<'a>(alloc: Global) -> Result<Command<'a>, Error> {
         .action(ArgAction::SetTrue);
     let command = Command::new(alloc, "serve")
         .about(ABOUT_SERVE)
-        .long_about(LONG_ABOUT_SERVE)
-        .arg(port)?
-        .arg(connections)?
-        .arg(stay)?
-        .arg(verbose)?
-        .arg(objects_option(alloc))?;
+        .long_about(LONG_ABOUT_SERVE);
+    let command = with_place(
+        alloc,
+        command,
+        "The port to listen at, 1 to 65535",
+        "Or the path of a socket to make, 101 bytes at most",
+    )?
+    .arg(connections)?
+    .arg(stay)?
+    .arg(verbose)?
+    .arg(objects_option(alloc))?;
     Ok(command)
 }
 
 /// Returns how a mount is to be served.
-fn service_of(command: &mut Command<'_>, serve: &ArgMatches<'_>) -> Result<Service, Error> {
-    let port = small_of(command, serve, "port")?;
+fn service_of(
+    alloc: Global,
+    command: &mut Command<'_>,
+    serve: &ArgMatches<'_>,
+) -> Result<Service, Error> {
+    let place = place_of(alloc, command, serve)?;
     let connections = number_of(command, serve, "connections")?;
-    let until = if serve.get_flag("stay") {
+    let stays = serve.get_flag("stay");
+    if !stays && connections > MOST_CONNECTIONS {
+        let limit = "without --stay there are at most 64 connections";
+        return Err(command.error(ErrorKind::ValueValidation, limit)?);
+    }
+    let until = if stays {
         Until::Input {
             threads: connections,
         }
@@ -152,7 +169,7 @@ fn service_of(command: &mut Command<'_>, serve: &ArgMatches<'_>) -> Result<Servi
         Until::Connections(connections)
     };
     Ok(Service {
-        port,
+        place,
         until,
         is_verbose: serve.get_flag("verbose"),
     })
@@ -166,7 +183,7 @@ pub(crate) fn read_words<'a>(alloc: Global, words: &'a [String]) -> Result<Task<
         .arg(objects_option(alloc))?;
     let mut command = Command::new(alloc, EDEND)
         .version(VERSION)
-        .about("Runs a script of changes to a mount, and serves the mount over TCP")
+        .about("Runs a script of changes to a mount, and serves the mount")
         .subcommand_required(true)
         .subcommand(run)?
         .subcommand(serve_command(alloc)?)?;
@@ -174,7 +191,7 @@ pub(crate) fn read_words<'a>(alloc: Global, words: &'a [String]) -> Result<Task<
     if let Some(serve) = matches.subcommand_matches("serve") {
         return Ok(Task {
             objects: serve.get_str("objects"),
-            service: Some(service_of(&mut command, serve)?),
+            service: Some(service_of(alloc, &mut command, serve)?),
         });
     }
     let run = matches.subcommand_matches("run");

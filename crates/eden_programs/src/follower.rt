@@ -6,6 +6,7 @@ ghost use Rattle.std.specs.Prelude.{◌≤◌};
 use crate::ends::{FOLLOW, end_connect, end_demo, end_unrun, fail};
 use crate::explained::explain_patterns;
 use crate::follower_words::{Task, Wanted, read_words};
+use crate::options::place_name;
 use crate::reason::Excerpt;
 use eden_connect::{ConnectFault, Progress, Quiet, Shown, connect_program};
 use eden_demo::demo;
@@ -48,13 +49,12 @@ fn keep<R: Net<Stream = TcpStream>, O: Write, P: Progress>(
     progress: &mut P,
 ) -> Result<(), ConnectFault> {
     let Wanted {
-        port,
+        place,
         mirror,
         life,
         rounds,
         ..
     } = *wanted;
-    let place = Place::Port(port);
     connect_program(
         rt, alloc, output, place, mirror, life, rounds, filter, progress,
     )
@@ -77,10 +77,19 @@ fn tell_pattern<E: Write>(errors: &mut E, fault: FilterFault, patterns: &[&str])
 }
 
 /// Returns why a fault came.
-fn explain(alloc: Global, fault: ConnectFault, port: u16) -> Result<Option<String>, AllocError> {
+fn explain(
+    alloc: Global,
+    fault: ConnectFault,
+    place: &Place,
+) -> Result<Option<String>, AllocError> {
     let why = match fault {
         ConnectFault::NoConnection => {
-            format!(in alloc; "nothing serves a mount at port {port} of 127.0.0.1")?
+            let name = place_name(alloc, place)?;
+            let machine = match place {
+                Place::Port(_) => " of 127.0.0.1",
+                Place::Socket(_) => "",
+            };
+            format!(in alloc; "nothing serves a mount at {name}{machine}")?
         }
         ConnectFault::Write => format!(in alloc; "standard output can't be written")?,
         _ => return Ok(None),
@@ -117,7 +126,7 @@ fn connect<R: Net<Stream = TcpStream> + Clock, O: Write, E: Write>(
     match ended {
         Ok(()) => 0,
         Err(fault) => {
-            let why = explain(alloc, fault, wanted.port);
+            let why = explain(alloc, fault, &wanted.place);
             end_connect(errors, fault, why.unwrap_or(None))
         }
     }
@@ -143,7 +152,7 @@ fn run_demo<R: Threads + Wait + Clock + Sync, O: Write, E: Write>(
 /// The first word is the program's name.
 ///
 /// `demo` runs the demonstration, as `eden_demo::demo` does. `connect` keeps a mirror of a mount
-/// that is served over TCP, as `eden_connect::connect_program` does; on a terminal it shows how
+/// that is served on this machine, as `eden_connect::connect_program` does; on a terminal it shows how
 /// many of the contents have come. `--version` writes name and version to the output.
 ///
 /// - 0: the demonstration ended well, the mirror is placed, or the version was written.

@@ -1,8 +1,9 @@
 //! The command line of `follow`.
 
 use crate::ends::{FOLLOW, VERSION};
-use crate::options::{number_of, number_option, small_of};
+use crate::options::{number_of, number_option, place_of, small_of, with_place};
 use clap::{Arg, ArgAction, ArgMatches, Command, Error};
+use eden_sockets::Place;
 use std::alloc::Global;
 
 /// What `follow demo` is for.
@@ -17,7 +18,8 @@ it, and audits what they did";
 const ABOUT_CONNECT: &str = "Keeps a mirror of a mount that `edend serve` serves";
 
 /// What `follow connect` does and prints.
-const LONG_ABOUT_CONNECT: &str = "Keeps a mirror of a mount that `edend serve` serves on 127.0.0.1
+const LONG_ABOUT_CONNECT: &str =
+    "Keeps a mirror of a mount that `edend serve` serves on this machine
 
 It makes N rounds, and prints the mirror: `placed GENERATION SEQUENCE ROOT` or
 `unplaced`, `files N`, and a line `KIND LENGTH PATH` for each file.
@@ -29,7 +31,7 @@ directories. Without a pattern the mirror has all files.";
 #[derive(Drop)]
 pub(crate) struct Wanted<'a> {
     /// Where the mount is served.
-    pub(crate) port: u16,
+    pub(crate) place: Place,
     /// The number of the mirror.
     pub(crate) mirror: u64,
     /// Its life.
@@ -51,14 +53,6 @@ pub(crate) enum Task<'a> {
 
 /// Returns `follow connect` with its options.
 fn connect_command<'a>(alloc: Global) -> Result<Command<'a>, Error> {
-    let port = number_option(
-        alloc,
-        "port",
-        "P",
-        1,
-        65_535,
-        "The port of the daemon, 1 to 65535",
-    );
     let mirror = number_option(
         alloc,
         "mirror",
@@ -90,12 +84,17 @@ fn connect_command<'a>(alloc: Global) -> Result<Command<'a>, Error> {
         .action(ArgAction::Append);
     let command = Command::new(alloc, "connect")
         .about(ABOUT_CONNECT)
-        .long_about(LONG_ABOUT_CONNECT)
-        .arg(port)?
-        .arg(mirror)?
-        .arg(life)?
-        .arg(rounds)?
-        .arg(patterns)?;
+        .long_about(LONG_ABOUT_CONNECT);
+    let command = with_place(
+        alloc,
+        command,
+        "The port of the daemon, 1 to 65535",
+        "Or the path of its socket",
+    )?
+    .arg(mirror)?
+    .arg(life)?
+    .arg(rounds)?
+    .arg(patterns)?;
     Ok(command)
 }
 
@@ -110,7 +109,7 @@ fn wanted_of<'a>(
         None => Vec::new(alloc),
     };
     Ok(Wanted {
-        port: small_of(command, connect, "port")?,
+        place: place_of(alloc, command, connect)?,
         mirror: number_of(command, connect, "mirror")?,
         life: number_of(command, connect, "life")?,
         rounds: small_of(command, connect, "rounds")?,

@@ -1,7 +1,8 @@
-//! Runs scripts of changes to a mount, and serves the mount over TCP.
+//! Runs scripts of changes to a mount, and serves the mount.
 //!
-//! `edend run` runs a script from standard input, and writes what it prints to standard output. `edend serve --port P --connections N` runs
-//! one up to its line `listen`. Then it serves the mount on 127.0.0.1 while the lines after it change the mount; with `--stay` until they end.
+//! `edend run` runs a script from standard input, and writes what it prints to standard output. `edend serve --socket PATH --connections N`
+//! runs one up to its line `listen`. Then it serves the mount at a Unix socket, or with `--port P` at a port of 127.0.0.1, while the lines after
+//! `listen` change the mount; with `--stay` until they end.
 //! With `--objects FILE` both first put the objects of that file, as `git cat-file --batch` prints them. `edend --version` prints its name and
 //! version.
 //!

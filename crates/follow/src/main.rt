@@ -1,7 +1,7 @@
 //! Keeps mirrors of a mount.
 //!
-//! `follow connect --port P --mirror M --life L --rounds N PATTERN..` keeps a mirror of the mount that `edend serve` serves at that port of
-//! this machine. It prints where the mirror is and what it holds. If standard error is a terminal, it shows there how many contents have come.
+//! `follow connect --socket PATH --mirror M --life L --rounds N PATTERN..` keeps a mirror of the mount that `edend serve` serves at that socket,
+//! or with `--port P` at that port of this machine. It prints where the mirror is and what it holds. If standard error is a terminal, it shows there how many contents have come.
 //!
 //! `follow demo` has two writers change a mount while two followers keep mirrors of it, each in a thread of its own. Then it audits the
 //! mount's history, compares the followers with the mount, and prints what it found. `follow --version` prints its name and version.

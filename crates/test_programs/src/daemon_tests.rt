@@ -48,7 +48,7 @@ pub(crate) fn split_words(alloc: Global, words: &str) -> Result<Vec<String>, Fai
 
 /// What `edend` comes to with words that are parted by spaces, beside one file, a script that can't be read from a place on, and an output and
 /// a place to tell faults that are full at another.
-fn ran<
+pub(crate) fn ran<
     R: Threads
         + Wait
         + Clock
@@ -211,13 +211,49 @@ const ROWS: &[Row] = &[
         "error: ",
     ),
     (
+        "edend serve --connections 1",
+        ONE,
+        ALL,
+        ALL,
+        2,
+        "",
+        "error: the following required arguments were not provided:\n  <--port <P>|--socket <PATH>>",
+    ),
+    (
+        "edend serve --port 1 --socket s --connections 1",
+        ONE,
+        ALL,
+        ALL,
+        2,
+        "",
+        "error: the argument '--port <P>' cannot be used with '--socket <PATH>'",
+    ),
+    (
+        "edend serve --socket /tmp/1234567890123456789012345678901234567890123456789012345678901234567890123456789012345678901234567 --connections 1",
+        ONE,
+        ALL,
+        ALL,
+        2,
+        "",
+        "error: invalid value for --socket: the path has more than 101 bytes",
+    ),
+    (
+        "edend serve --socket a\nb --connections 1",
+        ONE,
+        ALL,
+        ALL,
+        2,
+        "",
+        "error: invalid value for --socket: the path holds a NUL byte or a line feed",
+    ),
+    (
         "edend serve --help",
         ONE,
         ALL,
         ALL,
         2,
         "",
-        "Serves a mount over TCP",
+        "Serves a mount at a port of 127.0.0.1, or at a Unix socket",
     ),
     // (nothing is listened at, since the script has no such line)
     (

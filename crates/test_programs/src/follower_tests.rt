@@ -35,6 +35,27 @@ const ROWS: &[Row] = &[
     ("follow --help", ALL, 2, "", "Keeps mirrors of a mount"),
     ("follow connect", ALL, 2, "", "error: "),
     (
+        "follow connect --mirror 1 --life 1 --rounds 1",
+        ALL,
+        2,
+        "",
+        "error: the following required arguments were not provided:\n  <--port <P>|--socket <PATH>>\n",
+    ),
+    (
+        "follow connect --socket s --port 1 --mirror 1 --life 1 --rounds 1",
+        ALL,
+        2,
+        "",
+        "error: the argument '--socket <PATH>' cannot be used with '--port <P>'\n",
+    ),
+    (
+        "follow connect --socket a\nb --mirror 1 --life 1 --rounds 1",
+        ALL,
+        2,
+        "",
+        "error: invalid value for --socket: the path holds a NUL byte or a line feed\n",
+    ),
+    (
         "follow connect --port 1 --mirror 1 --life 1 --rounds 1001",
         ALL,
         2,
@@ -62,6 +83,13 @@ const ROWS: &[Row] = &[
         3,
         "",
         "follow: NoConnection: nothing serves a mount at port 1 of 127.0.0.1\n",
+    ),
+    (
+        "follow connect --socket none --mirror 1 --life 1 --rounds 1",
+        ALL,
+        3,
+        "",
+        "follow: NoConnection: nothing serves a mount at socket none\n",
     ),
 ];
 

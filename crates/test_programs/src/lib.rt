@@ -9,3 +9,5 @@ mod daemon_tests;
 mod follower_tests;
 #[cfg(test)]
 mod observed_tests;
+#[cfg(test)]
+mod socket_tests;

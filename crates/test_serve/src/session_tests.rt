@@ -4,16 +4,17 @@ use crate::client::free_port;
 use eden_connect::{ConnectFault, Quiet, connect_program};
 use eden_globs::Filter;
 use eden_serve::{DaemonFault, serve_program};
-use eden_sockets::Place;
+use eden_sockets::{Listener, Place};
 use eden_stream::Counted;
 use std::alloc::Global;
 use std::fs::{File, Files};
-use std::net::{Ipv4Addr, Net, TcpListener, TcpStream};
+use std::net::{Net, TcpListener, TcpStream};
 use std::sync::Wait;
 use std::test::Fail;
 use std::thread;
 use std::thread::Threads;
 use std::time::{Clock, Duration};
+use test_sockets::{files_of, fresh_path};
 
 /// How often a client tries again, a millisecond later, where nobody listens yet.
 const TRIES: u32 = 10_000;
@@ -40,19 +41,17 @@ fn serve_one<
         + Files<File = File>
         + Net<Listener = TcpListener, Stream = TcpStream>
         + Sync,
->(rt: &R, alloc: Global, port: u16) -> Served {
-    let place = Place::Port(port);
+>(rt: &R, alloc: Global, place: Place) -> Served {
     let mut output = Vec::new(alloc);
     let ended = serve_program(rt, alloc, SCRIPT, &mut Counted::new(&mut output), place, 1);
     (ended, output)
 }
 
 /// Keeps mirror 1 in its life 1 for a round, once somebody listens.
-fn follow_one<R: Net<Stream = TcpStream> + Clock>(rt: &R, alloc: Global, port: u16) -> Told {
+fn follow_one<R: Net<Stream = TcpStream> + Clock>(rt: &R, alloc: Global, place: Place) -> Told {
     let filter = Filter::all(alloc);
     let mut output = Vec::new(alloc);
     for _ in 0..TRIES {
-        let place = Place::Port(port);
         let ended = connect_program(rt, alloc, &mut output, place, 1, 1, 1, &filter, &mut Quiet);
         if ended != Err(ConnectFault::NoConnection) {
             return (ended, output);
@@ -70,15 +69,15 @@ fn port_of<R: Net<Listener = TcpListener, Stream = TcpStream>>(
     if turn > 0 {
         return Ok(Some(free_port(rt)?));
     }
-    match TcpListener::bind(rt, (Ipv4Addr::LOCALHOST, FIRST_PORT)) {
+    match Listener::at_port(rt, FIRST_PORT) {
         Ok(_) => Ok(Some(FIRST_PORT)),
         Err(_) => Ok(None),
     }
 }
 
-/// Whether both ends have told what they should.
-fn are_right(alloc: Global, port: u16, served: &Served, followed: &Told) -> Result<bool, Fail> {
-    let printed = format!(in alloc; "at 7 1 empty\nat 7 2 empty\nlistening {port}\naudit ok\n")?;
+/// Whether both ends have told what they should, over a place that is printed so.
+fn are_right(alloc: Global, place: &str, served: &Served, followed: &Told) -> Result<bool, Fail> {
+    let printed = format!(in alloc; "at 7 1 empty\nat 7 2 empty\nlistening {place}\naudit ok\n")?;
     let told = b"placed 7 2 0000000000000000000000000000000000000000\nfiles 1\nplain 1 a\n";
     Ok(
         served.0 == Ok(())
@@ -88,6 +87,23 @@ fn are_right(alloc: Global, port: u16, served: &Served, followed: &Told) -> Resu
     )
 }
 
+/// Whether a session goes as it should over a place that is printed so.
+fn is_right_over<
+    R: Threads
+        + Wait
+        + Clock
+        + Files<File = File>
+        + Net<Listener = TcpListener, Stream = TcpStream>
+        + Sync,
+>(rt: &R, alloc: Global, place: Place, printed: &str) -> Result<bool, Fail> {
+    let (served, followed) = thread::join(
+        rt,
+        || serve_one(rt, alloc, place),
+        || follow_one(rt, alloc, place),
+    );
+    are_right(alloc, printed, &served, &followed)
+}
+
 #[test]
 fn serve_and_connect(rt: HostRuntime) -> Result<(), Fail> {
     let alloc = rt.alloc();
@@ -95,13 +111,26 @@ fn serve_and_connect(rt: HostRuntime) -> Result<(), Fail> {
         let Some(port) = port_of(&rt, turn)? else {
             continue;
         };
-        let (served, followed) = thread::join(
-            &rt,
-            || serve_one(&rt, alloc, port),
-            || follow_one(&rt, alloc, port),
+        let printed = format!(in alloc; "{port}")?;
+        assert!(rt;
+            is_right_over(&rt, alloc, Place::Port(port), printed.as_str())?,
+            "{port}"
         );
-        assert!(rt; are_right(alloc, port, &served, &followed)?, "{port}");
         return Ok(());
     }
     Err("no port is free".into())
+}
+
+// The second daemon takes over the files of the first one.
+#[test]
+fn serve_and_connect_over_a_socket(rt: HostRuntime) -> Result<(), Fail> {
+    let alloc = rt.alloc();
+    let path = fresh_path(&rt, alloc)?;
+    let printed = format!(in alloc; "unix {}", path.as_str())?;
+    for _ in 0..2 {
+        assert!(rt; is_right_over(&rt, alloc, Place::Socket(path), printed.as_str())?);
+        assert_eq!(rt; files_of(&rt, alloc, path)?, (true, true));
+    }
+    Place::Socket(path).remove_files(&rt);
+    Ok(())
 }

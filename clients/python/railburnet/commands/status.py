@@ -12,6 +12,7 @@ from ..control import ControlFault
 from ..frames import ConnectionLost, FrameFault, TooLarge
 from ..options import UsageFault, add_directory, directory_of
 from ..output import print_words, say
+from ..place import text_of
 from ..state import Mount, Process
 
 DESCRIPTION = """Reports the mount of a directory, or of the nearest directory above it, and
@@ -64,7 +65,8 @@ def report_of(mount: Mount) -> Dict[str, Any]:
     ended = [name for name, process in processes.items() if not process.lives]
     report: Dict[str, Any] = {
         "root": os.fsdecode(mount.root),
-        "port": mount.port,
+        "port": mount.port or None,
+        "socket": mount.socket or None,
         "generation": mount.generation,
         "names": mount.names,
         "front": mount.front,
@@ -83,7 +85,7 @@ def report_of(mount: Mount) -> Dict[str, Any]:
     }
     if not ended:
         try:
-            with Client(mount.port, timeout=10.0, connections=1) as client:
+            with Client(mount.place, timeout=10.0, connections=1) as client:
                 report["number"] = client.position().sequence
                 report["files"] = _files(client)
             told = control.status(mount.control, 10.0)
@@ -122,7 +124,7 @@ def _memory_of(process: Process) -> int:
 def lines_of(report: Dict[str, Any]) -> List[str]:
     """Returns a report as lines for people."""
     lines = [
-        f"{report['root']} at port {report['port']}"
+        f"{report['root']} at {text_of(report['socket'] or report['port'])}"
         + (", names alone" if report["names"] else "")
         + (f", for {report['front']}" if report["front"] else "")
     ]

@@ -15,6 +15,7 @@ from ..client import Client
 from ..frames import ConnectionLost, FrameFault, TooLarge
 from ..options import add_directory, directory_of, port_of, seconds_of
 from ..output import flush, print_words, say
+from ..place import text_of
 from ..state import Mount
 
 DESCRIPTION = """Mounts a directory, in the background: what it holds can be asked for from then on,
@@ -22,7 +23,7 @@ and what changes there.
 
 It mounts HEAD if DIR is the top of a checkout, and then what differs from it; else all files of
 DIR over the empty commit. It waits until the mount has all that the directory holds, and prints
-`up: DIR at port P, N files, S s`. If the mount is up already, it says so."""
+`up: DIR at socket PATH, N files, S s`. If the mount is up already, it says so."""
 EPILOG = """status: 0 the mount is up; 1 it can't begin; 2 the command line; 3 the state folder
 can't be used; 130 interrupted"""
 
@@ -32,7 +33,8 @@ def add_options(parser: argparse.ArgumentParser) -> None:
     parser.add_argument(
         "--port",
         type=port_of,
-        help="the port to serve; the one of before, or a free one, by default",
+        help="serve at this port, which whoever has an account on the machine can connect to, "
+        "instead of a socket of this user's own",
     )
     parser.add_argument(
         "--names",
@@ -97,7 +99,7 @@ def _begin(options: argparse.Namespace, root: bytes) -> Mount:
     how = f"{time.monotonic() - begun:.1f} s" if begins else "up already"
     names = ", names alone" if mount.names else ""
     print_words(
-        f"up: {os.fsdecode(root)} at port {mount.port}, {_files(mount)}{names}, {how}".encode(
+        f"up: {os.fsdecode(root)} at {text_of(mount.place)}, {_files(mount)}{names}, {how}".encode(
             "utf-8", "surrogateescape"
         )
     )
@@ -113,7 +115,7 @@ def _begin(options: argparse.Namespace, root: bytes) -> Mount:
 
 
 def _files(mount: Mount) -> str:
-    with Client(mount.port) as client:
+    with Client(mount.place) as client:
         try:
             return f"{len(client.basis().paths):,} files"
         except TooLarge:

@@ -27,8 +27,8 @@ still runs: what changes meanwhile is the next run's. It waits until nothing has
 moment. If the mount can't tell what changed, as after it was begun again, the command runs on all
 paths that there are or were.
 
-The command runs in the mount's root, if that is known, so that the paths are right; with --port
-it runs in the directory that one is in."""
+The command runs in the mount's root, if that is known, so that the paths are right; with --port or
+--socket it runs in the directory that one is in."""
 USAGE = "railburnet watch [OPTION..] PATTERN.. -- COMMAND [WORD..]"
 PATIENCE = 20.0
 """For how many seconds the mount waits with the reply to a poll if nothing changed."""

@@ -74,7 +74,7 @@ class Mounted:
             self.disk = Disk(self.top)
         except (MountFault, StateFault, OSError) as fault:
             raise Fault(f"unable to watch {text(self.top)}: {fault}") from None
-        self._client = Client(self.mount.port, timeout=60.0, connections=2)
+        self._client = Client(self.mount.place, timeout=60.0, connections=2)
         self._least = self._reached = 0
         self._times = [(time.time(), self._now().sequence)]
 
