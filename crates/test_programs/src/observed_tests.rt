@@ -3,11 +3,14 @@
 use crate::daemon_tests::{ALL, OneFile, split_words, words_at};
 use eden_programs::edend;
 use std::alloc::Global;
+use std::fs::{File, Files};
 use std::io::{Read, Write};
-use std::net::{Net, Shutdown, TcpStream};
+use std::net::{Net, Shutdown, TcpListener, TcpStream};
+use std::sync::Wait;
 use std::sync::atomic::{AtomicBool, Ordering};
 use std::test::Fail;
 use std::thread;
+use std::thread::Threads;
 use std::time::Clock;
 use test_serve::{Feed, connect, free_port};
 
@@ -121,51 +124,59 @@ fn send<R: Net<Stream = TcpStream> + Clock>(
     is_sent && stream.read_to_end(&mut rest).is_ok() && rest.is_empty()
 }
 
-/// Returns the status of the daemon of a row, and what standard error gets. `None` if the client was answered.
-fn observe(rt: &HostRuntime, alloc: Global, row: &Row) -> Result<Option<(u8, Vec<u8>)>, Fail> {
-    let (words, script, bytes, _, _) = *row;
-    let port = free_port(rt)?;
-    let words = split_words(alloc, words_at(alloc, words, port)?.as_str())?;
+/// Runs a daemon whose script goes on until the flag is set. Returns its status.
+fn serve<
+    R: Threads
+        + Wait
+        + Clock
+        + Files<File = File>
+        + Net<Listener = TcpListener, Stream = TcpStream>
+        + Sync,
+>(
+    rt: &R,
+    alloc: Global,
+    words: &[String],
+    script: &[u8],
+    ended: &AtomicBool,
+    errors: &mut Vec<u8>,
+) -> u8 {
     let file = OneFile {
         bytes: b"",
         fails_at: ALL,
     };
-    let ended = AtomicBool::new(false);
-    let feed = Feed::new(rt, script, b"", b"", &ended);
-    let (mut output, mut errors) = (Vec::new(alloc), Vec::new(alloc));
-    let (status, is_sent) = thread::join(
-        rt,
-        || edend(
-            rt,
-            alloc,
-            &file,
-            words.as_slice(),
-            feed,
-            &mut output,
-            &mut errors,
-        ),
-        || {
-            let is_sent = send(rt, alloc, port, bytes);
-            ended.store(true, Ordering::SeqCst);
-            is_sent
-        },
-    );
-    Ok(is_sent.then_some((status, errors)))
+    let feed = Feed::new(rt, script, b"", b"", ended);
+    let mut output = Vec::new(alloc);
+    edend(rt, alloc, &file, words, feed, &mut output, errors)
 }
 
-/// Whether the daemon of a row comes to what the row says.
-fn is_observed(rt: &HostRuntime, alloc: Global, row: &Row) -> Result<bool, Fail> {
-    match observe(rt, alloc, row)? {
-        Some((status, errors)) => Ok(status == row.3 && errors.as_slice() == row.4.as_bytes()),
-        None => Ok(false),
-    }
+/// Sends these bytes as a client, and then sets the flag. Returns whether nothing was answered.
+fn send_alone<R: Net<Stream = TcpStream> + Clock>(
+    rt: &R,
+    alloc: Global,
+    port: u16,
+    bytes: &[u8],
+    ended: &AtomicBool,
+) -> bool {
+    let is_sent = send(rt, alloc, port, bytes);
+    ended.store(true, Ordering::SeqCst);
+    is_sent
 }
 
 #[test]
 fn refused_while_it_serves(rt: HostRuntime) -> Result<(), Fail> {
+    let alloc = rt.alloc();
     for row in ROWS {
-        let (words, told) = (row.0, row.4);
-        assert!(rt; is_observed(&rt, rt.alloc(), row)?, "{words}: {told}");
+        let (line, script, bytes, status, told) = *row;
+        let (port, ended) = (free_port(&rt)?, AtomicBool::new(false));
+        let words = split_words(alloc, words_at(alloc, line, port)?.as_str())?;
+        let mut errors = Vec::new(alloc);
+        let (observed, is_sent) = thread::join(
+            &rt,
+            || serve(&rt, alloc, words.as_slice(), script, &ended, &mut errors),
+            || send_alone(&rt, alloc, port, bytes, &ended),
+        );
+        let is_told = errors.as_slice() == told.as_bytes();
+        assert!(rt; is_sent && observed == status && is_told, "{line}: {told}");
     }
     Ok(())
 }

@@ -1,4 +1,5 @@
-//! A daemon that stays: many connections, at once and one after another, and peers that do not do what they should.
+//! A daemon that stays: many connections, at once and one after another, and peers that don't do
+//! what they should.
 
 use crate::asking::{LINES, big_script, poll_frame};
 use crate::checking::poll_often;
@@ -11,6 +12,7 @@ use eden_stream::Counted;
 use std::alloc::Global;
 use std::fs::{File, Files};
 use std::net::{Net, TcpListener, TcpStream};
+use std::process::Abort;
 use std::sync::Wait;
 use std::sync::atomic::{AtomicBool, Ordering};
 use std::test::Fail;
@@ -53,7 +55,8 @@ fn eight_clients<R: Threads + Net<Listener = TcpListener, Stream = TcpStream> + 
     }
 }
 
-/// The script, what hostile peers send, and what each of eight clients asks how often, each time on another connection.
+/// The script, what hostile peers send, and what each of eight clients asks how often, each time on
+/// another connection.
 #[derive(Drop)]
 struct Plan {
     script: Vec<u8>,
@@ -62,7 +65,18 @@ struct Plan {
     times: u32,
 }
 
-/// What is left once the input of lines has ended: connections that are open, whether all replies were right, and when it has ended.
+/// Makes a plan for these peers, in which each client asks this often.
+fn plan(alloc: Global, hostile: Vec<Vec<u8>>, times: u32) -> Result<Plan, Fail> {
+    Ok(Plan {
+        script: big_script(alloc)?,
+        hostile,
+        frame: poll_frame(alloc)?,
+        times,
+    })
+}
+
+/// What is left once the input of lines has ended: connections that are open, whether all replies
+/// were right, and when it has ended.
 #[derive(Drop)]
 struct Left {
     streams: Vec<TcpStream>,
@@ -89,38 +103,9 @@ fn ask_beside<R: Threads + Net<Listener = TcpListener, Stream = TcpStream> + Clo
     })
 }
 
-/// What the program ends with, and what is left once the input of its lines has ended.
-fn run_beside(
-    rt: &HostRuntime,
-    alloc: Global,
-    port: u16,
-    plan: &Plan,
-    ended: &AtomicBool,
-) -> (Result<(), DaemonFault>, Option<Left>) {
-    thread::join(
-        rt,
-        || stay_until(rt, alloc, plan.script.as_slice(), ended, port, 8),
-        || ask_beside(rt, alloc, port, plan, ended),
-    )
-}
-
-/// Clients are told what is right beside these peers, and the program ends soon once its lines have, though the peers stay connected.
-fn serves_beside(
-    rt: &HostRuntime,
-    alloc: Global,
-    hostile: Vec<Vec<u8>>,
-    times: u32,
-) -> Result<(), Fail> {
-    let plan = Plan {
-        script: big_script(alloc)?,
-        hostile,
-        frame: poll_frame(alloc)?,
-        times,
-    };
-    let port = free_port(rt)?;
-    let ended = AtomicBool::new(false);
-    let (outcome, left) = run_beside(rt, alloc, port, &plan, &ended);
-    assert_eq!(rt; outcome, Ok(()));
+/// Asserts that all replies were right, and that the daemon has ended soon after its lines, though
+/// the peers stay connected.
+fn ends_soon<R: Clock + Abort>(rt: &R, left: Option<Left>) -> Result<(), Fail> {
     let Left {
         streams: _streams,
         right,
@@ -133,11 +118,28 @@ fn serves_beside(
 
 #[test]
 fn two_thousand_connections(rt: HostRuntime) -> Result<(), Fail> {
-    serves_beside(&rt, rt.alloc(), Vec::new(rt.alloc()), 250)
+    let alloc = rt.alloc();
+    let plan = plan(alloc, Vec::new(alloc), 250)?;
+    let (port, ended) = (free_port(&rt)?, AtomicBool::new(false));
+    let (outcome, left) = thread::join(
+        &rt,
+        || stay_until(&rt, alloc, plan.script.as_slice(), &ended, port, 8),
+        || ask_beside(&rt, alloc, port, &plan, &ended),
+    );
+    assert_eq!(rt; outcome, Ok(()));
+    ends_soon(&rt, left)
 }
 
 #[test]
 fn hostile_peers(rt: HostRuntime) -> Result<(), Fail> {
-    let hostile = hostile_texts(rt.alloc())?;
-    serves_beside(&rt, rt.alloc(), hostile, 20)
+    let alloc = rt.alloc();
+    let plan = plan(alloc, hostile_texts(alloc)?, 20)?;
+    let (port, ended) = (free_port(&rt)?, AtomicBool::new(false));
+    let (outcome, left) = thread::join(
+        &rt,
+        || stay_until(&rt, alloc, plan.script.as_slice(), &ended, port, 8),
+        || ask_beside(&rt, alloc, port, &plan, &ended),
+    );
+    assert_eq!(rt; outcome, Ok(()));
+    ends_soon(&rt, left)
 }
