@@ -67,13 +67,20 @@ fn work<
     run_daemon(rt, alloc, daemon, &mut reader, &mut writer, observer)
 }
 
-/// Returns why nobody can listen at the place of a service now, if so.
+/// Returns why nobody can listen at the place of a service now, if so. It leaves no file there.
 fn listen_fault<R: Files<File = File> + Net<Listener = TcpListener, Stream = TcpStream>>(
     rt: &R,
     service: Option<&Service>,
 ) -> Option<ListenFault> {
-    let place = service?.place;
-    Listener::open(rt, place).err()
+    let place = &service?.place;
+    match Listener::open(rt, *place) {
+        Ok(listener) => {
+            drop(listener);
+            place.remove_files(rt);
+            None
+        }
+        Err(fault) => Some(fault),
+    }
 }
 
 /// Returns why nobody can listen at the place of a service, with its name, if that is known.
@@ -159,6 +166,9 @@ fn serve_or_run<
     let is_verbose = service.is_some_and(|service| service.is_verbose);
     let log = Log::new(rt, &mut *errors, is_verbose);
     let done = work(rt, alloc, service, objects, &mut script, output, &log);
+    if let Some(service) = service {
+        service.place.remove_files(rt);
+    }
     log.finish();
     match done {
         Ok(()) => end_well(errors, is_verbose, &mut script),
@@ -252,9 +262,5 @@ pub fn edend<
         Ok(task) => task,
         Err(error) => return end_unrun(output, errors, EDEND, &error),
     };
-    let status = run_task(rt, alloc, shelf, &task, input, output, errors);
-    if let Some(service) = &task.service {
-        service.place.remove_files(rt);
-    }
-    status
+    run_task(rt, alloc, shelf, &task, input, output, errors)
 }

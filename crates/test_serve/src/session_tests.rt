@@ -41,18 +41,18 @@ fn serve_one<
         + Files<File = File>
         + Net<Listener = TcpListener, Stream = TcpStream>
         + Sync,
->(rt: &R, alloc: Global, place: Place) -> Served {
+>(rt: &R, alloc: Global, place: &Place) -> Served {
     let mut output = Vec::new(alloc);
-    let ended = serve_program(rt, alloc, SCRIPT, &mut Counted::new(&mut output), place, 1);
+    let ended = serve_program(rt, alloc, SCRIPT, &mut Counted::new(&mut output), *place, 1);
     (ended, output)
 }
 
 /// Keeps mirror 1 in its life 1 for a round, once somebody listens.
-fn follow_one<R: Net<Stream = TcpStream> + Clock>(rt: &R, alloc: Global, place: Place) -> Told {
+fn follow_one<R: Net<Stream = TcpStream> + Clock>(rt: &R, alloc: Global, place: &Place) -> Told {
     let filter = Filter::all(alloc);
     let mut output = Vec::new(alloc);
     for _ in 0..TRIES {
-        let ended = connect_program(rt, alloc, &mut output, place, 1, 1, 1, &filter, &mut Quiet);
+        let ended = connect_program(rt, alloc, &mut output, *place, 1, 1, 1, &filter, &mut Quiet);
         if ended != Err(ConnectFault::NoConnection) {
             return (ended, output);
         }
@@ -87,23 +87,6 @@ fn are_right(alloc: Global, place: &str, served: &Served, followed: &Told) -> Re
     )
 }
 
-/// Whether a session goes as it should over a place that is printed so.
-fn is_right_over<
-    R: Threads
-        + Wait
-        + Clock
-        + Files<File = File>
-        + Net<Listener = TcpListener, Stream = TcpStream>
-        + Sync,
->(rt: &R, alloc: Global, place: Place, printed: &str) -> Result<bool, Fail> {
-    let (served, followed) = thread::join(
-        rt,
-        || serve_one(rt, alloc, place),
-        || follow_one(rt, alloc, place),
-    );
-    are_right(alloc, printed, &served, &followed)
-}
-
 #[test]
 fn serve_and_connect(rt: HostRuntime) -> Result<(), Fail> {
     let alloc = rt.alloc();
@@ -111,9 +94,15 @@ fn serve_and_connect(rt: HostRuntime) -> Result<(), Fail> {
         let Some(port) = port_of(&rt, turn)? else {
             continue;
         };
+        let place = Place::Port(port);
+        let (served, followed) = thread::join(
+            &rt,
+            || serve_one(&rt, alloc, &place),
+            || follow_one(&rt, alloc, &place),
+        );
         let printed = format!(in alloc; "{port}")?;
         assert!(rt;
-            is_right_over(&rt, alloc, Place::Port(port), printed.as_str())?,
+            are_right(alloc, printed.as_str(), &served, &followed)?,
             "{port}"
         );
         return Ok(());
@@ -126,11 +115,17 @@ fn serve_and_connect(rt: HostRuntime) -> Result<(), Fail> {
 fn serve_and_connect_over_a_socket(rt: HostRuntime) -> Result<(), Fail> {
     let alloc = rt.alloc();
     let path = fresh_path(&rt, alloc)?;
+    let place = Place::Socket(path);
     let printed = format!(in alloc; "unix {}", path.as_str())?;
     for _ in 0..2 {
-        assert!(rt; is_right_over(&rt, alloc, Place::Socket(path), printed.as_str())?);
+        let (served, followed) = thread::join(
+            &rt,
+            || serve_one(&rt, alloc, &place),
+            || follow_one(&rt, alloc, &place),
+        );
+        assert!(rt; are_right(alloc, printed.as_str(), &served, &followed)?);
         assert_eq!(rt; files_of(&rt, alloc, path)?, (true, true));
     }
-    Place::Socket(path).remove_files(&rt);
+    place.remove_files(&rt);
     Ok(())
 }
