@@ -1,12 +1,13 @@
 //! The command line of `edend`.
 
 use crate::ends::{EDEND, VERSION};
-use crate::options::{number_of, number_option, place_of, with_place};
+use crate::options::{number_of, number_option, optional_number, place_of, with_place};
 use clap::error::ErrorKind;
 use clap::{Arg, ArgAction, ArgMatches, Command, Error};
 use eden_serve::Until;
 use eden_sockets::Place;
 use std::alloc::Global;
+use std::time::Duration;
 
 /// How many connections there are at most with an audit.
 const MOST_CONNECTIONS: u64 = 64;
@@ -53,7 +54,9 @@ When N connections and the script have ended, it audits the replies against the
 history of the mount, and prints `audit ok`, or `audit` and what is wrong.
 
 With --stay it serves N connections at a time until the script ends. It keeps no
-history and prints no audit, so its memory does not grow with the calls.";
+history and prints no audit, so its memory does not grow with the calls. A
+connection ends if a frame that has begun does not come within the limit, or a
+reply is not read within it. Between two frames it may wait for any time.";
 
 /// What `--objects` is for.
 const ABOUT_OBJECTS: &str = "Put these objects first, in the form that
@@ -128,6 +131,16 @@ fn serve_command<'a>(alloc: Global) -> Result<Command<'a>, Error> {
         .long("stay")
         .help("Serve until the script ends, and keep no history")
         .action(ArgAction::SetTrue);
+    let limit = optional_number(
+        alloc,
+        "limit",
+        "SECONDS",
+        1,
+        3_600,
+        "With --stay, the most that a peer takes for a frame",
+    )
+    .default_value("10")
+    .requires_arg("stay")?;
     let verbose = Arg::new(alloc, "verbose")
         .long("verbose")
         .help("Print what is refused, and where the script has ended")
@@ -143,6 +156,7 @@ fn serve_command<'a>(alloc: Global) -> Result<Command<'a>, Error> {
     )?
     .arg(connections)?
     .arg(stay)?
+    .arg(limit)?
     .arg(verbose)?
     .arg(objects_option(alloc))?;
     Ok(command)
@@ -164,6 +178,7 @@ fn service_of(
     let until = if stays {
         Until::Input {
             threads: connections,
+            limit: Duration::from_secs(number_of(command, serve, "limit")?),
         }
     } else {
         Until::Connections(connections)

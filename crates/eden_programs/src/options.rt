@@ -7,7 +7,7 @@ use eden_sockets::{Place, SocketPath};
 use std::alloc::{AllocError, Global};
 
 /// Returns an option with a number between two others.
-fn optional_number<'a>(
+pub(crate) fn optional_number<'a>(
     alloc: Global,
     name: &'a str,
     value_name: &'a str,

@@ -3,6 +3,7 @@ use Rattle.std.proofs.Common.{◌≡◌, ℕ, List, [], Option, Result, Ok, Err,
 use Rattle.std.specs.Prelude.{⊤}
 use Rattle.std.proofs.KnownBytes.{Appends-nil, Consumes-nil, Keeps-refl}
 use Rattle.std.specs.Io.KnownBytes.{Appends, Keeps}
+use Rattle.std.specs.declared.time.Duration.{Duration}
 use Rattle.eden_edend.specs.Openings.{EndsOpening}
 use Rattle.eden_edend.specs.declared.opening.Opened.{Opened}
 use Rattle.eden_stream.specs.Torn.{Tears}
@@ -72,17 +73,17 @@ module _ (labels : List Binding) (from : ℕ) (until : Until) (input w : Option 
   no_memory = inl (Keeps-refl w)
 
 -- nothing is written while a daemon stays
-module _ (labels : List Binding) (from threads : ℕ) (input w : Option (List ℕ)) where
-  pub stayed : (number : ℕ) → Ran labels from input (Ok number) → ServingEnds labels from (Input threads) input w w (Ok tt)
+module _ (labels : List Binding) (from threads : ℕ) (limit : Duration) (input w : Option (List ℕ)) where
+  pub stayed : (number : ℕ) → Ran labels from input (Ok number) → ServingEnds labels from (Input threads limit) input w w (Ok tt)
   stayed number ran = (number, ran, Appends-nil w)
 
-  pub lines_stayed : (fault : RunFault) → Ran labels from input (Err fault) → ServingEnds labels from (Input threads) input w w (Err (Script fault))
-  lines_stayed fault ran = lines_ended labels from (Input threads) input w w fault ran (Appends-nil w)
+  pub lines_stayed : (fault : RunFault) → Ran labels from input (Err fault) → ServingEnds labels from (Input threads limit) input w w (Err (Script fault))
+  lines_stayed fault ran = lines_ended labels from (Input threads limit) input w w fault ran (Appends-nil w)
 
-  pub stayed_as : (ran : Result ℕ RunFault) (number : ℕ) → ran ≡ Ok number → Ran labels from input ran → ServingEnds labels from (Input threads) input w w (Ok tt)
+  pub stayed_as : (ran : Result ℕ RunFault) (number : ℕ) → ran ≡ Ok number → Ran labels from input ran → ServingEnds labels from (Input threads limit) input w w (Ok tt)
   stayed_as ran number ran_is ended = stayed number (subst (Ran labels from input) ran_is ended)
 
-  pub lines_stayed_as : (ran : Result ℕ RunFault) (fault : RunFault) → ran ≡ Err fault → Ran labels from input ran → ServingEnds labels from (Input threads) input w w (Err (Script fault))
+  pub lines_stayed_as : (ran : Result ℕ RunFault) (fault : RunFault) → ran ≡ Err fault → Ran labels from input ran → ServingEnds labels from (Input threads limit) input w w (Err (Script fault))
   lines_stayed_as ran fault ran_is ended = lines_stayed fault (subst (Ran labels from input) ran_is ended)
 
 pub kept : (w : Option (List ℕ)) → Keeps w w

@@ -35,6 +35,7 @@ pub use crate::listening::{Listening, listen};
 pub use crate::observing::{Observer, Unobserved};
 pub use crate::program::{Daemon, Until, run_daemon, serve_listener, serve_program};
 pub use crate::stopping::Stoppable;
+pub use crate::timely::Timely;
 
 mod auditing;
 mod changes;
@@ -48,3 +49,4 @@ mod program;
 mod station;
 mod staying;
 mod stopping;
+mod timely;

@@ -24,7 +24,7 @@ use std::net::{Net, TcpListener, TcpStream};
 use std::sync::Wait;
 use std::sync::ledger::Blank;
 use std::thread::Threads;
-use std::time::Clock;
+use std::time::{Clock, Duration};
 
 /// How long a daemon serves.
 #[derive(Clone, Copy, Debug, PartialEq, Eq)]
@@ -39,6 +39,10 @@ pub enum Until {
     Input {
         /// How many threads serve connections, each one after another.
         threads: u64,
+        /// How long a frame that has begun may take to come, and a reply to be read.
+        ///
+        /// A connection that takes longer ends. The time between two frames is not limited.
+        limit: Duration,
     },
 }
 
@@ -66,7 +70,8 @@ pub struct Daemon {
 ///   `audit ok` is written if they agree, and else `audit` and the name of the fault. The observer
 ///   also hears of a line that can't be read.
 /// - `Input`: each thread accepts the next connection when its last one has ended. If not all of
-///   the threads can be made, there are fewer. Once the input has ended, or a line has a fault, no
+///   the threads can be made, there are fewer. A connection also ends when its peer is slower than
+///   the limit. Once the input has ended, or a line has a fault, no
 ///   connection is accepted any more. Those that are open end within 200 ms or so, whatever their
 ///   peers do. What is not read or not written by then is lost. The observer also hears each time
 ///   that the last thread takes a connection. Nothing is written.
@@ -124,12 +129,13 @@ pub fn serve_listener<
             writer,
             observer,
         ),
-        Until::Input { threads } => serve_input::<Brand, R, I, V>(
+        Until::Input { threads, limit } => serve_input::<Brand, R, I, V>(
             rt,
             alloc,
             Blank::new(256),
             service,
             threads,
+            limit,
             observer,
         ),
     }

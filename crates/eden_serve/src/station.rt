@@ -2,6 +2,7 @@
 
 use crate::observing::Observer;
 use crate::stopping::Stoppable;
+use crate::timely::Timely;
 use eden_accumulate::Mount;
 use eden_ids::GitNaming;
 use eden_shared::{Origin, Peer, Unlogged, serve_unlogged};
@@ -66,16 +67,24 @@ pub(crate) struct Station<L: Origin> {
     closed: AtomicBool,
     /// How many threads have no connection, and may wait for one.
     idle: AtomicU64,
+    /// How long a peer may take for a frame that it has begun, and for a reply.
+    limit: Duration,
 }
 
 impl<L: Origin> Station<L> {
     /// Makes a station for a mount, a listener and this many threads.
-    pub(crate) fn new(unlogged: StayingMount<L>, listener: Listener, threads: u64) -> Station<L> {
+    pub(crate) fn new(
+        unlogged: StayingMount<L>,
+        listener: Listener,
+        threads: u64,
+        limit: Duration,
+    ) -> Station<L> {
         Station {
             unlogged,
             listener,
             closed: AtomicBool::new(false),
             idle: AtomicU64::new(threads),
+            limit,
         }
     }
 
@@ -90,6 +99,7 @@ impl<L: Origin> Station<L> {
 
     /// Serves a connection to its end, or until the station is closed.
     ///
+    /// It also ends if its peer is slower than the limit.
     /// The observer hears of a frame that can't be answered.
     fn serve<R: Wait + Clock, V: Observer>(
         &self,
@@ -105,8 +115,10 @@ impl<L: Origin> Station<L> {
             // It might never end.
             return;
         }
-        let mut reader = Counted::new(Stoppable::new(rt, &self.closed, stream));
-        let mut writer = Counted::new(Stoppable::new(rt, &self.closed, stream));
+        let reading = Timely::new(rt, stream, self.limit);
+        let writing = Timely::new(rt, stream, self.limit);
+        let mut reader = Counted::new(Stoppable::new(rt, &self.closed, reading));
+        let mut writer = Counted::new(Stoppable::new(rt, &self.closed, writing));
         let peer = Caller { stream };
         let served = serve_unlogged(rt, alloc, &mut reader, &mut writer, &self.unlogged, &peer);
         if let Err(ServeFault::Frame { number, fault }) = served {

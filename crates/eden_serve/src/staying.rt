@@ -18,7 +18,7 @@ use std::sync::Wait;
 use std::sync::ledger::Blank;
 use std::thread;
 use std::thread::Threads;
-use std::time::Clock;
+use std::time::{Clock, Duration};
 
 /// Makes the changes of the lines at a station.
 #[tactic(auto, using(crate::proofs::LinesEnding::ran))]
@@ -104,6 +104,7 @@ pub(crate) fn serve_input<
     blank: Blank,
     service: Service<'_, I>,
     threads: u64,
+    limit: Duration,
     observer: &V,
 ) -> Result<(), DaemonFault>
     // The lock names the worlds for which the mount that is served stands.
@@ -111,7 +112,7 @@ pub(crate) fn serve_input<
     requires name { blank.name ≡ L.name }
     requires parts { blank.parts ≡ L.parts }
     requires whole { blank.parts ≡ 256 }
-    ensures { (w : Option (List ℕ)) → ServingEnds service.entry.lines.labels service.entry.lines.from (Until.Input threads) (I.remaining service.entry.lines.input.now) w w result }
+    ensures { (w : Option (List ℕ)) → ServingEnds service.entry.lines.labels service.entry.lines.from (Until.Input threads limit) (I.remaining service.entry.lines.input.now) w w result }
 {
     let Service {
         mount,
@@ -123,7 +124,7 @@ pub(crate) fn serve_input<
         // It is the first one.
         unreachable!()
     };
-    let station = Station::<L>::new(unlogged, listener, threads);
+    let station = Station::<L>::new(unlogged, listener, threads, limit);
     match run_threads(rt, alloc, &station, pass, lines, threads, observer) {
         Some(Ok(_)) => Ok(()),
         Some(Err(fault)) => Err(DaemonFault::Script(fault)),

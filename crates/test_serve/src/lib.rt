@@ -50,3 +50,5 @@ mod stay_tests;
 mod staying;
 #[cfg(test)]
 mod stopping_tests;
+#[cfg(test)]
+mod timely_tests;

@@ -10,7 +10,10 @@ use std::io::Read;
 use std::net::{Net, TcpListener, TcpStream};
 use std::sync::Wait;
 use std::thread::Threads;
-use std::time::Clock;
+use std::time::{Clock, Duration};
+
+/// How many seconds a peer may take for a frame or a reply.
+const LIMIT: u64 = 10;
 
 /// Runs a script, and serves its mount in this many threads until the script ends.
 pub fn stay<
@@ -34,7 +37,10 @@ pub fn stay<
     let daemon = Daemon {
         objects: Objects::new(alloc),
         place: Place::Port(port),
-        until: Until::Input { threads },
+        until: Until::Input {
+            threads,
+            limit: Duration::from_secs(LIMIT),
+        },
     };
     run_daemon(rt, alloc, daemon, &mut input, writer, &Unobserved)
 }
