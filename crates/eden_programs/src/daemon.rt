@@ -73,14 +73,9 @@ fn listen_fault<R: Files<File = File> + Net<Listener = TcpListener, Stream = Tcp
     service: Option<&Service>,
 ) -> Option<ListenFault> {
     let place = &service?.place;
-    match Listener::open(rt, *place) {
-        Ok(listener) => {
-            drop(listener);
-            place.remove_files(rt);
-            None
-        }
-        Err(fault) => Some(fault),
-    }
+    let fault = Listener::open(rt, *place).err();
+    place.remove_files(rt);
+    fault
 }
 
 /// Returns why nobody can listen at the place of a service, with its name, if that is known.
