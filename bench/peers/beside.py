@@ -180,11 +180,13 @@ def wait_until_listening(daemon: Daemon) -> None:
 
 
 @contextlib.contextmanager
-def served(room: Room, lines: Sequence[bytes], objects: str = "") -> Iterator[Daemon]:
+def served(
+    room: Room, lines: Sequence[bytes], objects: str = "", connections: int = CONNECTIONS
+) -> Iterator[Daemon]:
     """Runs `edend serve` over the lines of a script, and ends it."""
     port = free_port()
     words = [room.edend, "serve", "--stay", "--port", str(port)]
-    words += ["--connections", str(CONNECTIONS)] + (["--objects", objects] if objects else [])
+    words += ["--connections", str(connections)] + (["--objects", objects] if objects else [])
     with open(room.folder / "printed", "w+b") as printed:
         process = subprocess.Popen(words, stdin=subprocess.PIPE, stdout=printed)
         daemon = Daemon(port, process)

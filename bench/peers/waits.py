@@ -13,7 +13,7 @@ from beside import LIMIT, QUERY, SECONDS, Daemon, Room, Wrong, frames, position_
 from beside import shown, table
 from writes import threads_of
 
-WAITING = (1, 8, 64)
+WAITING = (1, 8, 64, 500)
 FILES = 100_000
 PATIENCE = 60_000
 """For how many milliseconds each poll may wait."""
@@ -104,6 +104,7 @@ def measure(room: Room) -> None:
     lines = [b"mount empty 1 %d\n" % LIMIT]
     lines += [b"write dir%03d/file%05d plain x\n" % (it // 100, it) for it in range(files)]
     columns = ["waiting", "to the first reply", "to the last", "processor time of a second"]
-    with served(room, lines) as daemon, table("Polls that wait", *columns):
+    served_all = served(room, lines, connections=max(WAITING))
+    with served_all as daemon, table("Polls that wait", *columns):
         for count in WAITING:
             measure_count(room, daemon, count)
