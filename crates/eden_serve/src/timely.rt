@@ -98,7 +98,9 @@ impl<'a, D, R: Clock> Timely<'a, D, R> {
     }
 
     /// Begins to wait for the peer, if it does not yet.
-    fn wait(&mut self) {
+    fn wait(&mut self)
+        ensures { self.new.device ≡ self.old.device }
+    {
         if self.since.is_none() {
             self.since = Instant::now(self.rt).ok();
         }
@@ -134,17 +136,22 @@ impl<'a, D: Read, R: Clock> Read for Timely<'a, D, R> {
 }
 
 impl<'a, D: Write, R: Clock> Write for Timely<'a, D, R> {
+    ghost contents = { λ timely. D.contents timely.device };
+
     fn write(&mut self, buf: &[u8]) -> io::Result<usize> {
-        let outcome = self.device.write(buf);
-        if outcome.is_ok() {
-            self.since = None;
-            return outcome;
+        match self.device.write(buf) {
+            Ok(count) => {
+                self.since = None;
+                Ok(count)
+            }
+            Err(error) => {
+                self.wait();
+                if self.is_late() {
+                    return Err(Error::from(ErrorKind::ConnectionAborted));
+                }
+                Err(error)
+            }
         }
-        self.wait();
-        if self.is_late() {
-            return Err(Error::from(ErrorKind::ConnectionAborted));
-        }
-        outcome
     }
 
     fn flush(&mut self) -> io::Result<()> {
