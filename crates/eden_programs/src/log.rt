@@ -14,6 +14,7 @@ struct Heard<'a, E> {
     errors: &'a mut E,
     changes: u64,
     frames: u64,
+    late: u64,
     taken: u64,
 }
 
@@ -48,6 +49,7 @@ impl<'a, 'b, E: Write, R: Wait> Log<'a, 'b, E, R> {
             errors,
             changes: 0,
             frames: 0,
+            late: 0,
             taken: 0,
         };
         Log {
@@ -63,12 +65,13 @@ impl<'a, 'b, E: Write, R: Wait> Log<'a, 'b, E, R> {
             errors,
             changes,
             frames,
+            late,
             taken,
         } = self.heard.into_inner();
-        if changes > 0 || frames > 0 || taken > 0 {
+        if changes > 0 || frames > 0 || late > 0 || taken > 0 {
             let _ = write!(
                 errors,
-                "{EDEND}: refused changes: {changes}; connections that ended at an invalid frame: {frames}; times that all places were taken: {taken}\n"
+                "{EDEND}: refused changes: {changes}; connections that ended at an invalid frame: {frames}, since their peer was too slow: {late}; times that all places were taken: {taken}\n"
             );
         }
     }
@@ -105,6 +108,17 @@ impl<'a, 'b, E: Write, R: Wait> Observer for Log<'a, 'b, E, R> {
             let _ = write!(
                 heard.errors,
                 "{EDEND}: a connection has ended: frame {number}: {fault}\n"
+            );
+        }
+    }
+
+    fn peer_late(&self) {
+        if self.is_verbose {
+            let mut heard = self.heard.lock(self.rt);
+            heard.late = heard.late.saturating_add(1);
+            let _ = write!(
+                heard.errors,
+                "{EDEND}: a connection has ended: its peer took longer than the limit\n"
             );
         }
     }

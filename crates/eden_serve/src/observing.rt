@@ -14,6 +14,9 @@ pub trait Observer {
     /// Hears that a connection has ended at the frame of this number, which can't be answered.
     fn frame_refused(&self, number: u64, fault: FrameFault);
 
+    /// Hears that a connection has ended since its peer was slower than the limit.
+    fn peer_late(&self);
+
     /// Hears that each place has a connection, so that the next one waits.
     fn places_taken(&self);
 }
@@ -28,6 +31,8 @@ impl Observer for Unobserved {
     fn line_refused(&self, _number: u64) {}
 
     fn frame_refused(&self, _number: u64, _fault: FrameFault) {}
+
+    fn peer_late(&self) {}
 
     fn places_taken(&self) {}
 }

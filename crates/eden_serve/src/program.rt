@@ -71,10 +71,10 @@ pub struct Daemon {
 ///   also hears of a line that can't be read.
 /// - `Input`: each thread accepts the next connection when its last one has ended. If not all of
 ///   the threads can be made, there are fewer. A connection also ends when its peer is slower than
-///   the limit. Once the input has ended, or a line has a fault, no
-///   connection is accepted any more. Those that are open end within 200 ms or so, whatever their
-///   peers do. What is not read or not written by then is lost. The observer also hears each time
-///   that the last thread takes a connection. Nothing is written.
+///   the limit. Once the input has ended, or a line has a fault, no connection is accepted any
+///   more. Those that are open end within 200 ms or so, whatever their peers do. What is not read
+///   or not written by then is lost. The observer also hears of each peer that is too slow, and
+///   each time that the last thread takes a connection. Nothing is written.
 ///
 /// # Errors
 ///

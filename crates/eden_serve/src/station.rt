@@ -99,8 +99,8 @@ impl<L: Origin> Station<L> {
 
     /// Serves a connection to its end, or until the station is closed.
     ///
-    /// It also ends if its peer is slower than the limit.
-    /// The observer hears of a frame that can't be answered.
+    /// It also ends if its peer is slower than the limit. The observer hears of that, and of a frame
+    /// that can't be answered.
     fn serve<R: Wait + Clock, V: Observer>(
         &self,
         rt: &R,
@@ -115,8 +115,9 @@ impl<L: Origin> Station<L> {
             // It might never end.
             return;
         }
-        let reading = Timely::new(rt, stream, self.limit);
-        let writing = Timely::new(rt, stream, self.limit);
+        let late = AtomicBool::new(false);
+        let reading = Timely::new(rt, stream, self.limit, &late);
+        let writing = Timely::new(rt, stream, self.limit, &late);
         let mut reader = Counted::new(Stoppable::new(rt, &self.closed, reading));
         let mut writer = Counted::new(Stoppable::new(rt, &self.closed, writing));
         let peer = Caller { stream };
@@ -126,6 +127,9 @@ impl<L: Origin> Station<L> {
             if !self.is_closed() {
                 observer.frame_refused(number, fault);
             }
+        }
+        if late.load(Ordering::SeqCst) {
+            observer.peer_late();
         }
     }
 

@@ -4,6 +4,7 @@ ghost use Rattle.std.specs.Prelude.{◌≡◌};
 
 use std::io;
 use std::io::{Error, ErrorKind, Read, Write};
+use std::sync::atomic::{AtomicBool, Ordering};
 use std::time::{Clock, Duration, Instant};
 
 /// How far a stream of frames was read.
@@ -72,12 +73,14 @@ impl Progress {
 /// A read fails if the rest of a frame that has begun does not come within the limit. The time
 /// between two frames does not count. A write fails if its bytes are not taken within the limit.
 /// Both fail as `ConnectionAborted`, as soon as the device says that it would have to wait, or has
-/// taken or given some bytes. So the device must have a patience of its own, which is shorter.
+/// taken or given some bytes. So the device must have a patience of its own, which is shorter. The
+/// flag `late` is set then.
 #[derive(Drop)]
 pub struct Timely<'a, D, R: Clock> {
     rt: &'a R,
     device: D,
     limit: Duration,
+    late: &'a AtomicBool,
     progress: Progress,
     /// Since when it waits for the peer, if it does.
     since: Option<Instant>,
@@ -85,13 +88,14 @@ pub struct Timely<'a, D, R: Clock> {
 
 impl<'a, D, R: Clock> Timely<'a, D, R> {
     /// Wraps a device that is at the beginning of a frame.
-    pub fn new(rt: &'a R, device: D, limit: Duration) -> Timely<'a, D, R>
+    pub fn new(rt: &'a R, device: D, limit: Duration, late: &'a AtomicBool) -> Timely<'a, D, R>
         ensures { result.device ≡ device }
     {
         Timely {
             rt,
             device,
             limit,
+            late,
             progress: Progress::new(),
             since: None,
         }
@@ -115,6 +119,12 @@ impl<'a, D, R: Clock> Timely<'a, D, R> {
             .elapsed(self.rt)
             .is_ok_and(|waited| waited > self.limit)
     }
+
+    /// Returns why a call fails if it is late, and sets the flag.
+    fn given_up(&self) -> Error {
+        self.late.store(true, Ordering::SeqCst);
+        Error::from(ErrorKind::ConnectionAborted)
+    }
 }
 
 impl<'a, D: Read, R: Clock> Read for Timely<'a, D, R> {
@@ -129,7 +139,7 @@ impl<'a, D: Read, R: Clock> Read for Timely<'a, D, R> {
             }
         }
         if self.is_late() {
-            return Err(Error::from(ErrorKind::ConnectionAborted));
+            return Err(self.given_up());
         }
         outcome
     }
@@ -147,7 +157,7 @@ impl<'a, D: Write, R: Clock> Write for Timely<'a, D, R> {
             Err(error) => {
                 self.wait();
                 if self.is_late() {
-                    return Err(Error::from(ErrorKind::ConnectionAborted));
+                    return Err(self.given_up());
                 }
                 Err(error)
             }

@@ -2,6 +2,7 @@
 
 use eden_serve::Timely;
 use std::io::{Error, ErrorKind, Read, Write};
+use std::sync::atomic::{AtomicBool, Ordering};
 use std::test::Fail;
 use std::time::{Clock, Duration};
 use std::{io, thread};
@@ -70,12 +71,16 @@ type Ended = (u64, bool);
 
 /// Reads until the device is at its end, or is given up.
 fn reads<R: Clock>(rt: &R, turns: &[Turn]) -> Ended {
-    let mut device = Timely::new(rt, Slow { rt, turns }, Duration::from_millis(LIMIT));
+    let (slow, limit) = (Slow { rt, turns }, Duration::from_millis(LIMIT));
+    let late = AtomicBool::new(false);
+    let mut device = Timely::new(rt, slow, limit, &late);
     let mut count = 0;
     for _ in 0..100 {
         match device.read(&mut [0; 16]) {
             Ok(0) => return (count, false),
-            Err(error) if error.kind() == ErrorKind::ConnectionAborted => return (count, true),
+            Err(error) if error.kind() == ErrorKind::ConnectionAborted => {
+                return (count, late.load(Ordering::SeqCst));
+            }
             _ => count += 1,
         }
     }
@@ -84,12 +89,16 @@ fn reads<R: Clock>(rt: &R, turns: &[Turn]) -> Ended {
 
 /// Writes until the device takes nothing, or is given up.
 fn writes<R: Clock>(rt: &R, turns: &[Turn]) -> Ended {
-    let mut device = Timely::new(rt, Slow { rt, turns }, Duration::from_millis(LIMIT));
+    let (slow, limit) = (Slow { rt, turns }, Duration::from_millis(LIMIT));
+    let late = AtomicBool::new(false);
+    let mut device = Timely::new(rt, slow, limit, &late);
     let mut count = 0;
     for _ in 0..100 {
         match device.write(&[0; 16]) {
             Ok(0) => return (count, false),
-            Err(error) if error.kind() == ErrorKind::ConnectionAborted => return (count, true),
+            Err(error) if error.kind() == ErrorKind::ConnectionAborted => {
+                return (count, late.load(Ordering::SeqCst));
+            }
             _ => count += 1,
         }
     }
