@@ -538,7 +538,7 @@ const ENDINGS: &[(&str, &str)] = &[
     (
         "edend serve --port PORT --connections 1 --stay --verbose",
         "edend: `remove zz` was refused: NoEntry\n\
-edend: refused changes: 1; connections that ended at an invalid frame: 0; times that all places were taken: 0\n\
+edend: refused changes: 1; connections that ended at an invalid frame: 0, since their peer was too slow: 0; times that all places were taken: 0\n\
 edend: the script has ended within line 5\n",
     ),
 ];
