@@ -116,7 +116,7 @@ class Services(InFolder):
 
     def test_half_a_frame(self):
         """It ends its connection after the limit, and an idle one stays."""
-        self.serve("--connections", "2", "--limit", "1")
+        self.serve("--connections", "2", "--limit", "1", "--verbose")
         idle, half = self.connect(), self.connect()
         idle.sendall(poll(1, 1))
         self.assertEqual(reply_from(idle).marked, [])
@@ -127,6 +127,8 @@ class Services(InFolder):
                 pass
             self.assertGreater(time.monotonic() - begun, 0.9)
             half = self.connect()
+        said = b"a connection has ended: its peer took longer than the limit"
+        self.assertTrue(wait_until(lambda: self.text("stderr").count(said) == 3))
         time.sleep(1.5)
         idle.sendall(poll(2, 1))
         self.assertEqual(reply_from(idle).marked, [])
