@@ -65,14 +65,16 @@ struct Plan {
     times: u32,
 }
 
-/// Makes a plan for these peers, in which each client asks this often.
-fn plan(alloc: Global, hostile: Vec<Vec<u8>>, times: u32) -> Result<Plan, Fail> {
-    Ok(Plan {
-        script: big_script(alloc)?,
-        hostile,
-        frame: poll_frame(alloc)?,
-        times,
-    })
+impl Plan {
+    /// Makes a plan for these peers, in which each client asks this often.
+    fn new(alloc: Global, hostile: Vec<Vec<u8>>, times: u32) -> Result<Plan, Fail> {
+        Ok(Plan {
+            script: big_script(alloc)?,
+            hostile,
+            frame: poll_frame(alloc)?,
+            times,
+        })
+    }
 }
 
 /// What is left once the input of lines has ended: connections that are open, whether all replies
@@ -119,7 +121,7 @@ fn ends_soon<R: Clock + Abort>(rt: &R, left: Option<Left>) -> Result<(), Fail> {
 #[test]
 fn two_thousand_connections(rt: HostRuntime) -> Result<(), Fail> {
     let alloc = rt.alloc();
-    let plan = plan(alloc, Vec::new(alloc), 250)?;
+    let plan = Plan::new(alloc, Vec::new(alloc), 250)?;
     let (port, ended) = (free_port(&rt)?, AtomicBool::new(false));
     let (outcome, left) = thread::join(
         &rt,
@@ -133,7 +135,7 @@ fn two_thousand_connections(rt: HostRuntime) -> Result<(), Fail> {
 #[test]
 fn hostile_peers(rt: HostRuntime) -> Result<(), Fail> {
     let alloc = rt.alloc();
-    let plan = plan(alloc, hostile_texts(alloc)?, 20)?;
+    let plan = Plan::new(alloc, hostile_texts(alloc)?, 20)?;
     let (port, ended) = (free_port(&rt)?, AtomicBool::new(false));
     let (outcome, left) = thread::join(
         &rt,

@@ -70,7 +70,7 @@ impl<'a, R: Clock> Write for Slow<'a, R> {
 type Ended = (u64, bool);
 
 /// Reads until the device is at its end, or is given up.
-fn reads<R: Clock>(rt: &R, turns: &[Turn]) -> Ended {
+fn end_of_reads<R: Clock>(rt: &R, turns: &[Turn]) -> Ended {
     let (slow, limit) = (Slow { rt, turns }, Duration::from_millis(LIMIT));
     let late = AtomicBool::new(false);
     let mut device = Timely::new(rt, slow, limit, &late);
@@ -88,7 +88,7 @@ fn reads<R: Clock>(rt: &R, turns: &[Turn]) -> Ended {
 }
 
 /// Writes until the device takes nothing, or is given up.
-fn writes<R: Clock>(rt: &R, turns: &[Turn]) -> Ended {
+fn end_of_writes<R: Clock>(rt: &R, turns: &[Turn]) -> Ended {
     let (slow, limit) = (Slow { rt, turns }, Duration::from_millis(LIMIT));
     let late = AtomicBool::new(false);
     let mut device = Timely::new(rt, slow, limit, &late);
@@ -195,7 +195,7 @@ const WRITES: &[(&[Turn], Ended)] = &[
 #[test]
 fn slow_frames(rt: HostRuntime) -> Result<(), Fail> {
     for (number, (turns, ended)) in READS.iter().enumerate() {
-        assert!(rt; reads(&rt, turns) == *ended, "{number}");
+        assert!(rt; end_of_reads(&rt, turns) == *ended, "{number}");
     }
     Ok(())
 }
@@ -203,7 +203,7 @@ fn slow_frames(rt: HostRuntime) -> Result<(), Fail> {
 #[test]
 fn slow_replies(rt: HostRuntime) -> Result<(), Fail> {
     for (number, (turns, ended)) in WRITES.iter().enumerate() {
-        assert!(rt; writes(&rt, turns) == *ended, "{number}");
+        assert!(rt; end_of_writes(&rt, turns) == *ended, "{number}");
     }
     Ok(())
 }
