@@ -10,6 +10,9 @@ use std::{io, thread};
 /// How long a peer may take, in milliseconds.
 const LIMIT: u64 = 40;
 
+/// How many calls are made at most.
+const MOST: u64 = 100;
+
 /// What a device does at a call.
 #[derive(Clone, Copy)]
 enum Turn {
@@ -74,17 +77,16 @@ fn end_of_reads<R: Clock>(rt: &R, turns: &[Turn]) -> Ended {
     let (slow, limit) = (Slow { rt, turns }, Duration::from_millis(LIMIT));
     let late = AtomicBool::new(false);
     let mut device = Timely::new(rt, slow, limit, &late);
-    let mut count = 0;
-    for _ in 0..100 {
+    for count in 0..MOST {
         match device.read(&mut [0; 16]) {
             Ok(0) => return (count, false),
             Err(error) if error.kind() == ErrorKind::ConnectionAborted => {
                 return (count, late.load(Ordering::SeqCst));
             }
-            _ => count += 1,
+            _ => {}
         }
     }
-    (count, false)
+    (MOST, false)
 }
 
 /// Writes until the device takes nothing, or is given up.
@@ -92,17 +94,16 @@ fn end_of_writes<R: Clock>(rt: &R, turns: &[Turn]) -> Ended {
     let (slow, limit) = (Slow { rt, turns }, Duration::from_millis(LIMIT));
     let late = AtomicBool::new(false);
     let mut device = Timely::new(rt, slow, limit, &late);
-    let mut count = 0;
-    for _ in 0..100 {
+    for count in 0..MOST {
         match device.write(&[0; 16]) {
             Ok(0) => return (count, false),
             Err(error) if error.kind() == ErrorKind::ConnectionAborted => {
                 return (count, late.load(Ordering::SeqCst));
             }
-            _ => count += 1,
+            _ => {}
         }
     }
-    (count, false)
+    (MOST, false)
 }
 
 /// A frame of three bytes.
