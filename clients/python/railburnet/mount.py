@@ -16,7 +16,8 @@ from . import control, state
 from .place import MOST_SOCKET, Place
 from .state import Mount, Process
 
-CONNECTIONS = 64
+CONNECTIONS = 256
+"""How many connections a mount has at a time. A place that is free costs edend 8 KB."""
 NOTES = ("mount.json", state.BEGINNING)
 SOCKET = "socket"
 PACKAGES = os.path.dirname(os.path.dirname(os.path.realpath(__file__)))
