@@ -190,24 +190,17 @@ module _ {I : Type 0} (name : List ℕ → List ℕ → Id) (has : I → List He
   ends ids noted none next next_is (Err NoMemory) result is e = rw is (early e.0 e.1 e.2 next none next_is e.3 e.3.says)
   ends ids noted none next next_is (Err Write) result is e = absurd is
 
--- each end is told as itself
-pub read_is : (next number : ℕ) (outcome : Result ℕ (Stop ObjectFault)) (result : Result (Unit {0}) ObjectsFault) → IsReadAs next outcome result
-    → result ≡ Err (faults.Read number) → outcome ≡ Err Read
-read_is next number (Ok count) result is e = cc
-read_is next number (Err (Item other fault)) result is e = cc
-read_is next number (Err Read) result is e = refl
-read_is next number (Err TurnsSpent) result is e = cc
-read_is next number (Err NoMemory) result is e = cc
-read_is next number (Err Write) result is e = absurd is
-
-pub spent_is : (next number : ℕ) (outcome : Result ℕ (Stop ObjectFault)) (result : Result (Unit {0}) ObjectsFault) → IsReadAs next outcome result
-    → result ≡ Err (faults.TurnsSpent number) → outcome ≡ Err TurnsSpent
-spent_is next number (Ok count) result is e = cc
-spent_is next number (Err (Item other fault)) result is e = cc
-spent_is next number (Err Read) result is e = cc
-spent_is next number (Err TurnsSpent) result is e = refl
-spent_is next number (Err NoMemory) result is e = cc
-spent_is next number (Err Write) result is e = absurd is
+-- each of these ends is told as itself
+pub own_end : (next number : ℕ) (outcome : Result ℕ (Stop ObjectFault)) (result : Result (Unit {0}) ObjectsFault) → IsReadAs next outcome result → record {
+  read : result ≡ Err (faults.Read number) → outcome ≡ Err Read;
+  turns_spent : result ≡ Err (faults.TurnsSpent number) → outcome ≡ Err TurnsSpent;
+}
+own_end next number (Ok count) result is = record { read = λ e. cc; turns_spent = λ e. cc }
+own_end next number (Err (Item other fault)) result is = record { read = λ e. cc; turns_spent = λ e. cc }
+own_end next number (Err Read) result is = record { read = λ e. refl; turns_spent = λ e. cc }
+own_end next number (Err TurnsSpent) result is = record { read = λ e. cc; turns_spent = λ e. refl }
+own_end next number (Err NoMemory) result is = record { read = λ e. cc; turns_spent = λ e. cc }
+own_end next number (Err Write) result is = absurd is
 
 -- nothing is put yet
 pub fills_none : (name : List ℕ → List ℕ → Id) (held : List Held) → Fills name held held [] [] []

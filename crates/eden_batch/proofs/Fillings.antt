@@ -1,5 +1,5 @@
 -- What the putting of one object more does to a store that is being filled.
-use Rattle.std.proofs.Common.{◌≡◌, ◌≢◌, ℕ, ◌^◌, ◌<◌, ◌≤◌, ◌⊎◌, inl, inr, Bool, true, false, not, cond, ◌&&◌, List, [], ◌∷◌, ◌++◌, length, map, take, refl, sym, ap, ◌∙◌, subst, arith, append_assoc, length-append, Option, Some, None, Result, Ok, Err}
+use Rattle.std.proofs.Common.{◌≡◌, ◌≢◌, ℕ, ◌^◌, ◌<◌, ◌≤◌, ◌⊎◌, inl, Bool, true, false, not, List, [], ◌∷◌, ◌++◌, length, map, take, refl, sym, ap, ◌∙◌, subst, arith, append_assoc, length-append, Result, Ok, Err}
 use Rattle.std.specs.Cmp.Lexicographic.{bytes_decides}
 use Rattle.std.proofs.lemmas.List.{append-nil, map-append, take_at}
 use Rattle.std.proofs.lemmas.List.Elements.{All-push}
@@ -25,6 +25,17 @@ use Rattle.eden_batch.specs.declared.fields.Lack.TheVariants.{Partial, Bad}
 use Rattle.eden_batch.specs.declared.header.Header.{Header}
 use Rattle.eden_batch.specs.declared.putting.Filling.{Filling}
 use Rattle.eden_batch.proofs.Headers.{header_split}
+
+-- what `!=` says of two ids
+pub other_id : (a b : Id) → true ≡ not (same_id a b) → a ≢ b
+other_id a b differs e = let same : same_id a b ≡ true = (bytes_decides a.0 b.0).1 (ap (λ id. id.0) e) in cc
+
+pub equal_ids : (a b : Id) → false ≡ not (same_id a b) → a ≡ b
+equal_ids a b same = let bytes : a.0 ≡ b.0 = (bytes_decides a.0 b.0).0 (is_true (same_id a b) same) in ap (λ b. record { 0 = b }) bytes
+  where
+    is_true : (b : Bool) → false ≡ not b → b ≡ true
+    is_true true e = refl
+    is_true false e = cc
 
 module _ (item : List ℕ) (printed : IsPrinted item) where
   fits : length printed.0.payload < 2 ^ 64
@@ -65,22 +76,18 @@ module _ (item : List ℕ) (printed : IsPrinted item) where
     outcome_is name held outcome e =
         sym (ap (λ word. put_word name word (take h.size behind) held) word_is ∙ ap (λ payload. put_word name printed.0.word payload held) payload_is) ∙ e
 
+    -- an object that is put under the header's id is put under its own
+    pub put_own : (name : List ℕ → List ℕ → Id) (held new : List Held) (id : Id) → false ≡ not (same_id id h.id) → put_word name h.word (take h.size behind) held ≡ Ok (id, new)
+        → (id ≡ printed.0.id) × IsPut name printed.0 held new
+    put_own name held new id same e =
+        let own = equal_ids id h.id same ∙ id_is in
+        (own, outcome_is name held (Ok (id, new)) e ∙ ap (λ i. Ok (i, new)) own)
+
     pub puts_is : (result : Result Id PutFault) (name : List ℕ → List ℕ → Id) (held new : List Held) → Puts result name h.word (take h.size behind) held new
         → Puts result name printed.0.word printed.0.payload held new
     puts_is result name held new puts =
         subst (λ payload. Puts result name printed.0.word payload held new) payload_is
         (subst (λ word. Puts result name word (take h.size behind) held new) word_is puts)
-
--- what `!=` says of two ids
-pub other_id : (a b : Id) → true ≡ not (same_id a b) → a ≢ b
-other_id a b differs e = let same : same_id a b ≡ true = (bytes_decides a.0 b.0).1 (ap (λ id. id.0) e) in cc
-
-pub equal_ids : (a b : Id) → false ≡ not (same_id a b) → a ≡ b
-equal_ids a b same = let bytes : a.0 ≡ b.0 = (bytes_decides a.0 b.0).0 (is_true (same_id a b) same) in ap (λ b. record { 0 = b }) bytes
-  where
-    is_true : (b : Bool) → false ≡ not b → b ≡ true
-    is_true true e = refl
-    is_true false e = cc
 
 put_more : (name : List ℕ → List ℕ → Id) (objects : List Held) (object : Held) (old held new : List Held) → ArePut name objects old held → IsPut name object held new
     → ArePut name (objects ++ object ∷ []) old new
@@ -91,10 +98,9 @@ pub refusal_is : (cause : PutFault) → (cause ≡ put.NoMemory → ⊥) → Fau
 refusal_is put.NoMemory other = absurd (other refl)
 refusal_is cause other = refl
 
-module _ (name : List ℕ → List ℕ → Id) (old held new : List Held) (noted ids : List Id) (items : List (List ℕ)) (fills : Fills name old held noted ids items) where
-  pub fills_more : (object : Held) (item : List ℕ) → IsObject object → item ≡ written object → IsPut name object held new
-      → Fills name old new noted (ids ++ object.id ∷ []) (items ++ item ∷ [])
-  fills_more object item is item_is put = record {
+module _ {name : List ℕ → List ℕ → Id} {old held : List Held} {noted ids : List Id} {items : List (List ℕ)} (fills : Fills name old held noted ids items) (new : List Held) (item : List ℕ) where
+  pub fills_more : (printed : IsPrinted item) → IsPut name printed.0 held new → Fills name old new noted (ids ++ printed.0.id ∷ []) (items ++ item ∷ [])
+  fills_more (object, is, item_is) put = record {
     objects = fills.objects ++ object ∷ [];
     have = record {
       items_are = ap (λ l. l ++ item ∷ []) fills.have.items_are ∙ ap (λ i. map written fills.objects ++ i ∷ []) item_is ∙ sym (map-append written fills.objects (object ∷ []));
@@ -106,12 +112,11 @@ module _ (name : List ℕ → List ℕ → Id) (old held new : List Held) (noted
         ∙ ap (λ l. noted ++ l) (sym (map-append (λ o. o.id) fills.objects (object ∷ [])));
   }
 
-  pub halts_at : (item : List ℕ) → (new ≡ held) ⊎ IsItemPut name item held new → HaltsAt name old new noted ids items item
-  halts_at item grown = record { objects = fills.objects; held = held; have = fills.have; ids_are = fills.ids_are; grown = grown }
+  pub halts_at : (new ≡ held) ⊎ IsItemPut name item held new → HaltsAt name old new noted ids items item
+  halts_at grown = record { objects = fills.objects; held = held; have = fills.have; ids_are = fills.ids_are; grown = grown }
 
-  pub fails_at : (object : Held) (item : List ℕ) (fault : ObjectFault) → IsObject object → item ≡ written object → Fails name object held new fault
-      → FailsAt name old new items item fault
-  fails_at object item fault is item_is fails = record {
+  pub fails_at : (fault : ObjectFault) (printed : IsPrinted item) → Fails name printed.0 held new fault → FailsAt name old new items item fault
+  fails_at fault (object, is, item_is) fails = record {
     objects = fills.objects;
     held = held;
     object = object;
@@ -143,12 +148,9 @@ module _ {I : Type 0} (name : List ℕ → List ℕ → Id) (held : I → List H
 module _ {I : Type 0} (name : List ℕ → List ℕ → Id) (has : I → List Held) (over : I → List Held → I) where
   -- what is told of an object that is refused
   pub tells_refused : (before now : Filling I) → AreSame name has over before now → (held : List Held) (items : List (List ℕ))
-      → Fills name (has before.into.now) held before.ids.now.items now.ids.now.items items → (cause : PutFault) (object : Held) (sent item text : List ℕ)
-      → IsObject object → item ≡ written object → Puts (Err cause) name object.word object.payload held (has now.into.now)
+      → Fills name (has before.into.now) held before.ids.now.items now.ids.now.items items → (cause : PutFault) (sent item text : List ℕ) (printed : IsPrinted item)
+      → Puts (Err cause) name printed.0.word printed.0.payload held (has now.into.now)
       → Tells (put_story name has over before now) items sent item text text (refusal_of cause)
-  tells_refused before now same held items fills put.NoMemory object sent item text is item_is puts =
-      (same, halts_at name (has before.into.now) held (has now.into.now) before.ids.now.items now.ids.now.items items fills item (inl puts))
-  tells_refused before now same held items fills cause object sent item text is item_is puts = (
-    same,
-    fails_at name (has before.into.now) held (has now.into.now) before.ids.now.items now.ids.now.items items fills object item _ is item_is (puts.1, puts.0),
-  )
+  tells_refused before now same held items fills put.NoMemory sent item text printed puts = (same, halts_at fills (has now.into.now) item (inl puts))
+  tells_refused before now same held items fills cause sent item text printed puts =
+      (same, fails_at fills (has now.into.now) item (Refused cause) printed (puts.1, puts.0))

@@ -8,3 +8,4 @@ mod Searching
 mod Naming
 mod Placing
 pub mod NumberLemmas
+mod Stepping

@@ -19,7 +19,7 @@ pub use crate::directory::next_entry;
 pub use crate::entry::{RawEntry, cut, read_entry};
 pub use crate::fault::EntryFault;
 pub use crate::order::key_order;
-pub use crate::rows::Rows;
+pub use crate::rows::{Entries, Rows};
 pub use crate::word::{Word, same_word};
 
 mod columns;

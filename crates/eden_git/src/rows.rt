@@ -9,6 +9,7 @@ use crate::entry::RawEntry;
 use crate::search::entry_in;
 use eden_ids::IdColumn;
 use std::marker::Model;
+use std::ops::Range;
 
 /// The entries of a tree, by its payload and the columns of its entries.
 ///
@@ -62,6 +63,19 @@ impl<'a> Rows<'a> {
         }
     }
 
+    /// Returns the entries one after another.
+    pub fn iter(&self) -> Entries<'a>
+        ensures { result ≡ self.now }
+    {
+        Entries {
+            rows: Rows {
+                payload: self.payload,
+                columns: self.columns,
+            },
+            left: 0..self.len(),
+        }
+    }
+
     /// Returns the ids of the entries.
     pub fn ids(&self) -> &'a IdColumn
         ensures { result.now ≡ ids_of self.now }
@@ -85,5 +99,42 @@ impl<'a> Rows<'a> {
         ensures { MatchBool result (names_of self.now ≡ names_of other.now) (names_of self.now ≢ names_of other.now) }
     {
         self.columns.names.as_slice() == other.columns.names.as_slice()
+    }
+}
+
+/// The entries of a tree that are still to come.
+///
+/// Its value is the list of these entries. Does not allocate.
+#[derive(Drop)]
+pub struct Entries<'a> {
+    rows: Rows<'a>,
+    /// The rows of these entries.
+    left: Range<usize>,
+}
+
+impl<'a> Model for Entries<'a> {
+    ghost use Rattle.std.specs.Prelude.{◌≡◌, List, drop, length};
+    ghost use Rattle.eden_git.specs.Trees.{Entry};
+
+    ghost Value = { List Entry };
+
+    ghost view = { λ e. drop e.left.start e.rows };
+
+    ghost invariant = { λ e. e.left.end ≡ length e.rows };
+}
+
+impl<'a> Iterator for Entries<'a> {
+    ghost use Rattle.std.specs.Iterator.{YieldsFirstBy, item_count};
+    ghost use Rattle.eden_git.specs.Entries.{plain};
+
+    type Item = RawEntry<'a>;
+
+    ghost next_gives = { YieldsFirstBy plain (λ left. left) };
+
+    ghost remaining = { item_count (λ left. left) };
+
+    fn next(&mut self) -> Option<RawEntry<'a>> {
+        let row = self.left.next()?;
+        self.rows.entry(row)
     }
 }

@@ -129,27 +129,15 @@ module _ (answers : List ℕ → Result (List ℕ) FrameFault) (story : Story Fr
         written = subst (Appends w0 w1) (sym (ap (take (length ran.sent)) replied.text_is ∙ take_at ran.sent e.3 (length ran.sent) refl)) ran.written;
       }
 
--- each end is told as itself
-pub serve_read : (outcome : Result ℕ (Stop FrameFault)) → served_as outcome ≡ Err faults.Read → outcome ≡ Err Read
-serve_read (Ok count) e = cc
-serve_read (Err (Item number fault)) e = cc
-serve_read (Err Read) e = refl
-serve_read (Err Write) e = cc
-serve_read (Err TurnsSpent) e = cc
-serve_read (Err NoMemory) e = cc
-
-pub serve_write : (outcome : Result ℕ (Stop FrameFault)) → served_as outcome ≡ Err faults.Write → outcome ≡ Err Write
-serve_write (Ok count) e = cc
-serve_write (Err (Item number fault)) e = cc
-serve_write (Err Read) e = cc
-serve_write (Err Write) e = refl
-serve_write (Err TurnsSpent) e = cc
-serve_write (Err NoMemory) e = cc
-
-pub serve_spent : (outcome : Result ℕ (Stop FrameFault)) → served_as outcome ≡ Err faults.TurnsSpent → outcome ≡ Err TurnsSpent
-serve_spent (Ok count) e = cc
-serve_spent (Err (Item number fault)) e = cc
-serve_spent (Err Read) e = cc
-serve_spent (Err Write) e = cc
-serve_spent (Err TurnsSpent) e = refl
-serve_spent (Err NoMemory) e = cc
+-- each of these ends is told as itself
+pub own_end : (outcome : Result ℕ (Stop FrameFault)) → record {
+  read : served_as outcome ≡ Err faults.Read → outcome ≡ Err Read;
+  write : served_as outcome ≡ Err faults.Write → outcome ≡ Err Write;
+  turns_spent : served_as outcome ≡ Err faults.TurnsSpent → outcome ≡ Err TurnsSpent;
+}
+own_end (Ok count) = record { read = λ e. cc; write = λ e. cc; turns_spent = λ e. cc }
+own_end (Err (Item number fault)) = record { read = λ e. cc; write = λ e. cc; turns_spent = λ e. cc }
+own_end (Err Read) = record { read = λ e. refl; write = λ e. cc; turns_spent = λ e. cc }
+own_end (Err Write) = record { read = λ e. cc; write = λ e. refl; turns_spent = λ e. cc }
+own_end (Err TurnsSpent) = record { read = λ e. cc; write = λ e. cc; turns_spent = λ e. refl }
+own_end (Err NoMemory) = record { read = λ e. cc; write = λ e. cc; turns_spent = λ e. cc }

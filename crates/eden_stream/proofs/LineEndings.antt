@@ -2,11 +2,10 @@
 use Rattle.std.proofs.Common.{◌≡◌, Bool, true, false, ℕ, ◌+◌, ◌⊎◌, inl, inr, List, [], ◌∷◌, ◌++◌, length, Option, Result, Ok, Err, refl, sym, ap, ◌∙◌, subst, arith, append-nil}
 use Rattle.std.specs.Prelude.{⊤}
 use Rattle.std.specs.Io.KnownBytes.{Appends, IsAtEnd}
-use Rattle.std.specs.Str.Lines.{lines}
 use Rattle.std.proofs.lemmas.List.{take_at}
-use Rattle.eden_stream.specs.LineEnds.{AnswersAll, EndsTellingLines, LosesNext, RefusesNext, StopsAfterLines, StopsAtBadLine, StopsBetweenLines, StopsInText}
-use Rattle.eden_stream.specs.LineGrammar.{CutsLines, IsBeforeLong, line_grammar}
-use Rattle.eden_stream.specs.Lines.{AreBeforeLong, AreFirstLines, HasNoBreak, IsTooLong}
+use Rattle.eden_stream.specs.LineEnds.{EndsTellingLines, LosesNext, RefusesNext, StopsAtBadLine, StopsBetweenLines}
+use Rattle.eden_stream.specs.LineGrammar.{CutsLines, line_grammar}
+use Rattle.eden_stream.specs.Lines.{AreBeforeLong, AreFirstLines, HasNoBreak}
 use Rattle.eden_stream.specs.Pumps as pumps
 use Rattle.eden_stream.specs.Pumps.{Faults, Halts, Losses, Ran}
 use Rattle.eden_stream.specs.Stories.{Story}
@@ -118,27 +117,15 @@ module _ (story : Story ⊤) (stops : (items : List (List ℕ)) (text : List ℕ
         written = subst (Appends w0 w1) (sym (take_at ran.sent waiting (length ran.sent) refl)) ran.written;
       }
 
--- each end is told as itself
-pub run_read : (outcome : Result ℕ (Stop ⊤)) → run_as outcome ≡ Err faults.Read → outcome ≡ Err Read
-run_read (Ok count) e = cc
-run_read (Err (Item number fault)) e = cc
-run_read (Err Read) e = refl
-run_read (Err Write) e = cc
-run_read (Err TurnsSpent) e = cc
-run_read (Err NoMemory) e = cc
-
-pub run_write : (outcome : Result ℕ (Stop ⊤)) → run_as outcome ≡ Err faults.Write → outcome ≡ Err Write
-run_write (Ok count) e = cc
-run_write (Err (Item number fault)) e = cc
-run_write (Err Read) e = cc
-run_write (Err Write) e = refl
-run_write (Err TurnsSpent) e = cc
-run_write (Err NoMemory) e = cc
-
-pub run_spent : (outcome : Result ℕ (Stop ⊤)) → run_as outcome ≡ Err faults.TurnsSpent → outcome ≡ Err TurnsSpent
-run_spent (Ok count) e = cc
-run_spent (Err (Item number fault)) e = cc
-run_spent (Err Read) e = cc
-run_spent (Err Write) e = cc
-run_spent (Err TurnsSpent) e = refl
-run_spent (Err NoMemory) e = cc
+-- each of these ends is told as itself
+pub own_end : (outcome : Result ℕ (Stop ⊤)) → record {
+  read : run_as outcome ≡ Err faults.Read → outcome ≡ Err Read;
+  write : run_as outcome ≡ Err faults.Write → outcome ≡ Err Write;
+  turns_spent : run_as outcome ≡ Err faults.TurnsSpent → outcome ≡ Err TurnsSpent;
+}
+own_end (Ok count) = record { read = λ e. cc; write = λ e. cc; turns_spent = λ e. cc }
+own_end (Err (Item number fault)) = record { read = λ e. cc; write = λ e. cc; turns_spent = λ e. cc }
+own_end (Err Read) = record { read = λ e. refl; write = λ e. cc; turns_spent = λ e. cc }
+own_end (Err Write) = record { read = λ e. cc; write = λ e. refl; turns_spent = λ e. cc }
+own_end (Err TurnsSpent) = record { read = λ e. cc; write = λ e. cc; turns_spent = λ e. refl }
+own_end (Err NoMemory) = record { read = λ e. cc; write = λ e. cc; turns_spent = λ e. cc }

@@ -1,10 +1,8 @@
 -- How a run of a script ends, by how the answering of its lines does.
 use Rattle.std.proofs.Common.{◌≡◌, ℕ, inl, inr, List, [], ◌∷◌, ◌++◌, Option, None, Some, Result, Ok, Err, refl, sym, ap, ◌∙◌}
-use Rattle.std.specs.Prelude.{⊤}
 use Rattle.eden_stream.specs.Answers.{RefusesLine}
-use Rattle.eden_stream.specs.Ends.{CantRead, Ends, LeavesMachine}
+use Rattle.eden_stream.specs.Ends.{Ends, LeavesMachine}
 use Rattle.eden_stream.specs.LineEnds.{EndsTellingLines, LosesNext, RefusesNext, StopsAtBadLine}
-use Rattle.eden_stream.specs.Lines.{IsTooLong}
 use Rattle.eden_stream.specs.Scripts.{GoesOn, IsScript, in_front}
 use Rattle.eden_stream.specs.internal.LineLaws.{story_laws}
 use Rattle.eden_stream.specs.internal.LineSteps.{HasRefused, line_story}

@@ -15,7 +15,7 @@ use std::io::ErrorKind;
 const TEXT_SIZE: usize = 65_536;
 
 /// A write is tried again this many times in a row where it was interrupted.
-const MOST_TRIES: u32 = 1_000;
+pub(crate) const MOST_TRIES: u32 = 1_000;
 
 /// What one read gave.
 pub(crate) enum Received {

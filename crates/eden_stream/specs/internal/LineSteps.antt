@@ -1,5 +1,5 @@
 -- What a machine tells of the lines that it was given, and what the steps say that find lines.
-use Rattle.std.specs.Prelude.{◌≡◌, Bool, true, ℕ, ◌<◌, ◌≤◌, ◌⊎◌, ⊤, List, [], ◌∷◌, ◌++◌, length, take, drop, Option, None, Some, Result, Ok, Err, slice_index}
+use Rattle.std.specs.Prelude.{◌≡◌, Bool, true, ℕ, ◌<◌, ◌≤◌, ◌⊎◌, ⊤, List, [], ◌∷◌, ◌++◌, length, take, drop, Option, Some, Result, Ok, Err, slice_index}
 use Rattle.std.specs.Str.Lines.{strip_carriage_return}
 use Rattle.eden_stream.specs.Ends.{CantRead}
 use Rattle.eden_stream.specs.Lines.{HasNoBreak, IsComment, IsSkipped, IsSpoken, IsTooLong}

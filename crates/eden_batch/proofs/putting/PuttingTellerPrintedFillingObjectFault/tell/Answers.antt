@@ -1,8 +1,9 @@
 -- The object of an item is put, and its id noted.
 use Rattle.std.proofs.Common.{◌≢◌, ◌∷◌, ◌++◌, [], ◌∙◌, ap, arith, inr, refl, sym, subst, take, Err, Ok}
 use Rattle.std.proofs.lemmas.List.{length-take}
+use Rattle.eden_batch.specs.declared.fault.ObjectFault.TheVariants.{OtherId}
 use Rattle.eden_batch.specs.internal.Loads.{Fills, HaltsAt}
-use Rattle.eden_batch.proofs.Fillings.{equal_ids, fails_at, fills_more, halts_at, id_is, never_lacks, other_id, outcome_is, puts_is, puts_of, same_still, tells_refused, there}
+use Rattle.eden_batch.proofs.Fillings.{fails_at, fills_more, halts_at, id_is, never_lacks, other_id, outcome_is, put_own, puts_is, puts_of, same_still, tells_refused, there}
 use Rattle.eden_batch.proofs.putting.PuttingTellerPrintedFillingObjectFault.tell.Goals as goal
 
 pub unreachable-requires : goal.unreachable-requires
@@ -16,80 +17,59 @@ slice_bounds-payload-end g c =
 pub returns-in-Ok-put_object : goal.returns-in-Ok-put_object
 returns-in-Ok-put_object g c = λ before items sent told.
     let taker = g.I.Importer in
-    let name = taker.name in
+    let item = c.args.item.now in
     let h = c.in-Ok.header in
     let behind = c.in-Ok.behind.now in
-    let old = taker.held before.into.now in
     let held = taker.held c.args.filling.now.into.now in
     let new = taker.held c.put_object.new.self in
-    let ids = c.args.filling.now.ids.now.items in
     let read = c.in-Ok.ensures in
     let id = c.in-Ok-put_object.id in
-    let puts = c.in-Ok-put_object.ensures.ok in
-    let other : id ≢ c.requires.0.id = λ e. other_id id h.id c.if-ne.ensures (e ∙ sym (id_is c.args.item.now c.requires h behind read.0 read.1)) in
-    let outcome = outcome_is c.args.item.now c.requires h behind read.0 read.1 name held (Ok (id, new)) puts in (
-      same_still name taker.held taker.over taker.laws before c.args.filling.now _ told.0 refl refl c.put_object.ensures.only,
-      fails_at name old held new before.ids.now.items ids items told.1 c.requires.0 c.args.item.now _ c.requires.1 c.requires.2 (id, other, outcome),
+    let other : id ≢ c.requires.0.id = λ e. other_id id h.id c.if-ne.ensures (e ∙ sym (id_is item c.requires h behind read.0 read.1)) in
+    let outcome = outcome_is item c.requires h behind read.0 read.1 taker.name held (Ok (id, new)) c.in-Ok-put_object.ensures.ok in (
+      same_still taker.name taker.held taker.over taker.laws before c.args.filling.now _ told.0 refl refl c.put_object.ensures.only,
+      fails_at told.1 new item OtherId c.requires (id, other, outcome),
     )
 
 pub returns-in-Ok-push : goal.returns-in-Ok-push
 returns-in-Ok-push g c = λ before items sent told.
     let taker = g.I.Importer in
-    let name = taker.name in
-    let h = c.in-Ok.header in
-    let behind = c.in-Ok.behind.now in
-    let old = taker.held before.into.now in
+    let item = c.args.item.now in
     let held = taker.held c.args.filling.now.into.now in
     let new = taker.held c.put_object.new.self in
-    let ids = c.args.filling.now.ids.now.items in
-    let item = c.args.item.now in
     let read = c.in-Ok.ensures in
-    let id = c.in-Ok-put_object.id in
-    let own = equal_ids id h.id c.if-ne.ensures ∙ id_is item c.requires h behind read.0 read.1 in
-    let outcome = outcome_is item c.requires h behind read.0 read.1 name held (Ok (id, new)) c.in-Ok-put_object.ensures.ok ∙ ap (λ i. Ok (i, new)) own in
-    let fills = fills_more name old held new before.ids.now.items ids items told.1 c.requires.0 item c.requires.1 c.requires.2 outcome in
-    let noted = c.in-Ok-push.ensures.items ∙ ap (λ i. ids ++ i ∷ []) own in (
-      same_still name taker.held taker.over taker.laws before c.args.filling.now _ told.0 refl refl c.put_object.ensures.only,
-      subst (λ l. Fills name old new before.ids.now.items l (items ++ item ∷ [])) (sym noted) fills,
+    let put =
+    put_own item c.requires c.in-Ok.header c.in-Ok.behind.now read.0 read.1 taker.name held new c.in-Ok-put_object.id c.if-ne.ensures c.in-Ok-put_object.ensures.ok in
+    let noted = c.in-Ok-push.ensures.items ∙ ap (λ i. c.args.filling.now.ids.now.items ++ i ∷ []) put.0 in (
+      same_still taker.name taker.held taker.over taker.laws before c.args.filling.now _ told.0 refl refl c.put_object.ensures.only,
+      subst (λ l. Fills taker.name (taker.held before.into.now) new before.ids.now.items l (items ++ item ∷ [])) (sym noted) (fills_more told.1 new item c.requires put.1),
     )
 
 pub returns-in-Err-push : goal.returns-in-Err-push
 returns-in-Err-push g c = λ before items sent told.
     let taker = g.I.Importer in
-    let name = taker.name in
-    let h = c.in-Ok.header in
-    let behind = c.in-Ok.behind.now in
-    let old = taker.held before.into.now in
+    let item = c.args.item.now in
     let held = taker.held c.args.filling.now.into.now in
     let new = taker.held c.put_object.new.self in
-    let ids = c.args.filling.now.ids.now.items in
-    let item = c.args.item.now in
     let read = c.in-Ok.ensures in
-    let id = c.in-Ok-put_object.id in
-    let own = equal_ids id h.id c.if-ne.ensures ∙ id_is item c.requires h behind read.0 read.1 in
-    let outcome = outcome_is item c.requires h behind read.0 read.1 name held (Ok (id, new)) c.in-Ok-put_object.ensures.ok ∙ ap (λ i. Ok (i, new)) own in (
-      same_still name taker.held taker.over taker.laws before c.args.filling.now _ told.0 refl refl c.put_object.ensures.only,
-      subst (λ l. HaltsAt name old new before.ids.now.items l items item) (sym c.in-Err-push.ensures.items)
-          (halts_at name old held new before.ids.now.items ids items told.1 item (inr (c.requires.0, c.requires.1, c.requires.2, outcome))),
+    let put =
+    put_own item c.requires c.in-Ok.header c.in-Ok.behind.now read.0 read.1 taker.name held new c.in-Ok-put_object.id c.if-ne.ensures c.in-Ok-put_object.ensures.ok in
+    let halts = halts_at told.1 new item (inr (c.requires.0, c.requires.1, c.requires.2, put.1)) in (
+      same_still taker.name taker.held taker.over taker.laws before c.args.filling.now _ told.0 refl refl c.put_object.ensures.only,
+      subst (λ l. HaltsAt taker.name (taker.held before.into.now) new before.ids.now.items l items item) (sym c.in-Err-push.ensures.items) halts,
     )
 
 pub returns-in-Err : goal.returns-in-Err
 returns-in-Err g c = λ before items sent told.
     let taker = g.I.Importer in
-    let name = taker.name in
     let h = c.in-Ok.header in
     let behind = c.in-Ok.behind.now in
-    let old = taker.held before.into.now in
     let held = taker.held c.args.filling.now.into.now in
     let new = taker.held c.put_object.new.self in
-    let ids = c.args.filling.now.ids.now.items in
     let item = c.args.item.now in
-    let text = c.args._text.now.items in
     let read = c.in-Ok.ensures in
     let cause = c.in-Err.cause in
+    let same = same_still taker.name taker.held taker.over taker.laws before c.args.filling.now _ told.0 refl refl c.put_object.ensures.only in
     let puts =
-    puts_is item c.requires h behind read.0 read.1 (Err cause) name held new
-    (puts_of cause name h.word (take h.size behind) held new c.in-Err.ensures.err c.in-Err.ensures.refuses) in
-    rw c.refusal.ensures
-    (tells_refused name taker.held taker.over before _ (same_still name taker.held taker.over taker.laws before c.args.filling.now _ told.0 refl refl c.put_object.ensures.only)
-    held items told.1 cause c.requires.0 sent item text c.requires.1 c.requires.2 puts)
+    puts_is item c.requires h behind read.0 read.1 (Err cause) taker.name held new
+    (puts_of cause taker.name h.word (take h.size behind) held new c.in-Err.ensures.err c.in-Err.ensures.refuses) in
+    rw c.refusal.ensures (tells_refused taker.name taker.held taker.over before _ same held items told.1 cause sent item c.args._text.now.items c.requires puts)
