@@ -1,11 +1,12 @@
 -- The last part of a pattern beside the last name of a path.
 use Rattle.std.proofs.Common.{◌≡◌, ℕ, suc, zero, ◌+◌, ◌-◌, ◌<◌, Bool, true, false, cond, ◌&&◌, ◌||◌, nat_eq, List, [], ◌∷◌, ◌++◌, take, drop, length, refl, sym, ap, ◌∙◌, arith, add-one}
+use Rattle.std.proofs.Math.Bool.{and-false, or-true}
 use Rattle.std.proofs.lemmas.List.{length-drop, take_all}
 use Rattle.std.specs.List.{onto_first, slice_index_or}
 use Rattle.eden_ids.specs.Paths.{components}
-use Rattle.eden_globs.specs.Filters.{first_then, is_any_names, is_none_left, name_matches, path_matches, some_rest}
+use Rattle.eden_globs.specs.Filters.{ends_in_any_names, first_then, is_any_names, is_none_left, name_matches, path_matches, some_rest}
 use Rattle.eden_globs.specs.declared.pattern.Part.{Part}
-use Rattle.eden_globs.specs.internal.Compiled.{AreParts, EndsIn, IsPartOf, part_matches}
+use Rattle.eden_globs.specs.internal.Compiled.{AreParts, EndsIn, IsPartOf, is_any_names_part, part_matches}
 use Rattle.eden_globs.proofs.Splitting.{drop_none, here, later, no_slash}
 use Rattle.eden_globs.proofs.Tokens.{each_matches}
 
@@ -40,10 +41,6 @@ only_name bytes none = ([], no_slash bytes none)
 
 -- ---- a path whose last name the last part does not match
 
-and_false : (b : Bool) → (b && false) ≡ false
-and_false true = refl
-and_false false = refl
-
 module _ (text name : List ℕ) (named : is_any_names text ≡ false) (apart : name_matches false text name ≡ false) where
   some_left : (names : List (List ℕ)) → is_none_left (names ++ name ∷ []) ≡ false
   some_left [] = refl
@@ -65,16 +62,16 @@ module _ (text name : List ℕ) (named : is_any_names text ≡ false) (apart : n
   refused [] [] = ap (λ b. cond b (some_rest (path_matches []) (name ∷ [])) (first_then (name_matches false text) (path_matches []) (name ∷ []))) named ∙ ap (λ b. b && true) apart
   refused [] (n ∷ names) =
       ap (λ b. cond b (some_rest (path_matches []) (n ∷ (names ++ name ∷ []))) (first_then (name_matches false text) (path_matches []) (n ∷ (names ++ name ∷ [])))) named
-      ∙ ap (λ b. name_matches false text n && b) (some_left names) ∙ and_false (name_matches false text n)
+      ∙ ap (λ b. name_matches false text n && b) (some_left names) ∙ and-false (name_matches false text n)
   refused (t ∷ texts) [] =
       elim (is_any_names t) as (λ b. cond b (some_rest (path_matches (texts ++ text ∷ [])) (name ∷ [])) (first_then (name_matches false t) (path_matches (texts ++ text ∷ [])) (name ∷ [])) ≡ false) [
         | true ↦ ap (λ b. b || path_matches (texts ++ text ∷ []) []) (refused texts []) ∙ none_empty texts
-        | false ↦ ap (λ b. name_matches false t name && b) (none_empty texts) ∙ and_false (name_matches false t name)
+        | false ↦ ap (λ b. name_matches false t name && b) (none_empty texts) ∙ and-false (name_matches false t name)
       ]
   refused (t ∷ texts) (n ∷ names) =
       elim (is_any_names t) as (λ b. cond b (some_rest (path_matches (texts ++ text ∷ [])) (n ∷ (names ++ name ∷ []))) (first_then (name_matches false t) (path_matches (texts ++ text ∷ [])) (n ∷ (names ++ name ∷ []))) ≡ false) [
         | true ↦ some_none (path_matches (texts ++ text ∷ [])) (none_empty texts) (refused texts) (n ∷ names)
-        | false ↦ ap (λ b. name_matches false t n && b) (refused texts names) ∙ and_false (name_matches false t n)
+        | false ↦ ap (λ b. name_matches false t n && b) (refused texts names) ∙ and-false (name_matches false t n)
       ]
 
 is_named : (text name : List ℕ) → name_matches false text name ≡ false → is_any_names text ≡ false
@@ -100,3 +97,47 @@ end_refused parts part name unlike texts names are ends =
     let last = last_text parts part texts are in
     let apart : name_matches false last.1.0 name ≡ false = sym (last.1.1.1.1 name) ∙ unlike in
     ap (λ ts. path_matches ts names) last.1.1.0 ∙ ap (path_matches (last.0 ++ last.1.0 ∷ [])) ends.1 ∙ refused last.1.0 name (is_named last.1.0 name apart) apart last.0 ends.0
+
+-- ---- a path whose last name the last part matches, after a `**`
+
+last_matched : (text name : List ℕ) → name_matches false text name ≡ true → path_matches (text ∷ []) (name ∷ []) ≡ true
+last_matched text name e =
+    elim (is_any_names text) as (λ b. cond b (some_rest (path_matches []) (name ∷ [])) (name_matches false text name && true) ≡ true) [
+      | true ↦ refl
+      | false ↦ ap (λ b. b && true) e
+    ]
+
+rest_matched : (test : List (List ℕ) → Bool) (name : List ℕ) → test (name ∷ []) ≡ true → (front : List (List ℕ)) → some_rest test (front ++ name ∷ []) ≡ true
+rest_matched test name e [] = ap (λ b. b || test []) e
+rest_matched test name e (n ∷ front) = ap (λ b. test (n ∷ (front ++ name ∷ [])) || b) (rest_matched test name e front) ∙ or-true (test (n ∷ (front ++ name ∷ [])))
+
+pub one_alone : (parts : List Part) (part : Part) → length parts ≡ 1 → part ≡ slice_index_or parts 0 part → parts ≡ part ∷ []
+one_alone [] part one is = absurd (omega (arith, one))
+one_alone (p ∷ []) part one is = ap (λ q. q ∷ []) (sym is)
+one_alone (p ∷ q ∷ parts) part one is = absurd (omega (arith, one))
+
+pub end_matched : (first last : Part) (name : List ℕ) → is_any_names_part first ≡ true → part_matches last name ≡ true → (texts names : List (List ℕ)) → AreParts (first ∷ last ∷ []) texts → EndsIn names name
+    → path_matches texts names ≡ true
+end_matched first last name any alike [] names are ends = absurd are
+end_matched first last name any alike (t ∷ []) names are ends = absurd are.1
+end_matched first last name any alike (t ∷ u ∷ s ∷ texts) names are ends = absurd are.1.1
+end_matched first last name any alike (t ∷ u ∷ []) names are ends =
+    ap (λ b. cond b (some_rest (path_matches (u ∷ [])) names) (first_then (name_matches false t) (path_matches (u ∷ [])) names)) (sym are.0.0 ∙ any)
+    ∙ ap (some_rest (path_matches (u ∷ []))) ends.1
+    ∙ rest_matched (path_matches (u ∷ [])) name (last_matched u name (sym (are.1.0.1 name) ∙ alike)) ends.0
+
+-- ---- the last part
+
+ends_so : (front : List (List ℕ)) (text : List ℕ) → ends_in_any_names (front ++ text ∷ []) ≡ is_any_names text
+ends_so [] text = refl
+ends_so (t ∷ []) text = refl
+ends_so (t ∷ s ∷ front) text = ends_so (s ∷ front) text
+
+pub last_any : (parts : List Part) (part : Part) (texts : List (List ℕ)) → AreParts (parts ++ part ∷ []) texts → is_any_names_part part ≡ ends_in_any_names texts
+last_any parts part texts are =
+    let last = last_text parts part texts are in
+    last.1.1.1.0 ∙ sym (ends_so last.0 last.1.0) ∙ ap ends_in_any_names (sym last.1.1.0)
+
+pub no_last : (texts : List (List ℕ)) → AreParts [] texts → false ≡ ends_in_any_names texts
+no_last [] are = refl
+no_last (t ∷ texts) are = absurd are

@@ -1,9 +1,10 @@
--- Where no pattern enters a directory, none admits what lies below it.
-use Rattle.std.proofs.Common.{◌≡◌, ℕ, Bool, true, false, cond, ◌&&◌, ◌||◌, nat_eq, List, [], ◌∷◌, ◌++◌, ◌<◌, length, arith, refl, sym, ap, ◌∙◌}
-use Rattle.std.proofs.lemmas.Bool.{eqb-true}
+-- Where a filter does not enter a directory, it admits nothing that lies below it.
+use Rattle.std.proofs.Common.{◌≡◌, ℕ, Bool, true, false, cond, not, ◌&&◌, ◌||◌, nat_eq, List, [], ◌∷◌, ◌++◌, ◌<◌, length, arith, refl, sym, ap, ◌∙◌}
+use Rattle.std.proofs.Math.Bool.{and-false, or-true}
+use Rattle.std.proofs.lemmas.Bool.{and_parts, eqb-true}
 use Rattle.std.specs.List.{list_any, onto_first, starts_with}
 use Rattle.eden_ids.specs.Paths.{components, lies_below}
-use Rattle.eden_globs.specs.Filters.{admits, enters, is_any_names, name_matches, parts_enter, path_matches, pattern_admits, pattern_enters, some_rest}
+use Rattle.eden_globs.specs.Filters.{Patterns, admits, ends_in_any_names, enters, first_then, includes, includes_below, is_any_names, name_matches, names_of, parts_enter, path_matches, pattern_enters, pattern_matches, pattern_takes, some_match, some_rest, some_take}
 use Rattle.eden_globs.proofs.Splitting.{here, later}
 
 -- ---- the parts of a directory's path and of what lies below it
@@ -50,7 +51,7 @@ below_parts (x ∷ path) (a ∷ top) e = by (nat_eq a x) refl e (below_parts pat
         (more.0, ap (λ n. n ∷ path) (sym (eqb-true a x same)) ∙ ap (λ ys. a ∷ ys) more.1)
     by false same h below = absurd (let bad : false ≡ true = h in cc)
 
--- ---- nothing below is admitted
+-- ---- no pattern matches what lies below
 
 none_there : (parts names : List (List ℕ)) (m : List ℕ) (ms : List (List ℕ)) → parts_enter parts names ≡ false → path_matches parts (names ++ m ∷ ms) ≡ false
 none_there [] [] m ms e = refl
@@ -64,7 +65,7 @@ none_there (part ∷ parts) (n ∷ names) m ms e = by (is_any_names part) (name_
     by false true c h k = k h
     by false false c h k = refl
 
-pattern_none : (directory path pattern : List ℕ) → lies_below path directory ≡ true → pattern_enters pattern directory ≡ false → pattern_admits pattern path ≡ false
+pattern_none : (directory path pattern : List ℕ) → lies_below path directory ≡ true → pattern_enters pattern directory ≡ false → pattern_matches pattern path ≡ false
 pattern_none [] path pattern below e =
     let some = first_part pattern in
     let bad : true ≡ false = sym (ap (λ ps. parts_enter ps []) some.1.1) ∙ e in
@@ -72,7 +73,7 @@ pattern_none [] path pattern below e =
 pattern_none (b ∷ directory) path pattern below e =
     let cut = below_parts path (b ∷ directory) below in
     let some = first_part cut.0 in
-    ap (pattern_admits pattern) cut.1
+    ap (pattern_matches pattern) cut.1
     ∙ ap (path_matches (components pattern)) (parts_below (b ∷ directory) cut.0 ∙ ap (λ ps. components (b ∷ directory) ++ ps) some.1.1)
     ∙ none_there (components pattern) (components (b ∷ directory)) some.0 some.1.0 e
 
@@ -84,17 +85,99 @@ none_of f g (p ∷ ps) each e = by (f p) (g p) (list_any f ps) e (each p) (none_
     by true b c h k l = absurd (let bad : true ≡ false = h in cc)
     by false b c h k l = ap (λ t. t || list_any g ps) (k refl) ∙ l h
 
-pub none_outside : (patterns : List (List ℕ)) (directory path : List ℕ) → enters patterns directory ≡ false → lies_below path directory ≡ true → admits patterns path ≡ false
-none_outside [] directory path e below = absurd (let bad : true ≡ false = e in cc)
-none_outside (p ∷ ps) directory path e below =
-    none_of (λ q. pattern_enters q directory) (λ q. pattern_admits q path) (p ∷ ps) (λ q. pattern_none directory path q below) e
+none_included : (patterns : List (List ℕ)) (directory path : List ℕ) → includes_below patterns directory ≡ false → lies_below path directory ≡ true → includes patterns path ≡ false
+none_included [] directory path e below = absurd (let bad : true ≡ false = e in cc)
+none_included (p ∷ ps) directory path e below =
+    none_of (λ q. pattern_enters q directory) (λ q. pattern_matches q path) (p ∷ ps) (λ q. pattern_none directory path q below) e
+
+-- ---- a pattern that takes a directory matches what lies below
+
+pub all_rests : (names : List (List ℕ)) → some_rest (path_matches []) names ≡ true
+all_rests [] = refl
+all_rests (n ∷ names) = all_rests names
+
+rests_from : (test : List (List ℕ) → Bool) (names : List (List ℕ)) → test names ≡ true → some_rest test names ≡ true
+rests_from test [] e = e
+rests_from test (n ∷ names) e = ap (λ b. b || some_rest test names) e
+
+rests_more : (test : List (List ℕ) → Bool) (more : List (List ℕ)) → ((names : List (List ℕ)) → test names ≡ true → test (names ++ more) ≡ true) → (names : List (List ℕ)) → some_rest test names ≡ true → some_rest test (names ++ more) ≡ true
+rests_more test more keeps [] e = rests_from test more (keeps [] e)
+rests_more test more keeps (n ∷ names) e = by (test (n ∷ names)) refl e (rests_more test more keeps names)
+  where
+    by : (t : Bool) → test (n ∷ names) ≡ t → (t || some_rest test names) ≡ true → (some_rest test names ≡ true → some_rest test (names ++ more) ≡ true)
+        → (test (n ∷ (names ++ more)) || some_rest test (names ++ more)) ≡ true
+    by true is h later = ap (λ b. b || some_rest test (names ++ more)) (keeps (n ∷ names) is)
+    by false is h later = ap (λ b. test (n ∷ (names ++ more)) || b) (later h) ∙ or-true (test (n ∷ (names ++ more)))
+
+first_more : (first : List ℕ → Bool) (test : List (List ℕ) → Bool) (more : List (List ℕ)) → ((names : List (List ℕ)) → test names ≡ true → test (names ++ more) ≡ true) → (names : List (List ℕ)) → first_then first test names ≡ true → first_then first test (names ++ more) ≡ true
+first_more first test more keeps [] e = absurd (let bad : false ≡ true = e in cc)
+first_more first test more keeps (n ∷ names) e = by (first n) e
+  where
+    by : (t : Bool) → (t && test names) ≡ true → (t && test (names ++ more)) ≡ true
+    by true h = keeps names h
+    by false h = absurd (let bad : false ≡ true = h in cc)
+
+taken_more : (parts names more : List (List ℕ)) → ends_in_any_names parts ≡ true → path_matches parts names ≡ true → path_matches parts (names ++ more) ≡ true
+taken_more [] names more ends e = absurd (let bad : false ≡ true = ends in cc)
+taken_more (p ∷ []) names more ends e =
+    ap (λ b. cond b (some_rest (path_matches []) (names ++ more)) (first_then (name_matches false p) (path_matches []) (names ++ more))) ends ∙ all_rests (names ++ more)
+taken_more (p ∷ q ∷ ps) names more ends e = by (is_any_names p) e (λ xs h. taken_more (q ∷ ps) xs more ends h)
+  where
+    by : (t : Bool) → cond t (some_rest (path_matches (q ∷ ps)) names) (first_then (name_matches false p) (path_matches (q ∷ ps)) names) ≡ true
+        → ((xs : List (List ℕ)) → path_matches (q ∷ ps) xs ≡ true → path_matches (q ∷ ps) (xs ++ more) ≡ true)
+        → cond t (some_rest (path_matches (q ∷ ps)) (names ++ more)) (first_then (name_matches false p) (path_matches (q ∷ ps)) (names ++ more)) ≡ true
+    by true h keeps = rests_more (path_matches (q ∷ ps)) more keeps names h
+    by false h keeps = first_more (name_matches false p) (path_matches (q ∷ ps)) more keeps names h
+
+pattern_all : (directory path pattern : List ℕ) → lies_below path directory ≡ true → pattern_takes pattern directory ≡ true → pattern_matches pattern path ≡ true
+pattern_all [] path pattern below e =
+    let both = and_parts (ends_in_any_names (components pattern)) (path_matches (components pattern) []) e in
+    taken_more (components pattern) [] (components path) both.0 both.1
+pattern_all (b ∷ directory) path pattern below e =
+    let both = and_parts (ends_in_any_names (components pattern)) (path_matches (components pattern) (components (b ∷ directory))) e in
+    let cut = below_parts path (b ∷ directory) below in
+    ap (pattern_matches pattern) cut.1
+    ∙ ap (path_matches (components pattern)) (parts_below (b ∷ directory) cut.0)
+    ∙ taken_more (components pattern) (components (b ∷ directory)) (components cut.0) both.0 both.1
+
+some_of : (f g : List ℕ → Bool) (ps : List (List ℕ)) → ((p : List ℕ) → f p ≡ true → g p ≡ true) → list_any f ps ≡ true → list_any g ps ≡ true
+some_of f g [] each e = absurd (let bad : false ≡ true = e in cc)
+some_of f g (p ∷ ps) each e = by (f p) e (each p) (some_of f g ps each)
+  where
+    by : (a : Bool) → (a || list_any f ps) ≡ true → (a ≡ true → g p ≡ true) → (list_any f ps ≡ true → list_any g ps ≡ true) → (g p || list_any g ps) ≡ true
+    by true h k l = ap (λ t. t || list_any g ps) (k refl)
+    by false h k l = ap (λ t. g p || t) (l h) ∙ or-true (g p)
+
+all_excluded : (patterns : List (List ℕ)) (directory path : List ℕ) → some_take patterns directory ≡ true → lies_below path directory ≡ true → some_match patterns path ≡ true
+all_excluded patterns directory path e below =
+    some_of (λ q. pattern_takes q directory) (λ q. pattern_matches q path) patterns (λ q. pattern_all directory path q below) e
+
+-- ---- nothing below is admitted
+
+pub none_outside : (filter : Patterns) (directory path : List ℕ) → enters filter directory ≡ false → lies_below path directory ≡ true → admits filter path ≡ false
+none_outside filter directory path e below =
+    by (includes_below filter.included directory) (some_take filter.excluded directory) e
+    (λ h. none_included filter.included directory path h below) (λ h. all_excluded filter.excluded directory path h below)
+  where
+    by : (a b : Bool) → (a && not b) ≡ false → (a ≡ false → includes filter.included path ≡ false) → (b ≡ true → some_match filter.excluded path ≡ true) → admits filter path ≡ false
+    by false b h none all = ap (λ t. t && not (some_match filter.excluded path)) (none refl)
+    by true true h none all = ap (λ t. includes filter.included path && not t) (all refl) ∙ and-false (includes filter.included path)
+    by true false h none all = absurd (let bad : true ≡ false = h in cc)
 
 -- ---- the root, and what lies below it
 
-pub root_enters : (patterns : List (List ℕ)) (directory : List ℕ) → length directory ≡ 0 → enters patterns directory ≡ true
+pub root_enters : (patterns : List (List ℕ)) (directory : List ℕ) → length directory ≡ 0 → includes_below patterns directory ≡ true
 root_enters [] directory e = refl
 root_enters (p ∷ ps) (b ∷ directory) e = absurd (omega (arith, e))
 root_enters (p ∷ ps) [] e = let some = first_part p in ap (λ ts. parts_enter ts [] || list_any (λ pattern. pattern_enters pattern []) ps) some.1.1
+
+pub names_below : (directory : List ℕ) → 0 < length directory → names_of directory ≡ components directory
+names_below [] e = absurd (omega (arith, e))
+names_below (b ∷ directory) e = refl
+
+pub no_names : (directory : List ℕ) → length directory ≡ 0 → names_of directory ≡ []
+no_names [] e = refl
+no_names (b ∷ directory) e = absurd (omega (arith, e))
 
 pub below_root : (pattern directory : List ℕ) → 0 < length directory → pattern_enters pattern directory ≡ parts_enter (components pattern) (components directory)
 below_root pattern [] e = absurd (omega (arith, e))

@@ -1,11 +1,11 @@
--- What a filter's patterns are, and what a filter admits.
+-- What a filter's patterns are, and what its lists of patterns match.
 use Rattle.std.proofs.Common.{◌≡◌, ℕ, ◌+◌, ◌<◌, ◌≤◌, Bool, true, false, cond, nat_lt, List, [], ◌∷◌, length, Option, Some, None, refl, ap, arith}
 use Rattle.std.proofs.lemmas.Bool.{ltb-false}
 use Rattle.std.specs.List.{AllByRecursion, list_any}
 use Rattle.std.specs.Option.{option_or}
 use Rattle.eden_globs.specs.declared.filter.FilterFault.{FilterFault}
 use Rattle.eden_globs.specs.declared.filter.FilterFault.TheVariants.{TooMany, PatternTooLong, BadPattern}
-use Rattle.eden_globs.specs.Filters.{IsFilter, admits, enters, pattern_admits, pattern_enters, pattern_fault, patterns_fault}
+use Rattle.eden_globs.specs.Filters.{filter_fault, includes, includes_below, pattern_enters, pattern_fault, patterns_fault, some_match, some_take}
 
 none_guarded : (b : Bool) (fault : FilterFault) (rest : Option FilterFault) → cond b (Some fault) rest ≡ None → (b ≡ false) × (rest ≡ None)
 none_guarded true fault rest e = absurd (cc)
@@ -16,7 +16,7 @@ none_first None b e = (refl, e)
 none_first (Some fault) b e = absurd (cc)
 
 -- a filter has 32 patterns at the most
-pub filter_few : (patterns : List (List ℕ)) → IsFilter patterns → length patterns ≤ 32
+pub filter_few : (patterns : List (List ℕ)) → filter_fault patterns ≡ None → length patterns ≤ 32
 filter_few patterns e = ltb-false 32 (length patterns) (none_guarded (nat_lt 32 (length patterns)) TooMany (patterns_fault 0 patterns) e).0
 
 some_byte : (place : ℕ) (bytes : List ℕ) → pattern_fault place bytes ≡ None → (1 ≤ length bytes) × (length bytes ≤ 256)
@@ -31,21 +31,27 @@ all_short place (p ∷ ps) e =
     (some_byte place p both.0, all_short (place + 1) ps both.1)
 
 -- each pattern of a filter has 1 to 256 bytes
-pub filter_short : (patterns : List (List ℕ)) → IsFilter patterns → AllByRecursion (λ p. (1 ≤ length p) × (length p ≤ 256)) patterns
+pub filter_short : (patterns : List (List ℕ)) → filter_fault patterns ≡ None → AllByRecursion (λ p. (1 ≤ length p) × (length p ≤ 256)) patterns
 filter_short patterns e = all_short 0 patterns (none_guarded (nat_lt 32 (length patterns)) TooMany (patterns_fault 0 patterns) e).1
 
--- ---- admitting
+-- ---- a list without patterns, and one with some
 
-pub admits_none : (patterns : List (List ℕ)) (path : List ℕ) → patterns ≡ [] → admits patterns path ≡ true
-admits_none patterns path e = ap (λ ps. admits ps path) e
+pub includes_none : (patterns : List (List ℕ)) (path : List ℕ) → patterns ≡ [] → includes patterns path ≡ true
+includes_none patterns path e = ap (λ ps. includes ps path) e
 
-pub admits_some : (patterns : List (List ℕ)) (path : List ℕ) → 0 < length patterns → admits patterns path ≡ list_any (λ pattern. pattern_admits pattern path) patterns
-admits_some [] path h = absurd (omega arith)
-admits_some (p ∷ ps) path h = refl
+pub includes_some : (patterns : List (List ℕ)) (path : List ℕ) → 0 < length patterns → includes patterns path ≡ some_match patterns path
+includes_some [] path h = absurd (omega arith)
+includes_some (p ∷ ps) path h = refl
 
-pub enters_none : (patterns : List (List ℕ)) (directory : List ℕ) → patterns ≡ [] → enters patterns directory ≡ true
-enters_none patterns directory e = ap (λ ps. enters ps directory) e
+pub none_match : (patterns : List (List ℕ)) (path : List ℕ) → patterns ≡ [] → some_match patterns path ≡ false
+none_match patterns path e = ap (λ ps. some_match ps path) e
 
-pub enters_some : (patterns : List (List ℕ)) (directory : List ℕ) → 0 < length patterns → enters patterns directory ≡ list_any (λ pattern. pattern_enters pattern directory) patterns
+pub enters_none : (patterns : List (List ℕ)) (directory : List ℕ) → patterns ≡ [] → includes_below patterns directory ≡ true
+enters_none patterns directory e = ap (λ ps. includes_below ps directory) e
+
+pub enters_some : (patterns : List (List ℕ)) (directory : List ℕ) → 0 < length patterns → includes_below patterns directory ≡ list_any (λ pattern. pattern_enters pattern directory) patterns
 enters_some [] directory h = absurd (omega arith)
 enters_some (p ∷ ps) directory h = refl
+
+pub none_take : (patterns : List (List ℕ)) (directory : List ℕ) → patterns ≡ [] → some_take patterns directory ≡ false
+none_take patterns directory e = ap (λ ps. some_take ps directory) e

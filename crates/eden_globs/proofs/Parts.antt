@@ -1,5 +1,6 @@
 -- The parts of a pattern beside their texts, and the names of a path, one after another.
 use Rattle.std.proofs.Common.{◌≡◌, ℕ, suc, zero, ◌+◌, ◌-◌, ◌<◌, ◌≤◌, Bool, true, false, cond, ◌&&◌, ◌||◌, nat_eq, List, [], ◌∷◌, drop, length, take, refl, subst, sym, ap, ◌∙◌, arith, add-one}
+use Rattle.std.proofs.Math.Bool.{or-true}
 use Rattle.std.proofs.Math.ListN.{get_or-map}
 use Rattle.std.proofs.lemmas.List.{drop_all, drop-map, get_or-drop, length-drop, take_all}
 use Rattle.std.proofs.lemmas.Slice.Zip.{AllZip-long}
@@ -12,15 +13,13 @@ use Rattle.eden_globs.specs.declared.pattern.Part.{Part}
 use Rattle.eden_globs.specs.declared.pattern.Token.{Token}
 use Rattle.eden_globs.specs.internal.Compiled.{AreCompiled, AreParts, AreShort, IsPartOf, is_any_names_part, lent, part_matches, tokens_match}
 use Rattle.eden_globs.specs.internal.Rows.{IsRow}
+use Rattle.eden_globs.proofs.Entering.{all_rests}
 use Rattle.eden_globs.proofs.Rows.{dropped}
+use Rattle.eden_globs.proofs.Splitting.{drop_none}
 
 -- ---- parts and texts
 
 module _ {X : Type 0} where
-  drop_none : (xs : List X) → drop 0 xs ≡ xs
-  drop_none [] = refl
-  drop_none (x ∷ xs) = refl
-
   drop_one : (x : X) (xs : List X) (i : ℕ) → drop (i + 1) (x ∷ xs) ≡ drop i xs
   drop_one x xs i = ap (λ n. drop n (x ∷ xs)) (add-one i)
 
@@ -114,6 +113,11 @@ module _ (part : Part) (text : List ℕ) (texts names : List (List ℕ)) (of : I
   pub no_name_there : (i : ℕ) → length names ≤ i → path_matches (text ∷ texts) (drop i names) ≡ false
   no_name_there i over = ap (path_matches (text ∷ texts)) (drop_all i names over) ∙ one_name []
 
+-- a `**` that is the last part matches what is left, whatever it is
+pub any_alone : (part : Part) (text : List ℕ) (names : List (List ℕ)) → IsPartOf part text → is_any_names_part part ≡ true → path_matches (text ∷ []) names ≡ true
+any_alone part text names of any =
+    ap (λ b. cond b (some_rest (path_matches []) names) (first_then (name_matches false text) (path_matches []) names)) (sym of.0 ∙ any) ∙ all_rests names
+
 none_before : (n : ℕ) → nat_eq 0 (suc n) ≡ false
 none_before n = grind arith
 
@@ -155,6 +159,13 @@ module _ (compiled : List (Vec Part)) (patterns : List (List ℕ)) (are : AreCom
   -- where it does not, one behind it has to
   pub any_later : ((pattern : List ℕ) → PartsOf parts pattern → test pattern ≡ false) → list_any test (drop (i + 1) patterns) ≡ list_any test (drop i patterns)
   any_later fails = sym (ap (λ b. b || list_any test (drop (i + 1) patterns)) (fails one.0 one.1.1)) ∙ ap (list_any test) (sym one.1.0)
+
+-- where one of the later items passes, some item does
+pub any_before : {X : Type 0} (test : X → Bool) (xs : List X) (i : ℕ) → list_any test (drop i xs) ≡ true → list_any test xs ≡ true
+any_before test [] zero e = e
+any_before test [] (suc i) e = e
+any_before test (x ∷ xs) zero e = e
+any_before test (x ∷ xs) (suc i) e = ap (λ b. test x || b) (any_before test xs i e) ∙ or-true (test x)
 
 pub any_over : (compiled : List (Vec Part)) (patterns : List (List ℕ)) → AreCompiled compiled patterns → (test : List ℕ → Bool) (i : ℕ) → length compiled ≤ i → false ≡ list_any test (drop i patterns)
 any_over compiled patterns are test i high = ap (list_any test) (sym (over PartsOf compiled patterns are i high))

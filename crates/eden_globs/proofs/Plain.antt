@@ -4,18 +4,18 @@ use Rattle.std.proofs.lemmas.List.{append-nil}
 use Rattle.std.specs.List.{list_any, onto_first, starts_with}
 use Rattle.eden_ids.specs.Paths.{components, lies_below}
 use Rattle.eden_ids.specs.Sameness.{same_bytes}
-use Rattle.eden_globs.specs.Filters.{admits, first_then, is_any_names, is_none_left, is_plain, name_matches, path_matches, pattern_admits, some_rest}
-use Rattle.eden_globs.proofs.Entering.{first_part}
+use Rattle.eden_globs.specs.Filters.{admits, first_then, including, is_any_names, is_none_left, is_plain, name_matches, path_matches, pattern_matches, some_rest}
+use Rattle.eden_globs.proofs.Entering.{all_rests, first_part}
 use Rattle.eden_globs.proofs.Splitting.{here, later}
-use Rattle.std.proofs.Math.Bool.{or-false, and_assoc, and-or_distrib_left}
+use Rattle.std.proofs.Math.Bool.{and-true, or-false, and_assoc, and-or_distrib_left}
 use Rattle.eden_ids.proofs.ByteOrder.{begins_with_none}
 
-all_rests : (names : List (List ℕ)) → some_rest (path_matches []) names ≡ true
-all_rests [] = refl
-all_rests (n ∷ names) = all_rests names
+-- one pattern that is included
+one_admits : (pattern path : List ℕ) → admits (including (pattern ∷ [])) path ≡ pattern_matches pattern path
+one_admits pattern path = and-true (pattern_matches pattern path || false) ∙ or-false (pattern_matches pattern path)
 
-pub any_admits : (path : List ℕ) → admits (codes "**" ∷ []) path ≡ true
-any_admits path = or-false (pattern_admits (codes "**") path) ∙ all_rests (components path)
+pub any_admits : (path : List ℕ) → admits (including (codes "**" ∷ [])) path ≡ true
+any_admits path = one_admits (codes "**") path ∙ all_rests (components path)
 
 -- ---- a byte that stands for itself, before other bytes
 
@@ -119,7 +119,7 @@ none_is_slash c path = by (nat_eq c 47) refl
     by true e = ap (path_matches (components [])) (here c path e ∙ ap (λ ps. [] ∷ ps) (first_part path).1.1)
     by false e = ap (path_matches (components [])) (later c path e ∙ ap (onto_first c) (first_part path).1.1)
 
-alone : (pattern path : List ℕ) → is_plain pattern ≡ true → pattern_admits pattern path ≡ same_bytes pattern path
+alone : (pattern path : List ℕ) → is_plain pattern ≡ true → pattern_matches pattern path ≡ same_bytes pattern path
 alone [] [] plain = refl
 alone [] (c ∷ path) plain = none_is_slash c path
 alone (b ∷ pattern) [] plain =
@@ -131,8 +131,8 @@ alone (b ∷ pattern) (c ∷ path) plain =
     let parts = named_first pattern (subst (λ p. starts_star p ≡ false) (append-nil pattern) (plain_start pattern [] bytes.3 refl)) in
     at_byte b pattern parts.0 parts.1.0 bytes.0 bytes.1 bytes.2 parts.1.1.0 parts.1.1.1 c path ∙ ap (λ t. nat_eq b c && t) (alone pattern path bytes.3)
 
-pub itself_alone : (pattern path : List ℕ) → is_plain pattern ≡ true → admits (pattern ∷ []) path ≡ same_bytes pattern path
-itself_alone pattern path plain = or-false (pattern_admits pattern path) ∙ alone pattern path plain
+pub itself_alone : (pattern path : List ℕ) → is_plain pattern ≡ true → admits (including (pattern ∷ [])) path ≡ same_bytes pattern path
+itself_alone pattern path plain = one_admits pattern path ∙ alone pattern path plain
 
 -- ---- the pattern with `/**` behind it
 
@@ -142,10 +142,10 @@ turned c = grind arith
 turned_not : (c : ℕ) → nat_eq c 47 ≡ false → nat_eq 47 c ≡ false
 turned_not c = grind arith
 
-rest_after : (c : ℕ) (path : List ℕ) → pattern_admits (codes "/**") (c ∷ path) ≡ (nat_eq 47 c && starts_with nat_eq path [])
+rest_after : (c : ℕ) (path : List ℕ) → pattern_matches (codes "/**") (c ∷ path) ≡ (nat_eq 47 c && starts_with nat_eq path [])
 rest_after c path = by (nat_eq c 47) refl
   where
-    by : (t : Bool) → nat_eq c 47 ≡ t → pattern_admits (codes "/**") (c ∷ path) ≡ (nat_eq 47 c && starts_with nat_eq path [])
+    by : (t : Bool) → nat_eq c 47 ≡ t → pattern_matches (codes "/**") (c ∷ path) ≡ (nat_eq 47 c && starts_with nat_eq path [])
     by true e =
         ap (path_matches (components (codes "/**"))) (here c path e) ∙ all_rests (components path)
         ∙ sym (ap (λ t. t && starts_with nat_eq path []) (turned c e) ∙ begins_with_none path)
@@ -153,7 +153,7 @@ rest_after c path = by (nat_eq c 47) refl
         ap (path_matches (components (codes "/**"))) (later c path e ∙ ap (onto_first c) (first_part path).1.1)
         ∙ sym (ap (λ t. t && starts_with nat_eq path []) (turned_not c e))
 
-with_rest : (pattern path : List ℕ) → is_plain pattern ≡ true → pattern_admits (pattern ++ codes "/**") path ≡ (same_bytes pattern path || lies_below path pattern)
+with_rest : (pattern path : List ℕ) → is_plain pattern ≡ true → pattern_matches (pattern ++ codes "/**") path ≡ (same_bytes pattern path || lies_below path pattern)
 with_rest [] [] plain = refl
 with_rest [] (c ∷ path) plain = rest_after c path
 with_rest (b ∷ pattern) [] plain =
@@ -167,5 +167,9 @@ with_rest (b ∷ pattern) (c ∷ path) plain =
     ∙ ap (λ t. nat_eq b c && t) (with_rest pattern path bytes.3)
     ∙ and-or_distrib_left (nat_eq b c) (same_bytes pattern path) (lies_below path pattern)
 
-pub itself_and_below : (pattern path : List ℕ) → is_plain pattern ≡ true → admits ((pattern ++ codes "/**") ∷ []) path ≡ (same_bytes pattern path || lies_below path pattern)
-itself_and_below pattern path plain = or-false (pattern_admits (pattern ++ codes "/**") path) ∙ with_rest pattern path plain
+pub itself_and_below : (pattern path : List ℕ) → is_plain pattern ≡ true → admits (including ((pattern ++ codes "/**") ∷ [])) path ≡ (same_bytes pattern path || lies_below path pattern)
+itself_and_below pattern path plain = one_admits (pattern ++ codes "/**") path ∙ with_rest pattern path plain
+
+pub all_except : (pattern path : List ℕ) → is_plain pattern ≡ true
+    → admits (record { included = []; excluded = (pattern ++ codes "/**") ∷ [] }) path ≡ not (same_bytes pattern path || lies_below path pattern)
+all_except pattern path plain = ap not (or-false (pattern_matches (pattern ++ codes "/**") path) ∙ with_rest pattern path plain)

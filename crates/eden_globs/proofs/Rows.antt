@@ -10,12 +10,9 @@ use Rattle.eden_globs.specs.declared.pattern.Token.{Token}
 use Rattle.eden_globs.specs.declared.pattern.Token.TheVariants.{Run, Any, Byte}
 use Rattle.eden_globs.specs.internal.Compiled.{IsPartOf, is_any_names_part, part_matches, tokens_match}
 use Rattle.eden_globs.specs.internal.Rows.{IsRow, is_wanted}
+use Rattle.eden_globs.proofs.Splitting.{drop_none}
 
 module _ {X : Type 0} where
-  drop_none : (xs : List X) → drop 0 xs ≡ xs
-  drop_none [] = refl
-  drop_none (x ∷ xs) = refl
-
   drop_at : (xs : List X) (i : ℕ) (d : X) → i < length xs → drop i xs ≡ slice_index_or xs i d ∷ drop (suc i) xs
   drop_at [] i d within = absurd (omega arith)
   drop_at (x ∷ xs) zero d within = ap (λ ys. x ∷ ys) (sym (drop_none xs))

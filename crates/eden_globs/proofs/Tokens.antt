@@ -2,7 +2,7 @@
 use Rattle.std.proofs.Common.{◌≡◌, ◌≢◌, ℕ, suc, ◌+◌, ◌-◌, ◌<◌, ◌≤◌, Bool, true, false, cond, ◌&&◌, ◌||◌, nat_eq, nat_lt, List, [], ◌∷◌, ◌++◌, drop, length, map, codes, refl, sym, ap, ◌∙◌, arith, append_assoc}
 use Rattle.std.proofs.lemmas.Bool.{ltb-true, ltb-false}
 use Rattle.std.proofs.lemmas.List.{append-nil, drop_all}
-use Rattle.std.proofs.Math.Bool.{or-false}
+use Rattle.std.proofs.Math.Bool.{and-false, or-false}
 use Rattle.std.specs.List.{ends_with, slice_index_or, starts_with}
 use Rattle.std.specs.Cmp.Lexicographic.{bytes_decides}
 use Rattle.eden_ids.specs.Sameness.{same_bytes}
@@ -97,11 +97,7 @@ unlike : (xs ys : List ℕ) → length xs ≢ length ys → same_bytes xs ys ≡
 unlike [] [] apart = absurd (apart refl)
 unlike [] (y ∷ ys) apart = refl
 unlike (x ∷ xs) [] apart = refl
-unlike (x ∷ xs) (y ∷ ys) apart = ap (λ t. nat_eq x y && t) (unlike xs ys (λ e. apart (ap suc e))) ∙ by (nat_eq x y)
-  where
-    by : (t : Bool) → (t && false) ≡ false
-    by true = refl
-    by false = refl
+unlike (x ∷ xs) (y ∷ ys) apart = ap (λ t. nat_eq x y && t) (unlike xs ys (λ e. apart (ap suc e))) ∙ and-false (nat_eq x y)
 
 none_longer : (bytes name : List ℕ) → length name < length bytes → some_rest (same_bytes bytes) name ≡ false
 none_longer bytes [] short = unlike bytes [] (λ e. absurd (omega (arith, short, e)))

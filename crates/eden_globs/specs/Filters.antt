@@ -1,9 +1,11 @@
 -- Filters, and which paths they admit. A pattern is read as `git help gitignore` says,
 -- but it must match the whole path. Bytes are numbers: 42 is `*`, 47 is `/`, 63 is `?`,
 -- 91 is `[`, 92 is a backslash and 123 is `{`.
-use Rattle.std.specs.Prelude.{◌≡◌, ℕ, ◌+◌, Bool, true, false, not, ◌&&◌, ◌||◌, ◌==◌, nat_lt, if◌then◌else◌, List, [], ◌∷◌, length, map, codes, Option, Some, None}
+use Rattle.std.specs.Prelude.{◌≡◌, ℕ, ◌+◌, Bool, true, false, not, ◌&&◌, ◌||◌, ◌==◌, nat_eq, nat_lt, if◌then◌else◌, List, [], ◌∷◌, length, map, codes, Option, Some, None}
 use Rattle.std.specs.List.{list_all, list_any}
+use Rattle.std.specs.Cmp.Lexicographic.{pointwise}
 use Rattle.std.specs.Option.{option_or}
+use Rattle.std.specs.Ordering.{eq_of_both, on}
 use Rattle.std.specs.Global.{Vec}
 use Rattle.eden_ids.specs.Paths.{components}
 use Rattle.eden_ids.specs.Sameness.{same_bytes}
@@ -42,10 +44,29 @@ patterns_fault place (bytes ∷ patterns) = option_or (pattern_fault place bytes
 abbrev pub filter_fault : List (List ℕ) → Option FilterFault
 filter_fault patterns = if nat_lt 32 (length patterns) then Some TooMany else patterns_fault 0 patterns
 
-abbrev pub IsFilter : List (List ℕ) → Type 0
-IsFilter patterns = filter_fault patterns ≡ None
+-- ---- filters
 
--- ---- what a pattern admits
+-- which paths are wanted: those that one of the included patterns matches, or every path
+-- if there are none, but none that an excluded pattern matches
+pub record Patterns : Type 0 where
+  pub included : List (List ℕ)
+  pub excluded : List (List ℕ)
+
+abbrev pub all_paths : Patterns
+all_paths = record { included = []; excluded = [] }
+
+abbrev pub including : List (List ℕ) → Patterns
+including patterns = record { included = patterns; excluded = [] }
+
+abbrev pub same_filter : Patterns → Patterns → Bool
+same_filter = eq_of_both (on (λ f. f.included) (pointwise (pointwise nat_eq))) (on (λ f. f.excluded) (pointwise (pointwise nat_eq)))
+
+-- both lists are without a fault
+pub record IsFilter (filter : Patterns) : Type 0 where
+  pub included : filter_fault filter.included ≡ None
+  pub excluded : filter_fault filter.excluded ≡ None
+
+-- ---- what a pattern matches
 
 -- the list passes the test, or some suffix of it does
 abbrev pub some_rest : {X : Type 0} → (List X → Bool) → List X → Bool
@@ -82,13 +103,22 @@ path_matches [] names = is_none_left names
 path_matches (part ∷ parts) names =
     if is_any_names part then some_rest (path_matches parts) names else first_then (name_matches false part) (path_matches parts) names
 
-abbrev pub pattern_admits : List ℕ → List ℕ → Bool
-pattern_admits pattern path = path_matches (components pattern) (components path)
+abbrev pub pattern_matches : List ℕ → List ℕ → Bool
+pattern_matches pattern path = path_matches (components pattern) (components path)
 
--- some pattern admits the path, or there are no patterns
-abbrev pub admits : List (List ℕ) → List ℕ → Bool
-admits [] path = true
-admits (bytes ∷ patterns) path = list_any (λ pattern. pattern_admits pattern path) (bytes ∷ patterns)
+-- ---- what a filter admits
+
+-- some pattern matches the path
+abbrev pub some_match : List (List ℕ) → List ℕ → Bool
+some_match patterns path = list_any (λ pattern. pattern_matches pattern path) patterns
+
+-- some pattern matches the path, or there are no patterns
+abbrev pub includes : List (List ℕ) → List ℕ → Bool
+includes [] path = true
+includes (bytes ∷ patterns) path = some_match (bytes ∷ patterns) path
+
+abbrev pub admits : Patterns → List ℕ → Bool
+admits filter path = includes filter.included path && not (some_match filter.excluded path)
 
 -- ---- below which directories a filter admits something
 
@@ -108,9 +138,26 @@ abbrev pub pattern_enters : List ℕ → List ℕ → Bool
 pattern_enters pattern directory = parts_enter (components pattern) (names_of directory)
 
 -- some pattern enters the directory, or there are no patterns
-abbrev pub enters : List (List ℕ) → List ℕ → Bool
-enters [] directory = true
-enters (bytes ∷ patterns) directory = list_any (λ pattern. pattern_enters pattern directory) (bytes ∷ patterns)
+abbrev pub includes_below : List (List ℕ) → List ℕ → Bool
+includes_below [] directory = true
+includes_below (bytes ∷ patterns) directory = list_any (λ pattern. pattern_enters pattern directory) (bytes ∷ patterns)
+
+-- the last of the parts is `**`
+abbrev pub ends_in_any_names : List (List ℕ) → Bool
+ends_in_any_names [] = false
+ends_in_any_names (part ∷ []) = is_any_names part
+ends_in_any_names (part ∷ next ∷ parts) = ends_in_any_names (next ∷ parts)
+
+-- the pattern matches the directory by a last part `**`, and so matches all that is below
+abbrev pub pattern_takes : List ℕ → List ℕ → Bool
+pattern_takes pattern directory = ends_in_any_names (components pattern) && path_matches (components pattern) (names_of directory)
+
+-- some pattern takes the directory
+abbrev pub some_take : List (List ℕ) → List ℕ → Bool
+some_take patterns directory = list_any (λ pattern. pattern_takes pattern directory) patterns
+
+abbrev pub enters : Patterns → List ℕ → Bool
+enters filter directory = includes_below filter.included directory && not (some_take filter.excluded directory)
 
 -- ---- patterns that name one path
 

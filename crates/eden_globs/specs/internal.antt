@@ -2,3 +2,4 @@
 pub mod Rows
 pub mod Compiled
 pub mod Sharing
+pub mod Sameness

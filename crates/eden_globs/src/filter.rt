@@ -1,15 +1,14 @@
 //! Lists of patterns, and which paths they admit.
 
-ghost use Rattle.std.specs.Prelude.{◌≡◌, ◌≢◌, ◌<◌, ◌≤◌, ◌==◌, ◌&&◌, ◌||◌, ℕ, List, [], false, true, nat_lt, length, not, None, Some, map, IfOk, IfErr, nat_eq};
+ghost use Rattle.std.specs.Prelude.{◌≡◌, ◌≢◌, ◌<◌, ◌≤◌, ◌==◌, ◌&&◌, ◌||◌, ℕ, List, [], false, true, nat_lt, length, not, None, Some, map, IfOk, IfErr, IfSome, nat_eq};
 ghost use Rattle.std.specs.List.{list_all, list_any};
-ghost use Rattle.std.specs.Cmp.Lexicographic.{pointwise, lists_per, lists_equiv};
-ghost use Rattle.std.specs.Cmp.Rules.{comparing};
-ghost use Rattle.std.proofs.Common.{rules};
 ghost use Rattle.eden_ids.specs.Paths.{IsPath, components, lies_below};
-ghost use Rattle.eden_globs.specs.Filters.{admits, enters, filter_fault, is_part, is_spelled, lists, path_matches, pattern_admits, pattern_enters, pattern_fault};
+ghost use Rattle.eden_globs.specs.Filters.{admits, all_paths, ends_in_any_names, enters, filter_fault, includes, includes_below, including, is_part, is_spelled, lists, path_matches, pattern_enters, pattern_fault, same_filter, some_match, some_take};
 ghost use Rattle.eden_globs.specs.internal.Compiled.{AreCompiled, AreShort, EndsIn, lent};
+ghost use Rattle.eden_globs.specs.internal.Sameness.{filters_equiv, filters_per};
+ghost use Rattle.eden_globs.specs.internal.Sharing.{patterns_of};
 
-use crate::matching::{cut_names, is_admitted, is_entered, last_name, may_end};
+use crate::matching::{cut_names, is_admitted, is_end_matched, is_entered, is_taken, last_name};
 use crate::pattern::{Part, parts_of};
 use crate::stored::Stored;
 use eden_ids::{NoMemory, Path};
@@ -19,8 +18,14 @@ use std::marker::Model;
 use std::sync::Arc;
 use thiserror::Error;
 
+/// More components than most paths have.
+const FEW_NAMES: usize = 16;
+
 /// The most components of a path.
 const DEEPEST: usize = 64;
+
+/// The most components of bytes that are no longer than a path.
+const MOST_NAMES: usize = 1025;
 
 /// Why a list of patterns is not a filter.
 ///
@@ -52,28 +57,30 @@ impl From<AllocError> for FilterFault {
     }
 }
 
-/// A list of patterns, which says which paths are wanted.
+/// Patterns, included and excluded, which say which paths are wanted.
 ///
-/// A path is admitted if one of the patterns matches it, or if there are none. A pattern
-/// is parts joined by `/`. It matches a path if its parts match the path's components,
-/// from first to last. The part `**` matches any number of components, also zero. In any
-/// other part, `*` matches any run of bytes, `?` any one byte, a backslash and a byte
-/// that byte, and any other byte itself. A name that begins with a dot is not special.
+/// A path is admitted if one of the included patterns matches it, or if there are none,
+/// and no excluded pattern matches it. A pattern is parts joined by `/`. It matches a path
+/// if its parts match the path's components, from first to last. The part `**` matches any
+/// number of components, also zero. In any other part, `*` matches any run of bytes, `?`
+/// any one byte, a backslash and a byte that byte, and any other byte itself. A name that
+/// begins with a dot is not special.
 ///
-/// The patterns are stored once, and copies share them.
+/// Each list of patterns is stored once, and copies share it.
 #[derive(Drop)]
 pub struct Filter {
-    /// Nothing for the filter without patterns, which so is made without an allocation.
-    stored: Option<Arc<Stored>>,
+    /// Nothing for a list without patterns, which so is made without an allocation.
+    included: Option<Arc<Stored>>,
+    excluded: Option<Arc<Stored>>,
 }
 
 impl Model for Filter {
-    ghost use Rattle.std.specs.Prelude.{ℕ, List};
+    ghost use Rattle.eden_globs.specs.Filters.{Patterns};
     ghost use Rattle.eden_globs.specs.internal.Sharing.{patterns_of};
 
-    ghost Value = { List (List ℕ) };
+    ghost Value = { Patterns };
 
-    ghost view = { λ f. patterns_of f.stored };
+    ghost view = { λ f. record { included = patterns_of f.included; excluded = patterns_of f.excluded } };
 }
 
 /// Returns true if brackets, braces and backslashes are escaped correctly.
@@ -161,8 +168,8 @@ fn compile(alloc: Global, patterns: &[Vec<u8>]) -> Result<Vec<Vec<Part>>, AllocE
 }
 
 /// Returns true if a pattern matches the path of these names.
-fn is_any_admitted(compiled: &[Vec<Part>], names: &[&[u8]]) -> bool
-    requires few { length names.now ≤ 64 }
+fn is_any_matched(compiled: &[Vec<Part>], names: &[&[u8]]) -> bool
+    requires few { length names.now ≤ 1025 }
     requires short { AreShort (lent names.now) }
     ensures { (patterns : List (List ℕ)) → AreCompiled compiled.now patterns → result ≡ list_any (λ pattern. path_matches (components pattern) (lent names.now)) patterns }
 {
@@ -174,31 +181,77 @@ fn is_any_admitted(compiled: &[Vec<Part>], names: &[&[u8]]) -> bool
     false
 }
 
-/// Returns false only if no pattern matches a path that ends in this name.
-fn may_any_end(compiled: &[Vec<Part>], name: &[u8]) -> bool
-    requires { length name.now ≤ 1024 }
-    ensures { result ≡ false → (patterns names : List (List ℕ)) → AreCompiled compiled.now patterns → EndsIn names name.now → list_any (λ pattern. path_matches (components pattern) names) patterns ≡ false }
+/// Returns true if a pattern that ends in `**` matches the path of these names.
+fn is_any_taken(compiled: &[Vec<Part>], names: &[&[u8]]) -> bool
+    requires few { length names.now ≤ 1025 }
+    requires short { AreShort (lent names.now) }
+    ensures { (patterns : List (List ℕ)) → AreCompiled compiled.now patterns
+        → result ≡ list_any (λ pattern. ends_in_any_names (components pattern) && path_matches (components pattern) (lent names.now)) patterns }
 {
     for parts in compiled {
-        if may_end(parts.as_slice(), name) {
+        if is_taken(parts.as_slice(), names) {
             return true;
         }
     }
     false
 }
 
-/// Returns true if a pattern matches the path of these bytes.
-fn is_path_admitted(compiled: &[Vec<Part>], path: &[u8]) -> bool
-    requires { IsPath path.now }
-    ensures { (patterns : List (List ℕ)) → AreCompiled compiled.now patterns → result ≡ list_any (λ pattern. pattern_admits pattern path.now) patterns }
+/// Returns whether a pattern matches each path that ends in this name, if that decides it.
+fn is_any_end_matched(compiled: &[Vec<Part>], name: &[u8]) -> Option<bool>
+    requires { length name.now ≤ 1024 }
+    ensures { IfSome result (λ matched. (patterns names : List (List ℕ)) → AreCompiled compiled.now patterns → EndsIn names name.now
+        → list_any (λ pattern. path_matches (components pattern) names) patterns ≡ matched) }
 {
-    // Most paths are refused by their last name, before anything is stored.
-    if !may_any_end(compiled, last_name(path)) {
-        return false;
+    let mut matched = Some(false);
+    for parts in compiled {
+        match is_end_matched(parts.as_slice(), name) {
+            Some(true) => return Some(true),
+            Some(false) => {}
+            None => matched = None,
+        }
     }
+    matched
+}
+
+/// Returns true if a pattern matches the path of these bytes.
+///
+/// `names` is space for the names of the path. Returns `None` if there is no room for them.
+fn has_match_in<'a>(names: &mut [&'a [u8]], compiled: &[Vec<Part>], path: &'a [u8]) -> Option<bool>
+    requires { length path.now ≤ 1024 }
+    ensures none { result ≡ None → length names.old < length (components path.now) }
+    ensures some { IfSome result (λ matched. (patterns : List (List ℕ)) → AreCompiled compiled.now patterns → matched ≡ some_match patterns path.now) }
+{
+    let count = cut_names(names, path)?;
+    Some(is_any_matched(compiled, &names[..count]))
+}
+
+/// Returns what `has_match` does, for a path of many names.
+fn has_deep_match(compiled: &[Vec<Part>], path: &[u8]) -> bool
+    requires { IsPath path.now }
+    ensures { (patterns : List (List ℕ)) → AreCompiled compiled.now patterns → result ≡ some_match patterns path.now }
+{
     let mut names = [path; DEEPEST];
-    let count = cut_names(&mut names, path);
-    is_any_admitted(compiled, &names[..count])
+    match has_match_in(&mut names, compiled, path) {
+        Some(matched) => matched,
+        // No path has more names.
+        None => false,
+    }
+}
+
+/// Returns true if a pattern matches the path of these bytes.
+fn has_match(compiled: &[Vec<Part>], path: &[u8]) -> bool
+    requires { IsPath path.now }
+    ensures { (patterns : List (List ℕ)) → AreCompiled compiled.now patterns → result ≡ some_match patterns path.now }
+{
+    // The last name decides it for most paths, before anything is stored.
+    if let Some(matched) = is_any_end_matched(compiled, last_name(path)) {
+        return matched;
+    }
+    let mut names = [path; FEW_NAMES];
+    match has_match_in(&mut names, compiled, path) {
+        Some(matched) => matched,
+        None => has_deep_match(compiled, path),
+    }
 }
 
 /// Returns true if one of the patterns enters a directory.
@@ -217,15 +270,96 @@ fn is_any_entered(compiled: &[Vec<Part>], directory: &[u8]) -> bool
     false
 }
 
+/// Returns true if one of the patterns takes a directory whole.
+///
+/// The directory is not the root. `names` is space for its names. Returns `None` if there is
+/// no room for them.
+fn is_any_taken_in<'a>(
+    names: &mut [&'a [u8]],
+    compiled: &[Vec<Part>],
+    directory: &'a [u8],
+) -> Option<bool>
+    requires some { 0 < length directory.now }
+    requires short { length directory.now ≤ 1024 }
+    ensures none { result ≡ None → length names.old < length (components directory.now) }
+    ensures some { IfSome result (λ taken. (patterns : List (List ℕ)) → AreCompiled compiled.now patterns → taken ≡ some_take patterns directory.now) }
+{
+    let count = cut_names(names, directory)?;
+    Some(is_any_taken(compiled, &names[..count]))
+}
+
+/// Returns what `has_taker` does, for a directory with more names than a path.
+fn has_deep_taker(compiled: &[Vec<Part>], directory: &[u8]) -> bool
+    requires some { 0 < length directory.now }
+    requires short { length directory.now ≤ 1024 }
+    ensures { (patterns : List (List ℕ)) → AreCompiled compiled.now patterns → result ≡ some_take patterns directory.now }
+{
+    let mut names = [directory; MOST_NAMES];
+    match is_any_taken_in(&mut names, compiled, directory) {
+        Some(taken) => taken,
+        // No directory that is no longer than a path has more names.
+        None => false,
+    }
+}
+
+/// Returns true if one of the patterns takes a directory whole.
+fn has_taker(compiled: &[Vec<Part>], directory: &[u8]) -> bool
+    requires { length directory.now ≤ 1024 }
+    ensures { (patterns : List (List ℕ)) → AreCompiled compiled.now patterns → result ≡ some_take patterns directory.now }
+{
+    if directory.is_empty() {
+        return is_any_taken(compiled, &[]);
+    }
+    let mut names = [directory; DEEPEST];
+    match is_any_taken_in(&mut names, compiled, directory) {
+        Some(taken) => taken,
+        None => has_deep_taker(compiled, directory),
+    }
+}
+
+/// Returns the patterns that are stored.
+fn patterns_of(stored: &Option<Arc<Stored>>) -> &[Vec<u8>]
+    ensures patterns { lists result.now ≡ patterns_of stored.now }
+    ensures legal { filter_fault (patterns_of stored.now) ≡ None }
+{
+    match stored {
+        Some(stored) => stored.patterns(),
+        None => &[],
+    }
+}
+
+/// Returns the parts of each pattern that is stored.
+fn compiled_of(stored: &Option<Arc<Stored>>) -> &[Vec<Part>]
+    ensures { AreCompiled result.now (patterns_of stored.now) }
+{
+    match stored {
+        Some(stored) => stored.compiled(),
+        None => &[],
+    }
+}
+
+/// Returns a copy that shares the patterns.
+fn shared(stored: &Option<Arc<Stored>>) -> Result<Option<Arc<Stored>>, AllocError>
+    ensures { IfOk result (λ copy. patterns_of copy ≡ patterns_of stored.now) }
+{
+    match stored {
+        Some(stored) => Ok(Some(Arc::try_clone(stored)?)),
+        None => Ok(None),
+    }
+}
+
 impl Filter {
     /// Returns the filter without patterns, which admits every path. Does not allocate.
     pub fn all(_alloc: Global) -> Filter
-        ensures { result ≡ [] }
+        ensures { result ≡ all_paths }
     {
-        Filter { stored: None }
+        Filter {
+            included: None,
+            excluded: None,
+        }
     }
 
-    /// Reads a filter and keeps its patterns.
+    /// Reads a filter and keeps its patterns. It excludes nothing.
     ///
     /// # Errors
     ///
@@ -237,7 +371,7 @@ impl Filter {
     /// `NoMemory` if an allocation fails; it may be returned instead of any other answer.
     pub fn parse(alloc: Global, patterns: &[&[u8]]) -> Result<Filter, FilterFault>
         ensures accepts { IfOk result (λ _. filter_fault (map (λ p. p.now) patterns.now) ≡ None) }
-        ensures keeps { IfOk result (λ filter. filter ≡ map (λ p. p.now) patterns.now) }
+        ensures keeps { IfOk result (λ filter. filter ≡ including (map (λ p. p.now) patterns.now)) }
         ensures refuses { IfErr result (λ fault. fault ≢ FilterFault.NoMemory
             → filter_fault (map (λ p. p.now) patterns.now) ≡ Some fault) }
     {
@@ -251,31 +385,44 @@ impl Filter {
         let compiled = compile(alloc, patterns.as_slice())?;
         match Arc::new(alloc, Stored::new(patterns, compiled)) {
             Ok(stored) => Ok(Filter {
-                stored: Some(stored),
+                included: Some(stored),
+                excluded: None,
             }),
             Err(_) => Err(FilterFault::NoMemory),
         }
     }
 
-    /// Returns the patterns, in their order. Does not allocate.
-    pub fn patterns(&self) -> &[Vec<u8>]
-        ensures patterns { lists result.now ≡ self.now }
-        ensures legal { filter_fault self.now ≡ None }
+    /// Returns this filter with the patterns of another one as its excluded patterns.
+    ///
+    /// What this filter excluded is dropped, and so is what the other one excluded. The
+    /// patterns are shared. Does not allocate.
+    ///
+    /// # Errors
+    ///
+    /// - `NoMemory` if one of the filters has as many copies as can be counted.
+    pub fn except(&self, excluded: &Filter) -> Result<Filter, NoMemory>
+        ensures { IfOk result (λ filter. filter ≡ record { included = self.now.included; excluded = excluded.now.included }) }
     {
-        match &self.stored {
-            Some(stored) => stored.patterns(),
-            None => &[],
-        }
+        Ok(Filter {
+            included: shared(&self.included)?,
+            excluded: shared(&excluded.included)?,
+        })
     }
 
-    /// Returns the parts of each pattern.
-    fn compiled(&self) -> &[Vec<Part>]
-        ensures { AreCompiled result.now self.now }
+    /// Returns the included patterns, in their order. Does not allocate.
+    pub fn patterns(&self) -> &[Vec<u8>]
+        ensures patterns { lists result.now ≡ self.now.included }
+        ensures legal { filter_fault self.now.included ≡ None }
     {
-        match &self.stored {
-            Some(stored) => stored.compiled(),
-            None => &[],
-        }
+        patterns_of(&self.included)
+    }
+
+    /// Returns the excluded patterns, in their order. Does not allocate.
+    pub fn excluded(&self) -> &[Vec<u8>]
+        ensures patterns { lists result.now ≡ self.now.excluded }
+        ensures legal { filter_fault self.now.excluded ≡ None }
+    {
+        patterns_of(&self.excluded)
     }
 
     /// Returns true if the filter admits the path.
@@ -291,37 +438,74 @@ impl Filter {
     /// Returns true if the filter admits the path of these bytes.
     ///
     /// It is `admits` for a caller that has no `Path`. The bytes must be a path.
-    #[tactic(auto, using(crate::proofs::FilterLemmas::admits_some, crate::proofs::FilterLemmas::admits_none))]
     pub fn admits_bytes(&self, path: &[u8]) -> bool
         requires { IsPath path.now }
         ensures { result ≡ admits self.now path.now }
     {
-        if self.patterns().is_empty() {
-            return true;
-        }
-        is_path_admitted(self.compiled(), path)
+        self.includes(path) && !self.excludes(path)
+    }
+
+    /// Returns true if an included pattern matches a path, or if there are none.
+    #[tactic(auto, using(crate::proofs::FilterLemmas::includes_some, crate::proofs::FilterLemmas::includes_none))]
+    fn includes(&self, path: &[u8]) -> bool
+        requires { IsPath path.now }
+        ensures { result ≡ includes self.now.included path.now }
+    {
+        self.patterns().is_empty() || has_match(compiled_of(&self.included), path)
+    }
+
+    /// Returns true if an excluded pattern matches a path.
+    fn excludes(&self, path: &[u8]) -> bool
+        requires { IsPath path.now }
+        ensures { result ≡ some_match self.now.excluded path.now }
+    {
+        !self.excluded().is_empty() && has_match(compiled_of(&self.excluded), path)
     }
 
     /// Returns false only if nothing below a directory is admitted.
     ///
     /// So a walk need not read a directory for which the answer is false. The root is the
-    /// empty byte string. The answer is true if the directory's names match the first
-    /// parts of a pattern and more parts are left. It is also true if they match up to a
-    /// part `**`. It is also true if there are no patterns, and for bytes that are longer
-    /// than a path. The time is that of `admits`. Does not allocate.
-    #[tactic(auto, using(crate::proofs::FilterLemmas::enters_some, crate::proofs::FilterLemmas::enters_none, crate::proofs::Entering::root_enters, crate::proofs::Entering::none_outside))]
+    /// empty byte string. The answer is false if an excluded pattern ends in `**` and
+    /// matches the directory, and so all that is below it. Else it is true if the
+    /// directory's names match the first parts of an included pattern and more parts are
+    /// left. It is also true if they match up to a part `**`, and if there are no included
+    /// patterns. It is always true for bytes that are longer than a path. The time is that
+    /// of `admits`. Does not allocate.
+    #[tactic(auto, using(crate::proofs::Entering::none_outside))]
     pub fn admits_below(&self, directory: &[u8]) -> bool
         ensures value { result ≡ (nat_lt 1024 (length directory.now) || enters self.now directory.now) }
         ensures outside { result ≡ false → (path : List ℕ) → lies_below path directory.now ≡ true → admits self.now path ≡ false }
     {
-        if self.patterns().is_empty() || directory.len() > 1024 {
-            return true;
-        }
+        directory.len() > 1024 || self.enters(directory)
+    }
+
+    /// Returns true if the filter enters a directory.
+    fn enters(&self, directory: &[u8]) -> bool
+        requires { length directory.now ≤ 1024 }
+        ensures { result ≡ enters self.now directory.now }
+    {
+        self.includes_below(directory) && !self.takes(directory)
+    }
+
+    /// Returns true if an included pattern enters a directory, or if there are none.
+    #[tactic(auto, using(crate::proofs::FilterLemmas::enters_some, crate::proofs::FilterLemmas::enters_none, crate::proofs::Entering::root_enters))]
+    fn includes_below(&self, directory: &[u8]) -> bool
+        requires { length directory.now ≤ 1024 }
+        ensures { result ≡ includes_below self.now.included directory.now }
+    {
         // The root has no names, and every pattern has a part for what is below it.
         if directory.is_empty() {
             return true;
         }
-        is_any_entered(self.compiled(), directory)
+        self.patterns().is_empty() || is_any_entered(compiled_of(&self.included), directory)
+    }
+
+    /// Returns true if an excluded pattern takes a directory whole.
+    fn takes(&self, directory: &[u8]) -> bool
+        requires { length directory.now ≤ 1024 }
+        ensures { result ≡ some_take self.now.excluded directory.now }
+    {
+        !self.excluded().is_empty() && has_taker(compiled_of(&self.excluded), directory)
     }
 
     /// Returns a copy of this filter.
@@ -342,31 +526,35 @@ impl Clone for Filter {
     ghost is_clone = { λ x y. y ≡ x };
 
     fn clone(&self) -> Result<Self, AllocError> {
-        match &self.stored {
-            Some(stored) => Ok(Filter {
-                stored: Some(Arc::try_clone(stored)?),
-            }),
-            None => Ok(Filter { stored: None }),
-        }
+        Ok(Filter {
+            included: shared(&self.included)?,
+            excluded: shared(&self.excluded)?,
+        })
     }
 }
 
 impl PartialEq for Filter {
-    ghost eq = { pointwise (pointwise nat_eq) };
+    ghost eq = { same_filter };
 
-    ghost laws = { lists_per (Prim.search (comparing, rules)) };
+    ghost laws = { filters_per };
 
     fn eq(&self, other: &Filter) -> bool {
-        self.patterns() == other.patterns()
+        self.patterns() == other.patterns() && self.excluded() == other.excluded()
     }
 }
 
 impl Eq for Filter {
-    ghost laws = { lists_equiv (Prim.search (comparing, rules)) };
+    ghost laws = { filters_equiv };
 }
 
+/// Formats the included patterns, and the excluded ones after them if there are any.
 impl fmt::Debug for Filter {
     fn fmt<W: fmt::Write>(&self, f: &mut fmt::Formatter<W>) -> fmt::Result {
-        self.patterns().fmt(f)
+        self.patterns().fmt(f)?;
+        if !self.excluded().is_empty() {
+            f.write_str(" except ")?;
+            self.excluded().fmt(f)?;
+        }
+        Ok(())
     }
 }

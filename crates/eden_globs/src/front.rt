@@ -1,7 +1,7 @@
 //! The directory that a walk reads, by the bytes that come before each of its names.
 
 ghost use Rattle.std.specs.Prelude.{◌≡◌, ◌≤◌, ◌++◌, ℕ, [], length, take, if◌then◌else◌, None, Some, IfOk, IsSome, OnErr, OnOk};
-ghost use Rattle.eden_globs.specs.Filters.{admits};
+ghost use Rattle.eden_globs.specs.Filters.{admits, all_paths};
 ghost use Rattle.eden_globs.specs.Fronts.{Enters};
 ghost use Rattle.eden_ids.specs.Paths.{IsPath};
 
@@ -60,7 +60,7 @@ impl Front {
     /// directory be entered. `NoMemory` if an allocation fails; then nothing is changed.
     pub fn enter(&mut self, filter: &Filter, name: &[u8]) -> Result<Option<usize>, NoMemory>
         ensures entered { IfOk result (λ entered. Enters filter.now name.now self.old self.new entered) }
-        ensures all { IfOk result (λ entered. filter.now ≡ [] → IsSome entered) }
+        ensures all { IfOk result (λ entered. filter.now ≡ all_paths → IsSome entered) }
         ensures err { OnErr result (self.new ≡ self.old) }
     {
         let length = self.bytes.len();

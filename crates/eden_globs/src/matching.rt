@@ -9,10 +9,10 @@
 //! what is left of it after its first part (or token). The parts before the first `**`
 //! need no row: each is compared with the one name at its position.
 
-ghost use Rattle.std.specs.Prelude.{◌≡◌, ◌<◌, ◌≤◌, ◌+◌, ◌||◌, ◌&&◌, ◌∷◌, ℕ, List, Bool, true, false, [], length, take};
+ghost use Rattle.std.specs.Prelude.{◌≡◌, ◌<◌, ◌≤◌, ◌+◌, ◌||◌, ◌&&◌, ◌∷◌, ℕ, List, Bool, true, false, [], None, length, take, IfSome};
 ghost use Rattle.std.specs.List.{slice_index_or};
 ghost use Rattle.eden_ids.specs.Paths.{components};
-ghost use Rattle.eden_globs.specs.Filters.{parts_enter, path_matches};
+ghost use Rattle.eden_globs.specs.Filters.{ends_in_any_names, parts_enter, path_matches};
 ghost use Rattle.eden_globs.specs.internal.Compiled.{AreParts, AreShort, EndsIn, IsPartOf, lent, part_matches, tokens_match};
 ghost use Rattle.eden_globs.specs.internal.Rows.{IsRow, is_wanted};
 
@@ -21,7 +21,10 @@ use crate::pattern::{Part, Token, cut};
 /// The length of the row of the longest name.
 const CELLS: usize = 1025;
 
-/// The length of a row for most names, made faster.
+/// The length of the row of the most names.
+const MOST_CELLS: usize = 1026;
+
+/// The length of a row for most names, and for most paths, made faster.
 const FEW_CELLS: usize = 64;
 
 /// Returns true if a byte is the wanted one.
@@ -172,18 +175,31 @@ fn part_before(row: &mut [bool], names: &[&[u8]], part: &Part)
     }
 }
 
-/// Returns true if a path's names match parts with a `**`.
-fn is_path_matched(parts: &[Part], names: &[&[u8]]) -> bool
-    requires few { length names.now ≤ 64 }
+/// Returns true if a path's names match parts. `row` is scratch space.
+fn are_parts_matched(row: &mut [bool], parts: &[Part], names: &[&[u8]]) -> bool
+    requires room { length names.now < length row.old }
     requires short { AreShort (lent names.now) }
     ensures { (texts : List (List ℕ)) → AreParts parts.now texts → result ≡ path_matches texts (lent names.now) }
 {
-    let mut row = [false; 65];
-    none_left(&mut row, names.len());
+    none_left(row, names.len());
     for at in (0..parts.len()).rev() {
-        part_before(&mut row, names, &parts[at]);
+        part_before(row, names, &parts[at]);
     }
     row[0]
+}
+
+/// Returns true if a path's names match parts with a `**`.
+fn is_path_matched(parts: &[Part], names: &[&[u8]]) -> bool
+    requires few { length names.now ≤ 1025 }
+    requires short { AreShort (lent names.now) }
+    ensures { (texts : List (List ℕ)) → AreParts parts.now texts → result ≡ path_matches texts (lent names.now) }
+{
+    if names.len() < FEW_CELLS {
+        let mut row = [false; FEW_CELLS];
+        return are_parts_matched(&mut row, parts, names);
+    }
+    let mut row = [false; MOST_CELLS];
+    are_parts_matched(&mut row, parts, names)
 }
 
 /// Returns true if a path's names match the parts of a pattern.
@@ -191,13 +207,13 @@ fn is_path_matched(parts: &[Part], names: &[&[u8]]) -> bool
 /// The time is at most a constant times the pattern's length times the path's. Does not
 /// allocate.
 pub(crate) fn is_admitted(parts: &[Part], names: &[&[u8]]) -> bool
-    requires few { length names.now ≤ 64 }
+    requires few { length names.now ≤ 1025 }
     requires short { AreShort (lent names.now) }
     ensures { (texts : List (List ℕ)) → AreParts parts.now texts → result ≡ path_matches texts (lent names.now) }
 {
     for (at, part) in parts.iter().enumerate() {
         if part.is_any_names() {
-            return is_path_matched(&parts[at..], &names[at..]);
+            return at + 1 == parts.len() || is_path_matched(&parts[at..], &names[at..]);
         }
         if at == names.len() {
             return false;
@@ -209,17 +225,43 @@ pub(crate) fn is_admitted(parts: &[Part], names: &[&[u8]]) -> bool
     parts.len() == names.len()
 }
 
-/// Returns false only if the parts match no path that ends in this name.
-///
-/// They match none if their last is not `**` and does not match the name. Does not allocate.
-pub(crate) fn may_end(parts: &[Part], name: &[u8]) -> bool
-    requires { length name.now ≤ 1024 }
-    ensures { result ≡ false → (texts names : List (List ℕ)) → AreParts parts.now texts → EndsIn names name.now → path_matches texts names ≡ false }
+/// Returns true if the last of a pattern's parts is `**`.
+fn ends_in_any_names(parts: &[Part]) -> bool
+    ensures { (texts : List (List ℕ)) → AreParts parts.now texts → result ≡ ends_in_any_names texts }
 {
     match parts.split_last() {
-        Some((part, _)) => part.matches(name),
-        None => true,
+        Some((part, _)) => part.is_any_names(),
+        None => false,
     }
+}
+
+/// Returns true if the parts end in `**` and match a directory's names.
+///
+/// Then they match all that is below the directory. Does not allocate.
+pub(crate) fn is_taken(parts: &[Part], names: &[&[u8]]) -> bool
+    requires few { length names.now ≤ 1025 }
+    requires short { AreShort (lent names.now) }
+    ensures { (texts : List (List ℕ)) → AreParts parts.now texts → result ≡ (ends_in_any_names texts && path_matches texts (lent names.now)) }
+{
+    ends_in_any_names(parts) && is_admitted(parts, names)
+}
+
+/// Returns whether the parts match each path that ends in this name, if that decides it.
+///
+/// They match none if their last is not `**` and does not match the name. They match each
+/// if it does, and before it is a `**` alone. Does not allocate.
+pub(crate) fn is_end_matched(parts: &[Part], name: &[u8]) -> Option<bool>
+    requires { length name.now ≤ 1024 }
+    ensures { IfSome result (λ matched. (texts names : List (List ℕ)) → AreParts parts.now texts → EndsIn names name.now → path_matches texts names ≡ matched) }
+{
+    let (last, before) = parts.split_last()?;
+    if !last.matches(name) {
+        return Some(false);
+    }
+    if before.len() == 1 && before[0].is_any_names() {
+        return Some(true);
+    }
+    None
 }
 
 /// Returns true if a pattern may match something below a directory.
@@ -249,20 +291,25 @@ pub(crate) fn is_entered(parts: &[Part], directory: &[u8]) -> bool
 }
 
 /// Cuts a path into its names, and returns their number.
-pub(crate) fn cut_names<'a>(names: &mut [&'a [u8]], path: &'a [u8]) -> usize
-    requires { length (components path.now) ≤ length names.old }
-    ensures fits { result ≤ length names.new }
-    ensures names { lent (take result names.new) ≡ components path.now }
+///
+/// Returns `None` if there is no room for them.
+pub(crate) fn cut_names<'a>(names: &mut [&'a [u8]], path: &'a [u8]) -> Option<usize>
+    ensures none { result ≡ None → length names.old < length (components path.now) }
+    ensures fits { IfSome result (λ count. count ≤ length names.new) }
+    ensures names { IfSome result (λ count. lent (take count names.new) ≡ components path.now) }
 {
     let mut count = 0;
     let mut left = Some(path);
     while let Some(bytes) = left {
+        if count == names.len() {
+            return None;
+        }
         let (name, behind) = cut(bytes);
         names[count] = name;
         count += 1;
         left = behind;
     }
-    count
+    Some(count)
 }
 
 /// Returns the last name of a path.

@@ -1,13 +1,13 @@
-//! The patterns of a filter, as its copies share them.
+//! A list of patterns, as the copies of a filter share it.
 
 ghost use Rattle.std.specs.Prelude.{◌≡◌, None};
-ghost use Rattle.eden_globs.specs.Filters.{IsFilter, filter_fault, lists};
+ghost use Rattle.eden_globs.specs.Filters.{filter_fault, lists};
 ghost use Rattle.eden_globs.specs.internal.Compiled.{AreCompiled};
 
 use crate::pattern::Part;
 use std::marker::Model;
 
-/// The patterns of a filter and their parts, which do not change.
+/// Patterns and their parts, which do not change.
 #[derive(Drop)]
 pub(crate) struct Stored {
     patterns: Vec<Vec<u8>>,
@@ -16,21 +16,21 @@ pub(crate) struct Stored {
 }
 
 impl Model for Stored {
-    ghost use Rattle.std.specs.Prelude.{ℕ, List};
-    ghost use Rattle.eden_globs.specs.Filters.{IsFilter, lists};
+    ghost use Rattle.std.specs.Prelude.{◌≡◌, ℕ, List, None};
+    ghost use Rattle.eden_globs.specs.Filters.{filter_fault, lists};
     ghost use Rattle.eden_globs.specs.internal.Compiled.{AreCompiled};
 
     ghost Value = { List (List ℕ) };
 
     ghost view = { λ s. lists s.patterns.items };
 
-    ghost invariant = { λ s. IsFilter (lists s.patterns.items) × AreCompiled s.compiled.items (lists s.patterns.items) };
+    ghost invariant = { λ s. (filter_fault (lists s.patterns.items) ≡ None) × AreCompiled s.compiled.items (lists s.patterns.items) };
 }
 
 impl Stored {
     /// Returns these patterns with their parts.
     pub(crate) fn new(patterns: Vec<Vec<u8>>, compiled: Vec<Vec<Part>>) -> Stored
-        requires legal { IsFilter (lists patterns.items) }
+        requires legal { filter_fault (lists patterns.items) ≡ None }
         requires parts { AreCompiled compiled.items (lists patterns.items) }
         ensures { result ≡ lists patterns.items }
     {

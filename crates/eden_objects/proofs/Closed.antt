@@ -154,12 +154,6 @@ fold_of_tree none step local (top ∷ earlier) closed id h found word = elim (ca
 pub rows_of_tree : (held : List Held) → IsClosed held → (id : Id) (h : Held) → find id held ≡ Some h → h.word ≡ Tree → tree_rows held id ≡ entries_rows (tree_rows held) (entries_of h.payload)
 rows_of_tree = fold_of_tree [] entries_rows rows_local
 
-pub depth_of_tree : (held : List Held) → IsClosed held → (id : Id) (h : Held) → find id held ≡ Some h → h.word ≡ Tree → tree_depth held id ≡ entries_depth (tree_depth held) (entries_of h.payload)
-depth_of_tree = fold_of_tree 0 entries_depth depth_local
-
-pub reach_of_tree : (held : List Held) → IsClosed held → (id : Id) (h : Held) → find id held ≡ Some h → h.word ≡ Tree → tree_reach held id ≡ entries_reach (tree_reach held) (entries_of h.payload)
-reach_of_tree = fold_of_tree 0 entries_reach reach_local
-
 -- neither of two numbers is above the greater one
 pub greater_first : (a b : ℕ) → a ≤ greater a b
 greater_first a b = elim (cases_Bool (ltb a b)) [ inl t ↦ let lt = ltb-true a b t in rw t (omega arith) | inr f ↦ rw f (omega arith) ]

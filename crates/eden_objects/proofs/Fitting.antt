@@ -7,13 +7,14 @@ use Rattle.eden_ids.specs.declared.id.Id.{Id}
 use Rattle.eden_ids.specs.declared.content.Kind.{Kind}
 use Rattle.eden_ids.specs.Paths.{components, is_component, path_fault}
 use Rattle.eden_objects.specs.Objects.{Held}
-use Rattle.eden_git.specs.Trees.{entries_of, is_name}
+use Rattle.eden_git.specs.Trees.{is_name}
 use Rattle.eden_objects.specs.Trees.{depth_of, reach_of, entries_depth, entries_reach, tree_depth, tree_reach}
 use Rattle.eden_objects.specs.Commits.{Row, under, rows_of_kind, entry_rows, entries_rows, tree_rows}
-use Rattle.eden_objects.specs.Closed.{HasTree, IsClosed, IsTree}
+use Rattle.eden_objects.specs.Closed.{HasTree, IsClosed}
 use Rattle.eden_git.proofs.Slashes.{has_slash, name_has_none}
-use Rattle.eden_objects.proofs.Closed.{tree_in, depth_of_tree, reach_of_tree, greater_first, greater_second}
+use Rattle.eden_objects.proofs.Closed.{greater_first, greater_second}
 use Rattle.eden_objects.proofs.ByTrees.{IsStep, by_trees}
+use Rattle.eden_objects.proofs.WalkSteps.{depth_here, reach_here, tree_here}
 
 abbrev pub Fits : ℕ → ℕ → Row → Type 0
 Fits depth reach row =
@@ -99,8 +100,8 @@ fitting = by_trees AllFit fitting_step
 -- a tree of a store is not too deep, and its paths are not too long
 pub limits : (held : List Held) → IsClosed held → (id : Id) → HasTree held id → (tree_depth held id ≤ 64) × (tree_reach held id ≤ 1024)
 limits held closed id has =
-    let is : IsTree held (entries_of has.0.payload) = tree_in held closed id has.0 has.1 has.2 in
-    (subst (λ n. n ≤ 64) (sym (depth_of_tree held closed id has.0 has.1 has.2)) is.3, subst (λ n. n ≤ 1024) (sym (reach_of_tree held closed id has.0 has.1 has.2)) is.4)
+    let is = tree_here held closed id has in
+    (subst (λ n. n ≤ 64) (sym (depth_here held closed id has)) is.3, subst (λ n. n ≤ 1024) (sym (reach_here held closed id has)) is.4)
 
 pub no_fault : (p : List ℕ) → 0 < length p → length p ≤ 1024 → list_all is_component (components p) ≡ true → length (components p) ≤ 64 → path_fault p ≡ None
 no_fault p some short names shallow =

@@ -23,7 +23,7 @@ use Rattle.eden_objects.specs.Imports.{GrowsOnto, Imported, and_then, import_fro
 use Rattle.eden_objects.specs.internal.Placed.{fault_at}
 use Rattle.eden_objects.specs.Laws.{HasAll, ImportsKeep, ImportsStaySmall, PutsKeep}
 use Rattle.eden_objects.proofs.Closed.{find_stays}
-use Rattle.eden_objects.proofs.Judged.{tree_sound}
+use Rattle.eden_objects.proofs.Judged.{first_none, not_so, tree_sound}
 use Rattle.eden_objects.proofs.Refusals.{commit_sound, few_bytes}
 
 -- an outcome that is put is that behind no fault
@@ -33,22 +33,15 @@ passes : (fault : Option PutFault) (outcome : Outcome) (put : Id × List Held) �
 passes None outcome put is = (refl, is)
 passes (Some fault) outcome put is = cc is
 
-neither : (first second : Option PutFault) → first_fault first second ≡ None → (first ≡ None) × (second ≡ None)
-neither None second is = (refl, is)
-neither (Some fault) second is = cc is
-
 within : (limit size : ℕ) (fault : PutFault) → if_so (nat_lt limit size) fault ≡ None → size ≤ limit
-within limit size fault is = ltb-false limit size (by (nat_lt limit size) is) where
-  by : (t : Bool) → if_so t fault ≡ None → t ≡ false
-  by true is = cc is
-  by false is = refl
+within limit size fault is = ltb-false limit size (not_so (nat_lt limit size) fault is)
 
 sound_tree : (payload : List ℕ) (held : List Held) → tree_fault payload held ≡ None → IsTree held (entries_of payload)
 sound_tree payload held is =
     let depth : ℕ = entries_depth (tree_depth held) (entries_of payload) in
     let reach : ℕ = entries_reach (tree_reach held) (entries_of payload) in
-    let judged = neither (entries_fault (length payload) held [] payload) (size_fault depth reach) (neither (too_large payload) _ is).1 in
-    let sizes = neither (if_so (nat_lt 64 depth) TooDeep) (if_so (nat_lt 1024 reach) PathTooLong) judged.1 in
+    let judged = first_none (entries_fault (length payload) held [] payload) (size_fault depth reach) (first_none (too_large payload) _ is).1 in
+    let sizes = first_none (if_so (nat_lt 64 depth) TooDeep) (if_so (nat_lt 1024 reach) PathTooLong) judged.1 in
     tree_sound payload held depth reach judged.0 refl refl (within 64 depth TooDeep sizes.0) (within 1024 reach PathTooLong sizes.1)
 
 -- what is put by its kind's call is sound and small

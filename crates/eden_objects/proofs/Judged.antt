@@ -20,11 +20,11 @@ use Rattle.eden_ids.proofs.ByteOrder.{is_less}
 
 -- what an entry without a fault has beside its object
 
-first_none : (first second : Option PutFault) → first_fault first second ≡ None → (first ≡ None) × (second ≡ None)
+pub first_none : (first second : Option PutFault) → first_fault first second ≡ None → (first ≡ None) × (second ≡ None)
 first_none None second h = (refl, h)
 first_none (Some fault) second h = cc h
 
-not_so : (t : Bool) (fault : PutFault) → if_so t fault ≡ None → t ≡ false
+pub not_so : (t : Bool) (fault : PutFault) → if_so t fault ≡ None → t ≡ false
 not_so true fault h = cc h
 not_so false fault h = refl
 

@@ -4,27 +4,26 @@ use Rattle.std.specs.Prelude.{filter}
 use Rattle.std.specs.List.{AllByRecursion}
 use Rattle.eden_ids.specs.declared.id.Id.{Id}
 use Rattle.eden_ids.specs.declared.content.Kind.{Kind}
-use Rattle.eden_ids.specs.Paths.{lies_below}
+use Rattle.eden_ids.specs.Paths.{IsPath, lies_below}
 use Rattle.eden_objects.specs.Objects.{Held}
 use Rattle.eden_git.specs.Trees.{Entry}
 use Rattle.eden_objects.specs.Commits.{Row, under, rows_of_kind, entry_rows, entries_rows, tree_rows}
 use Rattle.eden_objects.specs.Closed.{HasTree, IsClosed}
 use Rattle.eden_objects.specs.Listings.{ArePaths}
 use Rattle.eden_objects.specs.internal.Below.{IsBelow, behind}
-use Rattle.eden_objects.specs.internal.Passed.{ArePathsBut}
+use Rattle.eden_objects.specs.internal.Passed.{AreAllowedBut}
 use Rattle.eden_objects.proofs.Fitting.{fitting_law}
-use Rattle.eden_objects.proofs.WalkSteps.{entries_in, rows_here}
 
 -- what holds of each path of some rows, behind the bytes that stand before it
 module _ (P : List ℕ → Type 0) where
   abbrev pub AreAll : List ℕ → List Row → Type 0
   AreAll front rows = AllByRecursion (λ row. P (front ++ row.0)) rows
 
-  both_paths : (front : List ℕ) (xs ys : List Row) → AreAll front (xs ++ ys) → AreAll front xs × AreAll front ys
+  pub both_paths : (front : List ℕ) (xs ys : List Row) → AreAll front (xs ++ ys) → AreAll front xs × AreAll front ys
   both_paths front [] ys h = (tt, h)
   both_paths front (x ∷ xs) ys h = let rest = both_paths front xs ys h.1 in ((h.0, rest.0), rest.1)
 
-  inner_paths : (front name : List ℕ) (rows : List Row) → AreAll front (map (under name) rows) → AreAll (front ++ name ++ 47 ∷ []) rows
+  pub inner_paths : (front name : List ℕ) (rows : List Row) → AreAll front (map (under name) rows) → AreAll (front ++ name ++ 47 ∷ []) rows
   inner_paths front name [] h = tt
   inner_paths front name (row ∷ rows) h =
       let path : front ++ (name ++ 47 ∷ row.0) ≡ (front ++ name ++ 47 ∷ []) ++ row.0 =
@@ -49,11 +48,6 @@ module _ (P : List ℕ → Type 0) where
   pub later_paths : (front : List ℕ) (rows : Id → List Row) (e : Entry) (es all : List Entry) → all ≡ e ∷ es → AreAll front (entries_rows rows all) → AreAll front (entries_rows rows es)
   later_paths front rows e es all is h = (first_and_later front rows e es all is h).1
 
-  pub paths_here : (front : List ℕ) (held : List Held) (id : Id) (all : List Entry) → IsClosed held → HasTree held id → all ≡ entries_in held id → AreAll front (tree_rows held id)
-      → AreAll front (entries_rows (tree_rows held) all)
-  paths_here front held id all closed has is h =
-      subst (λ (es : List Entry). AreAll front (entries_rows (tree_rows held) es)) (sym is) (subst (AreAll front) (rows_here held closed id has) h)
-
 -- from the top, where no bytes stand before a name
 pub top_paths : (held : List Held) (tree : Id) (front : List ℕ) → IsClosed held → HasTree held tree → front ≡ [] → ArePaths front (tree_rows held tree)
 top_paths held tree front closed has none = subst (λ p. ArePaths p (tree_rows held tree)) (sym none) (fitting_law held closed tree has)
@@ -76,6 +70,6 @@ below_paths held tree path dir closed has below =
     behind_paths (path ++ 47 ∷ []) (tree_rows held dir) (subst (ArePaths []) below.1 (kept_paths (λ p. lies_below p path) (tree_rows held tree) (fitting_law held closed tree has)))
 
 -- so are those that are not passed over
-pub paths_but : (passes : List ℕ → Bool) (front : List ℕ) (rows : List Row) → ArePaths front rows → ArePathsBut passes front rows
+pub paths_but : (passes : List ℕ → Bool) (front : List ℕ) (rows : List Row) → ArePaths front rows → AreAllowedBut IsPath passes front rows
 paths_but passes front [] h = tt
 paths_but passes front (row ∷ rows) h = (λ shown. h.0, paths_but passes front rows h.1)

@@ -17,6 +17,7 @@ mod Putting
 pub mod TreeOf
 pub mod WalkSteps
 pub mod Gathering
+mod Visiting
 pub mod Legal
 mod Below
 mod Refusals

@@ -3,7 +3,7 @@ use Rattle.std.proofs.Common.{◌≡◌, ◌≢◌, ◌≤◌, ◌∙◌, sym, r
 use Rattle.std.proofs.lemmas.Bool.{ltb-false}
 use Rattle.eden_ids.specs.declared.id.Id.{Id}
 use Rattle.eden_objects.specs.declared.fault.PutFault.{PutFault}
-use Rattle.eden_objects.specs.declared.fault.PutFault.TheVariants.{TooLarge, IdTaken, ZeroId, BadMode, BadName, OutOfOrder, Duplicate, MissingChild, WrongChildKind, TooDeep, PathTooLong, CutShort, BadCommit, NoMemory}
+use Rattle.eden_objects.specs.declared.fault.PutFault.TheVariants.{TooLarge, OutOfOrder, Duplicate, WrongChildKind, CutShort, NoMemory}
 use Rattle.eden_git.specs.declared.word.Word.{Word}
 use Rattle.eden_git.specs.declared.word.Word.TheVariants.{Blob, Tree, Commit}
 use Rattle.std.specs.List.{list_any}
@@ -17,31 +17,14 @@ use Rattle.eden_objects.specs.Closed.{IsHeld, IsSound}
 
 -- every fault but want of memory is told as the outcome
 pub refused : (fault : PutFault) (held : List Held) → fault ≢ NoMemory → PutGives (Err fault) held held (Err fault)
-refused TooLarge held other = (refl, refl)
-refused IdTaken held other = (refl, refl)
-refused ZeroId held other = (refl, refl)
-refused BadMode held other = (refl, refl)
-refused BadName held other = (refl, refl)
-refused OutOfOrder held other = (refl, refl)
-refused Duplicate held other = (refl, refl)
-refused MissingChild held other = (refl, refl)
-refused WrongChildKind held other = (refl, refl)
-refused TooDeep held other = (refl, refl)
-refused PathTooLong held other = (refl, refl)
-refused CutShort held other = (refl, refl)
-refused BadCommit held other = (refl, refl)
 refused NoMemory held other = absurd (other refl)
+refused fault held other = (refl, refl)
 
 pub same_word-is : (a b : Word) → same_word a b ≡ true → a ≡ b
 same_word-is Blob Blob h = refl
 same_word-is Tree Tree h = refl
 same_word-is Commit Commit h = refl
-same_word-is Blob Tree h = cc h
-same_word-is Blob Commit h = cc h
-same_word-is Tree Blob h = cc h
-same_word-is Tree Commit h = cc h
-same_word-is Commit Blob h = cc h
-same_word-is Commit Tree h = cc h
+same_word-is a b h = cc h
 
 -- an id that may be named is that of an object of the kind
 pub child_held : (held : List Held) (word : Word) (id : Id) → child_fault word (find id held) ≡ None → IsHeld held word id

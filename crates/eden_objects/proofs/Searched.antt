@@ -1,122 +1,60 @@
 -- A search for a file that is not passed over, entry by entry, and files that are told as though their directory stood at another place.
-use Rattle.std.proofs.Common.{◌≡◌, ℕ, ◌+◌, ◌≤◌, ◌++◌, Bool, true, false, not, ◌&&◌, ◌||◌, cond, List, [], ◌∷◌, drop, map, length, Option, Some, None, Result, Ok, Err, is_some, refl, sym, ap, subst, ◌∙◌, arith, append_assoc, append-nil, length-append}
+use Rattle.std.proofs.Common.{◌≡◌, ℕ, ◌++◌, Bool, true, false, not, ◌&&◌, ◌||◌, cond, List, [], ◌∷◌, drop, map, length, Option, Some, None, Result, Ok, Err, is_some, refl, sym, ap, subst, ◌∙◌, arith, append_assoc, append-nil}
 use Rattle.std.proofs.Math.Seq.{drop-append_seam}
-use Rattle.std.proofs.lemmas.List.Folds.{list_any-append}
 use Rattle.std.proofs.lemmas.Slice.Eq.{bytes_eq-Decides}
 use Rattle.std.specs.Prelude.{IfOk, filter}
 use Rattle.std.specs.List.{AllByRecursion, list_any}
 use Rattle.eden_ids.specs.declared.id.Id.{Id}
-use Rattle.eden_ids.specs.declared.content.Kind.{Kind}
 use Rattle.eden_ids.specs.FileMaps.{FileMap, file_at, paths}
-use Rattle.eden_ids.specs.Paths.{lies_below}
+use Rattle.eden_ids.specs.Paths.{IsPath, lies_below}
 use Rattle.eden_ids.specs.Sameness.{same_bytes}
-use Rattle.eden_git.specs.Trees.{Entry, entries_of}
-use Rattle.eden_objects.specs.Objects.{Held, payload_of}
+use Rattle.eden_objects.specs.Objects.{Held}
 use Rattle.eden_objects.specs.declared.outline.Outline.{Outline}
 use Rattle.eden_objects.specs.declared.size.Size.{Size}
-use Rattle.eden_objects.specs.Trees.{entries_reach, reach_of, tree_depth, tree_reach}
-use Rattle.eden_objects.specs.Commits.{Row, entries_rows, entry_rows, find_row, rows_of_kind, tree_rows, under}
+use Rattle.eden_objects.specs.Trees.{tree_depth}
+use Rattle.eden_objects.specs.Commits.{Row, find_row, tree_rows}
 use Rattle.eden_objects.specs.Closed.{HasTree, IsClosed}
 use Rattle.eden_objects.specs.Files.{IsTreeIn, files_at, rows_at}
 use Rattle.eden_objects.specs.Passing.{IsWithin, TellsPaths, told}
 use Rattle.eden_objects.specs.internal.Below.{IsBelow, behind, rows_behind, rows_below}
 use Rattle.eden_objects.specs.internal.Kept.{TellsTree}
-use Rattle.eden_objects.specs.internal.Passed.{AreToldPaths, ArePathsBut, IsPathBut, any_but, retold, rows_shown}
-use Rattle.eden_objects.proofs.Closed.{greater_first, greater_second, reach_of_tree}
+use Rattle.eden_objects.specs.internal.Passed.{AreAllowedBut, AreToldPaths, any_but, retold, rows_but, rows_shown}
 use Rattle.eden_objects.proofs.FilesOf.{rises}
 use Rattle.eden_objects.proofs.Fitting.{AllFit, fitting}
 use Rattle.eden_objects.proofs.Maps.{file_at-map_of, is_found, paths-map_of}
-use Rattle.eden_objects.proofs.WalkSteps.{entries_in, rows_here}
 
 -- A directory of which all is passed over.
 
 all_within : (passes : List ℕ → Bool) (front : List ℕ) (size : Size) (rows : List Row) → AllFit rows size.depth size.reach
-    → ((rest : List ℕ) → IsWithin size rest → passes (front ++ rest) ≡ true) → any_but passes front rows ≡ false
+    → ((rest : List ℕ) → IsWithin size rest → passes (front ++ rest) ≡ true) → rows_but passes front rows ≡ []
 all_within passes front size [] fit all = refl
 all_within passes front size (row ∷ rows) fit all =
-    let passed : not (passes (front ++ row.0)) ≡ false = ap not (all row.0 (fit.0.1, fit.0.2, fit.0.3)) in
-    ap (λ b. b || any_but passes front rows) passed ∙ all_within passes front size rows fit.1 all
+    ap (λ b. cond (not b) (behind front row ∷ rows_but passes front rows) (rows_but passes front rows)) (all row.0 (fit.0.1, fit.0.2, fit.0.3))
+    ∙ all_within passes front size rows fit.1 all
 
 pub all_passed : (passes : List ℕ → Bool) (front : List ℕ) (held : List Held) (id : Id) (outline : Outline) → IsClosed held → HasTree held id → TellsTree held id outline
-    → ((rest : List ℕ) → IsWithin outline.size rest → passes (front ++ rest) ≡ true) → any_but passes front (tree_rows held id) ≡ false
+    → ((rest : List ℕ) → IsWithin outline.size rest → passes (front ++ rest) ≡ true) → rows_but passes front (tree_rows held id) ≡ []
 all_passed passes front held id outline closed has tells all =
     all_within passes front outline.size (tree_rows held id)
     (subst (λ depth. AllFit (tree_rows held id) depth outline.size.reach) (sym tells.0)
     (subst (AllFit (tree_rows held id) (tree_depth held id)) (sym tells.1) (fitting held closed id has)))
     all
 
--- One entry of a directory.
+-- A search of which nothing is left.
 
-under_any : (passes : List ℕ → Bool) (front name : List ℕ) (rows : List Row) → any_but passes front (map (under name) rows) ≡ any_but passes (front ++ name ++ 47 ∷ []) rows
-under_any passes front name [] = refl
-under_any passes front name (row ∷ rows) =
-    let path : front ++ (name ++ 47 ∷ row.0) ≡ (front ++ name ++ 47 ∷ []) ++ row.0 =
-    sym (append_assoc front name (47 ∷ row.0)) ∙ sym (append_assoc (front ++ name) (47 ∷ []) row.0) in
-    let rest = under_any passes front name rows in
-    λ i. not (passes (path i)) || rest i
+pub any_left : (passes : List ℕ → Bool) (front : List ℕ) (rows : List Row) → list_any (λ (row : Row). true) (rows_but passes front rows) ≡ any_but passes front rows
+any_left passes front [] = refl
+any_left passes front (row ∷ rows) =
+    elim (not (passes (front ++ row.0)))
+    as (λ b. list_any (λ (r : Row). true) (cond b (behind front row ∷ rows_but passes front rows) (rows_but passes front rows)) ≡ (b || any_but passes front rows)) [
+      | true ↦ refl
+      | false ↦ any_left passes front rows
+    ]
 
-module _ (passes : List ℕ → Bool) (front : List ℕ) (rows : Id → List Row) (target : Bool) (e : Entry) (es all : List Entry) (is : all ≡ e ∷ es)
-    (so_far : target ≡ any_but passes front (entries_rows rows all)) where
-  split : target ≡ (any_but passes front (entry_rows rows e) || any_but passes front (entries_rows rows es))
-  split = so_far ∙ ap (λ fs. any_but passes front (entries_rows rows fs)) is ∙ list_any-append (λ row. not (passes (front ++ row.0))) (entry_rows rows e) (entries_rows rows es)
-
-  pub none_here : any_but passes front (entry_rows rows e) ≡ false → target ≡ any_but passes front (entries_rows rows es)
-  none_here none = split ∙ ap (λ b. b || any_but passes front (entries_rows rows es)) none
-
-  pub one_here : any_but passes front (entry_rows rows e) ≡ true → target ≡ true
-  one_here one = split ∙ ap (λ b. b || any_but passes front (entries_rows rows es)) one
-
-pub file_any : (passes : List ℕ → Bool) (front : List ℕ) (rows : Id → List Row) (e : Entry) (kind : Kind) (b : Bool) → e.kind ≡ Some kind → b ≡ passes (front ++ e.name)
-    → any_but passes front (entry_rows rows e) ≡ not b
-file_any passes front rows e kind b file is =
-    ap (λ k. any_but passes front (rows_of_kind e.name k e.id (rows e.id))) file ∙ alone (passes (front ++ e.name)) ∙ ap not (sym is)
-  where
-    alone : (t : Bool) → (not t || false) ≡ not t
-    alone true = refl
-    alone false = refl
-
-pub dir_any : (passes : List ℕ → Bool) (front inner : List ℕ) (rows : Id → List Row) (e : Entry) (b : Bool) → e.kind ≡ None → inner ≡ front ++ e.name ++ 47 ∷ []
-    → b ≡ any_but passes inner (rows e.id) → any_but passes front (entry_rows rows e) ≡ b
-dir_any passes front inner rows e b dir entered is =
-    ap (λ k. any_but passes front (rows_of_kind e.name k e.id (rows e.id))) dir ∙ under_any passes front e.name (rows e.id)
-    ∙ ap (λ p. any_but passes p (rows e.id)) (sym entered) ∙ sym is
-
-pub all_searched : (passes : List ℕ → Bool) (front : List ℕ) (held : List Held) (id : Id) → IsClosed held → HasTree held id
-    → any_but passes front (tree_rows held id) ≡ any_but passes front (entries_rows (tree_rows held) (entries_in held id))
-all_searched passes front held id closed has = ap (any_but passes front) (rows_here held closed id has)
-
--- Room for the names on the way.
-
-pub reach_here : (held : List Held) (id : Id) → IsClosed held → HasTree held id → tree_reach held id ≡ entries_reach (tree_reach held) (entries_in held id)
-reach_here held id closed has =
-    reach_of_tree held closed id has.0 has.1 has.2
-    ∙ ap (λ o. entries_reach (tree_reach held) (entries_of (payload_of o))) (sym has.1)
-
-module _ (reach : Id → ℕ) (room n : ℕ) (e : Entry) (es all : List Entry) (is : all ≡ e ∷ es) (fits : n + entries_reach reach all ≤ room) where
-  first_fits : n + reach_of e.name e.kind (reach e.id) ≤ room
-  first_fits =
-      let same : entries_reach reach all ≡ entries_reach reach (e ∷ es) = ap (entries_reach reach) is in
-      let less : reach_of e.name e.kind (reach e.id) ≤ entries_reach reach (e ∷ es) = greater_first _ _ in
-      omega (arith, fits, same, less)
-
-  pub later_fits : n + entries_reach reach es ≤ room
-  later_fits =
-      let same : entries_reach reach all ≡ entries_reach reach (e ∷ es) = ap (entries_reach reach) is in
-      let less : entries_reach reach es ≤ entries_reach reach (e ∷ es) = greater_second _ _ in
-      omega (arith, fits, same, less)
-
-  pub file_fits : (kind : Kind) → e.kind ≡ Some kind → n + length e.name ≤ room
-  file_fits kind file = subst (λ k. n + reach_of e.name k (reach e.id) ≤ room) file first_fits
-
-  pub dir_fits : e.kind ≡ None → n + (length e.name + 1 + reach e.id) ≤ room
-  dir_fits dir = subst (λ k. n + reach_of e.name k (reach e.id) ≤ room) dir first_fits
-
-pub entered_fits : (front name new : List ℕ) (r room : ℕ) → new ≡ front ++ name ++ 47 ∷ [] → length front + (length name + 1 + r) ≤ room → length new + r ≤ room
-entered_fits front name new r room is fits =
-    let whole : length new ≡ length (front ++ name ++ 47 ∷ []) = ap length is in
-    let outer : length (front ++ name ++ 47 ∷ []) ≡ length (front ++ name) + 1 = length-append (front ++ name) (47 ∷ []) in
-    let inner : length (front ++ name) ≡ length front + length name = length-append front name in
-    omega (arith, whole, outer, inner, fits)
+-- a search may be asked of every path
+pub all_allowed : (passes : List ℕ → Bool) (front : List ℕ) (rows : List Row) → AreAllowedBut (λ path. Unit {0}) passes front rows
+all_allowed passes front [] = tt
+all_allowed passes front (row ∷ rows) = (λ shown. tt, all_allowed passes front rows)
 
 -- Below a directory that is told at another place.
 
@@ -179,13 +117,16 @@ module _ (P : List ℕ → Type 0) where
   kept_all top [] h = tt
   kept_all top (row ∷ rows) h = kept_one top (lies_below row.0 top) row (filter (λ r. lies_below r.0 top) rows) h.0 (kept_all top rows h.1)
 
+abbrev IsPathBut : (List ℕ → Bool) → List ℕ → Type 0
+IsPathBut passes path = passes path ≡ false → IsPath path
+
 behind_told : (passes : List ℕ → Bool) (top seen : List ℕ) (rows : List Row) → AllByRecursion (λ row. IsPathBut passes (told top seen row.0)) (map (behind (top ++ 47 ∷ [])) rows)
-    → ArePathsBut passes (seen ++ 47 ∷ []) rows
+    → AreAllowedBut IsPath passes (seen ++ 47 ∷ []) rows
 behind_told passes top seen [] h = tt
 behind_told passes top seen (row ∷ rows) h = (subst (IsPathBut passes) (told_behind top seen row.0) h.0, behind_told passes top seen rows h.1)
 
 pub told_paths : (passes : List ℕ → Bool) (held : List Held) (tree : Id) (top seen : List ℕ) (dir : Id) → IsBelow held tree top (Some dir)
-    → AreToldPaths passes top seen (tree_rows held tree) → ArePathsBut passes (seen ++ 47 ∷ []) (tree_rows held dir)
+    → AreToldPaths passes top seen (tree_rows held tree) → AreAllowedBut IsPath passes (seen ++ 47 ∷ []) (tree_rows held dir)
 told_paths passes held tree top seen dir below h =
     behind_told passes top seen (tree_rows held dir)
     (subst (AllByRecursion (λ row. IsPathBut passes (told top seen row.0))) below.1 (kept_all (λ p. IsPathBut passes (told top seen p)) top (tree_rows held tree) h))

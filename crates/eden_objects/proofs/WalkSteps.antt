@@ -1,24 +1,19 @@
 -- One step of a walk down a path, from a directory to what its entries say of the path's first name.
-use Rattle.std.proofs.Common.{◌≡◌, ℕ, zero, suc, ◌+◌, ◌<◌, ◌++◌, Bool, true, false, cond, List, [], ◌∷◌, drop, length, Option, Some, None, sym, ap, subst, ◌∙◌, arith, length-append}
-use Rattle.std.proofs.Math.Seq.{drop-cons}
-use Rattle.std.proofs.lemmas.Option.{get_or_from_slice_get, slice_get_within}
-use Rattle.std.specs.List.{AllByRecursion, slice_get}
+use Rattle.std.proofs.Common.{◌≡◌, ℕ, ◌+◌, ◌<◌, ◌++◌, Bool, true, false, List, [], ◌∷◌, length, Option, Some, None, sym, ap, subst, ◌∙◌, arith, length-append}
+use Rattle.std.specs.List.{AllByRecursion}
 use Rattle.eden_ids.specs.declared.id.Id.{Id}
 use Rattle.eden_ids.specs.declared.content.Kind.{Kind}
 use Rattle.eden_objects.specs.Objects.{Held, find, payload_of}
 use Rattle.eden_ids.specs.Sameness.{same_bytes}
 use Rattle.eden_git.specs.Trees.{Entry, cut, entries_of}
-use Rattle.eden_objects.specs.Readings as reading
-use Rattle.eden_objects.specs.Readings.{tree_entries}
-use Rattle.eden_git.specs.Words.{same_word}
-use Rattle.eden_git.specs.declared.word.Word.TheVariants.{Tree}
+use Rattle.eden_objects.specs.Trees.{entries_depth, entries_reach, tree_depth, tree_fold, tree_reach}
 use Rattle.eden_objects.specs.Commits.{find_row, tree_rows, entries_rows}
 use Rattle.eden_objects.specs.Puts.{word_wanted}
 use Rattle.eden_git.specs.Starts.{AreInOrder}
 use Rattle.eden_objects.specs.Closed.{IsHeld, HasTree, IsTree, IsClosed}
 use Rattle.eden_git.specs.Directories.{or_later, file_named, dir_if, dir_named}
 use Rattle.eden_objects.specs.Walks.{then_find}
-use Rattle.eden_objects.proofs.Closed.{tree_in, rows_of_tree}
+use Rattle.eden_objects.proofs.Closed.{IsLocal, depth_local, fold_of_tree, reach_local, rows_local, tree_in}
 use Rattle.eden_git.proofs.Slashes.{cut_some}
 use Rattle.eden_objects.proofs.Lookup.{look_file, look_dir}
 
@@ -29,9 +24,20 @@ entries_in held id = entries_of (payload_of (find id held))
 pub tree_here : (held : List Held) → IsClosed held → (id : Id) → HasTree held id → IsTree held (entries_in held id)
 tree_here held closed id has = subst (λ o. IsTree held (entries_of (payload_of o))) (sym has.1) (tree_in held closed id has.0 has.1 has.2)
 
+-- what it comes to, by what its entries come to
+fold_here : {A : Type 0} (none : A) (step : (Id → A) → List Entry → A) → IsLocal step → (held : List Held) → IsClosed held → (id : Id) → HasTree held id
+    → tree_fold none step held id ≡ step (tree_fold none step held) (entries_in held id)
+fold_here none step local held closed id has =
+    fold_of_tree none step local held closed id has.0 has.1 has.2 ∙ ap (λ o. step (tree_fold none step held) (entries_of (payload_of o))) (sym has.1)
+
 pub rows_here : (held : List Held) → IsClosed held → (id : Id) → HasTree held id → tree_rows held id ≡ entries_rows (tree_rows held) (entries_in held id)
-rows_here held closed id has =
-    rows_of_tree held closed id has.0 has.1 has.2 ∙ ap (λ o. entries_rows (tree_rows held) (entries_of (payload_of o))) (sym has.1)
+rows_here = fold_here [] entries_rows rows_local
+
+pub depth_here : (held : List Held) → IsClosed held → (id : Id) → HasTree held id → tree_depth held id ≡ entries_depth (tree_depth held) (entries_in held id)
+depth_here = fold_here 0 entries_depth depth_local
+
+pub reach_here : (held : List Held) → IsClosed held → (id : Id) → HasTree held id → tree_reach held id ≡ entries_reach (tree_reach held) (entries_in held id)
+reach_here = fold_here 0 entries_reach reach_local
 
 pub file_here : (held : List Held) (id : Id) (p : List ℕ) → IsClosed held → HasTree held id → None ≡ cut 47 p
     → find_row p (tree_rows held id) ≡ file_named p (entries_in held id)
@@ -64,34 +70,6 @@ dir_held held c child (e ∷ es) all found = held_if held e.kind e.id child (sam
 pub child_here : (held : List Held) (id : Id) (c : List ℕ) (child : Id) → IsClosed held → HasTree held id → Some child ≡ dir_named c (entries_in held id) → HasTree held child
 child_here held id c child closed has found = dir_held held c child (entries_in held id) (tree_here held closed id has).0 found
 
--- what is lent of a tree that is held are its entries, and they stand in order
-
-tree_lent : (held : List Held) (id : Id) → HasTree held id → Some (entries_in held id) ≡ tree_entries held id
-tree_lent held id has =
-    ap (λ o. Some (entries_of (payload_of o))) has.1
-    ∙ sym (ap (λ o. reading.entries_in (reading.tree_in o)) has.1 ∙ ap (λ word. reading.entries_in (cond (same_word word Tree) (Some has.0.payload) None)) has.2)
-
-pub rows_lent : (held : List Held) (id : Id) (es : List Entry) → HasTree held id → Some es ≡ tree_entries held id → es ≡ entries_in held id
-rows_lent held id es has is = some_inside es (entries_in held id) (is ∙ sym (tree_lent held id has))
-  where
-    some_inside : (es fs : List Entry) → Some es ≡ Some fs → es ≡ fs
-    some_inside es fs same = cc
-
-pub none_lent : (held : List Held) (id : Id) → HasTree held id → None ≡ tree_entries held id → ⊥
-none_lent held id has is = let bad : Some (entries_in held id) ≡ None = tree_lent held id has ∙ sym is in cc
-
-pub order_here : (held : List Held) (id : Id) (es : List Entry) → IsClosed held → HasTree held id → Some es ≡ tree_entries held id → AreInOrder es
-order_here held id es closed has is = subst AreInOrder (sym (rows_lent held id es has is)) (tree_here held closed id has).1
-
--- from a row on, the entry at the row comes first
-
-pub next_row : (es : List Entry) (row : ℕ) (e : Entry) → Some e ≡ slice_get es row → drop row es ≡ e ∷ drop (row + 1) es
-next_row es row e at =
-    let next : suc row ≡ row + 1 = omega arith in
-    drop-cons es row e (slice_get_within es row e (sym at))
-    ∙ ap (λ (f : Entry). f ∷ drop (suc row) es) (get_or_from_slice_get es row e e (sym at)) ∙ ap (λ n. e ∷ drop n es) next
-
-pub some_row : (es : List Entry) (row : ℕ) → row < length es → slice_get es row ≡ None → ⊥
-some_row [] row within none = absurd (omega (arith, within))
-some_row (e ∷ es) zero within none = cc none
-some_row (e ∷ es) (suc row) within none = some_row es row (omega (arith, within)) none
+-- the entries of a tree that is held stand in order
+pub order_here : (held : List Held) (id : Id) (es : List Entry) → IsClosed held → HasTree held id → es ≡ entries_in held id → AreInOrder es
+order_here held id es closed has is = subst AreInOrder (sym is) (tree_here held closed id has).1

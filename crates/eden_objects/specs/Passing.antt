@@ -2,7 +2,7 @@
 -- their directory were at another path.
 use Rattle.std.specs.Prelude.{◌≡◌, ℕ, ◌≤◌, Bool, true, false, not, ◌&&◌, IsSome, List, ◌++◌, drop, length}
 use Rattle.std.specs.List.{list_all}
-use Rattle.eden_globs.specs.Filters.{admits}
+use Rattle.eden_globs.specs.Filters.{Patterns, admits}
 use Rattle.eden_ids.specs.FileMaps.{FileMap, file_at}
 use Rattle.eden_ids.specs.Paths.{IsPath, components, is_component, lies_below}
 use Rattle.eden_objects.specs.declared.size.Size.{Size}
@@ -16,8 +16,8 @@ abbrev pub told : List ℕ → List ℕ → List ℕ → List ℕ
 told top seen path = seen ++ drop (length top) path
 
 -- what a list shows: what a filter admits and is not passed over
-abbrev pub is_shown : (List ℕ → Bool) → List (List ℕ) → List ℕ → Bool
-is_shown passes patterns path = not (passes path) && admits patterns path
+abbrev pub is_shown : (List ℕ → Bool) → Patterns → List ℕ → Bool
+is_shown passes wanted path = not (passes path) && admits wanted path
 
 -- each file below the directory that is not passed over has a valid path there
 abbrev pub TellsPaths : (List ℕ → Bool) → List ℕ → List ℕ → FileMap → Type 0

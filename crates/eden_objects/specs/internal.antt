@@ -5,3 +5,5 @@ pub mod Kept
 pub mod Passed
 pub mod Placed
 pub mod Roots
+pub mod Visits
+pub mod VisitLaws

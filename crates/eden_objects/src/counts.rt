@@ -41,6 +41,7 @@ impl<N: Naming + Drop> Store<N> {
         requires { HasTree self.now tree }
         ensures { result ≡ files_of_tree self.now tree }
     {
-        self.outline(tree).files
+        let (_, outline) = self.read_tree(tree);
+        outline.files
     }
 }

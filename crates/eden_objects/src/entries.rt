@@ -1,6 +1,7 @@
 //! The entries of one tree, borrowed or copied.
 ghost use Rattle.std.specs.Prelude.{◌≡◌, ◌∷◌, ◌++◌, [], map, option_copied, IfOk, OnOk};
-ghost use Rattle.eden_objects.specs.Objects.{find};
+ghost use Rattle.eden_git.specs.Trees.{entries_of};
+ghost use Rattle.eden_objects.specs.Objects.{find, payload_of};
 ghost use Rattle.eden_objects.specs.Closed.{HasTree};
 ghost use Rattle.eden_objects.specs.internal.Kept.{TellsTree};
 ghost use Rattle.eden_git.specs.Entries.{plain};
@@ -50,11 +51,7 @@ fn copies_of(alloc: Global, rows: &Rows<'_>) -> Result<Vec<Entry>, NoMemory>
     ensures { IfOk result (λ found. map copied found.items ≡ rows.now) }
 {
     let mut found = Vec::new(alloc);
-    'entries: for row in 0..rows.len() {
-        let Some(entry) = rows.entry(row) else {
-            // The row is one of them.
-            unreachable!()
-        };
+    'entries: for entry in rows.iter() {
         push_copy(alloc, &mut found, &entry)?;
     }
     Ok(found)
@@ -98,18 +95,19 @@ impl<N: Naming + Drop> Store<N> {
         }
     }
 
-    /// Returns what is kept of a tree.
-    pub(crate) fn outline(&self, tree: Id) -> &Outline
+    /// Returns the entries of a tree, and what is kept of it.
+    pub(crate) fn read_tree(&self, tree: Id) -> (Rows<'_>, &Outline)
         requires { HasTree self.now tree }
-        ensures { TellsTree self.now tree result.now }
+        ensures rows { result.0 ≡ entries_of (payload_of (find tree self.now)) }
+        ensures kept { TellsTree self.now tree result.1.now }
     {
         match self.object(tree) {
             Some(
                 Stored {
+                    payload,
                     body: Body::Tree(outline),
-                    ..
                 },
-            ) => outline,
+            ) => (Rows::new(payload.as_slice(), &outline.columns), outline),
             // The tree is there.
             _ => unreachable!(),
         }

@@ -94,7 +94,8 @@ impl<N: Naming + Drop> Store<N> {
                 reach: length,
             };
         }
-        let child = self.outline(entry.id).size;
+        let (_, outline) = self.read_tree(entry.id);
+        let child = outline.size;
         Size {
             depth: 1 + child.depth,
             reach: length + 1 + child.reach,
@@ -161,11 +162,7 @@ impl<N: Naming + Drop> Store<N> {
         ensures { result ≡ files_of_entries self.now rows.now }
     {
         let mut files: usize = 0;
-        'entries: for row in 0..rows.len() {
-            let Some(entry) = rows.entry(row) else {
-                // The row is one of them.
-                unreachable!()
-            };
+        'entries: for entry in rows.iter() {
             files = files.saturating_add(self.count_of_entry(&entry));
         }
         files

@@ -74,3 +74,4 @@ mod size;
 mod store;
 mod stored;
 mod trail;
+mod walk;

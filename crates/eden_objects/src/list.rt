@@ -1,73 +1,53 @@
 //! Lists of the files of a commit, or those below a directory, in byte order.
 
-ghost use Rattle.std.specs.Prelude.{◌≡◌, ◌++◌, ◌∷◌, [], false, Some, IfOk, OnOk};
+ghost use Rattle.std.specs.Prelude.{◌≡◌, ◌++◌, ◌∷◌, ◌+◌, ◌≤◌, [], false, length, Some, IfOk};
 ghost use Rattle.eden_globs.specs.Filters.{admits};
 ghost use Rattle.eden_ids.specs.Paths.{IsPath, lies_below};
 ghost use Rattle.eden_objects.specs.Commits.{commit_rows, rows_where, tree_rows};
 ghost use Rattle.eden_objects.specs.Closed.{HasTree};
 ghost use Rattle.eden_objects.specs.Listings.{Lists};
 ghost use Rattle.eden_objects.specs.Passing.{is_shown};
+ghost use Rattle.eden_objects.specs.Trees.{tree_reach};
 ghost use Rattle.eden_objects.specs.internal.Below.{IsBelow, rows_behind, rows_below};
-ghost use Rattle.eden_objects.specs.internal.Passed.{ArePathsBut, AreToldPaths, rows_shown};
+ghost use Rattle.eden_objects.specs.internal.Passed.{AreAllowedBut, AreToldPaths, rows_shown};
 
 use crate::fault::{CommitFault, NoCommit};
 use crate::passing::{Nothing, Passes};
 use crate::store::Store;
+use crate::trail::Trail;
+use crate::walk::Visit;
 use eden_git::cut;
-use eden_globs::{Filter, Front};
+use eden_globs::Filter;
 use eden_ids::{Id, Kind, Naming, NoMemory, Path};
-use std::alloc::Global;
 
-/// The files found so far, and the directory that is read.
+/// A walk that lists the admitted files.
 #[derive(Drop)]
-struct Listing {
-    front: Front,
+struct Listing<'a> {
+    filter: &'a Filter,
+    /// The files found so far.
     rows: Vec<(Path, Kind, Id)>,
 }
 
-impl Listing {
-    /// Returns an empty list, at the root.
-    fn new(alloc: Global) -> Listing
-        ensures front { result.front ≡ [] }
-        ensures rows { result.rows.items ≡ [] }
-    {
-        Listing {
-            front: Front::new(alloc),
-            rows: Vec::new(alloc),
-        }
+impl<'a> Visit for Listing<'a> {
+    ghost use Rattle.eden_ids.specs.Paths.{IsPath};
+    ghost use Rattle.eden_objects.specs.internal.Visits.{IsListing};
+    ghost use Rattle.eden_objects.specs.internal.VisitLaws.{listing_laws};
+
+    type Stop = NoMemory;
+
+    ghost allows = { IsPath };
+
+    ghost gives = { IsListing };
+
+    ghost laws = { listing_laws };
+
+    fn enters(&self, directory: &[u8]) -> bool {
+        self.filter.admits_below(directory)
     }
 
-    /// Returns true if a file in the directory is passed over.
-    fn passes<S: Passes>(&mut self, passed: &S, name: &[u8]) -> Result<bool, NoMemory>
-        ensures passes { IfOk result (λ passes. passes ≡ S.passes passed.now (self.old.front ++ name.now)) }
-        ensures listing { OnOk result (self.new ≡ self.old) }
-    {
-        let length = self.front.add(name)?;
-        let passes = passed.passes_file(self.front.as_bytes());
-        self.front.leave(length);
-        Ok(passes)
-    }
-
-    /// Adds a file, if it is admitted and not passed over.
-    ///
-    /// The file is in the directory that is read.
-    fn add<S: Passes>(
-        &mut self,
-        filter: &Filter,
-        passed: &S,
-        name: &[u8],
-        kind: Kind,
-        id: Id,
-    ) -> Result<(), NoMemory>
-        requires { S.passes passed.now (self.old.front ++ name.now) ≡ false → IsPath (self.old.front ++ name.now) }
-        ensures rows { OnOk result (self.new.rows.items
-            ≡ self.old.rows.items ++ rows_behind (is_shown (S.passes passed.now) filter.now) self.old.front ((name.now, kind, id) ∷ [])) }
-        ensures front { OnOk result (self.new.front ≡ self.old.front) }
-    {
-        if self.passes(passed, name)? {
-            return Ok(());
-        }
-        if let Some(path) = self.front.path_if_wanted(filter, name)? {
+    fn file(&mut self, path: &[u8], kind: Kind, id: Id) -> Result<(), NoMemory> {
+        if self.filter.admits_bytes(path) {
+            let path = Path::joined(*self.rows.allocator(), path, b"".as_slice())?;
             self.rows.push((path, kind, id))?;
         }
         Ok(())
@@ -115,7 +95,7 @@ impl<N: Naming + Drop> Store<N> {
         ensures { Lists result (rows_where (admits filter.now) (rows_where (λ p. lies_below p top.now) (commit_rows self.now commit))) }
     {
         match self.root_tree(commit) {
-            Ok(Some(tree)) => self.list_directory(tree, top.as_bytes(), filter),
+            Ok(Some(tree)) => self.list_directory(tree, top, filter),
             Ok(None) => Ok(Vec::new(self.allocator())),
             Err(NoCommit) => Err(CommitFault::NoCommit),
         }
@@ -125,14 +105,14 @@ impl<N: Naming + Drop> Store<N> {
     fn list_directory(
         &self,
         tree: Id,
-        path: &[u8],
+        path: &Path,
         filter: &Filter,
     ) -> Result<Vec<(Path, Kind, Id)>, CommitFault>
         requires { HasTree self.now tree }
         ensures { Lists result (rows_where (admits filter.now) (Some (rows_below self.now tree path.now))) }
     {
         self.closed_law();
-        let Some(dir) = self.directory_below(tree, path) else {
+        let Some(dir) = self.directory_below(tree, path.as_bytes()) else {
             return Ok(Vec::new(self.allocator()));
         };
         Ok(self.gather_below(dir, path, filter, &Nothing)?)
@@ -188,7 +168,7 @@ impl<N: Naming + Drop> Store<N> {
     {
         self.closed_law();
         match self.directory_below(tree, top) {
-            Some(dir) => self.gather_below(dir, seen.as_bytes(), filter, passed),
+            Some(dir) => self.gather_below(dir, seen, filter, passed),
             None => Ok(Vec::new(self.allocator())),
         }
     }
@@ -199,21 +179,20 @@ impl<N: Naming + Drop> Store<N> {
     pub(crate) fn gather_below<S: Passes>(
         &self,
         dir: Id,
-        path: &[u8],
+        path: &Path,
         filter: &Filter,
         passed: &S,
     ) -> Result<Vec<(Path, Kind, Id)>, NoMemory>
         requires tree { HasTree self.now dir }
-        requires paths { ArePathsBut (S.passes passed.now) (path.now ++ 47 ∷ []) (tree_rows self.now dir) }
+        requires paths { AreAllowedBut IsPath (S.passes passed.now) (path.now ++ 47 ∷ []) (tree_rows self.now dir) }
         ensures { IfOk result (λ rows. rows.items
             ≡ rows_behind (is_shown (S.passes passed.now) filter.now) (path.now ++ 47 ∷ []) (tree_rows self.now dir)) }
     {
-        let mut listing = Listing::new(self.allocator());
-        let Some(_) = listing.front.enter(filter, path)? else {
-            return Ok(listing.rows);
-        };
-        self.gather(dir, filter, passed, &mut listing)?;
-        Ok(listing.rows)
+        self.closed_law();
+        if !filter.admits_below(path.as_bytes()) {
+            return Ok(Vec::new(self.allocator()));
+        }
+        self.gather(dir, &mut Trail::below(path), filter, passed)
     }
 
     /// Returns the files of a tree, admitted and not passed over.
@@ -227,51 +206,27 @@ impl<N: Naming + Drop> Store<N> {
         ensures { IfOk result (λ rows. rows.items ≡ rows_behind (is_shown (S.passes passed.now) filter.now) [] (tree_rows self.now tree)) }
     {
         self.closed_law();
-        let mut listing = Listing::new(self.allocator());
-        self.gather(tree, filter, passed, &mut listing)?;
-        Ok(listing.rows)
+        self.gather(tree, &mut Trail::new(), filter, passed)
     }
 
-    /// Adds the files of a tree to a list, directory by directory.
-    ///
-    /// A directory is not read if it has no files, nothing below it is admitted, or
-    /// everything in it is passed over.
+    /// Returns the files of a tree at a trail, admitted and not passed over.
     fn gather<S: Passes>(
         &self,
         tree: Id,
+        trail: &mut Trail,
         filter: &Filter,
         passed: &S,
-        listing: &mut Listing,
-    ) -> Result<(), NoMemory>
+    ) -> Result<Vec<(Path, Kind, Id)>, NoMemory>
         requires tree { HasTree self.now tree }
-        requires paths { ArePathsBut (S.passes passed.now) listing.old.front (tree_rows self.now tree) }
-        ensures rows { OnOk result (listing.new.rows.items
-            ≡ listing.old.rows.items ++ rows_behind (is_shown (S.passes passed.now) filter.now) listing.old.front (tree_rows self.now tree)) }
-        ensures front { OnOk result (listing.new.front ≡ listing.old.front) }
+        requires room { length trail.old + tree_reach self.now tree ≤ 2049 }
+        requires paths { AreAllowedBut IsPath (S.passes passed.now) trail.old (tree_rows self.now tree) }
+        ensures { IfOk result (λ rows. rows.items ≡ rows_behind (is_shown (S.passes passed.now) filter.now) trail.old (tree_rows self.now tree)) }
     {
-        self.closed_law();
-        if self.passes_tree(tree, listing.front.as_bytes(), passed) {
-            return Ok(());
-        }
-        let Some(rows) = self.rows(tree) else {
-            // The tree is there.
-            unreachable!()
+        let mut listing = Listing {
+            filter,
+            rows: Vec::new(self.allocator()),
         };
-        'entries: for row in 0..rows.len() {
-            let Some(entry) = rows.entry(row) else {
-                // The row is one of them.
-                unreachable!()
-            };
-            let Some(kind) = entry.kind else {
-                let Some(length) = listing.front.enter(filter, entry.name)? else {
-                    continue;
-                };
-                self.gather(entry.id, filter, passed, listing)?;
-                listing.front.leave(length);
-                continue;
-            };
-            listing.add(filter, passed, entry.name, kind, entry.id)?;
-        }
-        Ok(())
+        self.walk(tree, passed, trail, &mut listing)?;
+        Ok(listing.rows)
     }
 }

@@ -80,27 +80,25 @@ impl<N: Naming + Drop> Store<N> {
     }
 
     /// Returns the file with a name in a tree, by a search.
+    #[tactic(auto, using(crate::proofs::WalkSteps::order_here))]
     fn file_in(&self, tree: Id, name: &[u8]) -> Option<(Kind, Id)>
         requires { HasTree self.now tree }
         ensures { result ≡ file_named name.now (entries_of (payload_of (find tree self.now))) }
     {
         self.closed_law();
-        match self.rows(tree) {
-            Some(rows) => rows.file(name),
-            None => None,
-        }
+        let (rows, _) = self.read_tree(tree);
+        rows.file(name)
     }
 
     /// Returns the tree of a directory, by a search for its name.
+    #[tactic(auto, using(crate::proofs::WalkSteps::order_here))]
     pub(crate) fn directory_in(&self, tree: Id, name: &[u8]) -> Option<Id>
         requires { HasTree self.now tree }
         ensures { result ≡ dir_named name.now (entries_of (payload_of (find tree self.now))) }
     {
         self.closed_law();
-        match self.rows(tree) {
-            Some(rows) => rows.directory(name),
-            None => None,
-        }
+        let (rows, _) = self.read_tree(tree);
+        rows.directory(name)
     }
 
     /// Returns the tree of a commit; the empty commit has none.

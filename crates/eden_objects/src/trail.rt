@@ -1,15 +1,15 @@
-//! The path of a search, in a buffer of fixed size.
+//! The path of a walk, in a buffer of fixed size.
 
 ghost use Rattle.std.specs.Prelude.{◌≡◌, ◌+◌, ◌≤◌, ◌++◌, ◌∷◌, [], length, take};
 
-use crate::passing::Passes;
 use arrayvec::ArrayVec;
+use eden_ids::Path;
 use std::marker::Model;
 
 /// The bytes of a path, a slash, and another path.
 const ROOM: usize = 2_049;
 
-/// The bytes before each name of the directory that is searched.
+/// The bytes before each name of the directory that is read.
 ///
 /// They are the directory's path and a slash, or nothing at the root.
 #[derive(Drop)]
@@ -35,40 +35,26 @@ impl Trail {
         }
     }
 
-    /// Adds a name, and returns the length to which `leave` goes back.
-    fn add(&mut self, name: &[u8]) -> usize
-        requires { length self.old + length name.now ≤ 2049 }
-        ensures added { self.new ≡ self.old ++ name.now }
+    /// Returns the trail at a directory.
+    pub(crate) fn below(directory: &Path) -> Trail
+        ensures trail { result ≡ directory.now ++ 47 ∷ [] }
+        ensures short { length result ≤ 1025 }
+    {
+        let mut trail = Trail::new();
+        trail.add(directory.as_bytes());
+        trail.add(b"/".as_slice());
+        trail
+    }
+
+    /// Adds bytes, and returns the length to which `leave` goes back.
+    pub(crate) fn add(&mut self, bytes: &[u8]) -> usize
+        requires { length self.old + length bytes.now ≤ 2049 }
+        ensures added { self.new ≡ self.old ++ bytes.now }
         ensures length { result ≡ length self.old }
     {
         let length = self.bytes.len();
-        if self.bytes.try_extend_from_slice(name).is_err() {
-            // There is room.
-            unreachable!()
-        }
-        length
-    }
-
-    /// Returns true if the file with a name is passed over.
-    pub(crate) fn passes<S: Passes>(&mut self, passed: &S, name: &[u8]) -> bool
-        requires { length self.old + length name.now ≤ 2049 }
-        ensures passes { result ≡ S.passes passed.now (self.old ++ name.now) }
-        ensures trail { self.new ≡ self.old }
-    {
-        let length = self.add(name);
-        let passes = passed.passes_file(self.bytes.as_slice());
-        self.leave(length);
-        passes
-    }
-
-    /// Enters a directory, and returns the length to which `leave` goes back.
-    pub(crate) fn enter(&mut self, name: &[u8]) -> usize
-        requires { length self.old + length name.now + 1 ≤ 2049 }
-        ensures entered { self.new ≡ self.old ++ name.now ++ 47 ∷ [] }
-        ensures length { result ≡ length self.old }
-    {
-        let length = self.add(name);
-        self.bytes.push(b'/');
+        // There is room.
+        let _fits = self.bytes.try_extend_from_slice(bytes);
         length
     }
 
@@ -79,7 +65,7 @@ impl Trail {
         self.bytes.as_slice()
     }
 
-    /// Goes back to the directory whose length `enter` returned.
+    /// Goes back to the length that `add` returned.
     pub(crate) fn leave(&mut self, length: usize)
         ensures { self.new ≡ take length self.old }
     {

@@ -2,7 +2,7 @@
 use Rattle.std.proofs.Common.{◌≡◌, ℕ, suc, zero, ◌+◌, ◌-◌, ◌≤◌, Bool, true, false, cond, not, ◌||◌, Option, Some, None, List, [], ◌∷◌, ◌++◌, map, take, drop, length, refl, sym, ap, subst, ◌∙◌, arith, append_assoc, length-append}
 use Rattle.std.proofs.lemmas.Bool.{or_parts}
 use Rattle.std.proofs.lemmas.List.{length-drop, length-take-le, take-append-drop}
-use Rattle.std.specs.Prelude.{IsSome}
+use Rattle.std.specs.Prelude.{IsSome, filter}
 use Rattle.std.specs.Ordering.{is_eq, is_lt}
 use Rattle.std.specs.Global.{Vec}
 use Rattle.std.specs.List.{AllByRecursion, list_any}
@@ -13,28 +13,19 @@ use Rattle.eden_ids.specs.declared.content.Content.{Content}
 use Rattle.eden_ids.specs.Paths.{lies_below}
 use Rattle.eden_ids.proofs.ByteOrder.{from, less, upto}
 use Rattle.eden_ids.proofs.FileMapLemmas.{same_path-is}
+use Rattle.eden_ids.proofs.Members.{all_joined, all_parts}
 use Rattle.eden_overlay.specs.Carried.{carried}
 use Rattle.eden_overlay.specs.Layers.{Entry, Layer, by_bytes}
-use Rattle.eden_overlay.specs.internal.Blocks.{flat, AllFilled}
-use Rattle.eden_overlay.specs.internal.Seams.{AllBefore, AreCarried, IsCut, IsSeam, IsStretch, NoneBefore, placed}
+use Rattle.eden_overlay.specs.internal.Blocks.{flat, AllFilled, IsFilled}
+use Rattle.eden_overlay.specs.internal.Seams.{AllBefore, AreCarried, IsCut, IsNotBefore, IsOneSided, IsSeam, IsStretch, NoneBefore, placed}
 use Rattle.eden_overlay.proofs.CarriedEntries.{Parts, are_carried, inside, part_in, part_out, placed_are}
-use Rattle.eden_overlay.proofs.Flattened.{Rising, filled_from, rising_back}
-use Rattle.eden_overlay.proofs.Seamed.{none_front, cut_both, cut_from, cut_to}
+use Rattle.eden_overlay.proofs.Flattened.{Rising, rising_back}
+use Rattle.eden_overlay.proofs.Members.{all_left, all_taken}
 use Rattle.eden_overlay.proofs.Walked.{in_range}
 
 pub flat_both : (bs cs : List (Vec Entry)) → flat (bs ++ cs) ≡ flat bs ++ flat cs
 flat_both [] cs = refl
 flat_both (b ∷ bs) cs = ap (λ es. b.items ++ es) (flat_both bs cs) ∙ sym (append_assoc b.items (flat bs) (flat cs))
-
-pub filled_both : (bs cs : List (Vec Entry)) → AllFilled bs → AllFilled cs → AllFilled (bs ++ cs)
-filled_both [] cs h g = g
-filled_both (b ∷ bs) cs h g = (h.0, filled_both bs cs h.1 g)
-
-pub filled_to : (n : ℕ) (bs : List (Vec Entry)) → AllFilled bs → AllFilled (take n bs)
-filled_to zero [] h = tt
-filled_to (suc n) [] h = tt
-filled_to zero (b ∷ bs) h = tt
-filled_to (suc n) (b ∷ bs) h = (h.0, filled_to n bs h.1)
 
 pub flat_at : (n : ℕ) (bs : List (Vec Entry)) → flat bs ≡ flat (take n bs) ++ flat (drop n bs)
 flat_at n bs = ap flat (sym (take-append-drop n bs)) ∙ flat_both (take n bs) (drop n bs)
@@ -173,7 +164,7 @@ stretch_is top bs start end low high =
       ahead = low.ahead;
       inside = subst (λ n. AllByRecursion (λ e. lies_below e.0 top ≡ true) (flat (take n (drop start bs)))) (sym size)
           (between top (flat (take end (drop start bs)))
-          (none_front (from top) (flat (take end (drop start bs))) (flat (drop end (drop start bs))) (subst (NoneBefore (from top)) (flat_at end (drop start bs)) low.behind))
+          (all_parts (IsNotBefore (from top)) (flat (take end (drop start bs))) (flat (drop end (drop start bs))) (subst (NoneBefore (from top)) (flat_at end (drop start bs)) low.behind)).0
           high.ahead);
       behind = subst (λ cs. NoneBefore (upto top) (flat cs)) (drop_drop start end bs) high.behind;
     }
@@ -248,12 +239,6 @@ module _ (old new : List ℕ) (es : List Entry) (bs taken rest moved left after 
       ∙ ap (λ cs. placed (flat cs) (map (λ e. carried old new e.0) ss)) h.taken_is
       ∙ placed_are old new ss)))
 
-  pub blocks_filled : Carrying → AllFilled bs → AllFilled moved → AllFilled after
-  blocks_filled h filled some =
-      let kept : AllFilled rest = subst AllFilled (sym h.rest_is) (filled_both (take start bs) (drop end bs) (filled_to start bs filled) (filled_from bs end filled)) in
-      subst AllFilled (sym (after_blocks h))
-      (filled_both (take into rest) (moved ++ drop past rest) (filled_to into rest kept) (filled_both moved (drop past rest) some (filled_from rest past kept)))
-
 -- ---- what the parts of the work need
 
 pub part_is : (old : List ℕ) (es : List Entry) (bs taken : List (Vec Entry)) (start end : ℕ) → es ≡ flat bs → IsStretch old bs start end → taken ≡ take (end - start) (drop start bs)
@@ -282,10 +267,15 @@ rest_rising old es bs rest start end all here is rising =
     (is_sorted-where_key by_bytes (λ q. not (lies_below q old)) es rising)
 
 pub rest_filled : (bs rest : List (Vec Entry)) (start end : ℕ) → rest ≡ take start bs ++ drop end bs → AllFilled bs → AllFilled rest
-rest_filled bs rest start end is filled = subst AllFilled (sym is) (filled_both (take start bs) (drop end bs) (filled_to start bs filled) (filled_from bs end filled))
+rest_filled bs rest start end is filled = subst AllFilled (sym is) (all_joined IsFilled (take start bs) (drop end bs) (all_taken IsFilled start bs filled) (all_left IsFilled end bs filled))
+
+pub put_filled : (at : ℕ) (bs more after : List (Vec Entry)) → after ≡ take at bs ++ (more ++ drop at bs) → AllFilled bs → AllFilled more → AllFilled after
+put_filled at bs more after is filled some =
+    subst AllFilled (sym is)
+    (all_joined IsFilled (take at bs) (more ++ drop at bs) (all_taken IsFilled at bs filled) (all_joined IsFilled more (drop at bs) some (all_left IsFilled at bs filled)))
 
 pub rest_cut : (k : List ℕ) (bs rest : List (Vec Entry)) (start end : ℕ) → rest ≡ take start bs ++ drop end bs → IsCut k bs → IsCut k rest
-rest_cut k bs rest start end is cut = subst (IsCut k) (sym is) (cut_both k (take start bs) (drop end bs) (cut_to k start bs cut) (cut_from k end bs cut))
+rest_cut k bs rest start end is cut = subst (IsCut k) (sym is) (all_joined (IsOneSided k) (take start bs) (drop end bs) (all_taken (IsOneSided k) start bs cut) (all_left (IsOneSided k) end bs cut))
 
 -- as many blocks are left and taken out as there were
 pub as_many_blocks : (bs rest taken : List (Vec Entry)) (start end : ℕ) → start ≤ end → end ≤ length bs → rest ≡ take start bs ++ drop end bs → taken ≡ take (end - start) (drop start bs)
@@ -307,12 +297,12 @@ fewer_blocks rest left into past ordered within is =
 
 -- ---- entries below a directory
 
-pub inside_all : (top : List ℕ) (es : List Entry) → AllByRecursion (λ e. lies_below e.0 top ≡ true) (inside top es)
+pub inside_all : {X : Type 0} (top : List ℕ) (es : List (List ℕ × X)) → AllByRecursion (λ e. lies_below e.0 top ≡ true) (filter (λ e. lies_below e.0 top) es)
 inside_all top [] = tt
-inside_all top (e ∷ es) = by (lies_below e.0 top) refl (inside_all top es)
+inside_all {X} top (e ∷ es) = by (lies_below e.0 top) refl (inside_all top es)
   where
-    by : (b : Bool) → lies_below e.0 top ≡ b → AllByRecursion (λ e. lies_below e.0 top ≡ true) (inside top es)
-        → AllByRecursion {X = Entry} (λ e. lies_below e.0 top ≡ true) (cond b (e ∷ inside top es) (inside top es))
+    by : (b : Bool) → lies_below e.0 top ≡ b → AllByRecursion (λ e. lies_below e.0 top ≡ true) (filter (λ e. lies_below e.0 top) es)
+        → AllByRecursion {X = List ℕ × X} (λ e. lies_below e.0 top ≡ true) (cond b (e ∷ filter (λ e. lies_below e.0 top) es) (filter (λ e. lies_below e.0 top) es))
     by true t rest = (t, rest)
     by false t rest = rest
 

@@ -14,13 +14,13 @@ use Rattle.eden_ids.specs.declared.content.Content.{Content}
 use Rattle.eden_ids.specs.Paths.{lies_below}
 use Rattle.eden_ids.proofs.ByteOrder.{below_between, both, first, from, less, second, upto}
 use Rattle.eden_ids.proofs.FileMapLemmas.{same_path-is}
+use Rattle.eden_ids.proofs.Members.{all_joined}
 use Rattle.eden_overlay.specs.Carried.{carried}
 use Rattle.eden_overlay.proofs.CarriedLemmas.{carried-back, carried-below, carried_there, rest_below}
 use Rattle.eden_overlay.specs.Layers.{Entry, by_bytes}
-use Rattle.eden_overlay.specs.internal.Seams.{AllBefore, AreCarried, NoneBefore, placed}
+use Rattle.eden_overlay.specs.internal.Seams.{AllBefore, AreCarried, IsNotBefore, NoneBefore, placed}
 use Rattle.eden_overlay.proofs.Placing.{is_less, trans, turned}
 use Rattle.eden_overlay.proofs.Flattened.{Above, Rising, find_ahead, find_behind, rising_back, rising_front}
-use Rattle.eden_overlay.proofs.Seamed.{none_before_both}
 use Rattle.eden_overlay.proofs.Walked.{out_end, out_start}
 
 -- ---- places below a directory stand in the order of the places that they come from
@@ -101,7 +101,7 @@ none_past : (top : List ℕ) (es : List Entry) → NoneBefore (upto top) es → 
 none_past top [] h = tt
 none_past top (e ∷ es) h = (out_end top e.0 h.0, none_past top es h.1)
 
-ends : (p top : List ℕ) → lies_below p top ≡ true → (is_lt (by_bytes p (from top)) ≡ false) × (is_lt (by_bytes p (upto top)) ≡ true)
+pub ends : (p top : List ℕ) → lies_below p top ≡ true → (is_lt (by_bytes p (from top)) ≡ false) × (is_lt (by_bytes p (upto top)) ≡ true)
 ends p top below = by (is_lt (by_bytes p (from top))) (is_lt (by_bytes p (upto top))) (sym (below_between p top) ∙ below)
   where
     by : (a b : Bool) → (not a && b) ≡ true → (a ≡ false) × (b ≡ true)
@@ -109,7 +109,7 @@ ends p top below = by (is_lt (by_bytes p (from top))) (is_lt (by_bytes p (upto t
     by false true e = (refl, refl)
     by false false e = absurd (cc)
 
-not_less : (p q k : List ℕ) → T (is_lt (by_bytes p k)) → is_lt (by_bytes q k) ≡ false → T (is_lt (by_bytes p q))
+pub not_less : (p q k : List ℕ) → T (is_lt (by_bytes p k)) → is_lt (by_bytes q k) ≡ false → T (is_lt (by_bytes p q))
 not_less p q k low high = by (by_bytes p q) refl
   where
     by : (o : Ordering) → by_bytes p q ≡ o → T (is_lt (by_bytes p q))
@@ -254,7 +254,7 @@ module _ (old new : List ℕ) (es xs ss ys rest us ns vs rs : List Entry) (h : R
   in_order =
       joined (from new) us (moved ++ vs) (rising_front us vs ends_rising) to_new.ahead
       (joined (upto new) moved vs moved_in_order (below_before new moved home) (rising_back us vs ends_rising) to_new.behind)
-      (none_before_both (from new) moved vs (below_from_start new moved home) (past_start new vs to_new.behind))
+      (all_joined (IsNotBefore (from new)) moved vs (below_from_start new moved home) (past_start new vs to_new.behind))
 
   found : (p : List ℕ) (into : Bool) → lies_below p new ≡ into
       → find by_bytes p (us ++ (moved ++ vs)) ≡ (if into then find by_bytes (carried new old p) es else if lies_below p old then None else find by_bytes p es)

@@ -15,10 +15,11 @@ use Rattle.std.specs.Option.{is_none}
 use Rattle.eden_ids.specs.FileMaps.{same_path}
 use Rattle.eden_ids.specs.declared.content.Content.{Content}
 use Rattle.eden_ids.proofs.ByteOrder.{both, first, less, second}
+use Rattle.eden_ids.proofs.Members.{all_joined}
 use Rattle.eden_overlay.specs.Layers.{Entry, by_bytes}
-use Rattle.eden_overlay.specs.internal.Places.{place}
+use Rattle.eden_overlay.specs.Places.{place}
 use Rattle.eden_overlay.specs.internal.Blocks.{flat, AllFilled, begins_at_or_before, begun, block_for}
-use Rattle.eden_overlay.specs.internal.Seams.{AllBefore}
+use Rattle.eden_overlay.specs.internal.Seams.{AllBefore, IsBefore}
 use Rattle.eden_overlay.proofs.Placing.{is_less, turned, trans, below_later, none_above, without, without_none}
 
 abbrev pub Rising : List Entry → Type 0
@@ -67,10 +68,6 @@ back_after k e ys h t =
     ] refl t in
     both _ _ ahead (below_later k e.0 ys ahead (first _ _ h))
 
-pub before_both : (k : List ℕ) (xs ys : List Entry) → AllBefore k xs → AllBefore k ys → AllBefore k (xs ++ ys)
-before_both k [] ys a b = b
-before_both k (x ∷ xs) ys a b = (a.0, before_both k xs ys a.1 b)
-
 -- ---- the entries before the block of a path, and those behind it
 
 pub record Around (k : List ℕ) (bs : List (Vec Entry)) (at : ℕ) : Type 0 where
@@ -89,7 +86,7 @@ around k b (c ∷ cs) h filled = by c.items refl (λ r. around k c cs r filled.1
         (elim (is_le (by_bytes e.0 k)) as (λ t. is_le (by_bytes e.0 k) ≡ t → Around k (b ∷ c ∷ cs) (cond t (suc (begun k cs)) 0)) [
           | true ↦ λ t.
               let rest = later (rising_back b.items (flat (c ∷ cs)) h) in
-              record { front = before_both k b.items _ (front_before k b.items e (es ++ flat cs) here t) rest.front; back = rest.back }
+              record { front = all_joined (IsBefore k) b.items _ (front_before k b.items e (es ++ flat cs) here t) rest.front; back = rest.back }
           | false ↦ λ t. record {
             front = tt;
             back = subst (λ fs. Above k (fs ++ flat cs)) (sym is) (back_after k e (es ++ flat cs) (rising_back b.items (e ∷ (es ++ flat cs)) here) t);
@@ -160,12 +157,6 @@ filled_inserted [] zero c filled some = (some, tt)
 filled_inserted [] (suc at) c filled some = (some, tt)
 filled_inserted (b ∷ bs) zero c filled some = (some, filled)
 filled_inserted (b ∷ bs) (suc at) c filled some = (filled.0, filled_inserted bs at c filled.1 some)
-
-pub filled_from : (bs : List (Vec Entry)) (n : ℕ) → AllFilled bs → AllFilled (drop n bs)
-filled_from [] zero filled = tt
-filled_from [] (suc n) filled = tt
-filled_from (b ∷ bs) zero filled = filled
-filled_from (b ∷ bs) (suc n) filled = filled_from bs n filled.1
 
 pub filled_at : (bs : List (Vec Entry)) (at : ℕ) (d : Vec Entry) → at < length bs → AllFilled bs → 0 < length (slice_index_or bs at d).items
 filled_at [] at d within filled = absurd (omega arith)

@@ -1,6 +1,7 @@
 pub mod Joined
 pub mod CarriedLemmas
 pub mod Placing
+pub mod Members
 pub mod Flattened
 pub mod Seamed
 pub mod Shifted
@@ -9,6 +10,7 @@ pub mod Touched
 pub mod Walked
 pub mod Within
 pub mod Marked
+pub mod Turns
 pub mod WovenRows
 pub mod WovenBelow
 pub mod CarriedEntries

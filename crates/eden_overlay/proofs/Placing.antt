@@ -13,12 +13,12 @@ use Rattle.std.specs.FinMap.{find, put, is_sorted}
 use Rattle.std.specs.FinMap.Entries.{below_all, by_order, is_sorted-put, is_sorted-where_key, find-where_key}
 use Rattle.std.specs.Cmp.Lexicographic.{pointwise}
 use Rattle.std.proofs.lemmas.Slice.Eq.{bytes_eq-Decides}
-use Rattle.eden_overlay.specs.Layers.{by_bytes, Entry}
-use Rattle.eden_overlay.specs.internal.Places.{place, IsThere}
+use Rattle.eden_overlay.specs.Layers.{by_bytes}
+use Rattle.eden_overlay.specs.Places.{place}
+use Rattle.eden_overlay.specs.internal.There.{IsThere}
 use Rattle.eden_ids.specs.FileMaps.{same_path}
 use Rattle.eden_ids.proofs.FileMapLemmas.{same_path-turned}
 use Rattle.eden_ids.proofs.ByteOrder.{both, first, less, second}
-use Rattle.eden_ids.specs.declared.content.Content.{Content}
 
 pub is_less : (p q : List ℕ) → by_bytes p q ≡ Less → T (is_lt (by_bytes p q))
 is_less p q e = subst (λ r. T (is_lt r)) (sym e) tt
@@ -141,150 +141,144 @@ module _ {X : Type 0} where
       (fin.entries-from_sorted by_bytes (put by_bytes k v es) (is_sorted-put by_bytes nat_list_cmp_total k v es h)
       ∙ sym (fin.entries-insert nat_list_cmp_total (fin.from_sorted es) k v ∙ ap (put by_bytes k v) (fin.entries-from_sorted by_bytes es h)))
 
--- ---- an entry that is taken out
+  -- ---- an entry that is taken out
 
-abbrev pub without : List ℕ → List Entry → List Entry
-without k es = filter (λ e. not (same_path k e.0)) es
+  abbrev pub without : List ℕ → List (List ℕ × X) → List (List ℕ × X)
+  without k es = filter (λ e. not (same_path k e.0)) es
 
--- the path is not among them
-pub without_none : (k : List ℕ) (es : List Entry) → find by_bytes k es ≡ None → es ≡ without k es
-without_none k [] none = refl
-without_none k (e ∷ es) none =
-    elim (same_path k e.0) as (λ b. cond b (Some e.1) (find by_bytes k es) ≡ None → e ∷ es ≡ cond (not b) (e ∷ without k es) (without k es)) [
-      | true ↦ λ h. absurd (cc)
-      | false ↦ λ h. ap (λ fs. e ∷ fs) (without_none k es h)
-    ] none
+  -- the path is not among them
+  pub without_none : (k : List ℕ) (es : List (List ℕ × X)) → find by_bytes k es ≡ None → es ≡ without k es
+  without_none k [] none = refl
+  without_none k (e ∷ es) none =
+      elim (same_path k e.0) as (λ b. cond b (Some e.1) (find by_bytes k es) ≡ None → e ∷ es ≡ cond (not b) (e ∷ without k es) (without k es)) [
+        | true ↦ λ h. absurd (cc)
+        | false ↦ λ h. ap (λ fs. e ∷ fs) (without_none k es h)
+      ] none
 
-pub taken_out : (k : List ℕ) (w : Option Content) (es : List Entry) → T (is_sorted by_bytes es) → slice_get es (place k es) ≡ Some (k, w) → remove es (place k es) ≡ without k es
-taken_out k w [] h there = absurd (cc)
-taken_out k w (e ∷ es) h there =
-    elim (by_bytes k e.0) as (λ r. by_bytes k e.0 ≡ r → remove (e ∷ es) (place k (e ∷ es)) ≡ without k (e ∷ es)) [
-      | Less ↦ λ p.
-          let at : slice_get (e ∷ es) 0 ≡ Some (k, w) = subst (λ n. slice_get (e ∷ es) n ≡ Some (k, w)) (ap (λ r. cond (is_lt r) (suc (place k es)) 0) (turned k e.0 Less p)) there in
-          let path : e.0 ≡ k = cc in
-          absurd (not_itself k Less (ap (by_bytes k) (sym path) ∙ p) (λ (x : Less ≡ Equal). (cc)))
-      | Equal ↦ λ p.
-          let path : k ≡ e.0 = fin.slice_cmp-IsAntisymmetric fin.nat_cmp-IsAntisymmetric k e.0 p in
-          ap (λ r. remove (e ∷ es) (cond (is_lt r) (suc (place k es)) 0)) (turned k e.0 Equal p)
-          ∙ without_none k es (none_above k es (subst (λ q. T (below_all by_bytes q es)) (sym path) (first _ _ h)))
-          ∙ sym (ap (λ r. cond (not (is_eq r)) (e ∷ without k es) (without k es)) p)
-      | Greater ↦ λ p.
-          ap (λ r. remove (e ∷ es) (cond (is_lt r) (suc (place k es)) 0)) (turned k e.0 Greater p)
-          ∙ ap (λ fs. e ∷ fs) (taken_out k w es (second _ _ h) (subst (λ n. slice_get (e ∷ es) n ≡ Some (k, w)) (ap (λ r. cond (is_lt r) (suc (place k es)) 0) (turned k e.0 Greater p)) there))
-          ∙ sym (ap (λ r. cond (not (is_eq r)) (e ∷ without k es) (without k es)) p)
-    ] refl
+  pub taken_out : (k : List ℕ) (w : X) (es : List (List ℕ × X)) → T (is_sorted by_bytes es) → slice_get es (place k es) ≡ Some (k, w) → remove es (place k es) ≡ without k es
+  taken_out k w [] h there = absurd (cc)
+  taken_out k w (e ∷ es) h there =
+      elim (by_bytes k e.0) as (λ r. by_bytes k e.0 ≡ r → remove (e ∷ es) (place k (e ∷ es)) ≡ without k (e ∷ es)) [
+        | Less ↦ λ p.
+            let at : slice_get (e ∷ es) 0 ≡ Some (k, w) = subst (λ n. slice_get (e ∷ es) n ≡ Some (k, w)) (ap (λ r. cond (is_lt r) (suc (place k es)) 0) (turned k e.0 Less p)) there in
+            let path : e.0 ≡ k = cc in
+            absurd (not_itself k Less (ap (by_bytes k) (sym path) ∙ p) (λ (x : Less ≡ Equal). (cc)))
+        | Equal ↦ λ p.
+            let path : k ≡ e.0 = fin.slice_cmp-IsAntisymmetric fin.nat_cmp-IsAntisymmetric k e.0 p in
+            ap (λ r. remove (e ∷ es) (cond (is_lt r) (suc (place k es)) 0)) (turned k e.0 Equal p)
+            ∙ without_none k es (none_above k es (subst (λ q. T (below_all by_bytes q es)) (sym path) (first _ _ h)))
+            ∙ sym (ap (λ r. cond (not (is_eq r)) (e ∷ without k es) (without k es)) p)
+        | Greater ↦ λ p.
+            ap (λ r. remove (e ∷ es) (cond (is_lt r) (suc (place k es)) 0)) (turned k e.0 Greater p)
+            ∙ ap (λ fs. e ∷ fs) (taken_out k w es (second _ _ h) (subst (λ n. slice_get (e ∷ es) n ≡ Some (k, w)) (ap (λ r. cond (is_lt r) (suc (place k es)) 0) (turned k e.0 Greater p)) there))
+            ∙ sym (ap (λ r. cond (not (is_eq r)) (e ∷ without k es) (without k es)) p)
+      ] refl
 
-pub out_there : (k : List ℕ) (es : List Entry) (i : ℕ) → T (is_sorted by_bytes es) → i ≡ place k es → IsThere true k es i → remove es i ≡ without k es
-out_there k es i h is there = ap (remove es) is ∙ taken_out k there.0 es h (ap (slice_get es) (sym is) ∙ there.1)
+  pub out_there : (k : List ℕ) (es : List (List ℕ × X)) (i : ℕ) → T (is_sorted by_bytes es) → i ≡ place k es → IsThere true k es i → remove es i ≡ without k es
+  out_there k es i h is there = ap (remove es) is ∙ taken_out k there.0 es h (ap (slice_get es) (sym is) ∙ there.1)
 
-pub not_there : (k : List ℕ) (es : List Entry) (i : ℕ) → T (is_sorted by_bytes es) → i ≡ place k es → IsThere false k es i → es ≡ without k es
-not_there k es i h is apart = without_none k es (missing_there k es h (λ v at. apart v (ap (slice_get es) is ∙ at)))
+  pub not_there : (k : List ℕ) (es : List (List ℕ × X)) (i : ℕ) → T (is_sorted by_bytes es) → i ≡ place k es → IsThere false k es i → es ≡ without k es
+  not_there k es i h is apart = without_none k es (missing_there k es h (λ v at. apart v (ap (slice_get es) is ∙ at)))
 
-pub sorted_without : (k : List ℕ) (es fs : List Entry) → T (is_sorted by_bytes es) → fs ≡ without k es → T (is_sorted by_bytes fs)
-sorted_without k es fs h is = subst (λ gs. T (is_sorted by_bytes gs)) (sym is) (is_sorted-where_key by_bytes (λ q. not (same_path k q)) es h)
+  pub sorted_without : (k : List ℕ) (es fs : List (List ℕ × X)) → T (is_sorted by_bytes es) → fs ≡ without k es → T (is_sorted by_bytes fs)
+  sorted_without k es fs h is = subst (λ gs. T (is_sorted by_bytes gs)) (sym is) (is_sorted-where_key by_bytes (λ q. not (same_path k q)) es h)
 
--- the map of a list after an entry is taken out
-pub seen_without : (k : List ℕ) (es fs : List Entry) → T (is_sorted by_bytes es) → fs ≡ without k es
-    → fin.from_sorted {R = by_bytes} fs ≡ fin.remove (fin.from_sorted {R = by_bytes} es) k
-seen_without k es fs h is =
-    fin.same_map nat_list_cmp_total (fin.slice_cmp-IsAntisymmetric fin.nat_cmp-IsAntisymmetric) _ _
-    (λ q.
-    fin.get-from_sorted by_bytes fs q (sorted_without k es fs h is)
-    ∙ ap (find by_bytes q) is
-    ∙ find-where_key by_bytes (λ p. not (same_path k p)) q (λ x e. ap (λ p. not (same_path k p)) (sym (fin.slice_cmp-IsAntisymmetric fin.nat_cmp-IsAntisymmetric q x e))) es
-    ∙ swapped (same_path k q) (find by_bytes q es)
-    ∙ ap (λ b. cond b None (find by_bytes q es)) (same_path-turned k q)
-    ∙ ap (cond (same_path q k) None) (sym (fin.get-from_sorted by_bytes es q h))
-    ∙ sym (fin.get-remove nat_list_cmp_total (fin.from_sorted {R = by_bytes} es) k q))
-  where
-    swapped : (b : Bool) (o : Option (Option Content)) → cond (not b) o None ≡ cond b None o
-    swapped true o = refl
-    swapped false o = refl
+  -- the map of a list after an entry is taken out
+  pub seen_without : (k : List ℕ) (es fs : List (List ℕ × X)) → T (is_sorted by_bytes es) → fs ≡ without k es
+      → fin.from_sorted {R = by_bytes} fs ≡ fin.remove (fin.from_sorted {R = by_bytes} es) k
+  seen_without k es fs h is =
+      fin.same_map nat_list_cmp_total (fin.slice_cmp-IsAntisymmetric fin.nat_cmp-IsAntisymmetric) _ _
+      (λ q.
+      fin.get-from_sorted by_bytes fs q (sorted_without k es fs h is)
+      ∙ ap (find by_bytes q) is
+      ∙ find-where_key by_bytes (λ p. not (same_path k p)) q (λ x e. ap (λ p. not (same_path k p)) (sym (fin.slice_cmp-IsAntisymmetric fin.nat_cmp-IsAntisymmetric q x e))) es
+      ∙ swapped (same_path k q) (find by_bytes q es)
+      ∙ ap (λ b. cond b None (find by_bytes q es)) (same_path-turned k q)
+      ∙ ap (cond (same_path q k) None) (sym (fin.get-from_sorted by_bytes es q h))
+      ∙ sym (fin.get-remove nat_list_cmp_total (fin.from_sorted {R = by_bytes} es) k q))
+    where
+      swapped : (b : Bool) (o : Option (X)) → cond (not b) o None ≡ cond b None o
+      swapped true o = refl
+      swapped false o = refl
 
-pub told_there : (k : List ℕ) (es : List Entry) → IsThere true k es (place k es) → (file : Option Content) × (find by_bytes k es ≡ Some file) × (slice_get es (place k es) ≡ Some (k, file))
-told_there k es there = (there.0, found_there k there.0 es there.1, there.1)
+  pub told_there : (k : List ℕ) (es : List (List ℕ × X)) → IsThere true k es (place k es) → (file : X) × (find by_bytes k es ≡ Some file) × (slice_get es (place k es) ≡ Some (k, file))
+  told_there k es there = (there.0, found_there k there.0 es there.1, there.1)
 
-pub not_told : (k : List ℕ) (es : List Entry) → T (is_sorted by_bytes es) → IsThere false k es (place k es) → find by_bytes k es ≡ None
-not_told k es h apart = missing_there k es h apart
+  pub not_told : (k : List ℕ) (es : List (List ℕ × X)) → T (is_sorted by_bytes es) → IsThere false k es (place k es) → find by_bytes k es ≡ None
+  not_told k es h apart = missing_there k es h apart
 
-pub place_within : (k : List ℕ) (es : List Entry) → place k es ≤ length es
-place_within k [] = omega arith
-place_within k (e ∷ es) =
-    let rest = place_within k es in
-    elim (is_lt (by_bytes e.0 k)) as (λ b. cond b (suc (place k es)) 0 ≤ suc (length es)) [ true ↦ omega arith | false ↦ omega arith ]
+  gotten : (es : List (List ℕ × X)) (i : ℕ) (d : List ℕ × X) → i < length es → slice_get es i ≡ Some (slice_index_or es i d)
+  gotten [] i d within = absurd (omega arith)
+  gotten (e ∷ es) zero d within = refl
+  gotten (e ∷ es) (suc i) d within = gotten es i d (omega arith)
 
-gotten : (es : List Entry) (i : ℕ) (d : Entry) → i < length es → slice_get es i ≡ Some (slice_index_or es i d)
-gotten [] i d within = absurd (omega arith)
-gotten (e ∷ es) zero d within = refl
-gotten (e ∷ es) (suc i) d within = gotten es i d (omega arith)
+  none_got : (es : List (List ℕ × X)) (i : ℕ) → length es ≤ i → slice_get es i ≡ None
+  none_got [] i within = refl
+  none_got (e ∷ es) zero within = absurd (omega arith)
+  none_got (e ∷ es) (suc i) within = none_got es i (omega arith)
 
-none_got : (es : List Entry) (i : ℕ) → length es ≤ i → slice_get es i ≡ None
-none_got [] i within = refl
-none_got (e ∷ es) zero within = absurd (omega arith)
-none_got (e ∷ es) (suc i) within = none_got es i (omega arith)
+  pub nothing_there : (k : List ℕ) (es : List (List ℕ × X)) (i : ℕ) → length es ≤ i → IsThere false k es i
+  nothing_there k es i within file at = let bad : ◌≡◌ {A = Option (List ℕ × X)} None (Some (k, file)) = sym (none_got es i within) ∙ at in absurd (cc)
 
-pub nothing_there : (k : List ℕ) (es : List Entry) (i : ℕ) → length es ≤ i → IsThere false k es i
-nothing_there k es i within file at = let bad : ◌≡◌ {A = Option Entry} None (Some (k, file)) = sym (none_got es i within) ∙ at in absurd (cc)
+  pub judged_there : (k : List ℕ) (es : List (List ℕ × X)) (i : ℕ) (e : List ℕ × X) → i < length es → e ≡ slice_index_or es i e → IsThere (pointwise nat_eq e.0 k) k es i
+  judged_there k es i e within is =
+      let got : slice_get es i ≡ Some e = gotten es i e within ∙ ap Some (sym is) in
+      elim (pointwise nat_eq e.0 k) as (λ b. pointwise nat_eq e.0 k ≡ b → IsThere b k es i) [
+        | true ↦ λ t. (e.1, got ∙ ap (λ p. Some (p, e.1)) ((bytes_eq-Decides e.0 k).0 t))
+        | false ↦ λ t file at.
+            let both : Some e ≡ Some (k, file) = sym got ∙ at in
+            let path : e.0 ≡ k = cc in
+            let bad : true ≡ false = sym ((bytes_eq-Decides e.0 k).1 path) ∙ t in
+            absurd (cc)
+      ] refl
 
-pub judged_there : (k : List ℕ) (es : List Entry) (i : ℕ) (e : Entry) → i < length es → e ≡ slice_index_or es i e → IsThere (pointwise nat_eq e.0 k) k es i
-judged_there k es i e within is =
-    let got : slice_get es i ≡ Some e = gotten es i e within ∙ ap Some (sym is) in
-    elim (pointwise nat_eq e.0 k) as (λ b. pointwise nat_eq e.0 k ≡ b → IsThere b k es i) [
-      | true ↦ λ t. (e.1, got ∙ ap (λ p. Some (p, e.1)) ((bytes_eq-Decides e.0 k).0 t))
-      | false ↦ λ t file at.
-          let both : Some e ≡ Some (k, file) = sym got ∙ at in
-          let path : e.0 ≡ k = cc in
-          let bad : true ≡ false = sym ((bytes_eq-Decides e.0 k).1 path) ∙ t in
-          absurd (cc)
-    ] refl
+  pub index_there : (es : List (List ℕ × X)) (i : ℕ) (e d : List ℕ × X) → slice_get es i ≡ Some e → slice_index_or es i d ≡ e
+  index_there [] i e d at = absurd (cc)
+  index_there (f ∷ es) zero e d at = cc
+  index_there (f ∷ es) (suc i) e d at = index_there es i e d at
 
-pub index_there : (es : List Entry) (i : ℕ) (e d : Entry) → slice_get es i ≡ Some e → slice_index_or es i d ≡ e
-index_there [] i e d at = absurd (cc)
-index_there (f ∷ es) zero e d at = cc
-index_there (f ∷ es) (suc i) e d at = index_there es i e d at
+  pub told_is : (k : List ℕ) (es : List (List ℕ × X)) (i : ℕ) (d : List ℕ × X) → i ≡ place k es → IsThere true k es i → Some (slice_index_or es i d).1 ≡ find by_bytes k es
+  told_is k es i d is there =
+      let at : slice_get es (place k es) ≡ Some (k, there.0) = ap (slice_get es) (sym is) ∙ there.1 in
+      ap (λ e. Some e.1) (index_there es i (k, there.0) d there.1) ∙ sym (found_there k there.0 es at)
 
-pub told_is : (k : List ℕ) (es : List Entry) (i : ℕ) (d : Entry) → i ≡ place k es → IsThere true k es i → Some (slice_index_or es i d).1 ≡ find by_bytes k es
-told_is k es i d is there =
-    let at : slice_get es (place k es) ≡ Some (k, there.0) = ap (slice_get es) (sym is) ∙ there.1 in
-    ap (λ e. Some e.1) (index_there es i (k, there.0) d there.1) ∙ sym (found_there k there.0 es at)
+  pub there_within : (k : List ℕ) (es : List (List ℕ × X)) (i : ℕ) → IsThere true k es i → i < length es
+  there_within k [] i there = absurd (let bad : ◌≡◌ {A = Option (List ℕ × X)} None (Some (k, there.0)) = there.1 in cc)
+  there_within k (e ∷ es) zero there = omega arith
+  there_within k (e ∷ es) (suc i) there = let rest = there_within k es i there in omega arith
 
-pub there_within : (k : List ℕ) (es : List Entry) (i : ℕ) → IsThere true k es i → i < length es
-there_within k [] i there = absurd (let bad : ◌≡◌ {A = Option Entry} None (Some (k, there.0)) = there.1 in cc)
-there_within k (e ∷ es) zero there = omega arith
-there_within k (e ∷ es) (suc i) there = let rest = there_within k es i there in omega arith
+  pub put_over : (k : List ℕ) (file : X) (es : List (List ℕ × X)) (i : ℕ) → i ≡ place k es → IsThere true k es i → slice_set es i (k, file) ≡ put by_bytes k file es
+  put_over k file es i is there =
+      ap (λ n. slice_set es n (k, file)) is ∙ sym (put_there k file there.0 es (ap (slice_get es) (sym is) ∙ there.1))
 
-pub put_over : (k : List ℕ) (file : Option Content) (es : List Entry) (i : ℕ) → i ≡ place k es → IsThere true k es i → slice_set es i (k, file) ≡ put by_bytes k file es
-put_over k file es i is there =
-    ap (λ n. slice_set es n (k, file)) is ∙ sym (put_there k file there.0 es (ap (slice_get es) (sym is) ∙ there.1))
+  pub put_beside : (k : List ℕ) (file : X) (es : List (List ℕ × X)) (i : ℕ) → T (is_sorted by_bytes es) → i ≡ place k es → IsThere false k es i → insert es i (k, file) ≡ put by_bytes k file es
+  put_beside k file es i h is apart =
+      ap (λ n. insert es n (k, file)) is ∙ sym (put_new k file es (missing_there k es h (λ v at. apart v (ap (slice_get es) is ∙ at))))
 
-pub put_beside : (k : List ℕ) (file : Option Content) (es : List Entry) (i : ℕ) → T (is_sorted by_bytes es) → i ≡ place k es → IsThere false k es i → insert es i (k, file) ≡ put by_bytes k file es
-put_beside k file es i h is apart =
-    ap (λ n. insert es n (k, file)) is ∙ sym (put_new k file es (missing_there k es h (λ v at. apart v (ap (slice_get es) is ∙ at))))
+  no_length : (es : List (List ℕ × X)) → length es ≡ 0 → es ≡ []
+  no_length [] e = refl
+  no_length (x ∷ es) e = absurd (omega arith)
 
-no_length : (es : List Entry) → length es ≡ 0 → es ≡ []
-no_length [] e = refl
-no_length (x ∷ es) e = absurd (omega arith)
+  pub from_sorted_nothing : (es : List (List ℕ × X)) → es ≡ [] → fin.from_sorted {R = by_bytes} es ≡ fin.empty
+  from_sorted_nothing es is =
+      fin.same_entries_map _ _
+      (ap (λ fs. fin.entries (fin.from_sorted {R = by_bytes} fs)) is
+      ∙ fin.entries-from_sorted by_bytes [] tt
+      ∙ sym (no_length (fin.entries fin.empty) (sym (fin.len-entries fin.empty) ∙ fin.len-empty by_bytes (X))))
 
-pub from_sorted_nothing : (es : List Entry) → es ≡ [] → fin.from_sorted {R = by_bytes} es ≡ fin.empty
-from_sorted_nothing es is =
-    fin.same_entries_map _ _
-    (ap (λ fs. fin.entries (fin.from_sorted {R = by_bytes} fs)) is
-    ∙ fin.entries-from_sorted by_bytes [] tt
-    ∙ sym (no_length (fin.entries fin.empty) (sym (fin.len-entries fin.empty) ∙ fin.len-empty by_bytes (Option Content))))
+  -- what is kept of a list in order when an entry is put
+  pub still_sorted : (k : List ℕ) (v : X) (es fs : List (List ℕ × X)) → T (is_sorted by_bytes es) → fs ≡ put by_bytes k v es → T (is_sorted by_bytes fs)
+  still_sorted k v es fs h is = subst (λ gs. T (is_sorted by_bytes gs)) (sym is) (is_sorted-put by_bytes nat_list_cmp_total k v es h)
 
--- what is kept of a list in order when an entry is put
-pub still_sorted : (k : List ℕ) (v : Option Content) (es fs : List Entry) → T (is_sorted by_bytes es) → fs ≡ put by_bytes k v es → T (is_sorted by_bytes fs)
-still_sorted k v es fs h is = subst (λ gs. T (is_sorted by_bytes gs)) (sym is) (is_sorted-put by_bytes nat_list_cmp_total k v es h)
+  pub seen_put : (k : List ℕ) (v : X) (es fs : List (List ℕ × X)) → T (is_sorted by_bytes es) → fs ≡ put by_bytes k v es
+      → fin.from_sorted {R = by_bytes} fs ≡ fin.insert (fin.from_sorted {R = by_bytes} es) k v
+  seen_put k v es fs h is = ap (λ gs. fin.from_sorted {R = by_bytes} gs) is ∙ from_sorted-put k v es h
 
-pub seen_put : (k : List ℕ) (v : Option Content) (es fs : List Entry) → T (is_sorted by_bytes es) → fs ≡ put by_bytes k v es
-    → fin.from_sorted {R = by_bytes} fs ≡ fin.insert (fin.from_sorted {R = by_bytes} es) k v
-seen_put k v es fs h is = ap (λ gs. fin.from_sorted {R = by_bytes} gs) is ∙ from_sorted-put k v es h
-
-pub taken : (es : List Entry) (n : ℕ) → n ≤ length es → n ≡ length (take n es)
-taken [] zero h = refl
-taken [] (suc n) h = absurd (omega arith)
-taken (e ∷ es) zero h = refl
-taken (e ∷ es) (suc n) h = ap suc (taken es n (omega arith))
+  pub taken : (es : List (List ℕ × X)) (n : ℕ) → n ≤ length es → n ≡ length (take n es)
+  taken [] zero h = refl
+  taken [] (suc n) h = absurd (omega arith)
+  taken (e ∷ es) zero h = refl
+  taken (e ∷ es) (suc n) h = ap suc (taken es n (omega arith))
 
 -- what holds where an error is handed on
 pub on_err : {A E : Type 0} (r : Result A E) {P : Type 0} → P → OnErr r P

@@ -6,26 +6,16 @@ use Rattle.std.specs.Global.{Vec}
 use Rattle.std.specs.List.{insert, slice_index_or, slice_set}
 use Rattle.std.specs.FinMap.Entries.{below_all}
 use Rattle.eden_ids.proofs.ByteOrder.{first, less, not_back, second}
+use Rattle.eden_ids.proofs.Members.{all_joined, all_parts}
 use Rattle.eden_overlay.specs.Layers.{Entry, by_bytes}
-use Rattle.eden_overlay.specs.internal.Places.{place}
+use Rattle.eden_overlay.specs.Places.{place}
 use Rattle.eden_overlay.specs.internal.Blocks.{flat, AllFilled, block_for}
-use Rattle.eden_overlay.specs.internal.Seams.{AllBefore, IsCut, IsCutInTwo, IsSeam, NoneBefore, block_at}
+use Rattle.eden_overlay.specs.internal.Seams.{AllBefore, IsBefore, IsCut, IsCutInTwo, IsNotBefore, IsSeam, NoneBefore, block_at}
+use Rattle.eden_overlay.proofs.Members.{all_left, all_taken}
 use Rattle.eden_overlay.proofs.Placing.{trans}
-use Rattle.eden_overlay.proofs.Flattened.{Above, Around, Rising, around_spot, before_both, cut_filled, flat_cut, rising_back, rising_front, spot_there}
+use Rattle.eden_overlay.proofs.Flattened.{Above, Around, Rising, around_spot, cut_filled, flat_cut, rising_back, rising_front, spot_there}
 
 -- ---- sides
-
-pub none_before_both : (k : List ℕ) (xs ys : List Entry) → NoneBefore k xs → NoneBefore k ys → NoneBefore k (xs ++ ys)
-none_before_both k [] ys a b = b
-none_before_both k (x ∷ xs) ys a b = (a.0, none_before_both k xs ys a.1 b)
-
-pub none_front : (k : List ℕ) (es fs : List Entry) → NoneBefore k (es ++ fs) → NoneBefore k es
-none_front k [] fs h = tt
-none_front k (e ∷ es) fs h = (h.0, none_front k es fs h.1)
-
-none_back : (k : List ℕ) (es fs : List Entry) → NoneBefore k (es ++ fs) → NoneBefore k fs
-none_back k [] fs h = h
-none_back k (e ∷ es) fs h = none_back k es fs h.1
 
 -- what is above a path does not come before it
 pub above_none : (k : List ℕ) (es : List Entry) → Above k es → NoneBefore k es
@@ -59,40 +49,16 @@ behind_of k (e ∷ es) h =
     ] refl
 
 -- on one side alone
-abbrev pub IsOneSided : List ℕ → List Entry → Type 0
-IsOneSided k es = AllBefore k es ⊎ NoneBefore k es
+abbrev pub AreOneSided : List ℕ → List Entry → Type 0
+AreOneSided k es = AllBefore k es ⊎ NoneBefore k es
 
-all_to : (k : List ℕ) (n : ℕ) (es : List Entry) → AllBefore k es → AllBefore k (take n es)
-all_to k zero [] h = tt
-all_to k (suc n) [] h = tt
-all_to k zero (e ∷ es) h = tt
-all_to k (suc n) (e ∷ es) h = (h.0, all_to k n es h.1)
+sided_to : (k : List ℕ) (n : ℕ) (es : List Entry) → AreOneSided k es → AreOneSided k (take n es)
+sided_to k n es (inl h) = inl (all_taken (IsBefore k) n es h)
+sided_to k n es (inr h) = inr (all_taken (IsNotBefore k) n es h)
 
-all_from : (k : List ℕ) (n : ℕ) (es : List Entry) → AllBefore k es → AllBefore k (drop n es)
-all_from k zero [] h = tt
-all_from k (suc n) [] h = tt
-all_from k zero (e ∷ es) h = h
-all_from k (suc n) (e ∷ es) h = all_from k n es h.1
-
-none_to : (k : List ℕ) (n : ℕ) (es : List Entry) → NoneBefore k es → NoneBefore k (take n es)
-none_to k zero [] h = tt
-none_to k (suc n) [] h = tt
-none_to k zero (e ∷ es) h = tt
-none_to k (suc n) (e ∷ es) h = (h.0, none_to k n es h.1)
-
-none_from : (k : List ℕ) (n : ℕ) (es : List Entry) → NoneBefore k es → NoneBefore k (drop n es)
-none_from k zero [] h = tt
-none_from k (suc n) [] h = tt
-none_from k zero (e ∷ es) h = h
-none_from k (suc n) (e ∷ es) h = none_from k n es h.1
-
-sided_to : (k : List ℕ) (n : ℕ) (es : List Entry) → IsOneSided k es → IsOneSided k (take n es)
-sided_to k n es (inl h) = inl (all_to k n es h)
-sided_to k n es (inr h) = inr (none_to k n es h)
-
-sided_from : (k : List ℕ) (n : ℕ) (es : List Entry) → IsOneSided k es → IsOneSided k (drop n es)
-sided_from k n es (inl h) = inl (all_from k n es h)
-sided_from k n es (inr h) = inr (none_from k n es h)
+sided_from : (k : List ℕ) (n : ℕ) (es : List Entry) → AreOneSided k es → AreOneSided k (drop n es)
+sided_from k n es (inl h) = inl (all_left (IsBefore k) n es h)
+sided_from k n es (inr h) = inr (all_left (IsNotBefore k) n es h)
 
 -- where the place of a path is an end of a block, the block is on one side
 pub sided_none : (k : List ℕ) (es : List Entry) → Rising es → place k es ≡ 0 → NoneBefore k es
@@ -109,22 +75,15 @@ sided_all k es all = subst (AllBefore k) (ap (λ n. take n es) all ∙ whole es)
 
 cut_all : (k : List ℕ) (bs : List (Vec Entry)) → NoneBefore k (flat bs) → IsCut k bs
 cut_all k [] h = tt
-cut_all k (b ∷ bs) h = (inr (none_front k b.items (flat bs) h), cut_all k bs (none_back k b.items (flat bs) h))
-
-before_front : (k : List ℕ) (es fs : List Entry) → AllBefore k (es ++ fs) → AllBefore k es
-before_front k [] fs h = tt
-before_front k (e ∷ es) fs h = (h.0, before_front k es fs h.1)
-
-before_back : (k : List ℕ) (es fs : List Entry) → AllBefore k (es ++ fs) → AllBefore k fs
-before_back k [] fs h = h
-before_back k (e ∷ es) fs h = before_back k es fs h.1
+cut_all k (b ∷ bs) h = let parts = all_parts (IsNotBefore k) b.items (flat bs) h in (inr parts.0, cut_all k bs parts.1)
 
 -- the block of the path is on one side, as those around it are
-pub cut_here : (k : List ℕ) (bs : List (Vec Entry)) (at : ℕ) → AllBefore k (flat (take at bs)) → IsOneSided k (block_at bs at) → NoneBefore k (flat (drop (suc at) bs)) → IsCut k bs
+pub cut_here : (k : List ℕ) (bs : List (Vec Entry)) (at : ℕ) → AllBefore k (flat (take at bs)) → AreOneSided k (block_at bs at) → NoneBefore k (flat (drop (suc at) bs)) → IsCut k bs
 cut_here k [] at low here high = tt
 cut_here k (b ∷ bs) zero low here high = (here, cut_all k bs high)
 cut_here k (b ∷ bs) (suc at) low here high =
-    (inl (before_front k b.items (flat (take at bs)) low), cut_here k bs at (before_back k b.items (flat (take at bs)) low) here high)
+    let parts = all_parts (IsBefore k) b.items (flat (take at bs)) low in
+    (inl parts.0, cut_here k bs at parts.1 here high)
 
 -- it is cut in two
 pub cut_two : (k : List ℕ) (bs cs : List (Vec Entry)) (at kept : ℕ) → at < length bs → IsCutInTwo at kept bs cs
@@ -137,7 +96,8 @@ cut_two k bs cs at kept within two low under over high =
     by [] at within low under over high = absurd (omega arith)
     by (b ∷ bs) zero within low under over high = (inl under, (inr over, cut_all k bs high))
     by (b ∷ bs) (suc at) within low under over high =
-        (inl (before_front k b.items (flat (take at bs)) low), by bs at (omega arith) (before_back k b.items (flat (take at bs)) low) under over high)
+        let parts = all_parts (IsBefore k) b.items (flat (take at bs)) low in
+        (inl parts.0, by bs at (omega arith) parts.1 under over high)
 
 -- and still cut where it was
 pub still_cut : (k : List ℕ) (bs cs : List (Vec Entry)) (at kept : ℕ) → at < length bs → IsCutInTwo at kept bs cs → IsCut k bs → IsCut k cs
@@ -147,25 +107,8 @@ still_cut k bs cs at kept within two h = subst (IsCut k) (sym two.is) (by bs at 
         → IsCut k (insert (slice_set bs at two.lower) (suc at) two.upper)
     by [] at within one other h = absurd (omega arith)
     by (b ∷ bs) zero within one other h =
-        (subst (IsOneSided k) (sym one) (sided_to k kept b.items h.0), (subst (IsOneSided k) (sym other) (sided_from k kept b.items h.0), h.1))
+        (subst (AreOneSided k) (sym one) (sided_to k kept b.items h.0), (subst (AreOneSided k) (sym other) (sided_from k kept b.items h.0), h.1))
     by (b ∷ bs) (suc at) within one other h = (h.0, by bs at (omega arith) one other h.1)
-
--- of some of them, too
-pub cut_to : (k : List ℕ) (n : ℕ) (bs : List (Vec Entry)) → IsCut k bs → IsCut k (take n bs)
-cut_to k zero [] h = tt
-cut_to k (suc n) [] h = tt
-cut_to k zero (b ∷ bs) h = tt
-cut_to k (suc n) (b ∷ bs) h = (h.0, cut_to k n bs h.1)
-
-pub cut_from : (k : List ℕ) (n : ℕ) (bs : List (Vec Entry)) → IsCut k bs → IsCut k (drop n bs)
-cut_from k zero [] h = tt
-cut_from k (suc n) [] h = tt
-cut_from k zero (b ∷ bs) h = h
-cut_from k (suc n) (b ∷ bs) h = cut_from k n bs h.1
-
-pub cut_both : (k : List ℕ) (bs cs : List (Vec Entry)) → IsCut k bs → IsCut k cs → IsCut k (bs ++ cs)
-cut_both k [] cs h g = g
-cut_both k (b ∷ bs) cs h g = (h.0, cut_both k bs cs h.1 g)
 
 -- ---- the block at a place
 
@@ -174,7 +117,7 @@ block_is [] at d within = absurd (omega arith)
 block_is (b ∷ bs) zero d within = refl
 block_is (b ∷ bs) (suc at) d within = block_is bs at d (omega arith)
 
-sided_at : (k : List ℕ) (bs : List (Vec Entry)) (at : ℕ) → at < length bs → IsCut k bs → IsOneSided k (block_at bs at)
+sided_at : (k : List ℕ) (bs : List (Vec Entry)) (at : ℕ) → at < length bs → IsCut k bs → AreOneSided k (block_at bs at)
 sided_at k [] at within h = absurd (omega arith)
 sided_at k (b ∷ bs) zero within h = h.0
 sided_at k (b ∷ bs) (suc at) within h = sided_at k bs at (omega arith) h.1
@@ -249,7 +192,7 @@ seam_here k bs at h filled is within none =
     record {
       within = omega (arith, within);
       ahead = round.front;
-      behind = subst (NoneBefore k) (sym (flat_less bs at within)) (none_before_both k (block_at bs at) _ none (above_none k _ round.back));
+      behind = subst (NoneBefore k) (sym (flat_less bs at within)) (all_joined (IsNotBefore k) (block_at bs at) _ none (above_none k _ round.back));
     }
 
 -- one does, so all do
@@ -259,7 +202,7 @@ seam_next k bs at h filled is within all =
     let next : at + 1 ≡ suc at = omega arith in
     record {
       within = omega (arith, within);
-      ahead = subst (AllBefore k) (sym (flat_more bs at within)) (before_both k (flat (take at bs)) _ round.front all);
+      ahead = subst (AllBefore k) (sym (flat_more bs at within)) (all_joined (IsBefore k) (flat (take at bs)) _ round.front all);
       behind = subst (λ n. NoneBefore k (flat (drop n bs))) (sym next) (above_none k _ round.back);
     }
 
@@ -270,7 +213,7 @@ one_sided k bs at within cut some = by (sided_at k bs at within cut)
     nowhere [] h = refl
     nowhere (e ∷ es) h = ap (λ b. cond b (suc (place k es)) 0) h.0
 
-    by : IsOneSided k (block_at bs at) → AllBefore k (block_at bs at)
+    by : AreOneSided k (block_at bs at) → AllBefore k (block_at bs at)
     by (inl all) = all
     by (inr none) = absurd (some (nowhere (block_at bs at) none))
 

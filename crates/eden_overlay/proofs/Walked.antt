@@ -7,7 +7,7 @@ use Rattle.std.specs.FinMap.Entries.{below_all}
 use Rattle.eden_ids.specs.Paths.{lies_below}
 use Rattle.eden_ids.proofs.ByteOrder.{below_between, first, from, less, second, upto}
 use Rattle.eden_overlay.specs.Layers.{Entry, by_bytes}
-use Rattle.eden_overlay.specs.internal.Places.{place}
+use Rattle.eden_overlay.specs.Places.{place}
 use Rattle.eden_overlay.specs.internal.Blocks.{before}
 use Rattle.eden_overlay.proofs.Placing.{trans}
 use Rattle.eden_overlay.proofs.Touched.{kept}

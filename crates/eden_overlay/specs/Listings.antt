@@ -1,13 +1,13 @@
 -- What a filter admits of a file map, and which paths it shows with touched ones over it.
 use Rattle.std.specs.Prelude.{ℕ, not, List, filter, map}
 use Rattle.std.specs.FinMap as fin
-use Rattle.eden_globs.specs.Filters.{admits}
+use Rattle.eden_globs.specs.Filters.{Patterns, admits}
 use Rattle.eden_ids.specs.FileMaps.{FileMap, PathSet, has, path_set, paths, union}
 use Rattle.eden_overlay.specs.Layers.{Mark}
 
 -- the paths of files that a filter admits, in byte order
-abbrev pub admitted : List (List ℕ) → FileMap → List (List ℕ)
-admitted patterns files = filter (admits patterns) (paths files)
+abbrev pub admitted : Patterns → FileMap → List (List ℕ)
+admitted wanted files = filter (admits wanted) (paths files)
 
 -- the touched paths at which a file is
 abbrev pub present_in : List Mark → PathSet

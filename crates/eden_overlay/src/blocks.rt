@@ -6,12 +6,11 @@ ghost use Rattle.std.specs.FinMap.{is_sorted, put, find};
 ghost use Rattle.std.specs.Option.{is_none, option_copied};
 ghost use Rattle.eden_ids.specs.FileMaps.{same_path};
 ghost use Rattle.eden_overlay.specs.Layers.{by_bytes};
-ghost use Rattle.eden_overlay.specs.internal.Places.{place};
+ghost use Rattle.eden_overlay.specs.Places.{place};
 ghost use Rattle.eden_overlay.specs.internal.Blocks.{flat, block_for, begins_at_or_before, AllFilled};
 ghost use Rattle.eden_overlay.specs.internal.Seams.{block_at, IsCutInTwo};
 
-use crate::entries;
-use crate::entries::{place, put, take_out};
+use crate::ascending::{place_of, put, take_out, value_at};
 use crate::entries_walk::Walk;
 use eden_ids::{Content, NoMemory, Path};
 
@@ -55,14 +54,13 @@ pub(crate) fn find<'a>(blocks: &'a [Block], path: &[u8]) -> Option<&'a Option<Co
 {
     let at = block_for(blocks, path);
     if at < blocks.len() {
-        entries::find(&blocks[at], path)
+        value_at(&blocks[at], path)
     } else {
         None
     }
 }
 
 /// Returns the entries from a path on. Does not allocate.
-#[tactic(auto, using(crate::proofs::Placing::place_within))]
 pub(crate) fn walk_from<'a>(blocks: &'a [Block], path: &[u8]) -> Walk<'a>
     requires sorted { T (is_sorted by_bytes (flat blocks.now)) }
     requires filled { AllFilled blocks.now }
@@ -70,7 +68,7 @@ pub(crate) fn walk_from<'a>(blocks: &'a [Block], path: &[u8]) -> Walk<'a>
 {
     let at = block_for(blocks, path);
     match blocks[at..].split_first() {
-        Some((block, later)) => Walk::of(&block[place(block, path)..], later),
+        Some((block, later)) => Walk::of(&block[place_of(block, path)..], later),
         None => Walk::of(&[], &[]),
     }
 }

@@ -4,11 +4,11 @@ ghost use Rattle.std.specs.Prelude.{◌≡◌, ◌∷◌, ◌++◌, [], T, List,
 ghost use Rattle.std.specs.Iterator.{item_count, YieldsFirstRef};
 ghost use Rattle.std.specs.Ordering.{is_lt};
 ghost use Rattle.eden_overlay.specs.Layers.{Entry, by_bytes};
-ghost use Rattle.eden_overlay.specs.internal.Places.{place};
+ghost use Rattle.eden_overlay.specs.Places.{place};
 ghost use Rattle.eden_overlay.specs.internal.Blocks.{before, flat, AllFilled};
 
+use crate::ascending::is_before;
 use crate::blocks::Block;
-use crate::entries::is_before;
 use crate::marks::Marks;
 use eden_ids::{Content, Path};
 use std::marker::Model;

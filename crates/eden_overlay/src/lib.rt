@@ -5,6 +5,8 @@
 //! directory as whole blocks. No call lists or copies the files below. [`woven`] lists the paths
 //! that are seen, from a list of those below and the touched ones.
 //!
+//! [`place_of`], [`value_at`] and [`put_reserved`] are for any entries in byte order of their paths.
+//!
 //! An overlay knows paths and contents. It knows no store and no commit: a working copy says over
 //! which files it lies. `specs/Layers.antt` says what is seen then, as `over`, and
 //! `specs/Carried.antt` what it means to carry a directory; [`carried_path`] carries one path.
@@ -31,6 +33,7 @@
 //! ```
 #![tactic(auto)]
 
+pub use crate::ascending::{place_of, put_reserved, value_at};
 pub use crate::carried::{CarryFault, carried_path};
 pub use crate::carried_laws::carried_law;
 pub use crate::entries_walk::Walk;
@@ -38,11 +41,11 @@ pub use crate::laws::over_law;
 pub use crate::overlay::Overlay;
 pub use crate::weaving::woven;
 
+mod ascending;
 mod blocks;
 mod carried;
 mod carried_laws;
 mod edge;
-mod entries;
 mod entries_below;
 mod entries_walk;
 mod laws;

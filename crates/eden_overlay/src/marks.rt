@@ -6,20 +6,20 @@ use eden_ids::Path;
 
 /// Touched paths in byte order, each with whether a file is there, taken one after another.
 pub(crate) trait Marks {
-    ghost use Rattle.std.specs.Prelude.{List};
+    ghost use Rattle.std.specs.Prelude.{List, drop, slice_get};
     ghost use Rattle.eden_overlay.specs.Layers.{Mark};
-    ghost use Rattle.eden_overlay.specs.internal.Woven.{behind, first_of, pointed};
+    ghost use Rattle.eden_overlay.specs.internal.Woven.{pointed};
 
     /// Those that are left.
     ghost left: { Self → List Mark };
 
     /// Returns the first of them.
     fn first(&self) -> Option<(&Path, bool)>
-        ensures { pointed result ≡ first_of (left self.now) };
+        ensures { pointed result ≡ slice_get (left self.now) 0 };
 
     /// Passes the first of them.
     fn pass(&mut self)
-        ensures { left self.new ≡ behind (left self.old) };
+        ensures { left self.new ≡ drop 1 (left self.old) };
 }
 
 /// The touched paths of a list.

@@ -2,7 +2,7 @@
 
 ghost use Rattle.std.specs.Prelude.{◌≡◌, ◌+◌, ◌^◌, ◌<◌, true, false, None, Some, IfOk, OnOk, OnErr, drop, length, option_copied};
 ghost use Rattle.std.specs.FinMap as fin;
-ghost use Rattle.eden_overlay.specs.internal.Places.{place};
+ghost use Rattle.eden_overlay.specs.Places.{place};
 
 use crate::blocks::{Block, copy_all, find, put_in, take_out_of, walk_from};
 use crate::entries_walk::Walk;

@@ -6,12 +6,12 @@ ghost use Rattle.std.specs.Ordering.{is_lt};
 ghost use Rattle.std.specs.FinMap.{is_sorted};
 ghost use Rattle.eden_overlay.specs.Layers.{by_bytes};
 ghost use Rattle.eden_overlay.specs.internal.Blocks.{flat, AllFilled};
-ghost use Rattle.eden_overlay.specs.internal.Places.{place};
+ghost use Rattle.eden_overlay.specs.Places.{place};
 ghost use Rattle.eden_overlay.specs.internal.Seams.{IsCut, IsSeam, IsStretch};
 
+use crate::ascending::place_of;
 use crate::blocks::{Block, block_for, cut_block};
 use crate::edge::edge;
-use crate::entries::place;
 use eden_ids::{NoMemory, Path};
 
 /// Cuts the block that has entries on both sides of a path, if there is one.
@@ -29,7 +29,7 @@ fn cut(blocks: &mut Vec<Block>, path: &[u8]) -> Result<(), NoMemory>
     if at >= blocks.len() {
         return Ok(());
     }
-    let kept = place(&blocks[at], path);
+    let kept = place_of(&blocks[at], path);
     if kept == 0 || kept == blocks[at].len() {
         return Ok(());
     }
@@ -65,7 +65,7 @@ fn seam(blocks: &[Block], path: &[u8]) -> usize
     if at >= blocks.len() {
         return at;
     }
-    if place(&blocks[at], path) == 0 {
+    if place_of(&blocks[at], path) == 0 {
         return at;
     }
     at + 1

@@ -1,98 +1,62 @@
 //! Listed paths and touched ones, woven into one list in byte order.
 
-ghost use Rattle.std.specs.Prelude.{◌≡◌, ◌++◌, ◌∷◌, [], T, ◌&&◌, if◌then◌else◌, not, filter, drop, IfOk, OnOk};
+ghost use Rattle.std.specs.Prelude.{◌≡◌, ◌++◌, T, filter, drop, take, IfOk, OnOk, option_copied, slice_get};
 ghost use Rattle.std.specs.FinMap.{is_sorted};
 ghost use Rattle.eden_globs.specs.Filters.{admits};
 ghost use Rattle.eden_ids.specs.Paths.{lies_below};
 ghost use Rattle.eden_ids.specs.FileMaps.{FileMap, listing, paths};
 ghost use Rattle.eden_overlay.specs.Layers.{by_bytes, over};
-ghost use Rattle.eden_overlay.specs.internal.Places.{place};
 ghost use Rattle.eden_overlay.specs.Listings.{admitted, shown_over};
-ghost use Rattle.eden_overlay.specs.internal.Woven.{first_before, front, is_shown, kept, pointed, starts_at};
+ghost use Rattle.eden_overlay.specs.internal.Woven.{order_of, pointed, shown, woven};
 
 use crate::marks::{Listed, Marks};
 use crate::overlay::Overlay;
 use eden_globs::Filter;
 use eden_ids::{NoMemory, Path};
 use std::alloc::Global;
+use std::cmp::Ordering;
+use std::collections::VecDeque;
 
-/// Returns the first of the marks, if its path comes before another.
-#[tactic(auto, using(crate::proofs::Marked::before_of, crate::proofs::Marked::not_before, crate::proofs::Marked::before_nothing))]
-fn first_before<'m, M: Marks>(marks: &'m M, path: &Path) -> Option<(&'m Path, bool)>
-    ensures { pointed result ≡ first_before path.now (M.left marks.now) }
+/// Compares a listed path with a mark's. A missing one comes after any other.
+///
+/// It is `None` if both are missing.
+fn order_of(path: Option<&Path>, mark: Option<(&Path, bool)>) -> Option<Ordering>
+    ensures { result ≡ order_of (option_copied path.entry) (pointed mark.entry) }
 {
-    match marks.first() {
-        Some(mark) => {
-            if mark.0.cmp(path).is_lt() {
-                Some(mark)
-            } else {
-                None
-            }
-        }
-        None => None,
+    match (path, mark) {
+        (None, None) => None,
+        (Some(_), None) => Some(Ordering::Less),
+        (None, Some(_)) => Some(Ordering::Greater),
+        (Some(path), Some(mark)) => Some(path.cmp(mark.0)),
     }
 }
 
-/// Returns whether the first of the marks is of a path.
-#[tactic(auto, using(crate::proofs::Marked::starts_there, crate::proofs::Marked::starts_nowhere))]
-fn starts_at<M: Marks>(marks: &M, path: &Path) -> bool
-    ensures { result ≡ starts_at path.now (M.left marks.now) }
+/// Moves the first listed path to the paths, if there is one.
+fn move_first(paths: &mut Vec<Path>, listed: &mut VecDeque<Path>) -> Result<(), NoMemory>
+    ensures added { OnOk result (paths.new.items ≡ paths.old.items ++ take 1 listed.old.items) }
+    ensures left { listed.new.items ≡ drop 1 listed.old.items }
 {
-    match marks.first() {
-        Some(mark) => mark.0 == path,
-        None => false,
-    }
-}
-
-/// Adds a path, if a file is there and the filter admits it.
-fn add_shown(paths: &mut Vec<Path>, mark: (&Path, bool), wanted: &Filter) -> Result<(), NoMemory>
-    ensures { OnOk result (paths.new.items
-        ≡ paths.old.items ++ (if mark.entry.1 && admits wanted.now mark.entry.0.now then mark.entry.0.now ∷ [] else [])) }
-{
-    if mark.1 && wanted.admits(mark.0) {
-        let path = mark.0.copy()?;
+    if let Some(path) = listed.pop_front() {
         paths.push(path)?;
     }
     Ok(())
 }
 
-/// Adds the marked paths before another one, if a file is there and the filter admits them.
-fn add_before<M: Marks>(
+/// Adds the first mark's path, if a file is there and the filter admits it, and passes the mark.
+fn add_first<M: Marks>(
     paths: &mut Vec<Path>,
     marks: &mut M,
-    path: &Path,
     wanted: &Filter,
 ) -> Result<(), NoMemory>
-    ensures added { OnOk result (paths.new.items
-        ≡ paths.old.items ++ kept (is_shown wanted.now) (front path.now (M.left marks.old))) }
-    ensures left { OnOk result (M.left marks.new ≡ drop (place path.now (M.left marks.old)) (M.left marks.old)) }
+    ensures added { OnOk result (paths.new.items ≡ paths.old.items ++ shown wanted.now (slice_get (M.left marks.old) 0)) }
+    ensures left { OnOk result (M.left marks.new ≡ drop 1 (M.left marks.old)) }
 {
-    while let Some(mark) = first_before(marks, path) {
-        add_shown(paths, mark, wanted)?;
-        marks.pass();
+    if let Some((path, is_there)) = marks.first() {
+        if is_there && wanted.admits(path) {
+            paths.push(path.copy()?)?;
+        }
     }
-    Ok(())
-}
-
-/// Adds the marked paths that are left, if a file is there and the filter admits them.
-fn add_left<M: Marks>(paths: &mut Vec<Path>, marks: &mut M, wanted: &Filter) -> Result<(), NoMemory>
-    ensures { OnOk result (paths.new.items ≡ paths.old.items ++ kept (is_shown wanted.now) (M.left marks.old)) }
-{
-    while let Some(mark) = marks.first() {
-        add_shown(paths, mark, wanted)?;
-        marks.pass();
-    }
-    Ok(())
-}
-
-/// Adds a path, unless it was touched.
-fn push_unless(paths: &mut Vec<Path>, path: Path, is_touched: bool) -> Result<(), NoMemory>
-    ensures { OnOk result (paths.new.items ≡ paths.old.items ++ (if not is_touched then path ∷ [] else [])) }
-{
-    if is_touched {
-        return Ok(());
-    }
-    paths.push(path)?;
+    marks.pass();
     Ok(())
 }
 
@@ -103,17 +67,20 @@ pub(crate) fn weave<M: Marks>(
     marks: &mut M,
     wanted: &Filter,
 ) -> Result<Vec<Path>, NoMemory>
-    requires { T (is_sorted by_bytes (M.left marks.old)) }
-    ensures { (base : FileMap) → listed.items ≡ admitted wanted.now base
-        → IfOk result (λ paths. paths.items ≡ filter (admits wanted.now) (listing (shown_over base (M.left marks.old)))) }
+    ensures { IfOk result (λ paths. paths.items ≡ woven wanted.now listed.items (M.left marks.old)) }
 {
     let mut paths = Vec::with_capacity(alloc, listed.len())?;
-    for path in listed {
-        add_before(&mut paths, marks, &path, wanted)?;
-        let is_touched = starts_at(marks, &path);
-        push_unless(&mut paths, path, is_touched)?;
+    let mut listed = VecDeque::from(listed);
+    while let Some(order) = order_of(listed.front(), marks.first()) {
+        match order {
+            Ordering::Less => move_first(&mut paths, &mut listed)?,
+            // The mark says whether a file is there.
+            Ordering::Equal => {
+                let _ = listed.pop_front();
+            }
+            Ordering::Greater => add_first(&mut paths, marks, wanted)?,
+        }
     }
-    add_left(&mut paths, marks, wanted)?;
     Ok(paths)
 }
 

@@ -1,6 +1,7 @@
 -- The trees of two commits, and what differs between them.
 use Rattle.std.proofs.Common.{◌≡◌, ℕ, Bool, true, false, cond, List, [], ◌∷◌, ◌++◌, Option, Some, None, Result, Ok, Err, IfOk, refl, sym, ap, ◌∙◌}
 use Rattle.std.specs.Prelude.{filter}
+use Rattle.eden_globs.specs.Filters.{Patterns, all_paths}
 use Rattle.eden_ids.specs.declared.id.Id.{Id}
 use Rattle.eden_objects.specs.Objects.{Held, find, zero_id}
 use Rattle.eden_ids.specs.Sameness.{same_id}
@@ -31,11 +32,11 @@ right_none held (Some rows) = refl
 pub no_second : (held : List Held) (first second : Id) → commit_rows held second ≡ None → differences (commit_map held first) (commit_map held second) ≡ None
 no_second held first second none = ap (λ o. differences (commit_map held first) (map_of_rows held o)) none ∙ right_none held (commit_rows held first)
 
-pub both_sides : (name : List ℕ → List ℕ → Id) (held : List Held) (patterns : List (List ℕ)) (first second : Id) (rs ss : List Row) (found : List (List ℕ)) → IsClosed held → AllNamed name held
-    → commit_rows held first ≡ Some rs → commit_rows held second ≡ Some ss → found ≡ admitted patterns (merge_rows rs ss)
-    → admitted_differences patterns (commit_map held first) (commit_map held second) ≡ Some found
-both_sides name held patterns first second rs ss found closed named one two is =
-    ap (option_admitted patterns) (listed_law name held closed named first second rs ss one two) ∙ ap Some (sym is)
+pub both_sides : (name : List ℕ → List ℕ → Id) (held : List Held) (wanted : Patterns) (first second : Id) (rs ss : List Row) (found : List (List ℕ)) → IsClosed held → AllNamed name held
+    → commit_rows held first ≡ Some rs → commit_rows held second ≡ Some ss → found ≡ admitted wanted (merge_rows rs ss)
+    → admitted_differences wanted (commit_map held first) (commit_map held second) ≡ Some found
+both_sides name held wanted first second rs ss found closed named one two is =
+    ap (option_admitted wanted) (listed_law name held closed named first second rs ss one two) ∙ ap Some (sym is)
 
 behind_nothing : (ps : List (List ℕ)) → behind [] ps ≡ ps
 behind_nothing [] = refl
@@ -45,14 +46,14 @@ pub all_found : (test : List ℕ → Bool) (front : List ℕ) (done ps found : L
 all_found test front done ps found none nothing is =
     is ∙ ap (λ (qs : List (List ℕ)). qs ++ wanted_behind test front ps) nothing ∙ ap (λ (bytes : List ℕ). wanted_behind test bytes ps) none ∙ ap (filter test) (behind_nothing ps)
 
-each_admitted : (ps : List (List ℕ)) → admitted [] ps ≡ ps
+each_admitted : (ps : List (List ℕ)) → admitted all_paths ps ≡ ps
 each_admitted [] = refl
 each_admitted (p ∷ ps) = ap (λ (qs : List (List ℕ)). p ∷ qs) (each_admitted ps)
 
--- without patterns all of the differences are admitted
-pub none_left_out : (patterns : List (List ℕ)) (differences : Option (List (List ℕ))) (found : List (List ℕ)) → patterns ≡ [] → option_admitted patterns differences ≡ Some found → differences ≡ Some found
-none_left_out patterns None found all is = is
-none_left_out patterns (Some ps) found all is = ap Some (sym (each_admitted ps)) ∙ ap (λ qs. option_admitted qs (Some ps)) (sym all) ∙ is
+-- if every path is wanted all of the differences are admitted
+pub none_left_out : (wanted : Patterns) (differences : Option (List (List ℕ))) (found : List (List ℕ)) → wanted ≡ all_paths → option_admitted wanted differences ≡ Some found → differences ≡ Some found
+none_left_out wanted None found all is = is
+none_left_out wanted (Some ps) found all is = ap Some (sym (each_admitted ps)) ∙ ap (λ qs. option_admitted qs (Some ps)) (sym all) ∙ is
 
 pub if_ok : {X E : Type 0} (r : Result X E) (P Q : X → Type 0) → ((x : X) → P x → Q x) → IfOk r P → IfOk r Q
 if_ok (Ok x) P Q h is = h x is

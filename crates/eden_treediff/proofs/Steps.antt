@@ -11,8 +11,8 @@ use Rattle.eden_git.specs.Trees.{Entry}
 use Rattle.eden_objects.specs.Trees.{entries_depth, tree_depth}
 use Rattle.eden_objects.specs.Commits.{entries_rows, tree_rows}
 use Rattle.eden_objects.specs.Closed.{IsClosed}
-use Rattle.eden_objects.proofs.WalkSteps.{rows_here, tree_here}
-use Rattle.eden_objects.proofs.Gathering.{depth_here, inside as lies_inside}
+use Rattle.eden_objects.proofs.WalkSteps.{depth_here, rows_here, tree_here}
+use Rattle.eden_objects.proofs.Gathering.{inside as lies_inside}
 use Rattle.eden_treediff.specs.Merges.{merge_rows}
 use Rattle.eden_treediff.specs.internal.Pairs.{Directory, Next, directory, is_changed, name_of, next_pair}
 use Rattle.eden_treediff.specs.internal.Walks.{IsSide, behind, side_depth, side_entries, side_rows, wanted_behind}
@@ -33,7 +33,7 @@ unfolding IsStrictlySortedBy
 side_whole held None closed is = (refl, (tt, tt, tt), omega arith)
 side_whole held (Some id) closed is =
     let tree = tree_here held closed id is in
-    let depth = depth_here held id closed is in
+    let depth = depth_here held closed id is in
     (rows_here held closed id is, (tree.0, tree.1, tree.2), omega (arith, depth))
 
 pub way_begins : (held : List Held) (first second : Option Id) → IsClosed held → IsSide held first → IsSide held second

@@ -4,7 +4,7 @@ use Rattle.std.specs.Prelude.{ℕ, Bool, true, false, ◌&&◌, if◌then◌else
 use Rattle.std.specs.Ordering.{nat_cmp}
 use Rattle.std.specs.Cmp.Lexicographic.{slice_cmp}
 use Rattle.std.specs.FinMap.Entries.{by_order}
-use Rattle.eden_globs.specs.Filters.{admits}
+use Rattle.eden_globs.specs.Filters.{Patterns, admits}
 use Rattle.eden_ids.specs.declared.id.Id.{Id}
 use Rattle.eden_ids.specs.declared.content.Kind.{Kind}
 use Rattle.eden_ids.specs.FileMaps.{FileMap, differ, listing, same_kind}
@@ -19,16 +19,16 @@ differences (Some f) None = None
 differences (Some f) (Some g) = Some (listing (differ f g))
 
 -- those of some paths that a filter admits
-abbrev pub admitted : List (List ℕ) → List (List ℕ) → List (List ℕ)
-admitted patterns ps = filter (admits patterns) ps
+abbrev pub admitted : Patterns → List (List ℕ) → List (List ℕ)
+admitted wanted ps = filter (admits wanted) ps
 
-abbrev pub option_admitted : List (List ℕ) → Option (List (List ℕ)) → Option (List (List ℕ))
-option_admitted patterns None = None
-option_admitted patterns (Some ps) = Some (admitted patterns ps)
+abbrev pub option_admitted : Patterns → Option (List (List ℕ)) → Option (List (List ℕ))
+option_admitted wanted None = None
+option_admitted wanted (Some ps) = Some (admitted wanted ps)
 
 -- those of the differences that a filter admits
-abbrev pub admitted_differences : List (List ℕ) → Option FileMap → Option FileMap → Option (List (List ℕ))
-admitted_differences patterns first second = option_admitted patterns (differences first second)
+abbrev pub admitted_differences : Patterns → Option FileMap → Option FileMap → Option (List (List ℕ))
+admitted_differences wanted first second = option_admitted wanted (differences first second)
 
 abbrev pub paths_of : List Row → List (List ℕ)
 paths_of rows = map (λ row. row.0) rows

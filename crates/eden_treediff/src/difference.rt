@@ -2,7 +2,7 @@
 //! differ.
 
 ghost use Rattle.std.specs.Prelude.{◌≡◌, ◌++◌, ◌∷◌, [], IfOk, OnOk, true};
-ghost use Rattle.eden_globs.specs.Filters.{admits};
+ghost use Rattle.eden_globs.specs.Filters.{admits, all_paths};
 ghost use Rattle.eden_ids.specs.Paths.{IsPath};
 ghost use Rattle.eden_objects.specs.Listings.{ArePaths};
 ghost use Rattle.eden_treediff.specs.Merges.{merge_rows};
@@ -94,7 +94,7 @@ pub(crate) fn walk<N: Naming + Drop>(
     ensures kept { OnOk result (KeepsSettled settled.old settled.new) }
     ensures same { IfOk result (λ same. same ≡ true → is_known settled.new first second ≡ true) }
     // If everything is admitted, it is true for all pairs that hold the same files.
-    ensures known { IfOk result (λ same. filter.now ≡ [] → HoldSame store.now first second → same ≡ true) }
+    ensures known { IfOk result (λ same. filter.now ≡ all_paths → HoldSame store.now first second → same ≡ true) }
 {
     store.closed_law();
     if is_one_tree(first, second) || settled.has(first, second) {

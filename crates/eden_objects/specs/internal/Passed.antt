@@ -5,22 +5,23 @@ use Rattle.std.specs.List.{AllByRecursion, list_any}
 use Rattle.eden_ids.specs.Paths.{IsPath, lies_below}
 use Rattle.eden_objects.specs.Commits.{Row}
 use Rattle.eden_objects.specs.Passing.{told}
+use Rattle.eden_objects.specs.internal.Below.{rows_behind}
 
 -- there is one that is not passed over
 abbrev pub any_but : (List ℕ → Bool) → List ℕ → List Row → Bool
 any_but passes front rows = list_any (λ row. not (passes (front ++ row.0))) rows
 
--- a path that is not passed over is valid
-abbrev pub IsPathBut : (List ℕ → Bool) → List ℕ → Type 0
-IsPathBut passes path = passes path ≡ false → IsPath path
+-- the files that are not passed over
+abbrev pub rows_but : (List ℕ → Bool) → List ℕ → List Row → List Row
+rows_but passes front rows = rows_behind (λ path. not (passes path)) front rows
 
--- each of them that is not passed over has a valid path
-abbrev pub ArePathsBut : (List ℕ → Bool) → List ℕ → List Row → Type 0
-ArePathsBut passes front rows = AllByRecursion (λ row. IsPathBut passes (front ++ row.0)) rows
+-- each of them has a path that is allowed
+abbrev pub AreAllowedBut : (List ℕ → Type 0) → (List ℕ → Bool) → List ℕ → List Row → Type 0
+AreAllowedBut allows passes front rows = AllByRecursion (λ row. passes (front ++ row.0) ≡ false → allows (front ++ row.0)) rows
 
--- and each below a directory, as if that were at another path
+-- each below a directory has a valid path, as if that were at another path
 abbrev pub AreToldPaths : (List ℕ → Bool) → List ℕ → List ℕ → List Row → Type 0
-AreToldPaths passes top seen rows = AllByRecursion (λ row. lies_below row.0 top ≡ true → IsPathBut passes (told top seen row.0)) rows
+AreToldPaths passes top seen rows = AllByRecursion (λ row. lies_below row.0 top ≡ true → passes (told top seen row.0) ≡ false → IsPath (told top seen row.0)) rows
 
 -- the rows that are shown, with these paths
 abbrev pub retold : List ℕ → List ℕ → Row → Row

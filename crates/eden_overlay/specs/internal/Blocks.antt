@@ -1,9 +1,10 @@
 -- Entries in byte order of their paths, cut into blocks.
 use Rattle.std.specs.Prelude.{ℕ, suc, ◌<◌, Bool, false, if◌then◌else◌, List, [], ◌∷◌, ◌++◌, length, take}
 use Rattle.std.specs.Global.{Vec}
+use Rattle.std.specs.List.{AllByRecursion}
 use Rattle.std.specs.Ordering.{is_le}
 use Rattle.eden_overlay.specs.Layers.{Entry, by_bytes}
-use Rattle.eden_overlay.specs.internal.Places.{place}
+use Rattle.eden_overlay.specs.Places.{place}
 
 -- the entries of the blocks, one block after the other
 abbrev pub flat : List (Vec Entry) → List Entry
@@ -11,9 +12,11 @@ flat [] = []
 flat (b ∷ bs) = b.items ++ flat bs
 
 -- each block has an entry
+abbrev pub IsFilled : Vec Entry → Type 0
+IsFilled b = 0 < length b.items
+
 abbrev pub AllFilled : List (Vec Entry) → Type 0
-AllFilled [] = Unit {0}
-AllFilled (b ∷ bs) = (0 < length b.items) × AllFilled bs
+AllFilled bs = AllByRecursion IsFilled bs
 
 -- whether entries begin with a path or with one before it
 abbrev pub begins_at_or_before : List ℕ → List Entry → Bool

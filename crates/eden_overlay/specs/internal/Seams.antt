@@ -11,20 +11,25 @@ use Rattle.eden_overlay.specs.Carried.{carried}
 use Rattle.eden_overlay.specs.Layers.{Entry, by_bytes}
 use Rattle.eden_overlay.specs.internal.Blocks.{flat}
 
--- all paths come before one
-abbrev pub AllBefore : List ℕ → List Entry → Type 0
-AllBefore k [] = Unit {0}
-AllBefore k (e ∷ es) = T (is_lt (by_bytes e.0 k)) × AllBefore k es
+-- an entry's path comes before one
+abbrev pub IsBefore : List ℕ → Entry → Type 0
+IsBefore k e = T (is_lt (by_bytes e.0 k))
 
--- none does
+abbrev pub IsNotBefore : List ℕ → Entry → Type 0
+IsNotBefore k e = is_lt (by_bytes e.0 k) ≡ false
+
+abbrev pub AllBefore : List ℕ → List Entry → Type 0
+AllBefore k es = AllByRecursion (IsBefore k) es
+
 abbrev pub NoneBefore : List ℕ → List Entry → Type 0
-NoneBefore k [] = Unit {0}
-NoneBefore k (e ∷ es) = (is_lt (by_bytes e.0 k) ≡ false) × NoneBefore k es
+NoneBefore k es = AllByRecursion (IsNotBefore k) es
 
 -- no block has entries on both sides of a path
+abbrev pub IsOneSided : List ℕ → Vec Entry → Type 0
+IsOneSided k b = AllBefore k b.items ⊎ NoneBefore k b.items
+
 abbrev pub IsCut : List ℕ → List (Vec Entry) → Type 0
-IsCut k [] = Unit {0}
-IsCut k (b ∷ bs) = (AllBefore k b.items ⊎ NoneBefore k b.items) × IsCut k bs
+IsCut k bs = AllByRecursion (IsOneSided k) bs
 
 -- the place among the blocks at which a path's side changes
 pub record IsSeam (k : List ℕ) (bs : List (Vec Entry)) (at : ℕ) : Type 0 where

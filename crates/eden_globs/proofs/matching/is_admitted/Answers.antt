@@ -1,17 +1,27 @@
-use Rattle.std.proofs.Common.{◌≡◌, ◌<◌, ◌+◌, ◌-◌, ◌&&◌, [], true, false, nat_eq, arith, drop, length, refl, sym, ap, ◌∙◌, subst}
+use Rattle.std.proofs.Common.{◌≡◌, ◌<◌, ◌+◌, ◌-◌, ◌&&◌, ◌∷◌, [], true, false, nat_eq, arith, drop, length, refl, sym, ap, ◌∙◌, subst}
 use Rattle.std.proofs.lemmas.List.{length-map, take_all, length-drop}
 use Rattle.std.specs.List.{slice_index_or}
 use Rattle.eden_globs.specs.Filters.{path_matches}
 use Rattle.eden_globs.specs.internal.Compiled.{AreParts, AreShort, lent, part_matches}
-use Rattle.eden_globs.proofs.Parts.{lent_at, lent_left, lent_short, name_there, no_name_there, none_there, part_at, parts_left, short_left, texts_over}
+use Rattle.eden_globs.proofs.Parts.{any_alone, lent_at, lent_left, lent_short, name_there, no_name_there, none_there, part_at, parts_left, short_left, texts_over}
 use Rattle.eden_globs.proofs.matching.is_admitted.Goals as goal
 
 pub is_path_matched-requires-clause-short : goal.is_path_matched-requires-clause-short
 is_path_matched-requires-clause-short c =
     subst AreShort (sym (lent_left c.args.names.now c.loop-at.at)) (short_left (lent c.args.names.now) c.loop-at.at c.requires.short)
 
-pub returns-then-is_any_names : goal.returns-then-is_any_names
-returns-then-is_any_names c = λ texts are.
+pub returns-then-at-parts : goal.returns-then-at-parts
+returns-then-at-parts c = λ texts are.
+    let names = lent c.args.names.now in
+    let at = c.loop-at.at in
+    let here = part_at c.args.parts.now texts are at c.index-parts-at.result c.loop-at-test.true c.index-parts-at.is in
+    let last : nat_eq (at + 1) (length c.args.parts.now) ≡ true = grind arith in
+    last ∙ sym (any_alone c.index-parts-at.result here.0 (drop at names) here.1.1 (sym c.is_any_names.ensures ∙ c.if-is_any_names.true))
+    ∙ ap (λ ts. path_matches (here.0 ∷ ts) (drop at names)) (sym (texts_over c.args.parts.now texts are (at + 1) (omega arith)))
+    ∙ ap (λ ts. path_matches ts (drop at names)) (sym here.1.0) ∙ c.loop-at.invariant.same texts are
+
+pub returns-else-at-parts : goal.returns-else-at-parts
+returns-else-at-parts c = λ texts are.
     let parts = c.args.parts.now in
     let at = c.loop-at.at in
     c.is_path_matched.ensures (drop at texts) (subst (λ ps. AreParts ps (drop at texts)) (sym (take_all (length parts - at) (drop at parts) (omega (arith, length-drop at parts)))) (parts_left parts texts are at))

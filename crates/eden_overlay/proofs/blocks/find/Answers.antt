@@ -5,8 +5,8 @@ use Rattle.eden_overlay.specs.internal.Blocks.{block_for}
 use Rattle.eden_overlay.proofs.Flattened.{rising_block, find_flat, nothing_flat}
 use Rattle.eden_overlay.proofs.blocks.find.Goals as goal
 
-pub find-requires : goal.find-requires
-find-requires c =
+pub value_at-requires : goal.value_at-requires
+value_at-requires c =
     let block = c.index-blocks-at.result in
     subst (λ es. T (is_sorted by_bytes es)) (sym (c.deref.ensures.value ∙ ap (λ b. b.items) c.index-blocks-at.is))
     (rising_block c.args.blocks.now c.block_for-at.result block (omega arith) c.requires.sorted)
@@ -15,7 +15,7 @@ pub returns-then-at-blocks : goal.returns-then-at-blocks
 returns-then-at-blocks c =
     let path = c.args.path.now in
     let block = c.index-blocks-at.result in
-    c.find.ensures
+    c.value_at.ensures
     ∙ ap (find by_bytes path) (c.deref.ensures.value ∙ ap (λ b. b.items) c.index-blocks-at.is)
     ∙ sym (find_flat path c.args.blocks.now c.block_for-at.result block c.requires.sorted c.requires.filled c.block_for-at.ensures.is (omega arith))
 

@@ -1,16 +1,20 @@
-use Rattle.std.proofs.Common.{arith}
-use Rattle.std.specs.Vec.Iter.{into_iter_items}
-use Rattle.eden_overlay.proofs.WovenRows.{weaving_last, weaving_next}
+use Rattle.eden_overlay.proofs.Turns.{compared, mark_added, none_left, path_dropped, path_moved}
 use Rattle.eden_overlay.proofs.weaving.weave.Goals as goal
 
-pub loop-path-preserved : goal.loop-path-preserved
-loop-path-preserved g c =
-    weaving_next c.args.wanted.now c.args.listed.items (g.M.Marks.left c.args.marks.now) c.loop-path.paths.items c.add_before.new.paths.items c.push_unless.new.paths.items c.in-Some.path
-    (into_iter_items c.loop-path.path-iterator) (into_iter_items c.next.new.self) (g.M.Marks.left c.loop-path.marks) (g.M.Marks.left c.add_before.new.marks) c.starts_at-is_touched.result
-    c.in-Some.ensures.steps.0 c.in_ok-add_before.ensures.added c.in_ok-add_before.ensures.left c.starts_at-is_touched.ensures c.in_ok-push_unless.ensures c.loop-path.invariant
+pub loop-order-preserved-in-Continue-branch-2 : goal.loop-order-preserved-in-Continue-branch-2
+loop-order-preserved-in-Continue-branch-2 g c =
+    path_moved (compared c.front.result c.first.result c.front.ensures.item c.first.ensures c.in-Some.ensures c.loop-order.invariant)
+    c.in-Less.is c.in_ok-move_first-in-Less.ensures.added c.move_first.ensures.left
+
+pub loop-order-preserved-in-Equal : goal.loop-order-preserved-in-Equal
+loop-order-preserved-in-Equal g c =
+    path_dropped (compared c.front.result c.first.result c.front.ensures.item c.first.ensures c.in-Some.ensures c.loop-order.invariant)
+    c.in-Equal.is c.pop_front.ensures.rest
+
+pub loop-order-preserved : goal.loop-order-preserved
+loop-order-preserved g c =
+    mark_added (compared c.front.result c.first.result c.front.ensures.item c.first.ensures c.in-Some.ensures c.loop-order.invariant)
+    c.in-Greater.is c.in_ok-add_first-in-Greater.ensures.added c.in_ok-add_first-in-Greater.ensures.left
 
 pub returns : goal.returns
-returns g c =
-    λ base listed.
-    weaving_last c.args.wanted.now c.args.listed.items (g.M.Marks.left c.args.marks.now) c.loop-path.paths.items c.add_left.new.paths.items (into_iter_items c.loop-path.path-iterator)
-    (g.M.Marks.left c.loop-path.marks) base c.requires (omega (arith, c.loop-path.path-iterator.rest.ok, c.in-None.ensures.steps.0)) c.in_ok-add_left.ensures c.loop-path.invariant listed
+returns g c = none_left (compared c.front.result c.first.result c.front.ensures.item c.first.ensures c.in_default.ensures c.loop-order.invariant)

@@ -1,4 +1,4 @@
-use Rattle.std.proofs.Common.{◌≡◌, ◌+◌, ◌<◌, ◌^◌, drop, length}
+use Rattle.std.proofs.Common.{◌≡◌, ◌+◌, ◌<◌, ◌^◌, length}
 use Rattle.std.specs.List.{AllByRecursion}
 use Rattle.eden_objects.specs.Commits.{entries_rows, tree_rows}
 use Rattle.eden_objects.specs.Counts.{capped}
@@ -9,7 +9,7 @@ use Rattle.eden_objects.proofs.store.Store.count_of_entries.Given as goal
 
 abbrev pub invariant-entries : goal.invariant-entries
 invariant-entries g l = record {
-  counted : capped (l.files + length (entries_rows (tree_rows l.self) (drop l.row l.rows))) ≡ files_of_entries l.self l.rows;
+  counted : capped (l.files + length (entries_rows (tree_rows l.self) l.entry-iterator)) ≡ files_of_entries l.self l.rows;
   small : l.files < 2 ^ 64;
-  held : AllByRecursion (λ e. IsHeld l.self (word_wanted e.kind) e.id) (drop l.row l.rows);
+  held : AllByRecursion (λ e. IsHeld l.self (word_wanted e.kind) e.id) l.entry-iterator;
 }

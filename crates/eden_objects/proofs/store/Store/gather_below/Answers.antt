@@ -1,14 +1,19 @@
-use Rattle.std.proofs.Common.{sym, subst, ◌∙◌}
-use Rattle.eden_globs.specs.Fronts.{Enters}
+use Rattle.std.proofs.Common.{rules, ◌≡◌, false, ap, sym, ◌∙◌, arith}
+use Rattle.eden_ids.specs.Paths.{lies_below}
 use Rattle.eden_objects.specs.Commits.{tree_rows}
-use Rattle.eden_objects.proofs.Gathering.{none_entered}
+use Rattle.eden_objects.proofs.Fitting.{limits}
+use Rattle.eden_objects.proofs.Gathering.{none_admitted}
 use Rattle.eden_objects.proofs.store.Store.gather_below.Goals as goal
 
-pub returns-in_default : goal.returns-in_default
-returns-in_default g c =
-    let outside =
-    subst (Enters c.args.filter.now c.args.path.now c.new-listing.result.front c.enter.new.self) c.in_default.is c.in_ok-enter.ensures.entered in
-    c.new-listing.ensures.rows
+pub returns-then-not-admits_below : goal.returns-then-not-admits_below
+returns-then-not-admits_below g c =
+    let refuses : c.admits_below.result ≡ false = search rules in
+    c.new.ensures.items
     ∙ sym
-    (none_entered (g.S.Passes.passes c.args.passed.now) c.args.filter.now c.args.path.now c.new-listing.result.front c.enter.new.self (tree_rows c.args.self.now c.args.dir)
-    c.new-listing.ensures.front outside)
+    (none_admitted (g.S.Passes.passes c.args.passed.now) c.args.filter.now c.args.path.now (tree_rows c.args.self.now c.args.dir)
+    (λ path below. c.admits_below.ensures.outside refuses path (ap (lies_below path) c.as_bytes.ensures.bytes ∙ below)))
+
+pub gather-requires-clause-room : goal.gather-requires-clause-room
+gather-requires-clause-room g c =
+    let reach = (limits c.args.self.now c.closed_law.ensures.closed c.args.dir c.requires.tree).1 in
+    omega (arith, reach, c.below.ensures.short)

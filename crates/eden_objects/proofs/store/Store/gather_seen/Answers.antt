@@ -1,20 +1,15 @@
-use Rattle.std.proofs.Common.{◌≡◌, ap, subst, sym, ◌∙◌, ◌++◌, ◌∷◌, []}
+use Rattle.std.proofs.Common.{◌≡◌, subst, sym}
 use Rattle.std.specs.Prelude.{IfOk}
-use Rattle.eden_objects.specs.Commits.{tree_rows}
 use Rattle.eden_objects.specs.Passing.{is_shown}
-use Rattle.eden_objects.specs.internal.Below.{rows_behind}
-use Rattle.eden_objects.specs.internal.Passed.{ArePathsBut}
 use Rattle.eden_objects.proofs.Searched.{shown_below, told_paths}
 use Rattle.eden_objects.proofs.store.Store.gather_seen.Goals as goal
 
 pub gather_below-requires-clause-paths : goal.gather_below-requires-clause-paths
 gather_below-requires-clause-paths g c =
-    subst (λ path. ArePathsBut (g.S.Passes.passes c.args.passed.now) (path ++ 47 ∷ []) (tree_rows c.args.self.now c.in-Some.dir)) (sym c.as_bytes.ensures.bytes)
-    (told_paths (g.S.Passes.passes c.args.passed.now) c.args.self.now c.args.tree c.args.top.now c.args.seen.now c.in-Some.dir c.in-Some.ensures c.requires.paths)
+    told_paths (g.S.Passes.passes c.args.passed.now) c.args.self.now c.args.tree c.args.top.now c.args.seen.now c.in-Some.dir c.in-Some.ensures c.requires.paths
 
 pub returns-in-Some : goal.returns-in-Some
 returns-in-Some g c =
     subst (λ found. IfOk c.gather_below.result (λ rows. rows.items ≡ found))
-    (ap (λ path. rows_behind (is_shown (g.S.Passes.passes c.args.passed.now) c.args.filter.now) (path ++ 47 ∷ []) (tree_rows c.args.self.now c.in-Some.dir)) c.as_bytes.ensures.bytes
-    ∙ sym (shown_below (is_shown (g.S.Passes.passes c.args.passed.now) c.args.filter.now) c.args.self.now c.args.tree c.args.top.now c.args.seen.now c.in-Some.dir c.in-Some.ensures))
+    (sym (shown_below (is_shown (g.S.Passes.passes c.args.passed.now) c.args.filter.now) c.args.self.now c.args.tree c.args.top.now c.args.seen.now c.in-Some.dir c.in-Some.ensures))
     c.gather_below.ensures

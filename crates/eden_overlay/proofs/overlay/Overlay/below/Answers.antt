@@ -2,7 +2,7 @@ use Rattle.std.proofs.Common.{drop, ap, ◌∙◌}
 use Rattle.std.specs.FinMap as fin
 use Rattle.eden_ids.proofs.ByteOrder.{upto}
 use Rattle.eden_overlay.specs.Layers.{marks}
-use Rattle.eden_overlay.specs.internal.Places.{place}
+use Rattle.eden_overlay.specs.Places.{place}
 use Rattle.eden_overlay.specs.internal.Blocks.{before}
 use Rattle.eden_overlay.proofs.Walked.{below_from}
 use Rattle.eden_overlay.proofs.overlay.Overlay.below.Goals as goal

@@ -6,7 +6,7 @@ use Rattle.eden_ids.proofs.ByteOrder.{upto}
 use Rattle.eden_overlay.specs.Carried.{breaks, carried}
 use Rattle.eden_overlay.specs.Layers.{Entry, by_bytes}
 use Rattle.eden_overlay.specs.internal.Blocks.{before, flat}
-use Rattle.eden_overlay.specs.internal.Places.{place}
+use Rattle.eden_overlay.specs.Places.{place}
 use Rattle.eden_overlay.proofs.CarriedBlocks.{inside_all, unbroken}
 use Rattle.eden_overlay.proofs.CarriedLayers.{carried_map}
 use Rattle.eden_overlay.proofs.Walked.{below_from}

@@ -2,7 +2,7 @@ use Rattle.std.proofs.Common.{drop, length, ap, sym, ◌∙◌, arith}
 use Rattle.std.proofs.lemmas.List.{length-drop}
 use Rattle.std.specs.FinMap as fin
 use Rattle.eden_overlay.specs.Layers.{by_bytes}
-use Rattle.eden_overlay.specs.internal.Places.{place}
+use Rattle.eden_overlay.specs.Places.{place}
 use Rattle.eden_overlay.specs.internal.Blocks.{flat}
 use Rattle.eden_overlay.proofs.overlay.Overlay.entries_from.Goals as goal
 

@@ -5,7 +5,7 @@ use Rattle.std.specs.FinMap as fin
 use Rattle.eden_ids.specs.Paths.{lies_below}
 use Rattle.eden_ids.proofs.ByteOrder.{upto}
 use Rattle.eden_overlay.specs.Layers.{Entry}
-use Rattle.eden_overlay.specs.internal.Places.{place}
+use Rattle.eden_overlay.specs.Places.{place}
 use Rattle.eden_overlay.specs.internal.Blocks.{before}
 use Rattle.eden_overlay.proofs.Walked.{below_from}
 use Rattle.eden_overlay.proofs.Within.{any_below}
