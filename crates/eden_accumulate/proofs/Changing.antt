@@ -44,13 +44,13 @@ abbrev pub GrowsBy : journal.Log → journal.Log → FilesChanged → Type 0
 GrowsBy log more files = (h : History) → journal.StandsFor log h → journal.StandsFor more (recorded h h.root (File files))
 
 -- the same mount, told by other parts
-pub kept : (held : List Held) (work other : WorkCopy) (log more : journal.Log) → other ≡ work → more ≡ log → IsPresent (state held work log) → IsPresent (state held other more)
-kept held work other log more works logs h = (h.0, subst (λ m. StandsFor m h.0) (λ i. state held (sym works i) (sym logs i)) h.1)
+pub kept : {held : List Held} {work other : WorkCopy} {log more : journal.Log} → other ≡ work → more ≡ log → IsPresent (state held work log) → IsPresent (state held other more)
+kept {held} works logs h = (h.0, subst (λ m. StandsFor m h.0) (λ i. state held (sym works i) (sym logs i)) h.1)
 
 -- a number is left for a change that nothing refuses
-pub left : (held : List Held) (work : WorkCopy) (log more : journal.Log) (mount : State) → state held work log ≡ mount → IsPresent (state held work log) → more ≡ log
+pub left : {held : List Held} {work : WorkCopy} {log more : journal.Log} {mount : State} → state held work log ≡ mount → IsPresent (state held work log) → more ≡ log
     → (change : Change) (fault : Option ChangeFault) → IsRefusal mount change fault → fault ≡ None → takes_number change ≡ true → more.head < 2 ^ 64 - 1
-left held work log more mount view h same change fault is none takes =
+left {held} {work} {log} {more} {mount} view h same change fault is none takes =
     let low : mount.log.head < 2 ^ 64 - 1 =
     has_number mount change fault (h.0, subst (λ m. StandsFor m h.0) view h.1) is none takes in
     let one : more.head ≡ mount.log.head = ap (λ (l : journal.Log). l.head) same ∙ ap (λ (m : State). m.log.head) view in

@@ -1,7 +1,7 @@
 -- A snapshot shows the paths of the files that a mount holds.
 use Rattle.std.proofs.Common.{◌≡◌, ℕ, Bool, List, [], ◌∷◌, Some, true, false, cond, refl, sym, ap, ◌∙◌}
 use Rattle.std.specs.Prelude.{filter}
-use Rattle.eden_globs.specs.Filters.{admits}
+use Rattle.eden_globs.specs.Filters.{Patterns, admits}
 use Rattle.eden_ids.specs.declared.id.Id.{Id}
 use Rattle.eden_ids.specs.FileMaps.{FileMap, listing}
 use Rattle.eden_ids.specs.Texts.{AreTexts}
@@ -42,7 +42,7 @@ filters_turned s t (p ∷ ps) = by (s p) (t p) refl refl (filters_turned s t ps)
     by false false sa tb more = more
 
 -- the paths that a snapshot of a working copy shows are those of its files, where the files that its overlay lies over keep the limits
-pub shows : (held : List Held) (work : WorkCopy) (root : Id) (moves : Moves) (touched : List Mark) (patterns : List (List ℕ)) (files : FileMap)
+pub shows : (held : List Held) (work : WorkCopy) (root : Id) (moves : Moves) (touched : List Mark) (patterns : Patterns) (files : FileMap)
     → root ≡ work.root → moves ≡ work.moves → touched ≡ touched_of work → means held work ≡ files → AreTexts (base_of held work)
     → filter (admits patterns) (listing (shown_over (at_paths (seen_through (commit_files held root) moves)) touched)) ≡ admitted patterns files
 shows held work root moves touched patterns files is-root is-moves is-touched is-files texts =

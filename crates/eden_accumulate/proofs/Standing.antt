@@ -26,13 +26,14 @@ use Rattle.eden_history.specs.Worlds.{WorldState, commits_of, now, opened, posit
 use Rattle.eden_history.specs.Recorded.{delta_of, deltas, starts}
 use Rattle.eden_history.specs.Outcome.{answer_at, change_fault, is_event, next_files, next_root, refusal, row_after, row_answer, takes_number}
 use Rattle.eden_history.specs.Spellable.{IsChange}
+use Rattle.eden_history.proofs.Floors.{generation-kept}
 use Rattle.eden_history.proofs.Steps.{has-number}
 use Rattle.eden_history.proofs.LegalFiles.{world_opens, next_row_files}
 use Rattle.eden_history.proofs.Spelled.{spellable_grows, spellable_opens}
 use Rattle.eden_accumulate.specs.Mounts.{begun_at, State, StandsFor, files_of}
 use Rattle.eden_accumulate.specs.internal.Refusals.{IsRefusal, number_fault}
 use Rattle.eden_accumulate.specs.internal.Rows.{Follows, Refuses}
-use Rattle.eden_accumulate.proofs.Histories.{after-event, after-nothing, answer-allowed, answer-refused, event_of, generation-kept, grown, grown_world, head_is, history-recorded, root-made}
+use Rattle.eden_accumulate.proofs.Histories.{after-event, after-nothing, answer-allowed, answer-refused, event_of, grown, grown_world, head_is, history-recorded, root-made}
 
 -- ---- the present
 
@@ -130,16 +131,16 @@ pub refused : (mount : State) (change : Change) (found : Option ChangeFault) (fa
 refused mount change found fault is some world h = answer-refused world change fault (sym (is world h) ∙ some)
 
 -- the position after a change that nothing refuses is the one that it is answered with
-pub answered : (mount next : State) (change : Change) (position : Position) → IsRefusal mount change None
+pub answered : {mount next : State} (change : Change) (position : Position) → IsRefusal mount change None
     → Follows mount change next → ((world : WorldState) → StandsFor next world → position ≡ position_of (now world))
     → (world : WorldState) → StandsFor mount world → row_answer world change ≡ answer_at (commits_of world) (now world) change position
-answered mount next change position judged follows at world h =
+answered change position judged follows at world h =
     answer-allowed world change (sym (judged world h))
     ∙ ap (answer_at (commits_of world) (now world) change) (sym (at (row_after world change) (follows world h)))
 
 -- a mount that follows is still the present of some world
-pub still_present : (inside mount next : State) (change : Change) → inside ≡ mount → IsPresent inside → Follows mount change next → IsPresent next
-still_present inside mount next change view h follows =
+pub still_present : {inside mount next : State} (change : Change) → inside ≡ mount → IsPresent inside → Follows mount change next → IsPresent next
+still_present change view h follows =
     (row_after h.0 change, follows h.0 (subst (λ m. StandsFor m h.0) view h.1))
 
 -- ---- steps

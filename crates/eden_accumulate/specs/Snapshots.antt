@@ -3,7 +3,7 @@
 -- whether there is a file. Over a store other than the one it was taken from, a directory
 -- may show files at invalid paths: those are left out.
 use Rattle.std.specs.Prelude.{ℕ, List, filter}
-use Rattle.eden_globs.specs.Filters.{admits}
+use Rattle.eden_globs.specs.Filters.{Patterns, admits}
 use Rattle.eden_ids.specs.FileMaps.{PathSet, listing}
 use Rattle.eden_objects.specs.Objects.{Held}
 use Rattle.eden_objects.specs.Files.{commit_files}
@@ -17,5 +17,5 @@ abbrev pub shown : List Held → Snapshot → PathSet
 shown held snapshot = shown_over (at_paths (seen_through (commit_files held snapshot.position.root) snapshot.moves)) snapshot.touched
 
 -- those of them that a filter admits, in byte order
-abbrev pub shown_to : List (List ℕ) → List Held → Snapshot → List (List ℕ)
+abbrev pub shown_to : Patterns → List Held → Snapshot → List (List ℕ)
 shown_to patterns held snapshot = filter (admits patterns) (listing (shown held snapshot))

@@ -2,6 +2,7 @@
 
 ghost use Rattle.std.specs.Prelude.{◌≡◌, ◌≢◌, None, IsSome, List, ℕ, T, IfOk, IfErr};
 ghost use Rattle.std.specs.FinMap.{is_sorted};
+ghost use Rattle.eden_globs.specs.Filters.{Patterns};
 ghost use Rattle.eden_objects.specs.Commits.{commit_map};
 ghost use Rattle.eden_overlay.specs.Layers.{by_bytes};
 ghost use Rattle.eden_overlay.specs.Listings.{admitted};
@@ -112,7 +113,7 @@ impl<N: Naming + Drop> Mount<N> {
         ensures touched { IfOk result (λ snapshot. snapshot.touched ≡ touched_of self.now.work) }
         // Over the mount's store, it shows those of the world's files that the filter
         // admits.
-        ensures files { IfOk result (λ snapshot. (world : WorldState) → StandsFor self.now world → (patterns : List (List ℕ))
+        ensures files { IfOk result (λ snapshot. (world : WorldState) → StandsFor self.now world → (patterns : Patterns)
             → shown_to patterns self.now.held snapshot ≡ admitted patterns (now world).files) }
     {
         let moves = self.work.moves().copy()?;

@@ -3,7 +3,7 @@ use Rattle.std.proofs.Common.{◌≡◌, ℕ, Bool, true, false, cond, not, ◌&
 use Rattle.std.specs.Prelude.{IsSome}
 use Rattle.std.specs.List.{list_any}
 use Rattle.std.specs.FinMap as fin
-use Rattle.std.proofs.lemmas.Bool.{and_parts, not-false}
+use Rattle.std.proofs.lemmas.Bool.{and_parts, false_from_ne_true, not-false}
 use Rattle.eden_ids.specs.declared.content.Content.{Content}
 use Rattle.eden_ids.specs.Paths.{clashes, lies_below}
 use Rattle.eden_ids.specs.FileMaps.{FileMap, IsFileMap, file_at, paths, same_file, same_path, differ, path_set, has, clashes_any}
@@ -13,12 +13,6 @@ use Rattle.eden_history.specs.declared.change.Mode.TheVariants.{Normal, Dry, For
 use Rattle.eden_history.specs.Checkouts.{is_clean, clashes_dirty, is_blocked, paths_of_all, normal_rule, normal_files, force_rule, force_files, rule_of, checked_out, is_conflict, conflicts, unclean}
 use Rattle.std.proofs.Math.Bool.{or_comm}
 use Rattle.eden_ids.proofs.TreeQuestions.{any_witness}
-
--- ---- tests of lists of paths
-
-by_two : (b : Bool) → (b ≡ true → false ≡ true) → b ≡ false
-by_two true h = absurd (let bad : false ≡ true = h refl in cc)
-by_two false h = refl
 
 -- ---- at each path
 
@@ -109,9 +103,10 @@ clashes_turned p q = or_comm (lies_below p q) (lies_below q p)
 -- a path that clashes with no dirty one at which a file stands
 apart_from_dirty : (work root : FileMap) (p q : List ℕ) → clashes_dirty work root p ≡ false → is_clean work root q ≡ false → IsSome (file_at work q) → clashes p q ≡ false
 apart_from_dirty work root p q none dirty here =
-    by_two (clashes p q)
-    (λ e. sym (unlisted (λ r. clashes p r && not (is_clean work root r)) (paths work) q none (held work q here))
-    ∙ ap (λ b. b && not (is_clean work root q)) e ∙ ap not dirty)
+    false_from_ne_true (clashes p q)
+    (λ e. let bad : false ≡ true =
+    sym (unlisted (λ r. clashes p r && not (is_clean work root r)) (paths work) q none (held work q here))
+    ∙ ap (λ b. b && not (is_clean work root q)) e ∙ ap not dirty in cc)
 
 apart_from_any : (m : FileMap) (p q : List ℕ) → clashes_any m p ≡ false → IsSome (file_at m q) → clashes p q ≡ false
 apart_from_any m p q none here = unlisted (λ r. clashes p r) (paths m) q none (held m q here)
@@ -165,7 +160,7 @@ checked_out_no_clash Force work root target ok_work ok_target = force_no_clash w
 pub clash_is_new : (work root target : FileMap) (p : List ℕ) → IsFileMap work → is_clean work root p ≡ true → is_blocked work root target p ≡ true
     → has (differ root target) p ≡ true
 clash_is_new work root target p ok clean blocked =
-    has-differ root target p ∙ ap not (by_two (same_file (file_at root p) (file_at target p)) (λ same. absurd (clash same)))
+    has-differ root target p ∙ ap not (false_from_ne_true (same_file (file_at root p) (file_at target p)) clash)
   where
     clash : same_file (file_at root p) (file_at target p) ≡ true → ⊥
     clash same =
@@ -220,7 +215,8 @@ pub normal_untouched : (work root target : FileMap) (p : List ℕ) → IsFileMap
 normal_untouched work root target p ok clean same =
     let one = same_where work root p clean in
     let is : is_clean work root p ≡ true = ap (λ f. same_file f (file_at root p)) one ∙ same_file-refl (file_at root p) in
-    let free : is_conflict work root target p ≡ false = by_two (is_conflict work root target p) (λ e. sym same ∙ conflict_differs work root target p ok e) in
+    let free : is_conflict work root target p ≡ false =
+    false_from_ne_true (is_conflict work root target p) (λ e. let bad : false ≡ true = sym same ∙ conflict_differs work root target p ok e in cc) in
     file_at-normal work root target p ∙ normal_elsewhere work root target p is free ∙ sym (one ∙ same_where root target p same)
 
 pub force_untouched : (work root target : FileMap) (p : List ℕ) → has (differ work root) p ≡ false → has (differ root target) p ≡ false

@@ -1,5 +1,5 @@
 -- Whether a commit is there.
-use Rattle.std.proofs.Common.{◌≡◌, true, false, List, Option, Some, None, is_some, refl}
+use Rattle.std.proofs.Common.{◌≡◌, true, false, List, Option, Some, None, is_some, refl, sym, ap}
 use Rattle.std.specs.Prelude.{IsSome}
 use Rattle.eden_ids.specs.declared.id.Id.{Id}
 use Rattle.eden_ids.specs.FileMaps.{FileMap}
@@ -16,13 +16,6 @@ there_by held (Some rows) e = refl
 pub commit_there : (held : List Held) (id : Id) → is_some (commit_rows held id) ≡ true → None ≡ commit_fault (commit_map held id)
 commit_there held id e = there_by held (commit_rows held id) e
 
-gone_by : (held : List Held) (rows : Option (List Row)) → is_some rows ≡ false → ◌≡◌ {A = Option ChangeFault} (Some NoCommit) (commit_fault (map_of_rows held rows))
-gone_by held None e = refl
-gone_by held (Some rows) e = absurd (cc)
-
-pub commit_gone : (held : List Held) (id : Id) → is_some (commit_rows held id) ≡ false → Some NoCommit ≡ commit_fault (commit_map held id)
-commit_gone held id e = gone_by held (commit_rows held id) e
-
 mapped_by : (held : List Held) (rows : Option (List Row)) → is_some rows ≡ true → IsSome (map_of_rows held rows)
 mapped_by held None e = absurd (cc)
 mapped_by held (Some rows) e = refl
@@ -36,3 +29,6 @@ unmapped_by held (Some rows) e = absurd (cc)
 
 pub commit_unmapped : (held : List Held) (id : Id) → is_some (commit_rows held id) ≡ false → commit_map held id ≡ None
 commit_unmapped held id e = unmapped_by held (commit_rows held id) e
+
+pub commit_gone : (held : List Held) (id : Id) → is_some (commit_rows held id) ≡ false → Some NoCommit ≡ commit_fault (commit_map held id)
+commit_gone held id e = sym (ap commit_fault (commit_unmapped held id e))

@@ -1,47 +1,28 @@
 -- A rename of a directory that is not refused: nothing stands where it puts files, each path that it makes is one, and nothing but the
 -- limits of length and depth can break a path.
-use Rattle.std.proofs.Common.{◌≡◌, ℕ, ◌<◌, Bool, true, false, not, ◌&&◌, nat_eq, nat_lt, List, [], ◌∷◌, ◌++◌, length, Option, Some, None, is_some, refl, sym, ap, ◌∙◌, arith}
-use Rattle.std.specs.Prelude.{IsSome, ◌==◌, if◌then◌else◌}
+use Rattle.std.proofs.Common.{◌≡◌, ℕ, Bool, true, false, not, ◌&&◌, nat_eq, nat_lt, List, [], ◌∷◌, ◌++◌, length, Some, None, is_some, refl, sym, ap, ◌∙◌, arith}
+use Rattle.std.specs.Prelude.{IsSome, if◌then◌else◌}
 use Rattle.std.specs.List.{list_all}
 use Rattle.std.proofs.lemmas.Bool.{ne_eqb, or_parts}
-use Rattle.eden_ids.specs.declared.content.Content.{Content}
-use Rattle.eden_ids.specs.declared.path.PathFault.{PathFault}
 use Rattle.eden_ids.specs.declared.path.PathFault.TheVariants.{Empty, TooLong, BadComponent, TooDeep}
 use Rattle.eden_ids.specs.Paths.{IsPath, components, is_component, lies_below, path_fault}
-use Rattle.eden_ids.specs.FileMaps.{FileMap, IsFileMap, file_at, has_file_above, has_file_below, paths}
+use Rattle.eden_ids.specs.FileMaps.{FileMap, IsFileMap, file_at, has_file_above, paths}
 use Rattle.eden_ids.specs.Sameness.{same_bytes}
 use Rattle.eden_ids.proofs.FileMapLemmas.{held, unlisted}
-use Rattle.eden_history.specs.declared.change.ChangeFault.{ChangeFault}
-use Rattle.eden_history.specs.declared.change.ChangeFault.TheVariants.{NotADirectory, IsADirectory, IntoItself, PathTooLong}
+use Rattle.eden_history.specs.declared.change.ChangeFault.TheVariants.{NotADirectory, IntoItself, PathTooLong}
 use Rattle.eden_overlay.specs.Carried.{carried, carried_files}
 use Rattle.eden_history.specs.DirRenames.{breaks_a_path, dir_renamed, free_fault, has_file_upward, rename_dir_fault, source_fault, target_fault}
 use Rattle.eden_overlay.proofs.CarriedLemmas.{carried-elsewhere, carried_fits, carried_there, rest_below}
 use Rattle.eden_overlay.proofs.Joined.{and_both, names_alone, names_joined}
-use Rattle.eden_history.proofs.RenameLaws.{first-none}
+use Rattle.eden_history.proofs.RenameLaws.{absent, first-none, no_fault}
 
 -- ---- what a rename that is not refused finds
-
-outside : (b : Bool) (rest : Option ChangeFault) → (if b then Some IntoItself else rest) ≡ None → rest ≡ None
-outside true rest e = let bad : ◌≡◌ {A = Option ChangeFault} (Some IntoItself) None = e in cc
-outside false rest e = e
-
-unblocked : (upward below : Bool) → (if upward then Some NotADirectory else (if below then Some IsADirectory else None)) ≡ None → upward ≡ false
-unblocked true below e = let bad : ◌≡◌ {A = Option ChangeFault} (Some NotADirectory) None = e in cc
-unblocked false below e = refl
-
-unbroken : (b : Bool) → (if b then Some PathTooLong else None) ≡ None → b ≡ false
-unbroken true e = let bad : ◌≡◌ {A = Option ChangeFault} (Some PathTooLong) None = e in cc
-unbroken false e = refl
 
 -- no file stands at the new path or above it, and each moved path is a path
 pub is_allowed : (m : FileMap) (old new : List ℕ) → target_fault m old new ≡ None → (has_file_upward m new ≡ false) × (breaks_a_path m old new ≡ false)
 is_allowed m old new e =
-    let parts = first-none (free_fault m new) _ (outside (lies_below new old) _ e) in
-    (unblocked (has_file_upward m new) (has_file_below m new) parts.0, unbroken (breaks_a_path m old new) parts.1)
-
-absent : (o : Option Content) → is_some o ≡ false → o ≡ None
-absent None e = refl
-absent (Some file) e = let bad : true ≡ false = e in cc
+    let parts = first-none (free_fault m new) _ (no_fault (lies_below new old) IntoItself _ e).1 in
+    ((no_fault (has_file_upward m new) NotADirectory _ parts.0).0, (no_fault (breaks_a_path m old new) PathTooLong None parts.1).0)
 
 -- ---- the files after it
 
@@ -64,14 +45,10 @@ dir_renamed-elsewhere m old new p from to = by (same_bytes old new)
 
 -- ---- the paths of the moved files
 
-sound : (fault : Option PathFault) → is_some fault ≡ false → fault ≡ None
-sound None e = refl
-sound (Some fault) e = let bad : true ≡ false = e in cc
-
 -- where no path breaks, each moved path is one
 pub carried_path : (m : FileMap) (old new p : List ℕ) → breaks_a_path m old new ≡ false → IsSome (file_at m p) → lies_below p old ≡ true → IsPath (carried old new p)
 carried_path m old new p whole there below =
-    sound (path_fault (carried old new p))
+    absent (path_fault (carried old new p))
     (sym (ap (λ b. b && is_some (path_fault (carried old new p))) below)
     ∙ unlisted (λ q. lies_below q old && is_some (path_fault (carried old new q))) (paths m) p whole (held m p there))
 

@@ -13,7 +13,8 @@ use Rattle.eden_ids.proofs.Sifted.{listing_of}
 use Rattle.eden_ids.proofs.TreeMaps.{listing-same}
 use Rattle.eden_history.specs.Checkouts.{is_clean, clashes_dirty}
 use Rattle.eden_history.specs.DirtyFiles.{dirty_files}
-use Rattle.std.proofs.lemmas.Bool.{and_parts}
+use Rattle.eden_history.proofs.RenameLaws.{absent}
+use Rattle.std.proofs.lemmas.Bool.{and_parts, false_from_ne_true}
 use Rattle.eden_ids.proofs.TreeQuestions.{any_some, any_witness}
 
 pub file_at-dirty : (work root : FileMap) (p : List ℕ) → file_at (dirty_files work root) p ≡ cond (not (is_clean work root p)) (file_at work p) None
@@ -48,11 +49,7 @@ listed_is_there work root ps p is listed =
 
 pub unlisted_is_absent : (work root : FileMap) (ps : List (List ℕ)) (p : List ℕ) → ps ≡ paths (dirty_files work root) → list_any (λ q. same_path p q) ps ≡ false
     → file_at (dirty_files work root) p ≡ None
-unlisted_is_absent work root ps p is unlisted = by (file_at (dirty_files work root) p) (listed_is work root ps p is ∙ unlisted)
-  where
-    by : (f : Option Content) → is_some f ≡ false → f ≡ None
-    by None none = refl
-    by (Some f) none = absurd (cc)
+unlisted_is_absent work root ps p is unlisted = absent (file_at (dirty_files work root) p) (listed_is work root ps p is ∙ unlisted)
 
 -- ---- as a list
 
@@ -119,14 +116,10 @@ dirty_clashes work root dirty p is = ap (list_any (λ q. clashes p q)) is ∙ sy
 
 -- where each path is clean, no path clashes with a dirty one
 pub none_clashes : (work root : FileMap) (ps : List (List ℕ)) (p : List ℕ) → ps ≡ listing (differ work root) → length ps ≡ 0 → clashes_dirty work root p ≡ false
-none_clashes work root ps p is none = by (clashes_dirty work root p) refl
-  where
-    by : (b : Bool) → clashes_dirty work root p ≡ b → b ≡ false
-    by false e = refl
-    by true e =
-        let found = any_witness (λ q. clashes p q && not (is_clean work root q)) (paths work) e in
-        let dirty = (and_parts (clashes p found.0) (not (is_clean work root found.0)) found.2).1 in
-        absurd (let bad : true ≡ false = sym dirty ∙ ap not (clean_unless_listed work root ps found.0 is ∙ ap (λ qs. not (list_any (λ q. same_path found.0 q) qs)) (no_length ps none)) in cc)
+none_clashes work root ps p is none = false_from_ne_true (clashes_dirty work root p) (λ e.
+    let found = any_witness (λ q. clashes p q && not (is_clean work root q)) (paths work) e in
+    let dirty = (and_parts (clashes p found.0) (not (is_clean work root found.0)) found.2).1 in
+    let bad : true ≡ false = sym dirty ∙ ap not (clean_unless_listed work root ps found.0 is ∙ ap (λ qs. not (list_any (λ q. same_path found.0 q) qs)) (no_length ps none)) in cc)
 
 -- the paths of the dirty files stand in byte order
 pub dirty_rise : (work root : FileMap) (ps : List (List ℕ)) → ps ≡ paths (dirty_files work root) → IsStrictlySortedBy order ps

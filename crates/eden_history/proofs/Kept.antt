@@ -12,7 +12,7 @@ use Rattle.eden_ids.specs.FileMaps.{FileMap, differ, file_at, has, listing, path
 use Rattle.eden_ids.specs.Sameness.{same_bytes}
 use Rattle.eden_ids.proofs.FileMapLemmas.{file_at-insert, file_at-remove, has-listing, has-path_set, has-union, path_set-listing, same_path-refl, unlisted}
 use Rattle.eden_history.specs.declared.change.Change.{Change}
-use Rattle.eden_history.specs.declared.change.Change.TheVariants.{Write, Remove, Rename, RenameDir, Checkout, Reset, Flush, Remount, Import}
+use Rattle.eden_history.specs.declared.change.Change.TheVariants.{Write, Remove, Rename, RenameDir, Checkout}
 use Rattle.eden_history.specs.Worlds.{Row, Event, Commits, last_row}
 use Rattle.eden_history.specs.Renames as renames
 use Rattle.eden_history.specs.Checkouts.{unclean}
@@ -71,10 +71,7 @@ next_kept commits row (RenameDir old new) p none outside =
     dir_renamed-elsewhere row.files old new p parts.0 (or_parts (lies_below p new) false parts.1).0
 next_kept commits row (Checkout commit mode) p none outside =
     checkout_kept row.files (files_of (commits row.root)) (next_files commits row (Checkout commit mode)) (files_of (commits commit)) p none
-next_kept commits row (Reset commit) p none outside = refl
-next_kept commits row Flush p none outside = refl
-next_kept commits row (Remount generation) p none outside = refl
-next_kept commits row (Import objects) p none outside = refl
+next_kept commits row change p none outside = refl
 
 kept : (commits : Commits) (opening : Row) (past : List Event) (event : Event) (p : List ℕ) → AreMade commits opening (event ∷ past)
     → has (path_set event.names) p ≡ false → below_any event.prefixes p ≡ false → file_at event.row.files p ≡ file_at (last_row opening past).files p

@@ -10,7 +10,7 @@ use Rattle.eden_objects.specs.Commits.{commit_map}
 use Rattle.eden_objects.specs.Files.{files_of}
 use Rattle.eden_objects.proofs.CommitLaws.{file_maps}
 use Rattle.eden_history.specs.declared.change.Change.{Change}
-use Rattle.eden_history.specs.declared.change.Change.TheVariants.{Write, Remove, Rename, RenameDir, Checkout, Reset, Flush, Remount, Import}
+use Rattle.eden_history.specs.declared.change.Change.TheVariants.{Write, Remove, Rename, RenameDir, Checkout}
 use Rattle.eden_history.specs.Worlds.{Row, Event, Commits, WorldState, commits_of, last_row, now, opened}
 use Rattle.eden_history.specs.Outcome.{change_fault, next_files, next_row, outcome, refusal}
 use Rattle.eden_history.specs.Outcome.Outcome.{Next}
@@ -24,12 +24,17 @@ use Rattle.eden_history.proofs.Steps.{is_made}
 abbrev pub AreFileMaps : Commits → Type 0
 AreFileMaps commits = (id : Id) (files : FileMap) → commits id ≡ Some files → IsFileMap files
 
-held_fits : (commits : Commits) → AreFileMaps commits → (id : Id) → IsFileMap (files_of (commits id))
-held_fits commits fits id = by (commits id) refl
+-- what holds of each commit's files, and of none, holds of the files of any id
+pub files_hold : (Holds : FileMap → Type 0) (commits : Commits) → Holds (files_of None) → ((id : Id) (files : FileMap) → commits id ≡ Some files → Holds files)
+    → (id : Id) → Holds (files_of (commits id))
+files_hold Holds commits none each id = by (commits id) refl
   where
-    by : (found : Option FileMap) → commits id ≡ found → IsFileMap (files_of found)
-    by None e = IsFileMap-none
-    by (Some files) e = fits id files e
+    by : (found : Option FileMap) → commits id ≡ found → Holds (files_of found)
+    by None e = none
+    by (Some files) e = each id files e
+
+held_fits : (commits : Commits) → AreFileMaps commits → (id : Id) → IsFileMap (files_of (commits id))
+held_fits commits fits = files_hold IsFileMap commits IsFileMap-none fits
 
 next_fits : (commits : Commits) (row : Row) (change : Change) → AreFileMaps commits → change_fault commits row change ≡ None → IsFileMap row.files → IsFileMap (next_files commits row change)
 unfolding next_files
@@ -39,10 +44,7 @@ next_fits commits row (Rename old new) maps e fits = rename_fits row.files old n
 next_fits commits row (RenameDir old new) maps e fits = rename_dir_fits row.files old new fits e
 next_fits commits row (Checkout commit mode) maps e fits =
     checked_out_no_clash mode row.files (files_of (commits row.root)) (files_of (commits commit)) fits (held_fits commits maps commit)
-next_fits commits row (Reset commit) maps e fits = fits
-next_fits commits row Flush maps e fits = fits
-next_fits commits row (Remount generation) maps e fits = fits
-next_fits commits row (Import objects) maps e fits = fits
+next_fits commits row change maps e fits = fits
 
 pub allowed_files : (commits : Commits) (row : Row) (change : Change) → refusal commits row change ≡ None → change_fault commits row change ≡ None
 unfolding refusal

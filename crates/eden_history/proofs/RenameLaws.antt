@@ -3,6 +3,7 @@ use Rattle.std.proofs.Common.{◌≡◌, ℕ, Bool, true, false, cond, List, Opt
 use Rattle.std.specs.Option.{option_or}
 use Rattle.std.specs.List.{list_any}
 use Rattle.std.specs.FinMap as fin
+use Rattle.std.proofs.lemmas.Bool.{false_from_ne_true}
 use Rattle.eden_ids.specs.declared.content.Content.{Content}
 use Rattle.eden_ids.specs.Paths.{lies_below}
 use Rattle.eden_ids.specs.FileMaps.{FileMap, IsFileMap, file_at, has_file_above, has_file_below, paths, same_path}
@@ -17,10 +18,17 @@ pub first-none : (a b : Option ChangeFault) → option_or a b ≡ None → (a �
 first-none None b e = (refl, e)
 first-none (Some fault) b e = let bad : ◌≡◌ {A = Option ChangeFault} (Some fault) None = e in cc
 
+pub absent : {A : Type 0} (o : Option A) → is_some o ≡ false → o ≡ None
+absent None e = refl
+absent (Some x) e = let bad : true ≡ false = e in cc
+
+-- a fault that is not met, and what is asked after it
+pub no_fault : (b : Bool) (fault : ChangeFault) (rest : Option ChangeFault) → (if b then Some fault else rest) ≡ None → (b ≡ false) × (rest ≡ None)
+no_fault true fault rest e = let bad : ◌≡◌ {A = Option ChangeFault} (Some fault) None = e in cc
+no_fault false fault rest e = (refl, e)
+
 free : (above below : Bool) → (if above then Some NotADirectory else (if below then Some IsADirectory else None)) ≡ None → (above ≡ false) × (below ≡ false)
-free true below e = let bad : ◌≡◌ {A = Option ChangeFault} (Some NotADirectory) None = e in cc
-free false true e = let bad : ◌≡◌ {A = Option ChangeFault} (Some IsADirectory) None = e in cc
-free false false e = (refl, refl)
+free above below e = let later = no_fault above NotADirectory _ e in (later.0, (no_fault below IsADirectory None later.1).0)
 
 -- where a file can stand, it can be put
 put_fits : (m : FileMap) (k : List ℕ) (f : Content) → IsFileMap m → place_fault m k ≡ None → IsFileMap (fin.insert m k f)
@@ -31,7 +39,7 @@ write_fits m k bytes f fits e = put_fits m k f fits (first-none (place_fault m k
 
 -- what no path passes, no path passes once one is gone
 still_none : (m : FileMap) (k : List ℕ) (test : List ℕ → Bool) → list_any test (paths m) ≡ false → list_any test (paths (fin.remove m k)) ≡ false
-still_none m k test none = by (list_any test (paths (fin.remove m k))) refl
+still_none m k test none = false_from_ne_true (list_any test (paths (fin.remove m k))) gone
   where
     kept : (p : List ℕ) (b : Bool) → same_path p k ≡ b → is_some (cond b None (file_at m p)) ≡ true → is_some (file_at m p) ≡ true
     kept p true e h = let bad : false ≡ true = h in cc
@@ -42,11 +50,10 @@ still_none m k test none = by (list_any test (paths (fin.remove m k))) refl
         sym (fin.contains_key-keys m p)
         ∙ kept p (same_path p k) refl (sym (ap is_some (file_at-remove m k p)) ∙ fin.contains_key-keys (fin.remove m k) p ∙ at)
 
-    by : (b : Bool) → list_any test (paths (fin.remove m k)) ≡ b → b ≡ false
-    by true e =
+    gone : list_any test (paths (fin.remove m k)) ≡ true → ⊥
+    gone e =
         let found = any_witness test (paths (fin.remove m k)) e in
-        sym (any_some test (paths m) found.0 (before found.0 found.1) found.2) ∙ none
-    by false e = refl
+        let bad : true ≡ false = sym (any_some test (paths m) found.0 (before found.0 found.1) found.2) ∙ none in cc
 
 moved_fits : (m : FileMap) (old new : List ℕ) (file : Option Content) → IsFileMap m → has_file_above m new ≡ false → has_file_below m new ≡ false → IsFileMap (moved m old new file)
 moved_fits m old new None fits above below = fits

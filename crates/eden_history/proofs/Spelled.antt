@@ -27,7 +27,7 @@ use Rattle.eden_objects.proofs.Importing.{imports_small}
 use Rattle.eden_history.specs.declared.change.Mode.{Mode}
 use Rattle.eden_history.specs.declared.change.Mode.TheVariants.{Normal, Dry, Force}
 use Rattle.eden_history.specs.declared.change.Change.{Change}
-use Rattle.eden_history.specs.declared.change.Change.TheVariants.{Write, Remove, Rename, RenameDir, Checkout, Reset, Flush, Remount, Import}
+use Rattle.eden_history.specs.declared.change.Change.TheVariants.{Write, Remove, Rename, RenameDir, Checkout, Reset, Remount}
 use Rattle.eden_history.specs.declared.change.ChangeFault.{ChangeFault}
 use Rattle.eden_history.specs.declared.change.ChangeFault.TheVariants.{TooLarge}
 use Rattle.eden_history.specs.Worlds.{Row, Event, Commits, Namer, WorldState, commits_of, last_row, now, opened}
@@ -47,9 +47,9 @@ use Rattle.eden_overlay.proofs.CarriedLemmas.{carried-back, carried-below, file_
 use Rattle.eden_history.proofs.CheckoutLaws.{file_at-checked_out}
 use Rattle.eden_history.proofs.DirRenameLaws.{carried_path, is_allowed}
 use Rattle.eden_history.proofs.Growing.{after_by, imported_by}
-use Rattle.eden_history.proofs.LegalFiles.{allowed_files}
+use Rattle.eden_history.proofs.LegalFiles.{allowed_files, files_hold}
 use Rattle.eden_history.proofs.Saying.{names-said, said-counted, said-none, said-skipped}
-use Rattle.eden_history.proofs.RenameLaws.{first-none}
+use Rattle.eden_history.proofs.RenameLaws.{first-none, no_fault}
 use Rattle.eden_history.proofs.Steps.{has_room, is_made}
 
 -- ---- the files after a change
@@ -59,20 +59,12 @@ abbrev HoldTexts : Commits → Type 0
 HoldTexts commits = (id : Id) (files : FileMap) → commits id ≡ Some files → AreTexts files
 
 pub held_texts : (commits : Commits) → HoldTexts commits → (id : Id) → AreTexts (files_of (commits id))
-held_texts commits texts id = by (commits id) refl
-  where
-    by : (found : Option FileMap) → commits id ≡ found → AreTexts (files_of found)
-    by None e = texts_none
-    by (Some files) e = texts id files e
-
-within_limit : (b : Bool) → (if b then Some TooLarge else None) ≡ None → b ≡ false
-within_limit true e = let bad : ◌≡◌ {A = Option ChangeFault} (Some TooLarge) None = e in cc
-within_limit false e = refl
+held_texts commits texts = files_hold AreTexts commits texts_none texts
 
 -- what may be written is within the limit
 pub written_text : (files : FileMap) (path bytes : List ℕ) (kind : Kind) → write_fault files path bytes ≡ None → AreBytes bytes → IsContentText (record { kind = kind; bytes = bytes })
 written_text files path bytes kind allowed all =
-    let small : nat_lt 8388608 (length bytes) ≡ false = within_limit (nat_lt 8388608 (length bytes)) (first-none (place_fault files path) _ allowed).1 in
+    let small : nat_lt 8388608 (length bytes) ≡ false = (no_fault (nat_lt 8388608 (length bytes)) TooLarge None (first-none (place_fault files path) _ allowed).1).0 in
     record { few = ltb-false 8388608 (length bytes) small; bytes = all }
 
 pub texts_renamed : (files : FileMap) (old new : List ℕ) → AreTexts files → IsPathText new → AreTexts (renamed files old new)
@@ -149,34 +141,18 @@ texts_next commits row (Rename old new) held allowed is texts = texts_renamed ro
 texts_next commits row (RenameDir old new) held allowed is texts = texts_dir_renamed row.files old new texts is.1 allowed
 texts_next commits row (Checkout commit mode) held allowed is texts =
     texts_checked_out mode row.files (files_of (commits row.root)) (files_of (commits commit)) texts (held_texts commits held commit)
-texts_next commits row (Reset commit) held allowed is texts = texts
-texts_next commits row Flush held allowed is texts = texts
-texts_next commits row (Remount generation) held allowed is texts = texts
-texts_next commits row (Import objects) held allowed is texts = texts
+texts_next commits row change held allowed is texts = texts
 
 -- ---- the rows of a world
 
 generation_fits : (row : Row) (change : Change) → IsChange change → row.generation < 2 ^ 64 → next_generation row change < 2 ^ 64
-generation_fits row (Write path kind bytes) is fits = fits
-generation_fits row (Remove path) is fits = fits
-generation_fits row (Rename old new) is fits = fits
-generation_fits row (RenameDir old new) is fits = fits
-generation_fits row (Checkout commit mode) is fits = fits
-generation_fits row (Reset commit) is fits = fits
-generation_fits row Flush is fits = fits
 generation_fits row (Remount generation) is fits = is
-generation_fits row (Import objects) is fits = fits
+generation_fits row change is fits = fits
 
 root_text : (row : Row) (change : Change) → IsChange change → IsIdText row.root → IsIdText (next_root row change)
-root_text row (Write path kind bytes) is root = root
-root_text row (Remove path) is root = root
-root_text row (Rename old new) is root = root
-root_text row (RenameDir old new) is root = root
 root_text row (Checkout commit mode) is root = is
 root_text row (Reset commit) is root = is
-root_text row Flush is root = root
-root_text row (Remount generation) is root = root
-root_text row (Import objects) is root = root
+root_text row change is root = root
 
 next_text : (commits : Commits) (row : Row) (change : Change) → HoldTexts commits → refusal commits row change ≡ None → is_event change ≡ true → IsChange change → IsRowText row
     → IsRowText (next_row commits row change)
@@ -214,7 +190,6 @@ names_texts : (commits : Commits) (before : Row) (change : Change) (after : Row)
 names_texts commits before (Write path kind bytes) after held is old new = (is.0, tt)
 names_texts commits before (Remove path) after held is old new = (is, tt)
 names_texts commits before (Rename from to) after held is old new = (is.0, (is.1, tt))
-names_texts commits before (RenameDir from to) after held is old new = tt
 names_texts commits before (Checkout commit mode) after held is old new =
     let root = held_texts commits held before.root in
     let target = held_texts commits held commit in
@@ -223,9 +198,7 @@ names_texts commits before (Checkout commit mode) after held is old new =
     (differ_texts (files_of (commits before.root)) (files_of (commits commit)) root target)
 names_texts commits before (Reset commit) after held is old new =
     differ_texts (files_of (commits before.root)) (files_of (commits commit)) (held_texts commits held before.root) (held_texts commits held commit)
-names_texts commits before Flush after held is old new = tt
-names_texts commits before (Remount generation) after held is old new = tt
-names_texts commits before (Import objects) after held is old new = tt
+names_texts commits before change after held is old new = tt
 
 event_texts : (commits : Commits) (opening : Row) (past : List Event) (event : Event) → HoldTexts commits → IsRowText opening → AllByRecursion (λ e. IsChange e.change) (event ∷ past)
     → AreMade commits opening (event ∷ past) → AllByRecursion IsPathText event.names
@@ -270,15 +243,8 @@ named_texts name world since is spellable =
 -- ---- directories
 
 moved_texts : (change : Change) → IsChange change → AllByRecursion IsPathText (moved_prefixes change)
-moved_texts (Write path kind bytes) is = tt
-moved_texts (Remove path) is = tt
-moved_texts (Rename old new) is = tt
 moved_texts (RenameDir old new) is = (is.0, (is.1, tt))
-moved_texts (Checkout commit mode) is = tt
-moved_texts (Reset commit) is = tt
-moved_texts Flush is = tt
-moved_texts (Remount generation) is = tt
-moved_texts (Import objects) is = tt
+moved_texts change is = tt
 
 told_texts : (commits : Commits) (generation since until : ℕ) (opening : Row) (past : List Event) → AllByRecursion (λ event. IsChange event.change) past
     → AreMade commits opening past → AllByRecursion IsPathText (prefixes_told generation since until past)

@@ -1,11 +1,12 @@
 -- What is known of pairs of roots that were compared stays known while more paths come in, and holds of each pair turned round.
-use Rattle.std.proofs.Common.{◌≡◌, ℕ, Bool, true, false, not, ◌&&◌, ◌||◌, List, [], ◌∷◌, ◌++◌, refl, sym, ap, ◌∙◌, subst, is_some}
+use Rattle.std.proofs.Common.{◌≡◌, Bool, true, false, not, ◌&&◌, ◌||◌, List, [], ◌∷◌, ◌++◌, refl, sym, ap, ◌∙◌, subst, is_some}
 use Rattle.std.proofs.lemmas.List.Folds.{list_any-append}
 use Rattle.std.proofs.Math.Bool.{and_comm}
 use Rattle.std.proofs.lemmas.Slice.Eq.{bytes_eq-Decides}
 use Rattle.eden_ids.specs.declared.id.Id.{Id}
 use Rattle.eden_ids.specs.declared.content.Content.{Content}
 use Rattle.eden_ids.specs.FileMaps.{FileMap, PathSet, differ, file_at, has, same_file, union}
+use Rattle.eden_ids.proofs.Bools.{or_turned}
 use Rattle.eden_ids.proofs.FileMapLemmas.{has-differ, has-union, same_file-is, same_file-refl, same_path_set}
 use Rattle.eden_ids.specs.Sameness.{same_id}
 use Rattle.eden_objects.proofs.Lookup.{turn}
@@ -16,6 +17,7 @@ use Rattle.eden_ranges.specs.Expanded.{is_comparable}
 use Rattle.eden_ranges.specs.internal.Wanted.{only}
 use Rattle.eden_ranges.specs.internal.Pairs.{AreCovered, IsCovered, has_pair, same_pair}
 use Rattle.std.specs.Prelude.{Option, Result, Ok, Err, OnOk}
+use Rattle.eden_globs.specs.Filters.{Patterns}
 
 -- ---- turned round
 
@@ -35,7 +37,7 @@ differ-turned : (f g : FileMap) → differ f g ≡ differ g f
 differ-turned f g = same_path_set _ _ (λ p.
     has-differ f g p ∙ ap not (same_file-turned (file_at f p) (file_at g p)) ∙ sym (has-differ g f p))
 
-turned : (patterns : List (List ℕ)) (commits : Commits) (paths : PathSet) (left reached : Id) → IsCovered patterns commits paths left reached
+turned : (patterns : Patterns) (commits : Commits) (paths : PathSet) (left reached : Id) → IsCovered patterns commits paths left reached
     → IsCovered patterns commits paths reached left
 turned patterns commits paths left reached covered = record {
   among = ap (λ set. union (only patterns set) paths) (differ-turned (files_of (commits reached)) (files_of (commits left))) ∙ covered.among;
@@ -46,14 +48,8 @@ turned patterns commits paths left reached covered = record {
 
 swapped : (a b c : PathSet) → union a (union b c) ≡ union b (union a c)
 swapped a b c = same_path_set _ _ (λ p.
-    has-union a (union b c) p ∙ ap (λ x. has a p || x) (has-union b c p) ∙ by (has a p) (has b p) (has c p)
+    has-union a (union b c) p ∙ ap (λ x. has a p || x) (has-union b c p) ∙ or_turned (has a p) (has b p) (has c p)
     ∙ sym (has-union b (union a c) p ∙ ap (λ x. has b p || x) (has-union a c p)))
-  where
-    by : (x y z : Bool) → (x || (y || z)) ≡ (y || (x || z))
-    by true true z = refl
-    by true false z = refl
-    by false true z = refl
-    by false false z = refl
 
 again : (a b : PathSet) → union a (union a b) ≡ union a b
 again a b = same_path_set _ _ (λ p.
@@ -66,12 +62,12 @@ again a b = same_path_set _ _ (λ p.
 -- ---- what is known of all pairs
 
 -- no pair
-pub covered_none : (patterns : List (List ℕ)) (commits : Commits) (pairs : List (Id × Id)) (paths : PathSet) → pairs ≡ [] → AreCovered patterns commits pairs paths
+pub covered_none : (patterns : Patterns) (commits : Commits) (pairs : List (Id × Id)) (paths : PathSet) → pairs ≡ [] → AreCovered patterns commits pairs paths
 covered_none patterns commits pairs paths none left reached there =
     let bad : false ≡ true = sym (ap (λ ps. has_pair ps left reached) none) ∙ there in cc
 
 -- a pair that was compared before, in either order
-pub covered_again : (patterns : List (List ℕ)) (commits : Commits) (pairs : List (Id × Id)) (paths : PathSet) (left reached : Id) → AreCovered patterns commits pairs paths
+pub covered_again : (patterns : Patterns) (commits : Commits) (pairs : List (Id × Id)) (paths : PathSet) (left reached : Id) → AreCovered patterns commits pairs paths
     → (has_pair pairs left reached || has_pair pairs reached left) ≡ true → IsCovered patterns commits paths left reached
 covered_again patterns commits pairs paths left reached known there = by (has_pair pairs left reached) refl there
   where
@@ -80,7 +76,7 @@ covered_again patterns commits pairs paths left reached known there = by (has_pa
     by false is e = turned patterns commits paths reached left (known reached left e)
 
 -- one more pair, and the paths on which its roots differ
-pub covered_more : (patterns : List (List ℕ)) (commits : Commits) (pairs more : List (Id × Id)) (paths after : PathSet) (left reached : Id) → AreCovered patterns commits pairs paths
+pub covered_more : (patterns : Patterns) (commits : Commits) (pairs more : List (Id × Id)) (paths after : PathSet) (left reached : Id) → AreCovered patterns commits pairs paths
     → more ≡ pairs ++ (left, reached) ∷ [] → after ≡ union (only patterns (commits_differ commits left reached)) paths → is_comparable commits left reached ≡ true
     → AreCovered patterns commits more after
 covered_more patterns commits pairs more paths after left reached known grown is comparable l r there =

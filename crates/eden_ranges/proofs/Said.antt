@@ -7,17 +7,14 @@ use Rattle.eden_journal.specs.declared.file_touch.FileTouch.{FileTouch}
 use Rattle.eden_history.specs.declared.touches.Touch.{Touch}
 use Rattle.eden_history.specs.Said.{Said, by_root, by_touch, ends, ends_at, joined, paths_said, touch_by, touches_in}
 use Rattle.eden_history.proofs.Ends.{ends_alike, ends_at-append, ends_at-roots}
+use Rattle.eden_history.proofs.Saying.{rooted-names}
 use Rattle.eden_ranges.proofs.Lists.{path_set-append}
 
 -- ---- by the root
 
-pub paths-roots : (ps : List (List ℕ)) → paths_said (map by_root ps) ≡ ps
-paths-roots [] = refl
-paths-roots (p ∷ ps) = ap (λ rest. p ∷ rest) (paths-roots ps)
-
 pub paths-with_roots : (list : List Said) (ps : List (List ℕ)) → path_set (paths_said (list ++ map by_root ps)) ≡ union (path_set ps) (path_set (paths_said list))
 paths-with_roots list ps =
-    ap path_set (map-append (λ one. one.0) list (map by_root ps) ∙ ap (λ rest. paths_said list ++ rest) (paths-roots ps))
+    ap path_set (map-append (λ one. one.0) list (map by_root ps) ∙ ap (λ rest. paths_said list ++ rest) (rooted-names ps))
     ∙ path_set-append (paths_said list) ps
 
 -- it is all one in which order the root names paths, and how often

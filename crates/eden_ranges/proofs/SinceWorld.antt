@@ -1,24 +1,22 @@
 -- The renamed directories, the unclean paths and the roots of a journal's range are those of the world's events since a number.
 use Rattle.std.proofs.Common.{◌≡◌, ℕ, ◌<◌, ◌≤◌, inr, Bool, true, false, cond, ◌&&◌, List, [], ◌∷◌, ◌++◌, map, reverse, refl, sym, ap, ◌∙◌, arith}
-use Rattle.std.specs.Prelude.{◌==◌, filter, if◌then◌else◌, nat_eq}
+use Rattle.std.specs.Prelude.{◌==◌, filter, if◌then◌else◌}
 use Rattle.std.specs.List.{flat_map}
-use Rattle.std.proofs.lemmas.Bool.{eqb-true, eq-eqb}
+use Rattle.std.proofs.lemmas.Bool.{eq-eqb, ne_eqb}
 use Rattle.std.proofs.lemmas.List.{map-append, reverse-append, append-nil}
 use Rattle.std.proofs.lemmas.List.Elements.{filter-append}
 use Rattle.eden_ids.specs.declared.id.Id.{Id}
 use Rattle.eden_journal.specs.FilesChanged.{FilesChanged}
 use Rattle.eden_journal.specs.declared.delta.Delta.{Delta}
 use Rattle.eden_journal.specs.declared.delta.Delta.TheVariants.{File, Root}
-use Rattle.eden_history.specs.declared.change.Change.{Change}
-use Rattle.eden_history.specs.declared.change.Change.TheVariants.{Write, Remove, Rename, RenameDir, Checkout, Reset, Flush, Remount, Import}
 use Rattle.eden_history.specs.Worlds.{Row, Event, Commits, last_row}
-use Rattle.eden_history.specs.Named.{moved_prefixes, unclean_paths}
+use Rattle.eden_history.specs.Named.{moved_prefixes}
 use Rattle.eden_history.specs.Outcome.{next_row}
 use Rattle.eden_history.specs.Legal.{AreMade}
 use Rattle.eden_history.specs.Changes.{events_in, is_in_range}
 use Rattle.eden_history.specs.Recorded.{delta_of, files_by, moves_root, start, starts, touches_of}
 use Rattle.eden_history.proofs.Recording.{prefixes-by, root-prefixes}
-use Rattle.eden_history.proofs.Steps.{Makes, is_made}
+use Rattle.eden_history.proofs.Steps.{Makes, is_made, plain-unclean}
 use Rattle.eden_history.proofs.Following.{IsNotAfter}
 use Rattle.eden_ranges.specs.Gathered.{left_by, prefixes_in, roots_by, unclean_in}
 use Rattle.eden_ranges.specs.WorldRanges.{row_at}
@@ -28,18 +26,6 @@ use Rattle.eden_ranges.proofs.Named.{plain_root}
 use Rattle.std.proofs.Math.Bool.{and-false}
 
 -- ---- the two kinds of events
-
--- only a change of the root has unclean paths
-plain_unclean : (commits : Commits) (before : Row) (change : Change) (after : Row) → moves_root change ≡ false → unclean_paths commits before change after ≡ []
-plain_unclean commits before (Write path kind bytes) after e = refl
-plain_unclean commits before (Remove path) after e = refl
-plain_unclean commits before (Rename old new) after e = refl
-plain_unclean commits before (RenameDir old new) after e = refl
-plain_unclean commits before (Checkout commit mode) after e = cc
-plain_unclean commits before (Reset commit) after e = cc
-plain_unclean commits before Flush after e = refl
-plain_unclean commits before (Remount generation) after e = refl
-plain_unclean commits before (Import objects) after e = refl
 
 delta_file : (before : Row) (event : Event) → moves_root event.change ≡ false → delta_of before event ≡ File (files_by event.change (touches_of before event))
 delta_file before event e = ap (λ b. if b then Root before.root event.unclean else File (files_by event.change (touches_of before event))) e
@@ -93,7 +79,7 @@ each_unclean commits before event one = by (moves_root event.change) refl
     by true e = ap unclean_in (delta_root before event e)
     by false e =
         ap unclean_in (delta_file before event e)
-        ∙ sym ((λ i. (one.made i).unclean) ∙ plain_unclean commits before event.change (next_row commits before event.change) e)
+        ∙ plain-unclean commits before event.change (next_row commits before event.change) e ∙ sym (λ i. (one.made i).unclean)
 
 -- ---- roots
 
@@ -124,18 +110,11 @@ row_here generation since opening (event ∷ past) g at =
     ap (λ b. if b && (event.row.sequence == since) then event.row else row_at generation since opening past) (eq-eqb event.row.generation generation g)
     ∙ ap (λ b. if b then event.row else row_at generation since opening past) (eq-eqb event.row.sequence since at)
 
-not_eq : (a b : ℕ) → a < b → nat_eq b a ≡ false
-not_eq a b lt = by (nat_eq b a) refl
-  where
-    by : (c : Bool) → nat_eq b a ≡ c → c ≡ false
-    by true e = absurd (let same = eqb-true b a e in omega arith)
-    by false e = refl
-
 -- a later row has not
 row_before : (generation since : ℕ) (opening : Row) (event : Event) (past : List Event) → since < event.row.sequence
     → row_at generation since opening (event ∷ past) ≡ row_at generation since opening past
 row_before generation since opening event past lt =
-    ap (λ b. if (event.row.generation == generation) && b then event.row else row_at generation since opening past) (not_eq since event.row.sequence lt)
+    ap (λ b. if (event.row.generation == generation) && b then event.row else row_at generation since opening past) (ne_eqb event.row.sequence since (λ e. omega arith))
     ∙ ap (λ b. if b then event.row else row_at generation since opening past) (and-false (event.row.generation == generation))
 
 late_roots : (commits : Commits) (generation since until : ℕ) (opening : Row) (past : List Event) → AreMade commits opening past

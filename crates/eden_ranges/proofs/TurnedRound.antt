@@ -9,7 +9,7 @@ use Rattle.eden_history.specs.Said.{Said, by_root, by_touch, ends_at, joined, pa
 use Rattle.eden_history.proofs.Ends.{ends_at-append, ends_at-roots, joined-none}
 use Rattle.eden_ranges.specs.Gathered.{left_by, prefixes_in, said_by, unclean_in}
 use Rattle.eden_ranges.specs.internal.Gathering.{Gathering, nothing_gathered, with_all, with_older}
-use Rattle.eden_ranges.proofs.Said.{paths-roots}
+use Rattle.eden_history.proofs.Saying.{rooted-names}
 
 -- what changes of files say, oldest first
 abbrev files_by : List Delta → List Said
@@ -31,7 +31,7 @@ unclean-all g [] = sym (append-nil (paths_said g.unclean))
 unclean-all g (File files ∷ older) = unclean-all (with_older g (File files)) older
 unclean-all g (Root left unclean ∷ older) =
     unclean-all (with_older g (Root left unclean)) older
-    ∙ ap (λ ps. ps ++ flat_map unclean_in older) (map-append (λ one. one.0) g.unclean (map by_root unclean) ∙ ap (λ ps. paths_said g.unclean ++ ps) (paths-roots unclean))
+    ∙ ap (λ ps. ps ++ flat_map unclean_in older) (map-append (λ one. one.0) g.unclean (map by_root unclean) ∙ ap (λ ps. paths_said g.unclean ++ ps) (rooted-names unclean))
     ∙ append_assoc (paths_said g.unclean) unclean (flat_map unclean_in older)
 
 prefixes-all : (g : Gathering) (ds : List Delta) → paths_said (with_all g ds).prefixes ≡ paths_said g.prefixes ++ flat_map prefixes_in ds
@@ -39,7 +39,7 @@ prefixes-all g [] = sym (append-nil (paths_said g.prefixes))
 prefixes-all g (File files ∷ older) =
     prefixes-all (with_older g (File files)) older
     ∙ ap (λ ps. ps ++ flat_map prefixes_in older)
-    (map-append (λ one. one.0) g.prefixes (map by_root (prefixes_of files)) ∙ ap (λ ps. paths_said g.prefixes ++ ps) (paths-roots (prefixes_of files)))
+    (map-append (λ one. one.0) g.prefixes (map by_root (prefixes_of files)) ∙ ap (λ ps. paths_said g.prefixes ++ ps) (rooted-names (prefixes_of files)))
     ∙ append_assoc (paths_said g.prefixes) (prefixes_of files) (flat_map prefixes_in older)
 prefixes-all g (Root left unclean ∷ older) = prefixes-all (with_older g (Root left unclean)) older
 

@@ -1,4 +1,5 @@
 use Rattle.std.proofs.Common.{List, ℕ, ◌++◌, map, ap, ◌∙◌}
+use Rattle.eden_globs.specs.Filters.{Patterns}
 use Rattle.eden_history.specs.Marks.{mark_said}
 use Rattle.eden_history.specs.Said.{by_root, by_touch, ends}
 use Rattle.eden_ranges.specs.internal.Wanted.{admitted_said}
@@ -7,7 +8,7 @@ use Rattle.eden_ranges.proofs.expanding.expand_admitted.Goals as goal
 
 pub returns-clause-marked : goal.returns-clause-marked
 returns-clause-marked g c =
-    let wanted : List (List ℕ) = c.args.wanted.now in
+    let wanted : Patterns = c.args.wanted.now in
     let touches = c.in_ok-add_wanted_touches.ensures ∙ (λ i. c.new-mentions.ensures i ++ admitted_said wanted (map by_touch (c.as_slice.ensures i))) in
     let unclean = c.in_ok-add_wanted_roots.ensures ∙ (λ i. touches i ++ admitted_said wanted (map by_root (c.as_slice-2.ensures i))) in
     let differing = c.in_ok-add_roots.ensures ∙ (λ i. unclean i ++ map by_root (c.as_slice-3.ensures.value i)) in

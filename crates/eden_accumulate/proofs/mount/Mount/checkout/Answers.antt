@@ -2,10 +2,13 @@ use Rattle.std.proofs.Common.{◌≡◌, false, not, rules, refl, ap, ◌∙◌}
 use Rattle.eden_history.specs.declared.change.Change.TheVariants.{Checkout}
 use Rattle.eden_history.specs.Checkouts.{is_dry}
 use Rattle.eden_workcopy.proofs.Rerooted.{no_memory_else}
+use Rattle.eden_accumulate.specs.internal.Rows.{Follows}
 use Rattle.eden_accumulate.proofs.Standing.{answered, still_present}
 use Rattle.eden_accumulate.proofs.Changing.{kept, left, state}
 use Rattle.eden_accumulate.proofs.Rooting.{checked-answer, checkout_follows, commit_judged}
+use Rattle.eden_accumulate.proofs.mount.Mount.checkout.Given as given
 use Rattle.eden_accumulate.proofs.mount.Mount.checkout.Goals as goal
+use Rattle.eden_accumulate.proofs.mount.Mount.checkout.Goals.{After-append_root}
 
 pub unreachable-requires : goal.unreachable-requires
 unreachable-requires g c =
@@ -13,36 +16,30 @@ unreachable-requires g c =
     (c.in-Err-NoCommit.ensures.refuses (no_memory_else c.in-Err-NoCommit.field-0 c.in-Err-NoCommit.field-0-is))
 
 pub invariant_of-self : goal.invariant_of-self
-invariant_of-self g c =
-    let m = c.self.inside in
-    kept m.store m.work m.work m.journal.log c.reserve.new.self.log refl c.reserve.ensures.log c.self.invariant
+invariant_of-self g c = kept refl c.reserve.ensures.log c.self.invariant
 
 pub append_root-requires-clause-below : goal.append_root-requires-clause-below
 append_root-requires-clause-below g c =
-    let m = c.self.inside in
     let real : is_dry c.args.mode ≡ false = search rules in
-    left m.store m.work m.journal.log c.reserve.new.self.log c.args.self.now c.self.view_is c.self.invariant c.reserve.ensures.log
-    (Checkout c.args.commit c.args.mode) c.checkout_refusal.result c.checkout_refusal.ensures c.in_default.is (ap not real)
+    left c.self.view_is c.self.invariant c.reserve.ensures.log (Checkout c.args.commit c.args.mode) c.checkout_refusal.result c.checkout_refusal.ensures c.in_default.is (ap not real)
 
-pub returns-clause-stands : goal.returns-clause-stands
-returns-clause-stands g c =
+-- after it the mount follows
+follows : (g : given.Over) (c : After-append_root g) → Follows c.args.self.now (Checkout c.args.commit c.args.mode) (state c.self.inside.store c.in-Ok.planned.next c.append_root.new.self.log)
+follows g c =
     let real : is_dry c.args.mode ≡ false = search rules in
     checkout_follows c.args.commit c.args.mode c.self.view_is c.in_default.ensures c.id_law.ensures real c.in-Ok.ensures.fits c.in-Ok.ensures.root c.in-Ok.ensures.files
     c.in-Ok.planned.unclean c.in-Ok.ensures.unclean c.reserve.ensures.log c.append_root.ensures.stands
 
+pub returns-clause-stands : goal.returns-clause-stands
+returns-clause-stands g c = follows g (goal.at.returns-clause-stands g c).After-append_root
+
 pub invariant_of-self-2 : goal.invariant_of-self-2
-invariant_of-self-2 g c =
-    let real : is_dry c.args.mode ≡ false = search rules in
-    let m = c.self.inside in
-    still_present (state m.store m.work m.journal.log) c.args.self.now (state m.store c.in-Ok.planned.next c.append_root.new.self.log) (Checkout c.args.commit c.args.mode) c.self.view_is c.self.invariant
-    (checkout_follows c.args.commit c.args.mode c.self.view_is c.in_default.ensures c.id_law.ensures real c.in-Ok.ensures.fits c.in-Ok.ensures.root c.in-Ok.ensures.files
-    c.in-Ok.planned.unclean c.in-Ok.ensures.unclean c.reserve.ensures.log c.append_root.ensures.stands)
+invariant_of-self-2 g c = still_present (Checkout c.args.commit c.args.mode) c.self.view_is c.self.invariant (follows g (goal.at.invariant_of-self-2 g c).After-append_root)
 
 pub returns-clause-answers : goal.returns-clause-answers
 returns-clause-answers g c =
     λ world h.
     let m = c.self.inside in
-    answered c.args.self.now (state m.store c.in-Ok.planned.next c.append_root.new.self.log) (Checkout c.args.commit c.args.mode) c.position-2.result
-    c.in_default.ensures (returns-clause-stands g c) c.position-2.ensures.world world h
+    answered (Checkout c.args.commit c.args.mode) c.position-2.result c.in_default.ensures (returns-clause-stands g c) c.position-2.ensures.world world h
     ∙ checked-answer m.store m.work m.journal.log c.args.self.now c.self.view_is world h
     c.args.commit c.args.mode c.in-Ok.planned.conflicts c.position-2.result c.in-Ok.ensures.conflicts

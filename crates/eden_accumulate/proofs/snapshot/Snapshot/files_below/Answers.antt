@@ -32,6 +32,7 @@ returns-clause-files g c =
     let wanted = c.args.filter.now in
     let top = c.args.prefix.now in
     let base = at_paths (seen_through (commit_files held root) moves) in
+    let sorted : T (is_sorted by_bytes c.args.self.now.touched) = search rules in
     let seen = seen_there held root moves c.in-Some.commit c.of.result c.in-Some.ensures c.of.ensures in
     c.in_ok-woven.ensures (files_below top base)
     (c.in_ok-listed.ensures
@@ -39,5 +40,5 @@ returns-clause-files g c =
     ∙ ap (filter (admits wanted)) (sym (keys-sifted base (λ path. lies_below path top))))
     ∙ ap (λ ts. filter (admits wanted) (listing (shown_over (files_below top base) ts)))
     (c.paths_below-touched.ensures ∙ (λ i. filter (λ mark. lies_below mark.0 (c.as_bytes.ensures.bytes i)) (c.as_slice.ensures i)))
-    ∙ ap (filter (admits wanted)) (shown_below base c.args.self.now.touched top)
+    ∙ ap (filter (admits wanted)) (shown_below base c.args.self.now.touched top sorted)
     ∙ filters_turned (admits wanted) (λ path. lies_below path top) (listing (shown_over base c.args.self.now.touched))
