@@ -14,7 +14,7 @@ use Rattle.std.proofs.lemmas.List.Kept.{IsStrictlySortedBy-filter}
 use Rattle.std.proofs.lemmas.List.Sorted.{list_any-IsPermutation}
 use Rattle.std.proofs.lemmas.Map.Keys.{IsDistinct-IsPermutation, IsDistinct-from_sorted}
 use Rattle.std.proofs.lemmas.Map.Made.{IsDistinct-keys_filter}
-use Rattle.eden_globs.specs.Filters.{admits}
+use Rattle.eden_globs.specs.Filters.{Patterns, admits}
 use Rattle.eden_ids.specs.Paths.{lies_below}
 use Rattle.eden_ids.specs.FileMaps.{FileMap, paths, same_path}
 use Rattle.eden_ids.specs.Texts.{AreTexts}
@@ -26,9 +26,9 @@ use Rattle.eden_ids.proofs.TreeMaps.{entries_found}
 use Rattle.eden_ids.proofs.TreeQuestions.{any_witness}
 use Rattle.eden_overlay.proofs.CarriedLemmas.{carried-below}
 use Rattle.eden_objects.specs.Passing.{is_shown, told}
-use Rattle.eden_moves.specs.Moves.{Entry, Moves, at_paths, is_governed, is_path, nearest, seen_through}
-use Rattle.eden_moves.specs.internal.Listed.{AreInOrder, is_listed, shown_by}
-use Rattle.eden_moves.specs.internal.Regions.{is_apart, is_past, seen_dir}
+use Rattle.eden_moves.specs.Moves.{Entry, Moves, at_paths, is_governed, is_path, nearest, seen_through, source_dir}
+use Rattle.eden_moves.specs.internal.Listed.{AreInOrder, is_listed, list_own, shown_by}
+use Rattle.eden_moves.specs.internal.Regions.{is_apart, is_past}
 use Rattle.eden_moves.proofs.InOrder.{shown_rises, told_by_members}
 use Rattle.eden_moves.proofs.Listed.{all_but, all_known, below_known, shown_in}
 use Rattle.eden_moves.proofs.Nearest.{nearest-is, no, one_nearest}
@@ -82,12 +82,12 @@ ordered_rise ps next same up apart = paths_rise next up (IsDistinct-IsPermutatio
 
 -- ---- what the directories list
 
-module _ (files : FileMap) (moves : Moves) (patterns : List (List ℕ)) where
+module _ (files : FileMap) (moves : Moves) (patterns : Patterns) where
   abbrev shows : Entry → List (List ℕ)
-  shows = shown_by files moves patterns
+  shows e = list_own files moves patterns e.0
 
   -- it lies below the directory, and no nearer one is above it
-  shown_near : (p top : List ℕ) (o : Option (List ℕ)) → is_listed (shows (top, o)) p ≡ true → (lies_below p top ≡ true) × (is_past (length top) (nearest (fin.entries moves) p) ≡ false)
+  shown_near : (p top : List ℕ) (o : Option (List ℕ)) → is_listed (shown_by files moves patterns (top, o)) p ≡ true → (lies_below p top ≡ true) × (is_past (length top) (nearest (fin.entries moves) p) ≡ false)
   shown_near p top None listed = no (sym listed)
   shown_near p top (Some source) listed =
       let found = any_witness (λ q. lies_below q source && not (is_apart moves (length top) (all_but patterns p) (told source top q))) (paths files)
@@ -111,7 +111,7 @@ module _ (files : FileMap) (moves : Moves) (patterns : List (List ℕ)) where
 
   near_shown : (p : List ℕ) (e : Entry) → fin.get moves e.0 ≡ Some e.1 → is_listed (shows e) p ≡ true → nearest (fin.entries moves) p ≡ Some e
   near_shown p e said listed =
-      let near = shown_near p e.0 e.1 listed in
+      let near = shown_near p e.0 (source_dir moves e.0) listed in
       one_nearest moves p (nearest (fin.entries moves) p) (Some e) (nearest-is moves p) (said, near.0, none_nearer moves p e.0 near.1)
 
   -- and where none of these is, none lists it
@@ -121,8 +121,8 @@ module _ (files : FileMap) (moves : Moves) (patterns : List (List ℕ)) where
       let here : is_listed (shows e) p ≡ false = unless _ (λ listed. others.0 (near_shown p e said.0 listed)) in
       list_any-append (λ q. same_path p q) (shows e) (flat_map shows es) ∙ (λ i. here i || not_shown p es said.1 others.1 i)
 
-  one_distinct : (e : Entry) → IsDistinct same_path (shows e)
-  one_distinct e = IsDistinct-from_sorted order (shows e) (shown_rises files moves patterns e)
+  one_distinct : (top : List ℕ) → IsDistinct same_path (list_own files moves patterns top)
+  one_distinct top = IsDistinct-from_sorted order (list_own files moves patterns top) (shown_rises files moves patterns (top, source_dir moves top))
 
   entry_of : (p : List ℕ) (e f : Entry) → nearest (fin.entries moves) p ≡ Some e → nearest (fin.entries moves) p ≡ Some f → e ≡ f
   entry_of p e f x y = let both : Some e ≡ Some f = sym x ∙ y in cc
@@ -137,7 +137,7 @@ module _ (files : FileMap) (moves : Moves) (patterns : List (List ℕ)) where
   unfolding IsDistinct
   all_distinct [] said apart = tt
   all_distinct (e ∷ es) said apart =
-      joined_distinct (shows e) (flat_map shows es) (one_distinct e) (all_distinct es said.1 apart.1)
+      joined_distinct (shows e) (flat_map shows es) (one_distinct e.0) (all_distinct es said.1 apart.1)
       (λ p listed. not_shown p es said.1 (others p e es (near_shown p e said.0 listed) apart.0))
 
   keys_distinct : IsDistinct same_path (map (λ e. e.0) (fin.entries moves))
@@ -182,27 +182,27 @@ module _ (files : FileMap) (moves : Moves) (patterns : List (List ℕ)) where
         rest,
       )
 
-  put_below : (top : List ℕ) (all next : List (List ℕ)) → IsPermutation all next → AreInOrder next
-      → all ≡ shows (top, seen_dir moves top) ++ flat_map shows (further top (fin.entries moves))
+  put_below : (top : List ℕ) (all next : List (List ℕ)) → AreTexts files → IsPermutation all next → AreInOrder next
+      → all ≡ list_own files moves patterns top ++ flat_map shows (further top (fin.entries moves))
       → next ≡ filter (admits patterns) (filter (λ p. lies_below p top) (paths (at_paths (seen_through files moves))))
-  put_below top all next same up is =
+  put_below top all next are same up is =
       let seen = at_paths (seen_through files moves) in
       let es : List Entry = further top (fin.entries moves) in
-      let own : List (List ℕ) = shows (top, seen_dir moves top) in
+      let own : List (List ℕ) = list_own files moves patterns top in
       let apart : IsDistinct same_path (own ++ flat_map shows es) =
-      joined_distinct own (flat_map shows es) (one_distinct (top, seen_dir moves top))
+      joined_distinct own (flat_map shows es) (one_distinct top)
       (all_distinct es (said_further top (fin.entries moves) (entries_found moves)) (IsDistinct-keys_filter same_path (λ e. lies_below e.0 top) (fin.entries moves) keys_distinct))
-      (λ p listed. not_shown p es (said_further top (fin.entries moves) (entries_found moves)) (none_further p top (fin.entries moves) (shown_near p top (seen_dir moves top) listed).1)) in
+      (λ p listed. not_shown p es (said_further top (fin.entries moves) (entries_found moves)) (none_further p top (fin.entries moves) (shown_near p top (source_dir moves top) listed).1)) in
       told_by_members next (sifted seen (λ p. lies_below p top)) (admits patterns)
       (ordered_rise all next same up (subst (IsDistinct same_path) (sym is) apart))
-      (λ p. both_listed own es all next p same is ∙ below_known files moves patterns top p)
+      (λ p. both_listed own es all next p same is ∙ below_known files moves patterns top p are)
       ∙ ap (filter (admits patterns)) (keys-sifted seen (λ p. lies_below p top))
 
-  pub below_ordered : (top : List ℕ) (all next : List (List ℕ)) (first : List (List ℕ)) (es : List Entry) → IsPermutation all next → AreInOrder next
-      → first ≡ shows (top, seen_dir moves top) → es ≡ filter (λ (e : Entry). lies_below e.0 top) (fin.entries moves) → all ≡ first ++ flat_map shows es
+  pub below_ordered : (top : List ℕ) (all next : List (List ℕ)) (first : List (List ℕ)) (es : List Entry) → AreTexts files → IsPermutation all next → AreInOrder next
+      → first ≡ list_own files moves patterns top → es ≡ filter (λ (e : Entry). lies_below e.0 top) (fin.entries moves) → all ≡ first ++ flat_map shows es
       → next ≡ filter (admits patterns) (filter (λ p. lies_below p top) (paths (at_paths (seen_through files moves))))
-  below_ordered top all next first es same up own more is =
-      put_below top all next same up (is ∙ (λ i. own i ++ flat_map shows (more i)))
+  below_ordered top all next first es are same up own more is =
+      put_below top all next are same up (is ∙ (λ i. own i ++ flat_map shows (more i)))
 
   -- ---- at all places
 

@@ -10,15 +10,16 @@ use Rattle.std.specs.FinMap as fin
 use Rattle.std.specs.FinMap.{is_sorted}
 use Rattle.std.specs.FinMap.Entries.{below_all}
 use Rattle.std.proofs.lemmas.List.Kept.{IsStrictlySortedBy-filter}
-use Rattle.eden_globs.specs.Filters.{admits}
+use Rattle.eden_globs.specs.Filters.{Patterns, admits}
 use Rattle.eden_ids.specs.Paths.{lies_below}
 use Rattle.eden_ids.specs.FileMaps.{FileMap, PathSet, paths}
+use Rattle.eden_ids.specs.Texts.{AreTexts}
 use Rattle.eden_ids.proofs.ByteOrder.{both, fin_keys_rise, order}
 use Rattle.eden_ids.proofs.Sifted.{keys-sifted, listing_of, sifted}
 use Rattle.eden_objects.specs.Passing.{is_shown, told}
-use Rattle.eden_moves.specs.Moves.{Entry, Moves, at_paths, seen_through}
-use Rattle.eden_moves.specs.internal.Listed.{is_listed, is_pathless, shown_by}
-use Rattle.eden_moves.specs.internal.Regions.{is_apart, seen_dir}
+use Rattle.eden_moves.specs.Moves.{Entry, Moves, at_paths, seen_through, source_dir}
+use Rattle.eden_moves.specs.internal.Listed.{is_listed, is_pathless, list_own, shown_by}
+use Rattle.eden_moves.specs.internal.Regions.{is_apart}
 use Rattle.eden_moves.proofs.Listed.{below_known}
 use Rattle.eden_moves.proofs.Shifting.{same_order_there}
 use Rattle.eden_moves.proofs.Unsettling.{or-none}
@@ -51,7 +52,7 @@ told_rises source top [] all = tt
 told_rises source top (p ∷ ps) all = told_more source top p ps (lies_below p source) refl all.0 (told_rises source top ps all.1)
 
 -- so what is seen by a directory rises
-pub shown_rises : (files : FileMap) (moves : Moves) (patterns : List (List ℕ)) (e : Entry) → IsStrictlySortedBy order (shown_by files moves patterns e)
+pub shown_rises : (files : FileMap) (moves : Moves) (patterns : Patterns) (e : Entry) → IsStrictlySortedBy order (shown_by files moves patterns e)
 unfolding IsStrictlySortedBy
 shown_rises files moves patterns (top, None) = tt
 shown_rises files moves patterns (top, Some source) =
@@ -88,13 +89,13 @@ told_by_members ps m test rises is = sym keys ∙ listing_of set m test (λ p. f
 -- ---- one directory alone
 
 -- where nothing is said of a directory below it, what is seen by a directory is all that is seen there
-pub own_alone : (files : FileMap) (moves : Moves) (patterns : List (List ℕ)) (top : List ℕ) → filter (λ e. lies_below e.0 top) (fin.entries moves) ≡ []
-    → shown_by files moves patterns (top, seen_dir moves top) ≡ filter (admits patterns) (filter (λ p. lies_below p top) (paths (at_paths (seen_through files moves))))
-own_alone files moves patterns top alone =
+pub own_alone : (files : FileMap) (moves : Moves) (patterns : Patterns) (top : List ℕ) → AreTexts files → filter (λ e. lies_below e.0 top) (fin.entries moves) ≡ []
+    → list_own files moves patterns top ≡ filter (admits patterns) (filter (λ p. lies_below p top) (paths (at_paths (seen_through files moves))))
+own_alone files moves patterns top are alone =
     let seen = at_paths (seen_through files moves) in
-    let own = shown_by files moves patterns (top, seen_dir moves top) in
-    told_by_members own (sifted seen (λ p. lies_below p top)) (admits patterns) (shown_rises files moves patterns (top, seen_dir moves top))
-    (λ p. sym (ap (λ es. is_listed own p || list_any (λ e. is_listed (shown_by files moves patterns e) p) es) alone ∙ or-none (is_listed own p)) ∙ below_known files moves patterns top p)
+    let own = list_own files moves patterns top in
+    told_by_members own (sifted seen (λ p. lies_below p top)) (admits patterns) (shown_rises files moves patterns (top, source_dir moves top))
+    (λ p. sym (ap (λ es. is_listed own p || list_any (λ e. is_listed (list_own files moves patterns e.0) p) es) alone ∙ or-none (is_listed own p)) ∙ below_known files moves patterns top p are)
     ∙ ap (filter (admits patterns)) (keys-sifted seen (λ p. lies_below p top))
 
 pub none_there : (n : ℕ) → (n == 0) ≡ true → n ≡ 0

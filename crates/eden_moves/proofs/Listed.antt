@@ -1,11 +1,11 @@
 -- What the lists of all directories show are the paths at which files are seen.
-use Rattle.std.proofs.Common.{◌≡◌, ℕ, ◌<◌, Bool, true, false, not, cond, ◌&&◌, ◌||◌, List, [], ◌∷◌, map, length, Option, Some, None, is_some, refl, sym, ap, ◌∙◌}
+use Rattle.std.proofs.Common.{◌≡◌, ℕ, Bool, true, false, not, cond, ◌&&◌, ◌||◌, List, [], ◌∷◌, map, length, Option, Some, None, is_some, refl, sym, ap, ◌∙◌}
 use Rattle.std.specs.Prelude.{filter}
 use Rattle.std.specs.List.{list_any}
 use Rattle.std.specs.FinMap as fin
 use Rattle.std.proofs.Math.Bool.{and-false}
 use Rattle.std.proofs.lemmas.Map.Views.{any-filter_same}
-use Rattle.eden_globs.specs.Filters.{admits}
+use Rattle.eden_globs.specs.Filters.{Patterns, admits}
 use Rattle.eden_ids.specs.declared.content.Content.{Content}
 use Rattle.eden_ids.specs.Paths.{lies_below}
 use Rattle.eden_ids.specs.FileMaps.{FileMap, file_at, paths, same_path}
@@ -13,20 +13,19 @@ use Rattle.eden_ids.specs.Texts.{AreTexts}
 use Rattle.eden_ids.proofs.FileMapLemmas.{same_file_map, same_order, same_path-is}
 use Rattle.eden_ids.proofs.Sifted.{has-sifted, sifted}
 use Rattle.eden_objects.specs.Passing.{is_shown, told}
-use Rattle.eden_moves.specs.Moves.{Entry, Moves, at_paths, is_governed, is_path, nearest, seen_through}
-use Rattle.eden_moves.specs.internal.Listed.{is_listed, is_pathless, shown_by}
-use Rattle.eden_moves.specs.internal.Regions.{is_apart, is_past, region_has, seen_dir}
-use Rattle.eden_moves.proofs.Nearest.{no}
-use Rattle.eden_moves.proofs.Regions.{all_regions, none_so_long, regions}
+use Rattle.eden_moves.specs.Moves.{ArePaths, Entry, Moves, at_paths, is_governed, is_path, nearest, seen_through, source_dir}
+use Rattle.eden_moves.specs.internal.Listed.{is_listed, is_pathless, list_own, shown_by}
+use Rattle.eden_moves.specs.internal.Regions.{has_own, is_apart, is_past, region_has}
+use Rattle.eden_moves.proofs.Regions.{all_regions, regions}
 use Rattle.eden_moves.proofs.Unsettling.{known_path}
 
 -- ---- one path
 
 -- what a list of one path alone would pass over
-abbrev pub all_but : List (List ℕ) → List ℕ → List ℕ → Bool
+abbrev pub all_but : Patterns → List ℕ → List ℕ → Bool
 all_but patterns p q = not (same_path p q && (is_path q && admits patterns q))
 
-module _ (files : FileMap) (moves : Moves) (patterns : List (List ℕ)) (p top source : List ℕ) where
+module _ (files : FileMap) (moves : Moves) (patterns : Patterns) (p top source : List ℕ) where
   abbrev shown : List ℕ → Bool
   shown = is_shown (is_apart moves (length top) is_pathless) patterns
 
@@ -65,16 +64,16 @@ module _ (files : FileMap) (moves : Moves) (patterns : List (List ℕ)) (p top s
           ∙ ap (λ b. not (is_apart moves (length top) (all_but patterns p) t) || b) rest
 
 -- a directory's list shows a path where a search for that path alone finds it
-pub shown_in : (files : FileMap) (moves : Moves) (patterns : List (List ℕ)) (p : List ℕ) (e : Entry)
+pub shown_in : (files : FileMap) (moves : Moves) (patterns : Patterns) (p : List ℕ) (e : Entry)
     → is_listed (shown_by files moves patterns e) p ≡ region_has (is_apart moves (length e.0) (all_but patterns p)) files e.1 e.0
 shown_in files moves patterns p (top, None) = refl
 shown_in files moves patterns p (top, Some source) = each_shown files moves patterns p top source (paths files)
 
 -- one of the directories' lists shows it
-pub any_shown : (files : FileMap) (moves : Moves) (patterns : List (List ℕ)) (p : List ℕ) (es : List Entry)
-    → list_any (λ e. is_listed (shown_by files moves patterns e) p) es ≡ list_any (λ e. region_has (is_apart moves (length e.0) (all_but patterns p)) files e.1 e.0) es
+any_shown : (files : FileMap) (moves : Moves) (patterns : Patterns) (p : List ℕ) (es : List Entry)
+    → list_any (λ e. is_listed (list_own files moves patterns e.0) p) es ≡ list_any (λ e. has_own (all_but patterns p) files moves e.0) es
 any_shown files moves patterns p [] = refl
-any_shown files moves patterns p (e ∷ es) = λ i. shown_in files moves patterns p e i || any_shown files moves patterns p es i
+any_shown files moves patterns p (e ∷ es) = λ i. shown_in files moves patterns p (e.0, source_dir moves e.0) i || any_shown files moves patterns p es i
 
 -- a search for one path alone
 one_alone : (test wanted : List ℕ → Bool) (p : List ℕ) (ks : List (List ℕ)) → list_any (λ q. test q && not (not (same_path p q && wanted q))) ks ≡ ((test p && wanted p) && is_listed ks p)
@@ -108,6 +107,9 @@ has-at_paths files p = ap is_some (fin.get-retain_keys files is_path p (λ x e. 
     of_cond false o = refl
 
 -- files that keep the limits stand at paths
+pub at_texts : (files : FileMap) → AreTexts files → ArePaths files
+at_texts files are path file at = (are path file at).0.path
+
 pub all_at_paths : (files : FileMap) → AreTexts files → at_paths files ≡ files
 all_at_paths files are = same_file_map (at_paths files) files (λ p. fin.get-retain_keys files is_path p (λ x e. ap is_path (sym (same_order p x e))) ∙ by p (file_at files p) refl)
   where
@@ -122,13 +124,13 @@ all_at_paths files are = same_file_map (at_paths files) files (λ p. fin.get-ret
 -- ---- all directories
 
 -- what is seen at a directory itself and by those below it
-pub below_known : (files : FileMap) (moves : Moves) (patterns : List (List ℕ)) (top p : List ℕ)
-    → (is_listed (shown_by files moves patterns (top, seen_dir moves top)) p || list_any (λ e. is_listed (shown_by files moves patterns e) p) (filter (λ e. lies_below e.0 top) (fin.entries moves)))
+pub below_known : (files : FileMap) (moves : Moves) (patterns : Patterns) (top p : List ℕ) → AreTexts files
+    → (is_listed (list_own files moves patterns top) p || list_any (λ e. is_listed (list_own files moves patterns e.0) p) (filter (λ e. lies_below e.0 top) (fin.entries moves)))
     ≡ (admits patterns p && fin.contains_key (sifted (at_paths (seen_through files moves)) (λ q. lies_below q top)) p)
-below_known files moves patterns top p =
+below_known files moves patterns top p are =
     let seen = seen_through files moves in
-    (λ i. shown_in files moves patterns p (top, seen_dir moves top) i || any_shown files moves patterns p (filter (λ e. lies_below e.0 top) (fin.entries moves)) i)
-    ∙ regions (all_but patterns p) files moves top
+    (λ i. shown_in files moves patterns p (top, source_dir moves top) i || any_shown files moves patterns p (filter (λ e. lies_below e.0 top) (fin.entries moves)) i)
+    ∙ regions (all_but patterns p) files moves (at_texts files are) top
     ∙ one_alone (λ q. lies_below q top) (λ q. is_path q && admits patterns q) p (paths seen)
     ∙ turned (lies_below p top) (is_path p) (admits patterns p) (is_listed (paths seen) p)
     ∙ ap (λ b. admits patterns p && (lies_below p top && (is_path p && b))) (sym (fin.contains_key-keys seen p))
@@ -144,13 +146,13 @@ below_known files moves patterns top p =
     turned false i false c = refl
 
 -- what is seen at its own place and by all directories
-pub all_known : (files : FileMap) (moves : Moves) (patterns : List (List ℕ)) (p : List ℕ) → AreTexts files
-    → (is_listed (filter (is_shown (is_governed moves) patterns) (paths files)) p || list_any (λ e. is_listed (shown_by files moves patterns e) p) (fin.entries moves))
+pub all_known : (files : FileMap) (moves : Moves) (patterns : Patterns) (p : List ℕ) → AreTexts files
+    → (is_listed (filter (is_shown (is_governed moves) patterns) (paths files)) p || list_any (λ e. is_listed (list_own files moves patterns e.0) p) (fin.entries moves))
     ≡ (admits patterns p && fin.contains_key (at_paths (seen_through files moves)) p)
 all_known files moves patterns p are =
     let seen = seen_through files moves in
     (λ i. own i || any_shown files moves patterns p (fin.entries moves) i)
-    ∙ all_regions (all_but patterns p) files moves
+    ∙ all_regions (all_but patterns p) files moves (at_texts files are)
     ∙ one_alone (λ q. true) (λ q. is_path q && admits patterns q) p (paths seen)
     ∙ turned (is_path p) (admits patterns p) (is_listed (paths seen) p)
     ∙ ap (λ b. admits patterns p && (is_path p && b)) (sym (fin.contains_key-keys seen p))
@@ -173,18 +175,3 @@ all_known files moves patterns p are =
         ∙ with_path (not (is_governed moves p)) (is_path p) (admits patterns p) (is_listed (paths files) p)
         (λ there. known_path files are p (fin.contains_key-keys files p ∙ there))
         ∙ sym (one_alone (λ q. not (is_governed moves q)) (λ q. is_path q && admits patterns q) p (paths files))
-
--- ---- below what is longer than a path no file is listed
-
-none_kept : (test : List ℕ → Bool) (ks : List (List ℕ)) → list_any (λ k. test k && true) ks ≡ false → filter test ks ≡ []
-none_kept test [] none = refl
-none_kept test (k ∷ ks) none = by (test k) none (none_kept test ks)
-  where
-    by : (b : Bool) → ((b && true) || list_any (λ k. test k && true) ks) ≡ false → (list_any (λ k. test k && true) ks ≡ false → filter test ks ≡ []) → cond b (k ∷ filter test ks) (filter test ks) ≡ []
-    by true none rest = no none
-    by false none rest = rest none
-
-pub none_shown : (files : FileMap) (moves : Moves) (patterns : List (List ℕ)) (source top : List ℕ) → AreTexts files → 1024 < length source → shown_by files moves patterns (top, Some source) ≡ []
-none_shown files moves patterns source top are long =
-    ap (λ ps. filter (is_shown (is_apart moves (length top) is_pathless) patterns) (map (told source top) ps))
-    (none_kept (λ p. lies_below p source) (paths files) (sym (none_so_long (λ p. false) files source top are long)))

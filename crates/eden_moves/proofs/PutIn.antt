@@ -1,5 +1,5 @@
 -- Entries below a directory, put in among others of which none is below it.
-use Rattle.std.proofs.Common.{◌≡◌, ℕ, suc, zero, Bool, true, false, cond, not, T, ◌&&◌, List, [], ◌∷◌, ◌++◌, take, drop, Option, Some, None, refl, sym, ap, subst, ◌∙◌, arith}
+use Rattle.std.proofs.Common.{◌≡◌, ℕ, suc, zero, Bool, true, false, cond, not, T, ◌&&◌, List, [], ◌∷◌, ◌++◌, take, drop, Option, Some, None, refl, sym, ap, subst, ◌∙◌}
 use Rattle.std.proofs.lemmas.List.{append-nil, take-append-drop}
 use Rattle.std.specs.Prelude.{if◌then◌else◌}
 use Rattle.std.specs.Option.{option_or}
@@ -14,9 +14,9 @@ use Rattle.eden_ids.specs.Paths.{lies_below}
 use Rattle.eden_ids.specs.FileMaps.{same_path}
 use Rattle.eden_ids.proofs.ByteOrder.{below_between, both, first, from, is_less, less, order, second, upto}
 use Rattle.eden_ids.proofs.FileMapLemmas.{same_order}
+use Rattle.eden_overlay.specs.Places.{place}
 use Rattle.eden_moves.specs.Moves.{Entry}
 use Rattle.eden_moves.specs.internal.Shifted.{IsPutIn}
-use Rattle.eden_moves.specs.internal.Told.{IsPlace}
 use Rattle.eden_moves.proofs.Nearest.{no}
 use Rattle.eden_moves.proofs.Shifting.{apart, left_found, left_out, turned}
 
@@ -68,22 +68,25 @@ found_put_in top [] es rs all none is dir = ap (find order dir) is ∙ by (lies_
     by true into = none_found top dir es none into
     by false into = refl
 found_put_in top (m ∷ ms) es rs all none is dir =
-    ap (find order dir) is.2
-    ∙ found_both (take is.0 es) ((m ∷ ms) ++ drop is.0 es) dir
-    ∙ ap (option_or (find order dir (take is.0 es))) (found_both (m ∷ ms) (drop is.0 es) dir)
+    ap (find order dir) is
+    ∙ found_both (take at es) ((m ∷ ms) ++ drop at es) dir
+    ∙ ap (option_or (find order dir (take at es))) (found_both (m ∷ ms) (drop at es) dir)
     ∙ by (lies_below dir top) refl
   where
+    at : ℕ
+    at = place m.0 es
+
     by : (b : Bool) → lies_below dir top ≡ b
-        → option_or (find order dir (take is.0 es)) (option_or (find order dir (m ∷ ms)) (find order dir (drop is.0 es)))
+        → option_or (find order dir (take at es)) (option_or (find order dir (m ∷ ms)) (find order dir (drop at es)))
         ≡ (if b then find order dir (m ∷ ms) else find order dir es)
     by true into =
-        (λ i. option_or (none_found top dir (take is.0 es) (none_front top is.0 es none) into i)
-        (option_or (find order dir (m ∷ ms)) (none_found top dir (drop is.0 es) (none_back top is.0 es none) into i)))
+        (λ i. option_or (none_found top dir (take at es) (none_front top at es none) into i)
+        (option_or (find order dir (m ∷ ms)) (none_found top dir (drop at es) (none_back top at es none) into i)))
         ∙ or_none (find order dir (m ∷ ms))
     by false into =
-        (λ i. option_or (find order dir (take is.0 es)) (option_or (not_found top dir (m ∷ ms) all into i) (find order dir (drop is.0 es))))
-        ∙ sym (found_both (take is.0 es) (drop is.0 es) dir)
-        ∙ ap (find order dir) (take-append-drop is.0 es)
+        (λ i. option_or (find order dir (take at es)) (option_or (not_found top dir (m ∷ ms) all into i) (find order dir (drop at es))))
+        ∙ sym (found_both (take at es) (drop at es) dir)
+        ∙ ap (find order dir) (take-append-drop at es)
 
 -- ---- they stand in byte order
 
@@ -145,26 +148,23 @@ sorted_both top k (m ∷ ms) e es rises all sorted below out late =
     (sorted_both top k ms e es (second _ _ rises) all.1 sorted below out late)
 
 module _ (top : List ℕ) (m : Entry) (ms : List Entry) (rises : T (is_sorted order (m ∷ ms))) (all : AllBelow top (m ∷ ms)) where
-  together : (es : List Entry) (at : ℕ) → IsPlace m.0 es at → T (is_sorted order es) → NoneBelow top es → T (is_sorted order (take at es ++ ((m ∷ ms) ++ drop at es)))
-  together [] zero spot sorted none = subst (λ ns. T (is_sorted order ns)) (sym (append-nil (m ∷ ms))) rises
-  together [] (suc at) spot sorted none = absurd (omega (arith, spot.0))
-  together (e ∷ es) zero spot sorted none = sorted_both top m.0 (m ∷ ms) e es rises all sorted all.0 none.0 (spot.1.1 0 e (omega arith) (omega arith))
-  together (e ∷ es) (suc at) spot sorted none =
-      let low : order e.0 m.0 ≡ Less = is_less _ (spot.1.0 0 e (omega arith) (omega arith)) in
-      both _ _
-      (after_both e.0 (take at es) ((m ∷ ms) ++ drop at es) (after_front e.0 at es (first _ _ sorted))
-      (after_both e.0 (m ∷ ms) (drop at es) (both _ _ (is_after e.0 m.0 low) (all_later e.0 m.0 ms low (first _ _ rises))) (after_back e.0 at es (first _ _ sorted))))
-      (together es at (
-        omega (arith, spot.0),
-        (
-          λ j d low within. spot.1.0 (suc j) d (omega arith) (omega arith),
-          λ j d low within. spot.1.1 (suc j) d (omega arith) (omega arith),
-        ),
-      ) (second _ _ sorted) none.1)
+  together : (es : List Entry) → T (is_sorted order es) → NoneBelow top es → T (is_sorted order (take (place m.0 es) es ++ ((m ∷ ms) ++ drop (place m.0 es) es)))
+  together [] sorted none = subst (λ ns. T (is_sorted order ns)) (sym (append-nil (m ∷ ms))) rises
+  together (e ∷ es) sorted none =
+      let at = place m.0 es in
+      elim (is_lt (order e.0 m.0)) as (λ b. is_lt (order e.0 m.0) ≡ b → T (is_sorted order (take (cond b (suc at) 0) (e ∷ es) ++ ((m ∷ ms) ++ drop (cond b (suc at) 0) (e ∷ es))))) [
+        | true ↦ λ is.
+            let low : order e.0 m.0 ≡ Less = is_less _ is in
+            both _ _
+            (after_both e.0 (take at es) ((m ∷ ms) ++ drop at es) (after_front e.0 at es (first _ _ sorted))
+            (after_both e.0 (m ∷ ms) (drop at es) (both _ _ (is_after e.0 m.0 low) (all_later e.0 m.0 ms low (first _ _ rises))) (after_back e.0 at es (first _ _ sorted))))
+            (together es (second _ _ sorted) none.1)
+        | false ↦ λ late. sorted_both top m.0 (m ∷ ms) e es rises all sorted all.0 none.0 late
+      ] refl
 
 pub sorted_put_in : (top : List ℕ) (ms es rs : List Entry) → T (is_sorted order ms) → AllBelow top ms → T (is_sorted order es) → NoneBelow top es → IsPutIn ms es rs → T (is_sorted order rs)
 sorted_put_in top [] es rs rises all sorted none is = subst (λ ns. T (is_sorted order ns)) (sym is) sorted
-sorted_put_in top (m ∷ ms) es rs rises all sorted none is = subst (λ ns. T (is_sorted order ns)) (sym is.2) (together top m ms rises all es is.0 is.1 sorted none)
+sorted_put_in top (m ∷ ms) es rs rises all sorted none is = subst (λ ns. T (is_sorted order ns)) (sym is) (together top m ms rises all es sorted none)
 
 -- ---- in place of those that were there
 

@@ -2,24 +2,23 @@
 use Rattle.std.proofs.Common.{◌≡◌, ℕ, ◌+◌, ◌<◌, ◌⊎◌, inl, inr, Bool, true, false, not, cond, nat_lt, ◌&&◌, ◌||◌, List, [], ◌∷◌, ◌++◌, length, Option, Some, None, is_some, refl, sym, ap, subst, ◌∙◌, arith, append_assoc, length-append}
 use Rattle.std.specs.Prelude.{IsSome, filter, if◌then◌else◌}
 use Rattle.std.specs.Option.{option_or}
-use Rattle.std.specs.List.{AllByRecursion, list_any}
+use Rattle.std.specs.List.{list_any}
 use Rattle.std.specs.FinMap as fin
 use Rattle.std.proofs.lemmas.Bool.{cases_Bool, or_left, or_right}
 use Rattle.eden_ids.specs.Paths.{lies_below}
 use Rattle.eden_ids.specs.FileMaps.{FileMap, file_at, paths, same_path}
-use Rattle.eden_ids.specs.Texts.{AreTexts}
 use Rattle.eden_ids.proofs.FileMapLemmas.{held, same_path-is}
-use Rattle.eden_ids.proofs.TreeMaps.{entries_found}
 use Rattle.eden_ids.proofs.TreeQuestions.{any_witness}
 use Rattle.eden_overlay.specs.Carried.{carried}
 use Rattle.eden_overlay.proofs.CarriedLemmas.{below-trans, carried-back, carried-below, carried_there, nested, rest_below}
 use Rattle.eden_objects.proofs.Gathering.{above_more}
 use Rattle.eden_objects.specs.Passing.{told}
-use Rattle.eden_moves.specs.Moves.{Entry, Moves, file_from, is_governed, nearest, own_or, seen_through, source_by, source_of}
-use Rattle.eden_moves.specs.internal.Regions.{is_apart, is_past, region_has, seen_dir}
+use Rattle.eden_moves.specs.Moves.{ArePaths, Entry, Moves, file_from, is_governed, nearest, own_or, path_alone, seen_through, source_by, source_dir, source_of}
+use Rattle.eden_moves.specs.internal.Regions.{has_own, is_apart, is_past, region_has}
 use Rattle.eden_moves.proofs.Nearest.{IsNearest, is_none, nearest-is, no, source_is}
 use Rattle.eden_moves.proofs.Seen.{file_at-seen}
-use Rattle.eden_moves.proofs.Settled.{own_file, too_long}
+use Rattle.eden_moves.proofs.Renames.{alone}
+use Rattle.eden_moves.proofs.Settled.{own_file}
 
 -- ---- tests
 
@@ -128,6 +127,10 @@ none_nearer moves p top near d above inner = at (fin.get moves d) refl
     at None said = refl
     at (Some x) said = no (sym (past_if moves p d (length top) x said above (longer d top inner)) ∙ near)
 
+-- the commit's directory that is seen at a directory, whether or not it is a path
+abbrev seen_dir : Moves → List ℕ → Option (List ℕ)
+seen_dir moves dir = own_or (fin.get moves dir) (source_of moves dir)
+
 -- so what is seen is told by what is seen at the directory
 source_near : (moves : Moves) (p top : List ℕ) → lies_below p top ≡ true → is_past (length top) (nearest (fin.entries moves) p) ≡ false
     → source_of moves p ≡ source_by (Some (top, seen_dir moves top)) p
@@ -170,6 +173,15 @@ source_near moves p top below near = by (fin.get moves top) refl
             ap (carried top (carried t s top)) low.1 ∙ carried_there top (carried t s top) (47 ∷ low.0) ∙ ap (λ q. q ++ 47 ∷ low.0) inner in
             ap Some (straight ∙ sym (append_assoc s (47 ∷ high.0) (47 ∷ low.0)) ∙ sym twice)
 
+-- and so is the file, since a commit has none below what is no path
+file_near : (files : FileMap) → ArePaths files → (moves : Moves) (p top : List ℕ) → lies_below p top ≡ true → is_past (length top) (nearest (fin.entries moves) p) ≡ false
+    → file_at (seen_through files moves) p ≡ file_from files (source_by (Some (top, source_dir moves top)) p)
+file_near files are moves p top below near = file_at-seen files moves p ∙ ap (file_from files) (source_near moves p top below near) ∙ by (fin.get moves top)
+  where
+    by : (o : Option (Option (List ℕ))) → file_from files (source_by (Some (top, own_or o (source_of moves top))) p) ≡ file_from files (source_by (Some (top, own_or o (path_alone (source_of moves top)))) p)
+    by None = sym (alone files are top p below (source_of moves top))
+    by (Some x) = refl
+
 -- the nearest one is among the entries
 near_passes : (test : Entry → Bool) (p : List ℕ) (e : Entry) (es : List Entry) → nearest es p ≡ Some e → test e ≡ true → list_any test es ≡ true
 near_passes test p e [] near passes = is_none e (sym near)
@@ -188,18 +200,18 @@ near_passes test p e (x ∷ es) near passes = by (λ near. near_passes test p e 
 
 -- ---- one directory
 
-module _ (passes : List ℕ → Bool) (files : FileMap) (moves : Moves) where
+module _ (passes : List ℕ → Bool) (files : FileMap) (moves : Moves) (are : ArePaths files) where
   -- a file that is seen below a directory and not passed over
   abbrev pub IsFound : List ℕ → List ℕ → Type 0
   IsFound top p = IsSome (file_at (seen_through files moves) p) × (lies_below p top ≡ true) × (passes p ≡ false)
 
-  abbrev pub region : List ℕ → Bool
-  region top = region_has (is_apart moves (length top) passes) files (seen_dir moves top) top
+  abbrev region : List ℕ → Bool
+  region top = has_own passes files moves top
 
   one_found : (top : List ℕ) → region top ≡ true → (p : List ℕ) × IsFound top p
-  one_found top has = by (seen_dir moves top) refl has
+  one_found top has = by (source_dir moves top) refl has
     where
-      by : (o : Option (List ℕ)) → seen_dir moves top ≡ o → region_has (is_apart moves (length top) passes) files o top ≡ true → (p : List ℕ) × IsFound top p
+      by : (o : Option (List ℕ)) → source_dir moves top ≡ o → region_has (is_apart moves (length top) passes) files o top ≡ true → (p : List ℕ) × IsFound top p
       by None is some = no (sym some)
       by (Some source) is some =
           let found = passing_file (λ q. lies_below q source && not (is_apart moves (length top) passes (told source top q))) files some in
@@ -208,21 +220,17 @@ module _ (passes : List ℕ → Bool) (files : FileMap) (moves : Moves) where
           let parts = both _ _ found.2 in
           let kept = neither _ _ (negated _ parts.1) in
           let below : lies_below p top ≡ true = carried-below source top q parts.0 in
-          let from : source_of moves p ≡ Some q =
-          source_near moves p top below kept.1 ∙ ap (λ o. source_by (Some (top, o)) p) is ∙ ap Some (carried-back source top q parts.0) in
-          (p, (subst (IsSome {T = _}) (sym (file_at-seen files moves p ∙ ap (file_from files) from)) found.1, below, kept.0))
+          let file : file_at (seen_through files moves) p ≡ file_at files q =
+          file_near files are moves p top below kept.1 ∙ ap (λ o. file_from files (source_by (Some (top, o)) p)) is ∙ ap (file_at files) (carried-back source top q parts.0) in
+          (p, (subst (IsSome {T = _}) (sym file) found.1, below, kept.0))
 
   one_has : (top p : List ℕ) → IsFound top p → is_past (length top) (nearest (fin.entries moves) p) ≡ false → region top ≡ true
-  one_has top p found near = by (seen_dir moves top) refl
+  one_has top p found near = by (source_dir moves top) (subst (IsSome {T = _}) (file_near files are moves p top found.1 near) found.0)
     where
-      from : file_at (seen_through files moves) p ≡ file_from files (source_by (Some (top, seen_dir moves top)) p)
-      from = file_at-seen files moves p ∙ ap (file_from files) (source_near moves p top found.1 near)
-
-      by : (o : Option (List ℕ)) → seen_dir moves top ≡ o → region_has (is_apart moves (length top) passes) files o top ≡ true
-      by None is = no (sym (subst (IsSome {T = _}) (from ∙ ap (λ o. file_from files (source_by (Some (top, o)) p)) is) found.0))
-      by (Some source) is =
+      by : (o : Option (List ℕ)) → IsSome (file_from files (source_by (Some (top, o)) p)) → region_has (is_apart moves (length top) passes) files o top ≡ true
+      by None there = no (sym there)
+      by (Some source) there =
           let q : List ℕ = carried top source p in
-          let there : IsSome (file_at files q) = subst (IsSome {T = _}) (from ∙ ap (λ o. file_from files (source_by (Some (top, o)) p)) is) found.0 in
           let again : told source top q ≡ p = carried-back top source p found.1 in
           let shown : is_apart moves (length top) passes (told source top q) ≡ false =
           ap (is_apart moves (length top) passes) again ∙ ap (λ b. b || is_past (length top) (nearest (fin.entries moves) p)) found.2 ∙ near in
@@ -231,23 +239,20 @@ module _ (passes : List ℕ → Bool) (files : FileMap) (moves : Moves) where
 
   -- ---- and each further one
 
-  abbrev pub entry_has : Entry → Bool
-  entry_has e = region_has (is_apart moves (length e.0) passes) files e.1 e.0
+  abbrev entry_has : Entry → Bool
+  entry_has e = region e.0
 
-  entry_is : (e : Entry) → fin.get moves e.0 ≡ Some e.1 → region e.0 ≡ entry_has e
-  entry_is e said = ap (λ o. region_has (is_apart moves (length e.0) passes) files (own_or o (source_of moves e.0)) e.0) said
-
-  further_found : (top : List ℕ) (es : List Entry) → AllByRecursion (λ e. fin.get moves e.0 ≡ Some e.1) es → list_any entry_has (filter (λ e. lies_below e.0 top) es) ≡ true
+  further_found : (top : List ℕ) (es : List Entry) → list_any entry_has (filter (λ e. lies_below e.0 top) es) ≡ true
       → (p : List ℕ) × IsFound top p
-  further_found top [] all some = no (sym some)
-  further_found top (e ∷ es) all some =
+  further_found top [] some = no (sym some)
+  further_found top (e ∷ es) some =
       elim (lies_below e.0 top) as (λ b. lies_below e.0 top ≡ b → list_any entry_has (cond b (e ∷ filter (λ f. lies_below f.0 top) es) (filter (λ f. lies_below f.0 top) es)) ≡ true → (p : List ℕ) × IsFound top p) [
         | true ↦ λ below some.
             elim (entry_has e) as (λ b. entry_has e ≡ b → (b || list_any entry_has (filter (λ f. lies_below f.0 top) es)) ≡ true → (p : List ℕ) × IsFound top p) [
-              | true ↦ λ has _. let found = one_found e.0 (entry_is e all.0 ∙ has) in (found.0, (found.1.0, below-trans found.0 e.0 top found.1.1 below, found.1.2))
-              | false ↦ λ _ more. further_found top es all.1 more
+              | true ↦ λ has _. let found = one_found e.0 has in (found.0, (found.1.0, below-trans found.0 e.0 top found.1.1 below, found.1.2))
+              | false ↦ λ _ more. further_found top es more
             ] refl some
-        | false ↦ λ _ more. further_found top es all.1 more
+        | false ↦ λ _ more. further_found top es more
       ] refl some
 
   listed_has : (top p : List ℕ) (e : Entry) (es : List Entry) → nearest es p ≡ Some e → lies_below e.0 top ≡ true → entry_has e ≡ true
@@ -296,7 +301,7 @@ module _ (passes : List ℕ → Bool) (files : FileMap) (moves : Moves) where
               inner (inr (inr above)) = absurd (let n = longer top e.0 above in omega (arith, n, more))
 
               own : entry_has e ≡ true
-              own = sym (entry_is e near.0) ∙ one_has e.0 p (found.0, near.1, found.2) (ap (is_past (length e.0)) is ∙ is_not_less (length e.0))
+              own = one_has e.0 p (found.0, near.1, found.2) (ap (is_past (length e.0)) is ∙ is_not_less (length e.0))
 
   pub regions : (top : List ℕ) → (region top || list_any entry_has (filter (λ e. lies_below e.0 top) (fin.entries moves)))
       ≡ list_any (λ p. lies_below p top && not (passes p)) (paths (seen_through files moves))
@@ -311,7 +316,7 @@ module _ (passes : List ℕ → Bool) (files : FileMap) (moves : Moves) where
           by : (b : Bool) → region top ≡ b → (b || list_any entry_has (filter (λ e. lies_below e.0 top) (fin.entries moves))) ≡ true
               → list_any (λ p. lies_below p top && not (passes p)) (paths (seen_through files moves)) ≡ true
           by true has some = seen (one_found top has)
-          by false has some = seen (further_found top (fin.entries moves) (entries_found moves) some)
+          by false has some = seen (further_found top (fin.entries moves) some)
 
       back : list_any (λ p. lies_below p top && not (passes p)) (paths (seen_through files moves)) ≡ true → (region top || list_any entry_has (filter (λ e. lies_below e.0 top) (fin.entries moves))) ≡ true
       back some =
@@ -325,12 +330,12 @@ module _ (passes : List ℕ → Bool) (files : FileMap) (moves : Moves) where
   abbrev IsSeen : List ℕ → Type 0
   IsSeen p = IsSome (file_at (seen_through files moves) p) × (passes p ≡ false)
 
-  entry_seen : (es : List Entry) → AllByRecursion (λ e. fin.get moves e.0 ≡ Some e.1) es → list_any entry_has es ≡ true → (p : List ℕ) × IsSeen p
-  entry_seen [] all some = no (sym some)
-  entry_seen (e ∷ es) all some =
+  entry_seen : (es : List Entry) → list_any entry_has es ≡ true → (p : List ℕ) × IsSeen p
+  entry_seen [] some = no (sym some)
+  entry_seen (e ∷ es) some =
       elim (entry_has e) as (λ b. entry_has e ≡ b → (b || list_any entry_has es) ≡ true → (p : List ℕ) × IsSeen p) [
-        | true ↦ λ has _. let found = one_found e.0 (entry_is e all.0 ∙ has) in (found.0, (found.1.0, found.1.2))
-        | false ↦ λ _ more. entry_seen es all.1 more
+        | true ↦ λ has _. let found = one_found e.0 has in (found.0, (found.1.0, found.1.2))
+        | false ↦ λ _ more. entry_seen es more
       ] refl some
 
   abbrev own_test : List ℕ → Bool
@@ -349,7 +354,7 @@ module _ (passes : List ℕ → Bool) (files : FileMap) (moves : Moves) where
           let found = passing_file own_test files has in
           let parts = both (not (is_governed moves found.0)) (not (passes found.0)) found.2 in
           seen (found.0, (subst (IsSome {T = _}) (sym (own_file files moves found.0 (negated _ parts.0))) found.1, negated _ parts.1))
-      to false has some = seen (entry_seen (fin.entries moves) (entries_found moves) some)
+      to false has some = seen (entry_seen (fin.entries moves) some)
 
       back : list_any (λ q. not (passes q)) (paths (seen_through files moves)) ≡ true → (list_any own_test (paths files) || list_any entry_has (fin.entries moves)) ≡ true
       back some =
@@ -364,18 +369,4 @@ module _ (passes : List ℕ → Bool) (files : FileMap) (moves : Moves) where
           by p there kept (Some e) is near =
               or_right (list_any own_test (paths files)) _
               (near_passes entry_has p e (fin.entries moves) is
-              (sym (entry_is e near.0) ∙ one_has e.0 p (there, near.1, kept) (ap (is_past (length e.0)) is ∙ is_not_less (length e.0))))
-
--- below what is longer than a path stands no file
-pub none_so_long : (passes : List ℕ → Bool) (files : FileMap) (source top : List ℕ) → AreTexts files → 1024 < length source → false ≡ region_has passes files (Some source) top
-none_so_long passes files source top texts long = by (region_has passes files (Some source) top) refl
-  where
-    bad : (p : List ℕ) × IsSome (file_at files p) × ((lies_below p source && not (passes (told source top p))) ≡ true) → ⊥
-    bad found =
-        let more = longer found.0 source (both _ _ found.2).0 in
-        let none = too_long files texts found.0 (omega (arith, more, long)) in
-        no (sym (ap is_some none ∙ found.1))
-
-    by : (b : Bool) → region_has passes files (Some source) top ≡ b → false ≡ b
-    by false is = refl
-    by true is = absurd (bad (passing_file (λ p. lies_below p source && not (passes (told source top p))) files is))
+              (one_has e.0 p (there, near.1, kept) (ap (is_past (length e.0)) is ∙ is_not_less (length e.0))))

@@ -151,7 +151,7 @@ no_files_below files are source fault is rest = by (file_at files (source ++ 47 
     by (Some file) at = is_none fault (sym is ∙ path_above source rest (are (source ++ 47 ∷ rest) file at))
 
 -- where a file is seen below a directory, it is seen through a path
-alone : (files : FileMap) → ArePaths files → (new p : List ℕ) → lies_below p new ≡ true → (source : Option (List ℕ))
+pub alone : (files : FileMap) → ArePaths files → (new p : List ℕ) → lies_below p new ≡ true → (source : Option (List ℕ))
     → file_from files (source_by (Some (new, path_alone source)) p) ≡ file_from files (source_by (Some (new, source)) p)
 alone files are new p into None = refl
 alone files are new p into (Some source) = by (path_fault source) refl

@@ -7,7 +7,7 @@ use Rattle.std.specs.List.{AllByRecursion, list_any, slice_index_or}
 use Rattle.std.specs.FinMap as fin
 use Rattle.std.proofs.lemmas.Bool.{and_parts, or_left, or_right}
 use Rattle.eden_ids.specs.declared.content.Content.{Content}
-use Rattle.eden_globs.specs.Filters.{admits}
+use Rattle.eden_globs.specs.Filters.{Patterns, admits, all_paths}
 use Rattle.eden_ids.specs.Paths.{IsPath, lies_below}
 use Rattle.eden_ids.specs.FileMaps.{FileMap, PathSet, file_at, has, paths, same_path}
 use Rattle.eden_ids.specs.Texts.{AreTexts}
@@ -289,7 +289,7 @@ told_path files are top bytes is path below there =
     by None at some = no (sym some)
     by (Some file) at some = (are path file at).0.path
 
-pub told_all : (files : FileMap) (top bytes : List ℕ) (wanted : List (List ℕ)) → bytes ≡ top → wanted ≡ []
+pub told_all : (files : FileMap) (top bytes : List ℕ) (wanted : Patterns) → bytes ≡ top → wanted ≡ all_paths
     → filter (λ p. admits wanted p) (map (told bytes top) (filter (λ p. lies_below p bytes) (paths files))) ≡ filter (λ p. lies_below p top) (paths files)
 told_all files top bytes wanted is all =
     (λ i. filter (λ p. admits (all i) p) (map (told (is i) top) (filter (λ p. lies_below p (is i)) (paths files))))

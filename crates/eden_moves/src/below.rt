@@ -9,13 +9,12 @@ ghost use Rattle.eden_moves.specs.Moves.{by_bytes};
 ghost use Rattle.eden_overlay.specs.Carried.{breaks};
 ghost use Rattle.eden_moves.specs.internal.Shifted.{shifted_entry, IsPutIn};
 
-use crate::entries::place;
 use eden_ids::{NoMemory, Path, has_path_below};
-use eden_overlay::{CarryFault, carried_path};
+use eden_overlay::{CarryFault, carried_path, place_of};
 use std::alloc::Global;
 
 /// Returns a copy of a directory, or `None` if there is none.
-pub(crate) fn copy_of(source: &Option<Path>) -> Result<Option<Path>, NoMemory>
+fn copy_of(source: &Option<Path>) -> Result<Option<Path>, NoMemory>
     ensures { IfOk result (λ copy. copy ≡ source.now) }
 {
     match source {
@@ -94,7 +93,7 @@ fn put_in(entries: &mut Vec<(Path, Option<Path>)>, more: Vec<(Path, Option<Path>
     let Some(first) = more.first() else {
         return;
     };
-    let at = place(entries, first.0.as_bytes());
+    let at = place_of(entries, first.0.as_bytes());
     put_at(entries, at, more);
 }
 

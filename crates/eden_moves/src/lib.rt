@@ -30,17 +30,14 @@
 pub use crate::laws::moves_law;
 pub use crate::moved::Moved;
 pub use crate::moves::Moves;
-pub use crate::parts::joined;
 pub use crate::renaming::Renaming;
-pub use crate::source::Source;
+pub use crate::source::{Source, joined};
 
 mod below;
-mod entries;
 mod laws;
 mod listing;
 mod moved;
 mod moves;
-mod parts;
 mod region;
 mod renaming;
 mod searching;

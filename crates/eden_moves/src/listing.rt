@@ -1,113 +1,43 @@
 //! The list of the files that are seen through renamed directories.
 
-ghost use Rattle.std.specs.Prelude.{◌≡◌, ◌++◌, IfOk, OnOk, Some, filter};
+ghost use Rattle.std.specs.Prelude.{◌≡◌, ◌++◌, IfOk, OnOk, filter};
 ghost use Rattle.std.specs.List.{flat_map};
 ghost use Rattle.eden_globs.specs.Filters.{admits};
 ghost use Rattle.eden_ids.specs.FileMaps.{paths};
 ghost use Rattle.eden_ids.specs.Paths.{lies_below};
-ghost use Rattle.eden_moves.specs.Moves.{at_paths, seen_through, source_of};
-ghost use Rattle.eden_moves.specs.internal.Listed.{shown_by};
-ghost use Rattle.eden_moves.specs.internal.Regions.{seen_dir};
+ghost use Rattle.eden_moves.specs.Moves.{at_paths, seen_through};
+ghost use Rattle.eden_moves.specs.internal.Listed.{list_own};
 
 use crate::moves::Moves;
-use crate::parts::joined;
 use crate::region::{Governed, Pathless, Region};
 use crate::sorting::sort_paths;
-use crate::source::Source;
 use eden_globs::Filter;
-use eden_ids::{Naming, NoMemory, Path, paths_below};
+use eden_ids::{Naming, NoMemory, Path};
 use eden_objects::{Commit, Nothing};
 use std::alloc::Global;
 
-/// Returns the files of one directory that are seen at another.
-fn list_in<N: Naming + Drop>(
-    commit: &Commit<'_, N>,
-    moves: &Moves,
-    source: &[u8],
-    top: &Path,
-    wanted: &Filter,
-) -> Result<Vec<Path>, NoMemory>
-    ensures { IfOk result (λ list. list.items ≡ shown_by commit.now moves.now wanted.now (top.now, Some source.now)) }
-{
-    let region = Region {
-        moves,
-        long: top.as_bytes().len(),
-        passed: &Pathless,
-    };
-    commit.list_seen(source, top, wanted, &region)
-}
-
-/// Returns the same for a directory given in two parts.
-///
-/// There are no files below a directory that is longer than a path.
-fn list_behind<N: Naming + Drop>(
-    commit: &Commit<'_, N>,
-    moves: &Moves,
-    front: &[u8],
-    rest: &[u8],
-    top: &Path,
-    wanted: &Filter,
-) -> Result<Vec<Path>, NoMemory>
-    ensures { IfOk result (λ list. list.items ≡ shown_by commit.now moves.now wanted.now (top.now, Some (front.now ++ rest.now))) }
-{
-    commit.texts_law();
-    match joined(front, rest) {
-        Some(source) => list_in(commit, moves, source.as_slice(), top, wanted),
-        None => Ok(Vec::new(moves.allocator())),
-    }
-}
-
-/// Returns the same for what those above a directory show there.
-fn list_by_above<N: Naming + Drop>(
-    commit: &Commit<'_, N>,
-    moves: &Moves,
-    top: &Path,
-    wanted: &Filter,
-) -> Result<Vec<Path>, NoMemory>
-    ensures { IfOk result (λ list. list.items ≡ shown_by commit.now moves.now wanted.now (top.now, source_of moves.now top.now)) }
-{
-    match moves.source(top.as_bytes()) {
-        Source::Own => list_in(commit, moves, top.as_bytes(), top, wanted),
-        Source::Nothing => Ok(Vec::new(moves.allocator())),
-        Source::Below(directory, rest) => {
-            list_behind(commit, moves, directory.as_bytes(), rest, top, wanted)
-        }
-    }
-}
-
-/// Returns the same for a directory with its entry.
-fn list_at<N: Naming + Drop>(
+/// Returns the files that a directory itself shows.
+fn list_own<N: Naming + Drop>(
     alloc: Global,
     commit: &Commit<'_, N>,
     moves: &Moves,
-    entry: &(Path, Option<Path>),
+    dir: &Path,
     wanted: &Filter,
 ) -> Result<Vec<Path>, NoMemory>
-    ensures { IfOk result (λ list. list.items ≡ shown_by commit.now moves.now wanted.now entry.now) }
+    ensures { IfOk result (λ list. list.items ≡ list_own commit.now moves.now wanted.now dir.now) }
 {
-    match &entry.1 {
-        Some(source) => list_in(commit, moves, source.as_bytes(), &entry.0, wanted),
-        None => Ok(Vec::new(alloc)),
-    }
+    let Some(source) = moves.shown_at(dir) else {
+        return Ok(Vec::new(alloc));
+    };
+    let region = Region {
+        moves,
+        long: dir.as_bytes().len(),
+        passed: &Pathless,
+    };
+    commit.list_seen(source.as_slice(), dir, wanted, &region)
 }
 
-/// Returns the same for what is seen at a directory itself.
-fn list_own<N: Naming + Drop>(
-    commit: &Commit<'_, N>,
-    moves: &Moves,
-    top: &Path,
-    wanted: &Filter,
-) -> Result<Vec<Path>, NoMemory>
-    ensures { IfOk result (λ list. list.items ≡ shown_by commit.now moves.now wanted.now (top.now, seen_dir moves.now top.now)) }
-{
-    match moves.get(top.as_bytes()) {
-        Some(Some(source)) => list_in(commit, moves, source.as_bytes(), top, wanted),
-        Some(None) => Ok(Vec::new(moves.allocator())),
-        None => list_by_above(commit, moves, top, wanted),
-    }
-}
-
-/// Adds the paths that some of the entries show, entry by entry.
+/// Adds the files that some of the directories show, one directory after the other.
 fn add_seen_by<N: Naming + Drop>(
     alloc: Global,
     list: &mut Vec<Path>,
@@ -116,10 +46,10 @@ fn add_seen_by<N: Naming + Drop>(
     entries: &[(Path, Option<Path>)],
     wanted: &Filter,
 ) -> Result<(), NoMemory>
-    ensures { OnOk result (list.new.items ≡ list.old.items ++ flat_map (shown_by commit.now moves.now wanted.now) entries.now) }
+    ensures { OnOk result (list.new.items ≡ list.old.items ++ flat_map (λ e. list_own commit.now moves.now wanted.now e.0) entries.now) }
 {
     for entry in entries {
-        let mut more = list_at(alloc, commit, moves, entry, wanted)?;
+        let mut more = list_own(alloc, commit, moves, &entry.0, wanted)?;
         list.append(&mut more)?;
     }
     Ok(())
@@ -173,8 +103,9 @@ pub(crate) fn list_below<N: Naming + Drop>(
     ensures { IfOk result (λ list. list.items
         ≡ filter (admits wanted.now) (filter (λ p. lies_below p top.now) (paths (at_paths (seen_through commit.now moves.now))))) }
 {
-    let mut list = list_own(commit, moves, top, wanted)?;
-    let further = paths_below(moves.entries(), top.as_bytes());
+    commit.texts_law();
+    let mut list = list_own(alloc, commit, moves, top, wanted)?;
+    let further = moves.entries_below(top);
     if further.is_empty() {
         return Ok(list);
     }

@@ -1,6 +1,6 @@
 //! A commit with renamed directories, asked for its files as they are seen.
 
-ghost use Rattle.std.specs.Prelude.{◌≡◌, ◌++◌, ◌&&◌, IfOk, filter, not};
+ghost use Rattle.std.specs.Prelude.{◌≡◌, ◌&&◌, IfOk, filter, not};
 ghost use Rattle.std.specs.List.{list_any};
 ghost use Rattle.eden_ids.specs.FileMaps.{file_at, lent, paths};
 ghost use Rattle.eden_ids.specs.Paths.{lies_below};
@@ -9,9 +9,8 @@ ghost use Rattle.eden_moves.specs.Moves.{at_paths, seen_through};
 
 use crate::listing::{list_all, list_below};
 use crate::moves::Moves;
-use crate::parts::joined;
 use crate::searching::has_below_but;
-use crate::source::Source;
+use crate::source::{Source, joined};
 use eden_globs::Filter;
 use eden_ids::{FileTree, Kind, Naming, NoMemory, Path};
 use eden_objects::{Commit, Nothing, Passes};
@@ -41,23 +40,6 @@ impl<'a, N: Naming + Drop> Model for Moved<'a, N> {
     ghost view = { λ m. seen_through m.commit m.moves.now };
 }
 
-/// Returns a commit's file at a path given in two parts.
-///
-/// Returns `None` if they are together longer than a path.
-fn file_behind<'a, N: Naming + Drop>(
-    commit: &Commit<'a, N>,
-    front: &[u8],
-    rest: &[u8],
-) -> Option<(Kind, &'a [u8])>
-    ensures { lent result ≡ file_at commit.now (front.now ++ rest.now) }
-{
-    commit.texts_law();
-    match joined(front, rest) {
-        Some(path) => commit.file(path.as_slice()),
-        None => None,
-    }
-}
-
 /// Returns the file that is seen at a path through renamed directories.
 pub(crate) fn file_through<'a, N: Naming + Drop>(
     commit: &Commit<'a, N>,
@@ -66,10 +48,14 @@ pub(crate) fn file_through<'a, N: Naming + Drop>(
 ) -> Option<(Kind, &'a [u8])>
     ensures { lent result ≡ file_at (seen_through commit.now moves.now) path.now }
 {
+    commit.texts_law();
     match moves.source(path) {
         Source::Own => commit.file(path),
         Source::Nothing => None,
-        Source::Below(directory, rest) => file_behind(commit, directory.as_bytes(), rest),
+        Source::Below(directory, rest) => {
+            let source = joined(directory.as_bytes(), rest)?;
+            commit.file(source.as_slice())
+        }
     }
 }
 

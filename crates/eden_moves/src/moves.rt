@@ -1,16 +1,18 @@
 //! Renamed directories: which directory of the commit is seen at each.
 
-ghost use Rattle.std.specs.Prelude.{◌≡◌, ◌<◌, ◌≤◌, ◌+◌, ◌↔◌, T, IsTrue, IfOk, OnOk, OnErr, MatchOption, length, option_copied};
+ghost use Rattle.std.specs.Prelude.{◌≡◌, ◌<◌, ◌≤◌, ◌+◌, ◌++◌, ◌↔◌, T, Some, IsTrue, IfOk, OnOk, OnErr, MatchOption, filter, length, option_copied, option_map};
 ghost use Rattle.std.specs.Vec.{vec_len, vec_capacity};
 ghost use Rattle.std.specs.FinMap as fin;
 ghost use Rattle.std.specs.FinMap.{is_sorted};
-ghost use Rattle.eden_moves.specs.Moves.{by_bytes, nearest, source_of};
+ghost use Rattle.eden_ids.specs.Paths.{IsPath, lies_below};
+ghost use Rattle.eden_moves.specs.Moves.{by_bytes, nearest, path_alone, source_dir, source_of};
 ghost use Rattle.eden_moves.specs.Sources.{path_meant};
 ghost use Rattle.eden_moves.specs.internal.Told.{entry_told, said_before};
 
-use crate::entries::find;
-use crate::source::Source;
-use eden_ids::{NoMemory, Path};
+use crate::source::{Source, joined};
+use arrayvec::ArrayVec;
+use eden_ids::{NoMemory, Path, is_path, paths_below};
+use eden_overlay::value_at;
 use std::alloc::Global;
 use std::marker::Model;
 
@@ -37,6 +39,19 @@ impl Model for Moves {
     ghost view = { λ m. fin.from_sorted m.entries.items };
 
     ghost invariant = { λ m. T (fin.is_sorted by_bytes m.entries.items) };
+}
+
+/// Returns two parts joined, if they make a valid path. Does not allocate.
+fn valid(front: &[u8], rest: &[u8]) -> Option<ArrayVec<u8, 1024>>
+    ensures joined { option_map (λ path. path.items) result ≡ path_alone (Some (front.now ++ rest.now)) }
+    ensures valid { MatchOption result (Unit {0}) (λ path. IsPath path.items) }
+{
+    let path = joined(front, rest)?;
+    if is_path(path.as_slice()) {
+        Some(path)
+    } else {
+        None
+    }
 }
 
 impl Moves {
@@ -66,6 +81,15 @@ impl Moves {
         self.entries.as_slice()
     }
 
+    /// Returns the entries of the directories below one, in byte order.
+    ///
+    /// Does not allocate.
+    pub(crate) fn entries_below(&self, top: &Path) -> &[(Path, Option<Path>)]
+        ensures { result.now ≡ filter (λ e. lies_below e.0 top.now) (fin.entries self.now) }
+    {
+        paths_below(self.entries(), top.as_bytes())
+    }
+
     /// Returns the entry of a directory, by binary search. Does not allocate.
     ///
     /// An entry is the commit's directory that is seen there, or `None` if nothing is. The
@@ -73,7 +97,7 @@ impl Moves {
     pub fn get(&self, dir: &[u8]) -> Option<&Option<Path>>
         ensures { option_copied result ≡ fin.get self.now dir.now }
     {
-        find(self.entries.as_slice(), dir)
+        value_at(self.entries.as_slice(), dir)
     }
 
     /// Returns the entry of the directory before a slash, if any.
@@ -118,6 +142,24 @@ impl Moves {
                 None => Source::Nothing,
             },
             None => Source::Own,
+        }
+    }
+
+    /// Returns the commit's directory that is seen at a directory, if any.
+    ///
+    /// Does not allocate.
+    pub(crate) fn shown_at(&self, dir: &Path) -> Option<ArrayVec<u8, 1024>>
+        ensures shown { option_map (λ source. source.items) result ≡ source_dir self.now dir.now }
+        ensures valid { MatchOption result (Unit {0}) (λ source. IsPath source.items) }
+    {
+        match self.get(dir.as_bytes()) {
+            Some(Some(source)) => valid(source.as_bytes(), b"".as_slice()),
+            Some(None) => None,
+            None => match self.source(dir.as_bytes()) {
+                Source::Own => valid(dir.as_bytes(), b"".as_slice()),
+                Source::Nothing => None,
+                Source::Below(directory, rest) => valid(directory.as_bytes(), rest),
+            },
         }
     }
 

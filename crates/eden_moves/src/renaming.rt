@@ -1,17 +1,14 @@
 //! The rename of one more directory.
 
-ghost use Rattle.std.specs.Prelude.{◌≡◌, ◌≢◌, ◌++◌, false, true, IfOk, IfErr, OnOk, OnErr, Some};
+ghost use Rattle.std.specs.Prelude.{◌≡◌, ◌≢◌, false, true, IfOk, IfErr, OnOk, OnErr};
 ghost use Rattle.std.specs.FinMap as fin;
-ghost use Rattle.eden_moves.specs.Moves.{breaks_an_entry, dir_moved, path_alone, source_dir, source_of};
+ghost use Rattle.eden_moves.specs.Moves.{breaks_an_entry, dir_moved, source_dir};
 ghost use Rattle.eden_moves.specs.internal.Shifted.{arriving};
 
-use crate::below::{copy_of, forget_below, replace_below, shifted};
-use crate::entries::put;
+use crate::below::{forget_below, replace_below, shifted};
 use crate::moves::Moves;
-use crate::source::Source;
-use eden_ids::{NoMemory, Path, paths_below};
-use eden_overlay::CarryFault;
-use std::alloc::Global;
+use eden_ids::{NoMemory, Path};
+use eden_overlay::{CarryFault, put_reserved};
 use std::marker::Model;
 
 /// A rename of a directory with everything allocated.
@@ -62,9 +59,9 @@ impl Renaming {
         forget_below(&mut entries, &old);
         replace_below(&mut entries, &new, arriving);
         if !old.is_below(&new) {
-            put(&mut entries, old, None);
+            put_reserved(&mut entries, old, None);
         }
-        put(&mut entries, new, source);
+        put_reserved(&mut entries, new, source);
         Moves::of(entries)
     }
 
@@ -76,35 +73,7 @@ impl Renaming {
     }
 }
 
-/// Returns the path that two parts make, if it is valid.
-fn path_of_parts(alloc: Global, front: &[u8], rest: &[u8]) -> Result<Option<Path>, NoMemory>
-    ensures { IfOk result (λ path. path ≡ path_alone (Some (front.now ++ rest.now))) }
-{
-    let mut bytes = Vec::new(alloc);
-    bytes.extend_from_slice(front)?;
-    bytes.extend_from_slice(rest)?;
-    match Path::from_vec(bytes) {
-        Ok(path) => Ok(Some(path)),
-        Err(_) => Ok(None),
-    }
-}
-
 impl Moves {
-    /// Returns what of the commit is seen at a path.
-    ///
-    /// It is `None` if that is not a valid path.
-    fn source_alone(&self, path: &Path) -> Result<Option<Path>, NoMemory>
-        ensures { IfOk result (λ source. source ≡ path_alone (source_of self.now path.now)) }
-    {
-        match self.source(path.as_bytes()) {
-            Source::Own => Ok(Some(path.copy()?)),
-            Source::Nothing => Ok(None),
-            Source::Below(directory, rest) => {
-                path_of_parts(self.allocator(), directory.as_bytes(), rest)
-            }
-        }
-    }
-
     /// Returns the commit's directory that is seen at a directory, or `None`.
     ///
     /// # Errors
@@ -113,9 +82,12 @@ impl Moves {
     pub fn source_dir(&self, dir: &Path) -> Result<Option<Path>, NoMemory>
         ensures { IfOk result (λ source. source ≡ source_dir self.now dir.now) }
     {
-        match self.get(dir.as_bytes()) {
-            Some(source) => copy_of(source),
-            None => self.source_alone(dir),
+        match self.shown_at(dir) {
+            Some(source) => {
+                let path = Path::joined(self.allocator(), source.as_slice(), b"".as_slice())?;
+                Ok(Some(path))
+            }
+            None => Ok(None),
         }
     }
 
@@ -125,7 +97,7 @@ impl Moves {
         ensures accepts { IfOk result (λ _. breaks_an_entry self.now old.now new.now ≡ false) }
         ensures refuses { IfErr result (λ fault. fault ≢ CarryFault.NoMemory → breaks_an_entry self.now old.now new.now ≡ true) }
     {
-        let below = paths_below(self.entries(), old.as_bytes());
+        let below = self.entries_below(old);
         shifted(self.allocator(), below, old, new)
     }
 

@@ -4,10 +4,11 @@ use Rattle.std.specs.List.{list_any}
 use Rattle.std.specs.List.Sorted.{IsSortedBy}
 use Rattle.std.specs.Ordering.{is_lt}
 use Rattle.std.specs.FinMap as fin
+use Rattle.eden_globs.specs.Filters.{Patterns}
 use Rattle.eden_ids.specs.Paths.{lies_below}
 use Rattle.eden_ids.specs.FileMaps.{FileMap, paths, same_path}
 use Rattle.eden_objects.specs.Passing.{is_shown, told}
-use Rattle.eden_moves.specs.Moves.{Entry, Moves, by_bytes, is_path}
+use Rattle.eden_moves.specs.Moves.{Entry, Moves, by_bytes, is_path, source_dir}
 use Rattle.eden_moves.specs.internal.Regions.{is_apart}
 
 abbrev pub is_pathless : List ℕ → Bool
@@ -15,10 +16,14 @@ is_pathless bytes = not (is_path bytes)
 
 -- the files below the commit's directory that is seen at one, at the paths where they are seen:
 -- those that are seen by it, at paths that a filter admits
-abbrev pub shown_by : FileMap → Moves → List (List ℕ) → Entry → List (List ℕ)
+abbrev pub shown_by : FileMap → Moves → Patterns → Entry → List (List ℕ)
 shown_by files moves patterns (top, None) = []
 shown_by files moves patterns (top, Some source) =
     filter (is_shown (is_apart moves (length top) is_pathless) patterns) (map (told source top) (filter (λ p. lies_below p source) (paths files)))
+
+-- the files that a directory itself shows
+abbrev pub list_own : FileMap → Moves → Patterns → List ℕ → List (List ℕ)
+list_own files moves patterns dir = shown_by files moves patterns (dir, source_dir moves dir)
 
 abbrev pub is_listed : List (List ℕ) → List ℕ → Bool
 is_listed ps path = list_any (λ q. same_path path q) ps

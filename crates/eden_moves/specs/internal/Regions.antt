@@ -5,11 +5,7 @@ use Rattle.std.specs.FinMap as fin
 use Rattle.eden_ids.specs.FileMaps.{FileMap, paths}
 use Rattle.eden_ids.specs.Paths.{lies_below}
 use Rattle.eden_objects.specs.Passing.{told}
-use Rattle.eden_moves.specs.Moves.{Entry, Moves, nearest, own_or, source_of}
-
--- the commit's directory that is seen at a directory, whether or not it is a valid path
-abbrev pub seen_dir : Moves → List ℕ → Option (List ℕ)
-seen_dir moves dir = own_or (fin.get moves dir) (source_of moves dir)
+use Rattle.eden_moves.specs.Moves.{Entry, Moves, nearest, source_dir}
 
 -- the entry's directory is longer than this many bytes
 abbrev pub is_past : ℕ → Option Entry → Bool
@@ -24,3 +20,7 @@ is_apart moves long passes path = passes path || is_past long (nearest (fin.entr
 abbrev pub region_has : (List ℕ → Bool) → FileMap → Option (List ℕ) → List ℕ → Bool
 region_has passes files None top = false
 region_has passes files (Some source) top = list_any (λ p. lies_below p source && not (passes (told source top p))) (paths files)
+
+-- a file that a directory itself shows and that is not passed over
+abbrev pub has_own : (List ℕ → Bool) → FileMap → Moves → List ℕ → Bool
+has_own passes files moves dir = region_has (is_apart moves (length dir) passes) files (source_dir moves dir) dir

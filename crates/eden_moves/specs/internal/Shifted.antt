@@ -5,8 +5,8 @@ use Rattle.std.specs.FinMap as fin
 use Rattle.std.specs.FinMap.{is_sorted}
 use Rattle.eden_ids.specs.Paths.{lies_below}
 use Rattle.eden_overlay.specs.Carried.{carried}
+use Rattle.eden_overlay.specs.Places.{place}
 use Rattle.eden_moves.specs.Moves.{Entry, Moves, by_bytes, source_dir}
-use Rattle.eden_moves.specs.internal.Told.{IsPlace}
 
 -- what was said below the old path is said below the new one, and what was said there before is
 -- forgotten
@@ -27,7 +27,7 @@ arriving es old new = map (shifted_entry old new) (filter (λ e. lies_below e.0 
 -- entries put in, one after the other, at the place of the first of them
 abbrev pub IsPutIn : List Entry → List Entry → List Entry → Type 0
 IsPutIn [] es rs = rs ≡ es
-IsPutIn (m ∷ ms) es rs = (at : ℕ) × IsPlace m.0 es at × (rs ≡ take at es ++ ((m ∷ ms) ++ drop at es))
+IsPutIn (m ∷ ms) es rs = rs ≡ take (place m.0 es) es ++ ((m ∷ ms) ++ drop (place m.0 es) es)
 
 -- what a rename that is ready has
 pub record IsReady (es more : List Entry) (source : Option (List ℕ)) (old new : List ℕ) : Type 0 where

@@ -1,7 +1,8 @@
 use Rattle.std.proofs.Common.{◌++◌, ap, sym, ◌∙◌}
-use Rattle.eden_ids.specs.FileMaps.{file_at}
+use Rattle.eden_ids.specs.FileMaps.{file_at, lent}
 use Rattle.eden_moves.specs.Moves.{file_from}
 use Rattle.eden_moves.proofs.Seen.{file_at-seen}
+use Rattle.eden_moves.proofs.Settled.{too_long}
 use Rattle.eden_moves.proofs.moved.file_through.Goals as goal
 
 pub returns-in-Own : goal.returns-in-Own
@@ -15,9 +16,17 @@ returns-in-Nothing g c =
     ap (file_from c.args.commit.now) c.in-Nothing.ensures
     ∙ sym (file_at-seen c.args.commit.now c.args.moves.now c.args.path.now)
 
-pub returns-in-Below : goal.returns-in-Below
-returns-in-Below g c =
-    c.file_behind.ensures
+pub returns-in_err-source-in-Below : goal.returns-in_err-source-in-Below
+returns-in_err-source-in-Below g c =
+    ap lent c.from_residual.ensures
+    ∙ too_long c.args.commit.now c.texts_law.ensures (c.as_bytes.result.now ++ c.in-Below.rest.now) c.in_err-source-in-Below.ensures
     ∙ ap (λ p. file_at c.args.commit.now (p ++ c.in-Below.rest.now)) c.as_bytes.ensures.bytes
+    ∙ ap (file_from c.args.commit.now) c.in-Below.ensures
+    ∙ sym (file_at-seen c.args.commit.now c.args.moves.now c.args.path.now)
+
+pub returns-in_ok-source-in-Below : goal.returns-in_ok-source-in-Below
+returns-in_ok-source-in-Below g c =
+    c.file-in-Below.ensures
+    ∙ ap (file_at c.args.commit.now) (c.as_slice.ensures.value ∙ c.in_ok-source-in-Below.ensures ∙ ap (λ p. p ++ c.in-Below.rest.now) c.as_bytes.ensures.bytes)
     ∙ ap (file_from c.args.commit.now) c.in-Below.ensures
     ∙ sym (file_at-seen c.args.commit.now c.args.moves.now c.args.path.now)

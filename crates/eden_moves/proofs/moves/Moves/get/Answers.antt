@@ -6,7 +6,7 @@ use Rattle.eden_moves.proofs.moves.Moves.get.Goals as goal
 
 pub returns : goal.returns
 returns c =
-    c.find.ensures
+    c.value_at.ensures
     ∙ ap (find by_bytes c.args.dir.now) c.as_slice.ensures.value
     ∙ sym (fin.get-from_sorted by_bytes c.self.inside.entries.items c.args.dir.now c.self.invariant)
     ∙ ap (λ m. fin.get m c.args.dir.now) c.self.view_is

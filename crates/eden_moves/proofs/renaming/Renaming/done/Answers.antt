@@ -26,10 +26,10 @@ replace_below-requires-clause-below c =
     subst (AllByRecursion (λ (e : Entry). lies_below e.0 c.self.inside.new ≡ true)) (sym c.self.invariant.0.arriving_is)
     (arriving_below c.self.inside.old c.self.inside.new c.self.inside.entries.items)
 
-pub put-requires-2-clause-sorted : goal.put-requires-2-clause-sorted
-put-requires-2-clause-sorted c =
+pub put_reserved-requires-2-clause-sorted : goal.put_reserved-requires-2-clause-sorted
+put_reserved-requires-2-clause-sorted c =
     elim c.if-not-is_below.branch [
-      | then-not-is_below w ↦ subst (λ (v : Vec Entry). T (is_sorted by_bytes v.items)) (sym w.entries-is) w.put.ensures.sorted
+      | then-not-is_below w ↦ subst (λ (v : Vec Entry). T (is_sorted by_bytes v.items)) (sym w.entries-is) w.put_reserved.ensures.sorted
       | else-not-is_below w ↦ subst (λ (v : Vec Entry). T (is_sorted by_bytes v.items)) (sym w.entries-is) c.replace_below.ensures.sorted
     ]
 
@@ -43,16 +43,16 @@ returns c =
     elim c.if-not-is_below.branch [
       | then-not-is_below w ↦
           let outside : lies_below old new ≡ false = sym c.is_below.ensures ∙ w.if-not-is_below.true in
-          ap (λ (v : Vec Entry). v.items) w.entries-is ∙ w.put.ensures.put ∙ sym (ap (λ b. if b then there else put by_bytes old None there) outside)
+          ap (λ (v : Vec Entry). v.items) w.entries-is ∙ w.put_reserved.ensures.put ∙ sym (ap (λ b. if b then there else put by_bytes old None there) outside)
       | else-not-is_below w ↦
           let inside : lies_below old new ≡ true = sym c.is_below.ensures ∙ w.if-not-is_below.false in
           ap (λ (v : Vec Entry). v.items) w.entries-is ∙ sym (ap (λ b. if b then there else put by_bytes old None there) inside)
     ] in
     c.of.ensures
-    ∙ whole_rename es there c.if-not-is_below.entries.items c.put-2.new.entries.items old new c.self.inside.source
+    ∙ whole_rename es there c.if-not-is_below.entries.items c.put_reserved-2.new.entries.items old new c.self.inside.source
     c.self.invariant.0.sorted c.replace_below.ensures.sorted
     (shifted_found es there old new
     (λ dir. c.replace_below.ensures.finds dir
     ∙ (λ i. if lies_below dir new then fin.find by_bytes dir (c.self.invariant.0.arriving_is i) else fin.find by_bytes dir (c.forget_below.ensures.left i))))
-    c.self.invariant.0.source_is emptied c.put-2.ensures.put
+    c.self.invariant.0.source_is emptied c.put_reserved-2.ensures.put
     ∙ ap (λ p. p.1) c.self.view_is

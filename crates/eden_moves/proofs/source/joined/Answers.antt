@@ -1,6 +1,6 @@
 use Rattle.std.proofs.Common.{◌≡◌, ◌+◌, ◌<◌, length, arith, length-append, sym, ap, ◌∙◌}
 use Rattle.eden_moves.proofs.Settled.{granted, refused}
-use Rattle.eden_moves.proofs.parts.joined.Goals as goal
+use Rattle.eden_moves.proofs.source.joined.Goals as goal
 
 pub returns-then-is_err : goal.returns-then-is_err
 returns-then-is_err c =
