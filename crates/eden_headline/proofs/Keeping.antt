@@ -2,46 +2,40 @@
 use Rattle.std.proofs.Common.{◌≡◌, ℕ, ◌<◌, ◌≤◌, ◌⊎◌, inl, inr, List, [], ◌∷◌, Option, refl, subst, arith}
 use Rattle.eden_ids.specs.declared.content.Content.{Content}
 use Rattle.eden_ids.specs.FileMaps.{file_at}
-use Rattle.eden_history.specs.declared.change.Change.{Change}
 use Rattle.eden_objects.specs.Objects.{Held}
-use Rattle.eden_history.specs.Worlds.{Row, Event, Namer, WorldState, commits_of, last_row, now, position_of}
+use Rattle.eden_history.specs.Worlds.{Row, Event, WorldState, commits_of, last_row, now, position_of}
 use Rattle.eden_history.specs.Imports.{over_held}
-use Rattle.eden_history.specs.Outcome.{world_after}
 use Rattle.eden_history.specs.Legal.{IsLegal}
 use Rattle.eden_history.specs.Rows.{IsPlace, IsRow, IsRowOf, Stands}
 use Rattle.eden_history.specs.declared.position.Position.{Position}
 use Rattle.eden_history.proofs.Following.{IsNotAfter}
-use Rattle.eden_history.proofs.Growing.{goes_on, grown}
+use Rattle.eden_history.proofs.Growing.{grown}
 use Rattle.eden_history.proofs.Kept.{itself, none_after}
 
 -- ---- a world goes on
 
-pub stands_grown : (world : WorldState) (event : Event) (generation number : ℕ) (p : List ℕ) (file : Option Content) → Stands world generation number p file
-    → Stands (grown world event) generation number p file
-stands_grown world event generation number p file is =
-    record { row = is.row; is_row = inr is.is_row; alike = is.alike; after = is.after; value = is.value }
+-- what was in a row of the world is in one of the next world, and what was its place is one of the next
+pub record GoesOn (world next : WorldState) : Type 0 where
+  pub stands : (generation number : ℕ) (p : List ℕ) (file : Option Content) → Stands world generation number p file → Stands next generation number p file
+  pub place : (position : Position) → IsPlace world position → IsPlace next position
 
-pub place_grown : (world : WorldState) (event : Event) (position : Position) → IsPlace world position → IsPlace (grown world event) position
-place_grown world event position is = record { row = is.row; is_row = inr is.is_row; is = is.is }
+pub on_same : (world : WorldState) → GoesOn world world
+on_same world = record { stands = λ generation number p file is. is; place = λ position is. is }
+
+pub on_grown : (world : WorldState) (event : Event) → GoesOn world (grown world event)
+on_grown world event =
+    record {
+      stands = λ generation number p file is. record { row = is.row; is_row = inr is.is_row; alike = is.alike; after = is.after; value = is.value };
+      place = λ position is. record { row = is.row; is_row = inr is.is_row; is = is.is };
+    }
 
 -- over other objects the rows are the same
-pub stands_over : (world : WorldState) (held : List Held) (generation number : ℕ) (p : List ℕ) (file : Option Content) → Stands world generation number p file
-    → Stands (over_held world held) generation number p file
-stands_over world held generation number p file is =
-    record { row = is.row; is_row = is.is_row; alike = is.alike; after = is.after; value = is.value }
-
-pub place_over : (world : WorldState) (held : List Held) (position : Position) → IsPlace world position → IsPlace (over_held world held) position
-place_over world held position is = record { row = is.row; is_row = is.is_row; is = is.is }
-
-pub stands_on : (name : Namer) (world : WorldState) (change : Change) (generation number : ℕ) (p : List ℕ) (file : Option Content) → Stands world generation number p file
-    → Stands (world_after name world change) generation number p file
-stands_on name world change generation number p file is =
-    goes_on (λ w. Stands w generation number p file) name world change is (λ event made. stands_grown world event generation number p file is)
-    (λ held. stands_over world held generation number p file is)
-
-pub place_on : (name : Namer) (world : WorldState) (change : Change) (position : Position) → IsPlace world position → IsPlace (world_after name world change) position
-place_on name world change position is =
-    goes_on (λ w. IsPlace w position) name world change is (λ event made. place_grown world event position is) (λ held. place_over world held position is)
+pub on_over : (world : WorldState) (held : List Held) → GoesOn world (over_held world held)
+on_over world held =
+    record {
+      stands = λ generation number p file is. record { row = is.row; is_row = is.is_row; alike = is.alike; after = is.after; value = is.value };
+      place = λ position is. record { row = is.row; is_row = is.is_row; is = is.is };
+    }
 
 -- ---- the present row
 

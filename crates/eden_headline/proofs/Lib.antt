@@ -2,6 +2,7 @@ mod Keeping
 mod Telling
 mod Mirroring
 mod Scheduling
+mod Importing
 mod Living
 mod Merging
 pub mod Noting

@@ -3,11 +3,11 @@ use Rattle.std.proofs.Common.{◌≡◌, Bool, true, false, ◌&&◌, List, [], 
 use Rattle.eden_ids.specs.FileMaps.{put_option}
 use Rattle.eden_history.specs.declared.position.Position.{Position}
 use Rattle.eden_messages.specs.declared.message.Cause.{Cause}
-use Rattle.eden_messages.specs.declared.message.Cause.TheVariants.{Stale, Ahead, Truncated, TooLarge}
+use Rattle.eden_messages.specs.declared.message.Cause.TheVariants.{TooLarge}
 use Rattle.eden_messages.specs.declared.message.Query.{Query}
 use Rattle.eden_messages.specs.declared.message.Reply.{Reply}
 use Rattle.eden_messages.specs.declared.message.Reply.TheVariants.{BasisIs, ChangesAre, ContentIs, Refused, ListIs}
-use Rattle.eden_messages.specs.declared.message.Request.TheVariants.{Basis, Poll, Fetch, List as Below}
+use Rattle.eden_messages.specs.declared.message.Request.TheVariants.{Basis, Poll}
 use Rattle.eden_messages.specs.declared.outcome.Outcome.{Outcome}
 use Rattle.eden_messages.specs.declared.outcome.Outcome.TheVariants.{Ended}
 use Rattle.eden_messages.specs.Mirrors.{MirrorState, Round, begun, counts, delivered, delivered_in, distinct, emptied, ends_round, fetched, gathers, has_number, listed_below, listed_files, next_round, query_of, refused, same_query, taken_if, without}
@@ -41,10 +41,8 @@ taken_keeps true m taken is = is
 taken_keeps false m taken is = same m
 
 refused_keeps : (m : MirrorState) (cause : Cause) → KeepsName m (refused m cause).0
-refused_keeps m (Stale generation) = record { id = refl; life = refl; patterns = refl }
-refused_keeps m (Ahead head) = record { id = refl; life = refl; patterns = refl }
-refused_keeps m (Truncated floor) = record { id = refl; life = refl; patterns = refl }
 refused_keeps m TooLarge = record { id = refl; life = refl; patterns = refl }
+refused_keeps m cause = record { id = refl; life = refl; patterns = refl }
 
 -- over a mirror of the same name
 over : (m n : MirrorState) (taken : MirrorState × Outcome) → KeepsName m n → KeepsName n taken.0 → KeepsName m taken.0
@@ -52,25 +50,14 @@ over m n taken first second =
     record { id = second.id ∙ first.id; life = second.life ∙ first.life; patterns = second.patterns ∙ first.patterns }
 
 in_round_keeps : (m : MirrorState) (round : Round) (reply : Reply) → KeepsName m (delivered_in m round reply).0
-in_round_keeps m Idle reply = same m
 in_round_keeps m (Asked (Basis asked patterns)) (BasisIs query target paths) =
     taken_keeps (same_query query asked) m (gathers (emptied m) asked target (distinct paths) [])
     (over m (emptied m) (gathers (emptied m) asked target (distinct paths) []) (record { id = refl; life = refl; patterns = refl })
     (gathers_keeps (emptied m) asked target (distinct paths) []))
-in_round_keeps m (Asked (Poll asked since patterns)) (BasisIs query target paths) = same m
-in_round_keeps m (Asked (Fetch asked path)) (BasisIs query target paths) = same m
-in_round_keeps m (Asked (Below asked prefix patterns)) (BasisIs query target paths) = same m
-in_round_keeps m (Asked (Basis asked patterns)) (ChangesAre query target marked prefixes) = same m
 in_round_keeps m (Asked (Poll asked since patterns)) (ChangesAre query target marked prefixes) =
     taken_keeps (same_query query asked) m (gathers m asked target (distinct (paths_of marked)) (distinct prefixes))
     (gathers_keeps m asked target (distinct (paths_of marked)) (distinct prefixes))
-in_round_keeps m (Asked (Fetch asked path)) (ChangesAre query target marked prefixes) = same m
-in_round_keeps m (Asked (Below asked prefix patterns)) (ChangesAre query target marked prefixes) = same m
-in_round_keeps m (Asked request) (ContentIs query position path content) = same m
 in_round_keeps m (Asked request) (Refused query cause) = taken_keeps (same_query query (query_of request)) m (refused m cause) (refused_keeps m cause)
-in_round_keeps m (Asked request) (ListIs query position prefix paths) = same m
-in_round_keeps m (Gathering asked target awaited prefixes) (BasisIs query position paths) = same m
-in_round_keeps m (Gathering asked target awaited prefixes) (ChangesAre query other marked more) = same m
 in_round_keeps m (Gathering asked target awaited prefixes) (ContentIs query position path content) =
     taken_keeps (counts asked target awaited query position path) m (fetched m asked target awaited prefixes path content)
     (over m (record m { files = put_option m.files path content }) (fetched m asked target awaited prefixes path content) (record { id = refl; life = refl; patterns = refl })
@@ -81,6 +68,7 @@ in_round_keeps m (Gathering asked target awaited prefixes) (ListIs query positio
     (gathers_keeps (record m { files = listed_files m.files prefix paths }) asked target (distinct (awaited ++ paths)) (without prefix prefixes)))
 in_round_keeps m (Gathering asked target awaited prefixes) (Refused query cause) =
     taken_keeps (same_query query asked && ends_round prefixes cause) m (record m { round = Idle }, Ended) (record { id = refl; life = refl; patterns = refl })
+in_round_keeps m round reply = same m
 
 pub delivered_keeps : (m : MirrorState) (reply : Reply) → KeepsName m (delivered m reply).0
 unfolding delivered

@@ -21,9 +21,10 @@ use Rattle.eden_logs.specs.Histories.{IsLegalAfter, answer_in, replay, world_pas
 use Rattle.eden_logs.proofs.Covered.{cons_cases, here, nowhere, there}
 use Rattle.eden_headline.specs.declared.note.Note.{Note}
 use Rattle.eden_headline.specs.declared.note.Note.TheVariants.{Began, Sent, Came}
+use Rattle.eden_headline.specs.Imports.{IsScheduleWithImports, happens_with_imports, run_with_imports}
 use Rattle.eden_headline.specs.Merges.{behind, merge, steps_of, steps_of_call, up_to}
 use Rattle.eden_headline.specs.Notes.{AreOwnNotes, after_notes}
-use Rattle.eden_headline.specs.Schedules.{IsSchedule, IsStrange, Mirrors, Scene, Step, asked_by, happens, moved, run_schedule}
+use Rattle.eden_headline.specs.Schedules.{IsStrange, Mirrors, Scene, Step, asked_by, happens, moved}
 use Rattle.eden_headline.specs.Schedules.Step.{Begins, Comes, Sends, Serves, Strange}
 use Rattle.eden_headline.specs.Vouched.{is_own}
 use Rattle.eden_headline.proofs.Living.{begun_keeps, delivered_keeps}
@@ -31,13 +32,13 @@ use Rattle.eden_headline.proofs.Scheduling.{all_moved}
 
 -- ---- one list of steps after another
 
-schedule_join : (name : Namer) (s : Scene) (xs ys : List Step) → IsSchedule name s xs → IsSchedule name (run_schedule name s xs) ys → IsSchedule name s (xs ++ ys)
+schedule_join : (name : Namer) (s : Scene) (xs ys : List Step) → IsScheduleWithImports name s xs → IsScheduleWithImports name (run_with_imports name s xs) ys → IsScheduleWithImports name s (xs ++ ys)
 schedule_join name s [] ys first second = second
-schedule_join name s (x ∷ xs) ys first second = (first.0, schedule_join name (happens name s x) xs ys first.1 second)
+schedule_join name s (x ∷ xs) ys first second = (first.0, schedule_join name (happens_with_imports name s x) xs ys first.1 second)
 
-run_join : (name : Namer) (s : Scene) (xs ys : List Step) → run_schedule name s (xs ++ ys) ≡ run_schedule name (run_schedule name s xs) ys
+run_join : (name : Namer) (s : Scene) (xs ys : List Step) → run_with_imports name s (xs ++ ys) ≡ run_with_imports name (run_with_imports name s xs) ys
 run_join name s [] ys = refl
-run_join name s (x ∷ xs) ys = run_join name (happens name s x) xs ys
+run_join name s (x ∷ xs) ys = run_join name (happens_with_imports name s x) xs ys
 
 -- ---- a history, cut in two
 
@@ -126,15 +127,15 @@ IsAlone id life mirrors = (other : ℕ) (m : MirrorState) → mirrors other ≡ 
 
 -- the steps may happen, and lead to this world; no mirror moves, nothing is forgotten, and these replies are made
 record Passes (name : Namer) (s : Scene) (steps : List Step) (next : WorldState) (IsMade : Reply → Type 0) : Type 0 where
-  schedule : IsSchedule name s steps
-  world : (run_schedule name s steps).world ≡ next
-  mirrors : (run_schedule name s steps).mirrors ≡ s.mirrors
-  sent : (request : Request) → Contains s.sent request → Contains (run_schedule name s steps).sent request
-  replies : (reply : Reply) → Contains s.replies reply → Contains (run_schedule name s steps).replies reply
-  made : (reply : Reply) → IsMade reply → Contains (run_schedule name s steps).replies reply
+  schedule : IsScheduleWithImports name s steps
+  world : (run_with_imports name s steps).world ≡ next
+  mirrors : (run_with_imports name s steps).mirrors ≡ s.mirrors
+  sent : (request : Request) → Contains s.sent request → Contains (run_with_imports name s steps).sent request
+  replies : (reply : Reply) → Contains s.replies reply → Contains (run_with_imports name s steps).replies reply
+  made : (reply : Reply) → IsMade reply → Contains (run_with_imports name s steps).replies reply
 
 passes_join : (name : Namer) (s : Scene) (xs ys : List Step) (world last : WorldState) (IsMade IsNext IsAny : Reply → Type 0)
-    → Passes name s xs world IsMade → Passes name (run_schedule name s xs) ys last IsNext → ((reply : Reply) → IsAny reply → IsMade reply ⊎ IsNext reply)
+    → Passes name s xs world IsMade → Passes name (run_with_imports name s xs) ys last IsNext → ((reply : Reply) → IsAny reply → IsMade reply ⊎ IsNext reply)
     → Passes name s (xs ++ ys) last IsAny
 passes_join name s xs ys world last IsMade IsNext IsAny first second cases =
     record {
@@ -146,10 +147,10 @@ passes_join name s xs ys world last IsMade IsNext IsAny first second cases =
       made = λ reply is. subst (λ (t : Scene). Contains t.replies reply) (sym joined) (by reply (cases reply is));
     }
   where
-    joined : run_schedule name s (xs ++ ys) ≡ run_schedule name (run_schedule name s xs) ys
+    joined : run_with_imports name s (xs ++ ys) ≡ run_with_imports name (run_with_imports name s xs) ys
     joined = run_join name s xs ys
 
-    by : (reply : Reply) → IsMade reply ⊎ IsNext reply → Contains (run_schedule name (run_schedule name s xs) ys).replies reply
+    by : (reply : Reply) → IsMade reply ⊎ IsNext reply → Contains (run_with_imports name (run_with_imports name s xs) ys).replies reply
     by reply (inl is) = second.replies reply (first.made reply is)
     by reply (inr is) = second.made reply is
 
@@ -179,7 +180,7 @@ sent_by_another : (name : Namer) (s : Scene) (request : Request) → IsStrange s
     → Passes name s (Strange request ∷ Serves request ∷ []) s.world (λ reply. answer_in name s.world (Ask request) ≡ Replied reply)
 unfolding happens
 sent_by_another name s request strange =
-    let after = served name (happens name s (Strange request)) request (Contains-push s.sent request) in
+    let after = served name (happens_with_imports name s (Strange request)) request (Contains-push s.sent request) in
     record {
       schedule = (strange, after.schedule);
       world = refl;
@@ -251,7 +252,7 @@ entries_pass name id life s (entry ∷ rest) alone asked =
     first = call_passes name id life s entry.call alone (λ request e own. asked entry request (here entry rest) e own)
 
     t : Scene
-    t = run_schedule name s (steps_of_call id life entry.call)
+    t = run_with_imports name s (steps_of_call id life entry.call)
 
     cases : (reply : Reply) → (ticket : ℕ) × IsDue name s.world (entry ∷ rest) ticket reply
         → (answer_in name s.world entry.call ≡ Replied reply) ⊎ ((ticket : ℕ) × IsDue name (world_past name s.world entry.call) rest ticket reply)
@@ -285,9 +286,9 @@ pub record IsReady (name : Namer) (id life : ℕ) (s : Scene) (m : MirrorState) 
   pub told : (ticket : ℕ) (reply : Reply) → IsComing ticket reply notes → Contains s.replies reply ⊎ IsDue name s.world entries ticket reply
 
 pub record Merges (name : Namer) (id life : ℕ) (s : Scene) (m : MirrorState) (entries : List Entry) (notes : List Note) : Type 0 where
-  pub schedule : IsSchedule name s (merge id life entries notes)
-  pub world : (run_schedule name s (merge id life entries notes)).world ≡ replay name s.world entries
-  pub mirror : (run_schedule name s (merge id life entries notes)).mirrors id ≡ Some (after_notes m notes)
+  pub schedule : IsScheduleWithImports name s (merge id life entries notes)
+  pub world : (run_with_imports name s (merge id life entries notes)).world ≡ replay name s.world entries
+  pub mirror : (run_with_imports name s (merge id life entries notes)).mirrors id ≡ Some (after_notes m notes)
 
 moved_here : (mirrors : Mirrors) (id : ℕ) (move : MirrorState → MirrorState) (m : MirrorState) → mirrors id ≡ Some m → moved mirrors id move id ≡ Some (move m)
 moved_here mirrors id move m at = by (id == id) (eqb_tells id id)
@@ -320,19 +321,19 @@ module _ (name : Namer) (id life : ℕ) (s : Scene) (m : MirrorState) (entries :
   first = entries_pass name id life s (up_to came entries) ready.alone asked_up_to
 
   pub before : Scene
-  before = run_schedule name s (steps_of id life (up_to came entries))
+  before = run_with_imports name s (steps_of id life (up_to came entries))
 
   pub after : Scene
-  after = happens name before (Comes reply id)
+  after = happens_with_imports name before (Comes reply id)
 
-  pub passed : IsSchedule name s (steps_of id life (up_to came entries))
+  pub passed : IsScheduleWithImports name s (steps_of id life (up_to came entries))
   passed = first.schedule
 
   pub may_come : Contains before.replies reply
   unfolding before
   may_come = by (ready.told came reply (inl (refl, refl)))
     where
-      by : Contains s.replies reply ⊎ IsDue name s.world entries came reply → Contains (run_schedule name s (steps_of id life (up_to came entries))).replies reply
+      by : Contains s.replies reply ⊎ IsDue name s.world entries came reply → Contains (run_with_imports name s (steps_of id life (up_to came entries))).replies reply
       by (inl made) = first.replies reply made
       by (inr due) = first.made reply (came, due_up_to name ready.legal.0 s.world entries came reply ready.legal.1 due)
 
@@ -384,7 +385,7 @@ merges name id life s m entries [] ready =
     last : Passes name s (steps_of id life entries) (replay name s.world entries) (λ x. (ticket : ℕ) × IsDue name s.world entries ticket x)
     last = entries_pass name id life s entries ready.alone asked
 merges name id life s m entries (Began ∷ notes) ready =
-    let rest = merges name id life (happens name s (Begins id)) (begun m) entries notes (record {
+    let rest = merges name id life (happens_with_imports name s (Begins id)) (begun m) entries notes (record {
       at = moved_here s.mirrors id begun m ready.at;
       alone = still_alone id life s.mirrors begun (λ n. (begun_keeps n).life) ready.alone;
       own = ready.own.1;
@@ -394,7 +395,7 @@ merges name id life s m entries (Began ∷ notes) ready =
     }) in
     record { schedule = (tt, rest.schedule); world = rest.world; mirror = rest.mirror }
 merges name id life s m entries (Sent requests ∷ notes) ready =
-    let rest = merges name id life (happens name s (Sends id)) m entries notes (record {
+    let rest = merges name id life (happens_with_imports name s (Sends id)) m entries notes (record {
       at = ready.at;
       alone = ready.alone;
       own = ready.own.1;
@@ -424,6 +425,6 @@ merges name id life s m entries (Came came reply ∷ notes) ready =
       mirror = ap (λ t. t.mirrors id) joined ∙ rest.mirror;
     }
   where
-    joined : run_schedule name s (merge id life entries (Came came reply ∷ notes))
-        ≡ run_schedule name (run_schedule name s (steps_of id life (up_to came entries))) (Comes reply id ∷ merge id life (behind came entries) notes)
+    joined : run_with_imports name s (merge id life entries (Came came reply ∷ notes))
+        ≡ run_with_imports name (run_with_imports name s (steps_of id life (up_to came entries))) (Comes reply id ∷ merge id life (behind came entries) notes)
     joined = run_join name s (steps_of id life (up_to came entries)) (Comes reply id ∷ merge id life (behind came entries) notes)

@@ -12,7 +12,7 @@ use Rattle.eden_ids.specs.declared.content.Content.{Content}
 use Rattle.eden_ids.specs.FileMaps.{file_at, put_option, same_path}
 use Rattle.eden_ids.specs.Paths.{lies_below}
 use Rattle.eden_ids.proofs.FileMapLemmas.{file_at-none, put_option-at, same_order, same_path-is}
-use Rattle.eden_globs.specs.Filters.{admits}
+use Rattle.eden_globs.specs.Filters.{Patterns, admits, all_paths}
 use Rattle.eden_messages.specs.declared.message.Cause.{Cause}
 use Rattle.eden_messages.specs.declared.message.Cause.TheVariants.{Stale, Ahead, Truncated, TooLarge}
 use Rattle.eden_messages.specs.declared.message.Query.{Query}
@@ -62,7 +62,7 @@ pub record IsGoodGathering (world : WorldState) (sent : List Request) (m : Mirro
   pub gathered : (p : List ℕ) → admits m.patterns p ≡ true → is_among p awaited ≡ false → below_any prefixes p ≡ false
       → Stands world target.generation target.sequence p (file_at m.files p)
   pub later : (place : Position) → m.place ≡ Some place → (place.generation ≡ target.generation) × (place.sequence ≤ target.sequence)
-  pub lists : (prefix : List ℕ) (patterns : List (List ℕ)) → Contains sent (Below query prefix patterns) → patterns ≡ m.patterns
+  pub lists : (prefix : List ℕ) (patterns : Patterns) → Contains sent (Below query prefix patterns) → patterns ≡ m.patterns
 
 abbrev pub IsGoodRound : WorldState → List Request → MirrorState → Round → Type 0
 IsGoodRound world sent m Idle = Unit {0}
@@ -75,14 +75,14 @@ pub record IsSound (world : WorldState) (sent : List Request) (id : ℕ) (m : Mi
 
 -- ---- requests
 
-list_query : (query : Query) (place : Option Position) (patterns : List (List ℕ)) → query_of (list_request query place patterns) ≡ query
+list_query : (query : Query) (place : Option Position) (patterns : Patterns) → query_of (list_request query place patterns) ≡ query
 list_query query None patterns = refl
 list_query query (Some place) patterns = refl
 
-patterns_of : Request → List (List ℕ)
+patterns_of : Request → Patterns
 patterns_of (Basis query patterns) = patterns
 patterns_of (Poll query since patterns) = patterns
-patterns_of (Fetch query path) = []
+patterns_of (Fetch query path) = all_paths
 patterns_of (Below query prefix patterns) = patterns
 
 since_of : Request → Option Position
@@ -91,12 +91,12 @@ since_of (Poll query since patterns) = Some since
 since_of (Fetch query path) = None
 since_of (Below query prefix patterns) = None
 
-list_patterns : (query : Query) (place : Option Position) (patterns : List (List ℕ)) → patterns_of (list_request query place patterns) ≡ patterns
+list_patterns : (query : Query) (place : Option Position) (patterns : Patterns) → patterns_of (list_request query place patterns) ≡ patterns
 unfolding patterns_of
 list_patterns query None patterns = refl
 list_patterns query (Some place) patterns = refl
 
-list_since : (query : Query) (place : Option Position) (patterns : List (List ℕ)) → since_of (list_request query place patterns) ≡ place
+list_since : (query : Query) (place : Option Position) (patterns : Patterns) → since_of (list_request query place patterns) ≡ place
 unfolding since_of
 list_since query None patterns = refl
 list_since query (Some place) patterns = refl
@@ -108,7 +108,7 @@ query_same q r e =
     queries_equal q r (eqb-true _ _ first.0) (eqb-true _ _ first.1) (eqb-true _ _ last.1)
 
 -- what holds of each list and each content that a gathering round awaits holds of all that it asks
-all_asked : (Holds : Request → Type 0) (patterns : List (List ℕ)) (query : Query) (target : Position) (awaited prefixes : List (List ℕ))
+all_asked : (Holds : Request → Type 0) (patterns : Patterns) (query : Query) (target : Position) (awaited prefixes : List (List ℕ))
     → ((prefix : List ℕ) → Holds (Below query prefix patterns)) → ((path : List ℕ) → Holds (Fetch query path))
     → (request : Request) → Contains (requests_in patterns (Gathering query target awaited prefixes)) request → Holds request
 all_asked Holds patterns query target awaited prefixes list content request there =
@@ -134,18 +134,18 @@ own_query world sent m request (Gathering query target awaited prefixes) good th
     all_asked (λ r. query_of r ≡ query) m.patterns query target awaited prefixes (λ prefix. refl) (λ path. refl) request there ∙ good.asks
 
 -- what it asks in a round whose list was not told yet is that list alone
-pub own_request : (patterns : List (List ℕ)) (asked request : Request) → Contains (requests_in patterns (Asked asked)) request → request ≡ asked
+pub own_request : (patterns : Patterns) (asked request : Request) → Contains (requests_in patterns (Asked asked)) request → request ≡ asked
 own_request patterns asked request there = All-contains (λ r. r ≡ asked) (asked ∷ []) request (All-from_recursion (λ r. r ≡ asked) (asked ∷ []) (refl, tt)) there
 
 -- what stands below a directory is asked for with these patterns, if it is
-abbrev AsksWith : List (List ℕ) → Request → Type 0
+abbrev AsksWith : Patterns → Request → Type 0
 AsksWith patterns (Basis query own) = Unit {0}
 AsksWith patterns (Poll query since own) = Unit {0}
 AsksWith patterns (Fetch query path) = Unit {0}
 AsksWith patterns (Below query prefix own) = own ≡ patterns
 
 -- a gathering round asks for lists with the mirror's patterns
-pub own_patterns : (patterns : List (List ℕ)) (query : Query) (target : Position) (awaited prefixes : List (List ℕ)) (other : Query) (prefix : List ℕ) (own : List (List ℕ))
+pub own_patterns : (patterns : Patterns) (query : Query) (target : Position) (awaited prefixes : List (List ℕ)) (other : Query) (prefix : List ℕ) (own : Patterns)
     → Contains (requests_in patterns (Gathering query target awaited prefixes)) (Below other prefix own) → own ≡ patterns
 own_patterns patterns query target awaited prefixes other prefix own there =
     all_asked (AsksWith patterns) patterns query target awaited prefixes (λ p. refl) (λ p. tt) (Below other prefix own) there
@@ -196,7 +196,7 @@ blank world sent id m named numbers =
       values = λ place p e wanted. none_placed place e;
     }
 
-pub sound_new : (world : WorldState) (sent : List Request) (id life : ℕ) (patterns : List (List ℕ))
+pub sound_new : (world : WorldState) (sent : List Request) (id life : ℕ) (patterns : Patterns)
     → ((request : Request) → Contains sent request → (query_of request).mirror ≡ id → (query_of request).life ≡ life → ⊥) → IsSound world sent id (new_mirror id life patterns)
 sound_new world sent id life patterns unused =
     record {
@@ -204,7 +204,7 @@ sound_new world sent id life patterns unused =
       round = tt;
     }
 
-pub sound_refiltered : (world : WorldState) (sent : List Request) (id : ℕ) (m : MirrorState) (patterns : List (List ℕ)) → IsSound world sent id m → IsSound world sent id (refiltered m patterns)
+pub sound_refiltered : (world : WorldState) (sent : List Request) (id : ℕ) (m : MirrorState) (patterns : Patterns) → IsSound world sent id m → IsSound world sent id (refiltered m patterns)
 unfolding refiltered
 sound_refiltered world sent id m patterns is =
     record {
@@ -291,7 +291,7 @@ taken_sound world sent id m true taken is made = made refl
 taken_sound world sent id m false taken is made = is
 
 -- the list of all paths
-basis_sound : (world : WorldState) (sent : List Request) (id : ℕ) (m : MirrorState) (asked query : Query) (patterns : List (List ℕ)) (position : Position) (ps : List (List ℕ))
+basis_sound : (world : WorldState) (sent : List Request) (id : ℕ) (m : MirrorState) (asked query : Query) (patterns : Patterns) (position : Position) (ps : List (List ℕ))
     → IsSound world sent id m → IsGoodAsk sent m (Basis asked patterns) → BasisTells world sent query position ps → query ≡ asked
     → IsSound world sent id (gathers (emptied m) asked position (distinct ps) []).0
 unfolding patterns_of
@@ -311,7 +311,7 @@ basis_sound world sent id m asked query patterns position ps is good told same =
     filters = ap patterns_of (good.alone (Basis query told.patterns) told.asked same ∙ good.asks) ∙ list_patterns (query_numbered m m.last) m.place m.patterns
 
 -- the list of what changed
-changes_sound : (world : WorldState) (sent : List Request) (id : ℕ) (m : MirrorState) (asked query : Query) (since : Position) (patterns : List (List ℕ)) (target : Position) (ps prefixes : List (List ℕ))
+changes_sound : (world : WorldState) (sent : List Request) (id : ℕ) (m : MirrorState) (asked query : Query) (since : Position) (patterns : Patterns) (target : Position) (ps prefixes : List (List ℕ))
     → IsSound world sent id m → IsGoodAsk sent m (Poll asked since patterns) → PollTells world sent query target ps prefixes → query ≡ asked
     → IsSound world sent id (gathers m asked target (distinct ps) (distinct prefixes)).0
 unfolding patterns_of since_of
@@ -491,24 +491,13 @@ counted_parts asked target awaited query position path e =
 
 delivered_sound : (world : WorldState) (sent : List Request) (id : ℕ) (m : MirrorState) (round : Round) (reply : Reply) → IsSound world sent id m → IsGoodRound world sent m round
     → IsTrueOf world sent reply → IsSound world sent id (delivered_in m round reply).0
-delivered_sound world sent id m Idle reply is good told = is
 delivered_sound world sent id m (Asked (Basis asked patterns)) (BasisIs query position ps) is good told =
     taken_sound world sent id m (same_query query asked) _ is (λ e. basis_sound world sent id m asked query patterns position ps is good told (query_same query asked e))
-delivered_sound world sent id m (Asked (Poll asked since patterns)) (BasisIs query position ps) is good told = is
-delivered_sound world sent id m (Asked (Fetch asked path)) (BasisIs query position ps) is good told = is
-delivered_sound world sent id m (Asked (Below asked prefix patterns)) (BasisIs query position ps) is good told = is
-delivered_sound world sent id m (Asked (Basis asked patterns)) (ChangesAre query target marked prefixes) is good told = is
 delivered_sound world sent id m (Asked (Poll asked since patterns)) (ChangesAre query target marked prefixes) is good told =
     taken_sound world sent id m (same_query query asked) _ is
     (λ e. changes_sound world sent id m asked query since patterns target (paths_of marked) prefixes is good told (query_same query asked e))
-delivered_sound world sent id m (Asked (Fetch asked path)) (ChangesAre query target marked prefixes) is good told = is
-delivered_sound world sent id m (Asked (Below asked prefix patterns)) (ChangesAre query target marked prefixes) is good told = is
-delivered_sound world sent id m (Asked request) (ContentIs query position path content) is good told = is
 delivered_sound world sent id m (Asked request) (Refused query cause) is good told =
     taken_sound world sent id m (same_query query (query_of request)) _ is (λ e. refused_sound world sent id m cause is)
-delivered_sound world sent id m (Asked request) (ListIs query position prefix ps) is good told = is
-delivered_sound world sent id m (Gathering asked target awaited prefixes) (BasisIs query position ps) is good told = is
-delivered_sound world sent id m (Gathering asked target awaited prefixes) (ChangesAre query other marked more) is good told = is
 delivered_sound world sent id m (Gathering asked target awaited prefixes) (ContentIs query position path content) is good told =
     taken_sound world sent id m (counts asked target awaited query position path) _ is
     (λ e. let parts = counted_parts asked target awaited query position path e in
@@ -519,6 +508,7 @@ delivered_sound world sent id m (Gathering asked target awaited prefixes) (ListI
     list_sound world sent id m asked query target position awaited prefixes prefix ps is good told parts.0 parts.1 parts.2)
 delivered_sound world sent id m (Gathering asked target awaited prefixes) (Refused query cause) is good told =
     taken_sound world sent id m (same_query query asked && ends_round prefixes cause) _ is (λ e. ended world sent id m is)
+delivered_sound world sent id m round reply is good told = is
 
 pub sound_delivered : (world : WorldState) (sent : List Request) (id : ℕ) (m : MirrorState) (reply : Reply) → IsSound world sent id m → IsTrueOf world sent reply
     → IsSound world sent id (delivered m reply).0

@@ -1,6 +1,6 @@
 -- Every schedule from a fresh beginning keeps what is kept of the world, of all replies and of each mirror, and what that means at its end.
 use Rattle.std.proofs.Common.{◌≡◌, ℕ, ◌<◌, ◌≤◌, ◌⊎◌, inl, inr, Bool, true, false, ◌&&◌, ◌||◌, nat_lt, List, [], ◌∷◌, ◌++◌, length, Option, Some, None, refl, sym, ap, subst, ◌∙◌, arith}
-use Rattle.std.specs.Prelude.{Contains, ◌==◌, if◌then◌else◌}
+use Rattle.std.specs.Prelude.{Contains, IsSome, ◌==◌, if◌then◌else◌}
 use Rattle.std.specs.Option.{option_map}
 use Rattle.std.proofs.lemmas.Bool.{eqb-true, or_from}
 use Rattle.std.proofs.lemmas.List.Elements.{Contains-append_cases, Contains-push_cases}
@@ -8,7 +8,9 @@ use Rattle.std.proofs.lemmas.Option.{same_Some}
 use Rattle.eden_ids.specs.declared.content.Content.{Content}
 use Rattle.eden_ids.specs.FileMaps.{file_at, has, path_set}
 use Rattle.eden_ids.proofs.FileMapLemmas.{has-none}
-use Rattle.eden_globs.specs.Filters.{admits}
+use Rattle.eden_globs.specs.Filters.{Patterns, admits}
+use Rattle.eden_objects.specs.Commits.{commit_map}
+use Rattle.eden_objects.specs.Objects.{Held}
 use Rattle.eden_history.specs.declared.change.Change.{Change}
 use Rattle.eden_messages.specs.declared.message.Cause.TheVariants.{TooLarge}
 use Rattle.eden_messages.specs.declared.message.Query.{Query}
@@ -17,45 +19,52 @@ use Rattle.eden_messages.specs.declared.message.Reply.TheVariants.{ChangesAre, R
 use Rattle.eden_messages.specs.declared.message.Request.{Request}
 use Rattle.eden_messages.specs.declared.message.Request.TheVariants.{List as Below}
 use Rattle.eden_history.specs.declared.position.Position.{Position}
-use Rattle.eden_history.specs.Worlds.{Namer, WorldState, commits_of, now, position_of}
+use Rattle.eden_history.specs.Worlds.{WorldState, commits_of, now, position_of}
 use Rattle.eden_history.specs.Said.{paths_said}
 use Rattle.eden_history.specs.Changes.{below_any, is_among, named_since, prefixes_since, prefixes_told}
 use Rattle.eden_headline.specs.Headline.{AgreeTogether, AgreesAtHead, Differs, HasPlace, HasValues, IsCovered, IsRefused, IsTold, OfMirrors, OfPairs, Tells, changes_after, prefixes_after}
-use Rattle.eden_history.specs.Legal.{IsLegal, IsWorld}
+use Rattle.eden_history.specs.Legal.{IsLegal}
 use Rattle.eden_history.specs.Marks.{marked_since}
 use Rattle.eden_messages.specs.Mirrors.{MirrorState, Round, begun, delivered, new_mirror, outstanding_of, query_of, refiltered, requests_in}
 use Rattle.eden_messages.specs.Mirrors.Round.{Idle, Asked, Gathering}
-use Rattle.eden_history.specs.Outcome.{world_after}
+use Rattle.eden_history.specs.Imports.{over_held}
+use Rattle.eden_history.specs.Outcome.{row_after}
 use Rattle.eden_history.specs.Recorded.{floor_of}
 use Rattle.eden_history.specs.Marks.{admitted}
 use Rattle.eden_messages.specs.Replies.{bounded, polled, reply_of}
 use Rattle.eden_history.specs.Rows.{Stands}
-use Rattle.eden_headline.specs.Schedules.{IsFresh, IsSchedule, IsStrange, MayHappen, Mirrors, OnFreshRuns, Scene, Step, asked_by, happens, moved, run_schedule}
-use Rattle.eden_headline.specs.Schedules.Step.{Begins, Changes, Comes, Nothing, Refilters, Restarts, Sends, Serves, Strange}
+use Rattle.eden_headline.specs.Schedules.{CommitsStay, IsFresh, IsSchedule, IsStrange, MayHappen, Mirrors, OnFreshRuns, Scene, Step, asked_by, happens, moved, run_schedule}
+use Rattle.eden_headline.specs.Schedules.Step.{Begins, Changes, Comes, Grows, Nothing, Refilters, Restarts, Sends, Serves, Strange}
 use Rattle.eden_messages.specs.Spells.{reply_bytes}
 use Rattle.eden_stream.specs.Frames.{body_limit}
 use Rattle.eden_history.specs.Status.{status_of}
 use Rattle.eden_history.proofs.Following.{IsNotAfter, none_said}
-use Rattle.eden_history.proofs.Growing.{world_changes}
+use Rattle.eden_history.proofs.Growing.{made_still, row_goes_on, there_still}
 use Rattle.eden_history.proofs.Kept.{below_listed, none_moved, still}
-use Rattle.eden_headline.proofs.Keeping.{place_in_time, place_on, stands_on}
+use Rattle.eden_headline.proofs.Keeping.{GoesOn, on_grown, on_over, on_same, place_in_time}
 use Rattle.eden_headline.proofs.Mirroring.{IsGoodRound, IsOwn, IsSound, own_patterns, own_query, own_request, sound_begun, sound_delivered, sound_new, sound_refiltered}
-use Rattle.eden_headline.proofs.Telling.{IsTrueOf, among_changes, by_status, reply_true, true_of_more, true_on}
+use Rattle.eden_headline.proofs.Telling.{IsTrueOf, PollTells, among_changes, by_status, poll_grown, poll_over, reply_true, true_of_more, true_on}
 
 -- ---- what holds of all
 
-pub record HoldsAll (name : Namer) (s : Scene) : Type 0 where
-  pub world : IsWorld name s.world
+-- the opening root is a commit that is there
+abbrev IsRooted : WorldState → Type 0
+IsRooted world = IsSome (commits_of world world.opening.root)
+
+pub record HoldsAll (s : Scene) : Type 0 where
+  pub legal : IsLegal s.world
+  pub begins : IsRooted s.world
   pub honest : (reply : Reply) → Contains s.replies reply → IsTrueOf s.world s.sent reply
   pub sound : (id : ℕ) (m : MirrorState) → s.mirrors id ≡ Some m → IsSound s.world s.sent id m
 
 nothing_in : {X : Type 0} (xs : List X) (x : X) → xs ≡ [] → Contains xs x → ⊥
 nothing_in xs x none there = let within = there.1 in let few = ap length none in omega arith
 
-all_fresh : (name : Namer) (s : Scene) → IsFresh name s → HoldsAll name s
-all_fresh name s fresh =
+all_fresh : (s : Scene) → IsFresh s → HoldsAll s
+all_fresh s fresh =
     record {
-      world = fresh.world;
+      legal = fresh.legal;
+      begins = fresh.begins;
       honest = λ reply there. absurd (nothing_in s.replies reply fresh.replies there);
       sound = λ id m e. subst (IsSound s.world s.sent id) (sym (fresh.mirrors id m e))
           (sound_new s.world s.sent id m.life m.patterns (λ request there mirror life. nothing_in s.sent request fresh.sent there));
@@ -123,7 +132,7 @@ more_sent world sent more id m own is =
           lists = λ prefix patterns there. listed prefix patterns (Contains-append_cases sent more (Below query prefix patterns) there);
         }
       where
-        listed : (prefix : List ℕ) (patterns : List (List ℕ)) → Contains sent (Below query prefix patterns) ⊎ Contains more (Below query prefix patterns) → patterns ≡ m.patterns
+        listed : (prefix : List ℕ) (patterns : Patterns) → Contains sent (Below query prefix patterns) ⊎ Contains more (Below query prefix patterns) → patterns ≡ m.patterns
         listed prefix patterns (inl old) = good.lists prefix patterns old
         listed prefix patterns (inr new) =
             let mine = (own (Below query prefix patterns) new (record { mirror = ap (λ q. q.mirror) good.asks; life = ap (λ q. q.life) good.asks })).1 in
@@ -131,28 +140,56 @@ more_sent world sent more id m own is =
 
 -- ---- each step
 
-all_changed : (name : Namer) (s : Scene) (change : Change) → HoldsAll name s → HoldsAll name (record s { world = world_after name s.world change })
-all_changed name s change is =
+-- the next world is legal and begins too, and what was there is still true
+record IsNext (world next : WorldState) : Type 0 where
+  legal : IsLegal next
+  begins : IsRooted next
+  on : GoesOn world next
+  polls : (sent : List Request) (query : Query) (target : Position) (ps prefixes : List (List ℕ))
+      → PollTells world sent query target ps prefixes → PollTells next sent query target ps prefixes
+
+changed : (world : WorldState) (change : Change) → IsLegal world → IsRooted world → IsNext world (row_after world change)
+changed world change legal begins =
+    row_goes_on (IsNext world) world change (record { legal = legal; begins = begins; on = on_same world; polls = λ sent query target ps prefixes tells. tells })
+    (λ event made. record {
+      legal = (legal.0, (made, legal.1));
+      begins = begins;
+      on = on_grown world event;
+      polls = λ sent query target ps prefixes. poll_grown world event sent query target ps prefixes legal made;
+    })
+
+has_more : (world : WorldState) (held : List Held) → IsLegal world → IsRooted world → CommitsStay world.held held → IsNext world (over_held world held)
+has_more world held legal begins stay =
     record {
-      world = world_changes name s.world change is.world;
-      honest = λ reply there. true_on name s.world s.sent change reply is.world.legal (is.honest reply there);
+      legal = (legal.0, made_still (commits_of world) (commit_map held) stay world.opening world.past begins legal.1);
+      begins = there_still (commits_of world) (commit_map held) stay world.opening.root begins;
+      on = on_over world held;
+      polls = λ sent query target ps prefixes. poll_over world held sent query target ps prefixes;
+    }
+
+all_next : (s : Scene) (next : WorldState) → IsNext s.world next → HoldsAll s → HoldsAll (record s { world = next })
+all_next s next step is =
+    record {
+      legal = step.legal;
+      begins = step.begins;
+      honest = λ reply there. true_on s.world next s.sent step.on (step.polls s.sent) reply (is.honest reply there);
       sound = λ id m e. sound_on id m (is.sound id m e);
     }
   where
-    in_round : (m : MirrorState) (round : Round) → IsGoodRound s.world s.sent m round → IsGoodRound (world_after name s.world change) s.sent m round
+    in_round : (m : MirrorState) (round : Round) → IsGoodRound s.world s.sent m round → IsGoodRound next s.sent m round
     in_round m Idle good = tt
     in_round m (Asked request) good = good
     in_round m (Gathering query target awaited prefixes) good =
         record {
           asks = good.asks;
-          reached = place_on name s.world change target good.reached;
+          reached = step.on.place target good.reached;
           outside = good.outside;
-          gathered = λ p wanted none outside. stands_on name s.world change target.generation target.sequence p (file_at m.files p) (good.gathered p wanted none outside);
+          gathered = λ p wanted none outside. step.on.stands target.generation target.sequence p (file_at m.files p) (good.gathered p wanted none outside);
           later = good.later;
           lists = good.lists;
         }
 
-    sound_on : (id : ℕ) (m : MirrorState) → IsSound s.world s.sent id m → IsSound (world_after name s.world change) s.sent id m
+    sound_on : (id : ℕ) (m : MirrorState) → IsSound s.world s.sent id m → IsSound next s.sent id m
     sound_on id m sound =
         record {
           kept =
@@ -160,29 +197,30 @@ all_changed name s change is =
                 named = sound.kept.named;
                 numbers = sound.kept.numbers;
                 outside = sound.kept.outside;
-                placed = λ place e. place_on name s.world change place (sound.kept.placed place e);
-                values = λ place p e wanted. stands_on name s.world change place.generation place.sequence p (file_at m.files p) (sound.kept.values place p e wanted);
+                placed = λ place e. step.on.place place (sound.kept.placed place e);
+                values = λ place p e wanted. step.on.stands place.generation place.sequence p (file_at m.files p) (sound.kept.values place p e wanted);
               };
           round = in_round m m.round sound.round;
         }
 
-all_sent : (name : Namer) (s : Scene) (more : List Request)
+all_sent : (s : Scene) (more : List Request)
     → ((id : ℕ) (m : MirrorState) → s.mirrors id ≡ Some m → (request : Request) → Contains more request → IsOwn m request
     → ((query_of request).number ≤ m.last) × Contains (outstanding_of m) request)
-    → HoldsAll name s → HoldsAll name (record s { sent = s.sent ++ more })
-all_sent name s more own is =
+    → HoldsAll s → HoldsAll (record s { sent = s.sent ++ more })
+all_sent s more own is =
     record {
-      world = is.world;
+      legal = is.legal;
+      begins = is.begins;
       honest = λ reply there. true_of_more s.world s.sent more reply (is.honest reply there);
       sound = λ id m e. more_sent s.world s.sent more id m (own id m e) (is.sound id m e);
     }
 
 -- what a mirror sends is its own, and no other mirror's
-own_sent : (name : Namer) (s : Scene) (id : ℕ) → HoldsAll name s → (found : Option MirrorState) → s.mirrors id ≡ found → (other : ℕ) (m : MirrorState) → s.mirrors other ≡ Some m
+own_sent : (s : Scene) (id : ℕ) → HoldsAll s → (found : Option MirrorState) → s.mirrors id ≡ found → (other : ℕ) (m : MirrorState) → s.mirrors other ≡ Some m
     → (request : Request) → Contains (asked_by found) request → IsOwn m request → ((query_of request).number ≤ m.last) × Contains (outstanding_of m) request
 unfolding outstanding_of
-own_sent name s id is None at other m e request there mine = absurd (nothing_in [] request refl there)
-own_sent name s id is (Some n) at other m e request there mine =
+own_sent s id is None at other m e request there mine = absurd (nothing_in [] request refl there)
+own_sent s id is (Some n) at other m e request there mine =
     let query = own_query s.world s.sent n request n.round (is.sound id n at).round there in
     let same : id ≡ other =
     sym (is.sound id n at).kept.named ∙ sym (ap (λ q. q.mirror) query) ∙ mine.mirror ∙ (is.sound other m e).kept.named in
@@ -192,9 +230,9 @@ own_sent name s id is (Some n) at other m e request there mine =
     number : (query_of request).number ≡ n.last → (query_of request).number ≤ n.last
     number e = omega arith
 
-strange_sent : (name : Namer) (s : Scene) (request : Request) → IsStrange s request → HoldsAll name s → HoldsAll name (record s { sent = s.sent ++ request ∷ [] })
-strange_sent name s request strange is =
-    all_sent name s (request ∷ []) (λ id m e other there mine. absurd (not_own id m e other (same_one other (Contains-push_cases [] request other there)) mine)) is
+strange_sent : (s : Scene) (request : Request) → IsStrange s request → HoldsAll s → HoldsAll (record s { sent = s.sent ++ request ∷ [] })
+strange_sent s request strange is =
+    all_sent s (request ∷ []) (λ id m e other there mine. absurd (not_own id m e other (same_one other (Contains-push_cases [] request other there)) mine)) is
   where
     same_one : (other : Request) → Contains [] other ⊎ (request ≡ other) → request ≡ other
     same_one other (inl there) = absurd (nothing_in [] other refl there)
@@ -205,40 +243,42 @@ strange_sent name s request strange is =
         let own : IsOwn m request = subst (IsOwn m) (sym one) mine in
         strange m (ap s.mirrors (own.mirror ∙ (is.sound id m e).kept.named) ∙ e) (sym own.life)
 
-all_with : (name : Namer) (s : Scene) (id : ℕ) (move : MirrorState → MirrorState) → ((m : MirrorState) → s.mirrors id ≡ Some m → IsSound s.world s.sent id (move m))
-    → HoldsAll name s → HoldsAll name (record s { mirrors = moved s.mirrors id move })
-all_with name s id move new is =
-    record { world = is.world; honest = is.honest; sound = all_moved (IsSound s.world s.sent) s.mirrors id move new is.sound }
+all_with : (s : Scene) (id : ℕ) (move : MirrorState → MirrorState) → ((m : MirrorState) → s.mirrors id ≡ Some m → IsSound s.world s.sent id (move m))
+    → HoldsAll s → HoldsAll (record s { mirrors = moved s.mirrors id move })
+all_with s id move new is =
+    record { legal = is.legal; begins = is.begins; honest = is.honest; sound = all_moved (IsSound s.world s.sent) s.mirrors id move new is.sound }
 
-all_happens : (name : Namer) (s : Scene) (step : Step) → MayHappen s step → HoldsAll name s → HoldsAll name (happens name s step)
+all_happens : (s : Scene) (step : Step) → MayHappen s step → HoldsAll s → HoldsAll (happens s step)
 unfolding happens
-all_happens name s (Changes change) may is = all_changed name s change is
-all_happens name s (Begins id) may is = all_with name s id begun (λ m e. sound_begun s.world s.sent id m (is.sound id m e)) is
-all_happens name s (Sends id) may is = all_sent name s (asked_by (s.mirrors id)) (own_sent name s id is (s.mirrors id) refl) is
-all_happens name s (Serves request) may is =
+all_happens s (Changes change) may is = all_next s (row_after s.world change) (changed s.world change is.legal is.begins) is
+all_happens s (Grows held) may is = all_next s (over_held s.world held) (has_more s.world held is.legal is.begins may) is
+all_happens s (Begins id) may is = all_with s id begun (λ m e. sound_begun s.world s.sent id m (is.sound id m e)) is
+all_happens s (Sends id) may is = all_sent s (asked_by (s.mirrors id)) (own_sent s id is (s.mirrors id) refl) is
+all_happens s (Serves request) may is =
     record {
-      world = is.world;
+      legal = is.legal;
+      begins = is.begins;
       honest = λ reply there. by reply (Contains-push_cases s.replies (reply_of s.world request) reply there);
       sound = is.sound;
     }
   where
     by : (reply : Reply) → Contains s.replies reply ⊎ (reply_of s.world request ≡ reply) → IsTrueOf s.world s.sent reply
     by reply (inl old) = is.honest reply old
-    by reply (inr new) = subst (IsTrueOf s.world s.sent) new (reply_true s.world s.sent request is.world.legal may)
-all_happens name s (Comes reply id) may is =
-    all_with name s id (λ m. (delivered m reply).0) (λ m e. sound_delivered s.world s.sent id m reply (is.sound id m e) (is.honest reply may)) is
-all_happens name s (Refilters id patterns) may is =
-    all_with name s id (λ m. refiltered m patterns) (λ m e. sound_refiltered s.world s.sent id m patterns (is.sound id m e)) is
-all_happens name s (Restarts id life patterns) may is =
-    all_with name s id (λ m. new_mirror m.id life patterns)
+    by reply (inr new) = subst (IsTrueOf s.world s.sent) new (reply_true s.world s.sent request is.legal may)
+all_happens s (Comes reply id) may is =
+    all_with s id (λ m. (delivered m reply).0) (λ m e. sound_delivered s.world s.sent id m reply (is.sound id m e) (is.honest reply may)) is
+all_happens s (Refilters id patterns) may is =
+    all_with s id (λ m. refiltered m patterns) (λ m e. sound_refiltered s.world s.sent id m patterns (is.sound id m e)) is
+all_happens s (Restarts id life patterns) may is =
+    all_with s id (λ m. new_mirror m.id life patterns)
     (λ m e. subst (λ i. IsSound s.world s.sent id (new_mirror i life patterns)) (sym (is.sound id m e).kept.named)
     (sound_new s.world s.sent id life patterns (λ request there mirror same. may.unused request there mirror same))) is
-all_happens name s (Strange request) may is = strange_sent name s request may is
-all_happens name s Nothing may is = is
+all_happens s (Strange request) may is = strange_sent s request may is
+all_happens s Nothing may is = is
 
-all_run : (name : Namer) (s : Scene) (steps : List Step) → IsSchedule name s steps → HoldsAll name s → HoldsAll name (run_schedule name s steps)
-all_run name s [] may is = is
-all_run name s (step ∷ steps) may is = all_run name (happens name s step) steps may.1 (all_happens name s step may.0 is)
+all_run : (s : Scene) (steps : List Step) → IsSchedule s steps → HoldsAll s → HoldsAll (run_schedule s steps)
+all_run s [] may is = is
+all_run s (step ∷ steps) may is = all_run (happens s step) steps may.1 (all_happens s step may.0 is)
 
 -- ---- what it means at the end
 
@@ -267,14 +307,14 @@ never_ahead world sent id m place legal sound at same = by (place_in_time world 
     by (inl lt) = absurd (omega arith)
     by (inr both) = both.1
 
-covered : (name : Namer) (s : Scene) → HoldsAll name s → OfMirrors IsCovered s
-covered name s is id m e place p at differs =
+covered : (s : Scene) → HoldsAll s → OfMirrors IsCovered s
+covered s is id m e place p at differs =
     by_status (λ fault. status_of s.world place ≡ fault → (is_among (changes_after s.world place) (prefixes_after s.world place) p ≡ true) ⊎ IsRefused s.world place)
     (now s.world).generation (now s.world).sequence (floor_of s.world) place
     (λ apart found. inr (inl found)) (λ same late found. inl (among same)) (λ same before found. inl (among same)) (λ same before found. inl (among same)) refl
   where
     among : place.generation ≡ (now s.world).generation → is_among (changes_after s.world place) (prefixes_after s.world place) p ≡ true
-    among = differs_among s.world s.sent id m place p is.world.legal (is.sound id m e) at differs
+    among = differs_among s.world s.sent id m place p is.legal (is.sound id m e) at differs
 
 bounded_tells : (query : Query) (reply : Reply) (p : List ℕ) → Tells reply p → Tells (bounded query reply) p
 unfolding bounded
@@ -285,7 +325,7 @@ bounded_tells query reply p tells = by (nat_lt body_limit (length (reply_bytes r
     by false = tells
 
 -- a path that a mirror wants and that is among the changes since its place is told of in the reply to a poll
-poll_tells : (world : WorldState) (place : Position) (patterns : List (List ℕ)) (query : Query) (p : List ℕ) → place.generation ≡ (now world).generation → admits patterns p ≡ true
+poll_tells : (world : WorldState) (place : Position) (patterns : Patterns) (query : Query) (p : List ℕ) → place.generation ≡ (now world).generation → admits patterns p ≡ true
     → is_among (changes_after world place) (prefixes_after world place) p ≡ true
     → Tells (ChangesAre query (position_of (now world)) (admitted patterns (marked_since world place.sequence)) (prefixes_since world place.sequence)) p
 poll_tells world place patterns query p same wanted among =
@@ -299,17 +339,17 @@ poll_tells world place patterns query p same wanted among =
     either false b true within e = refl
     either false b false within e = sym (within refl) ∙ e
 
-told : (name : Namer) (s : Scene) → HoldsAll name s → OfMirrors IsTold s
-told name s is id m e place p query at differs =
+told : (s : Scene) → HoldsAll s → OfMirrors IsTold s
+told s is id m e place p query at differs =
     by_status (λ fault. Tells (polled s.world query place.sequence m.patterns fault) p) (now s.world).generation (now s.world).sequence (floor_of s.world) place
-    (λ apart. tt) (λ same late. absurd (let low = never_ahead s.world s.sent id m place is.world.legal (is.sound id m e) at same in omega arith)) (λ same before. tt)
+    (λ apart. tt) (λ same late. absurd (let low = never_ahead s.world s.sent id m place is.legal (is.sound id m e) at same in omega arith)) (λ same before. tt)
     (λ same before.
     bounded_tells query (ChangesAre query (position_of (now s.world)) (admitted m.patterns (marked_since s.world place.sequence)) (prefixes_since s.world place.sequence)) p
     (poll_tells s.world place m.patterns query p same differs.wanted
-    (differs_among s.world s.sent id m place p is.world.legal (is.sound id m e) at differs same)))
+    (differs_among s.world s.sent id m place p is.legal (is.sound id m e) at differs same)))
 
-at_head : (name : Namer) (s : Scene) → HoldsAll name s → OfMirrors AgreesAtHead s
-at_head name s is id m e place at head p = by (admits m.patterns p) refl
+at_head : (s : Scene) → HoldsAll s → OfMirrors AgreesAtHead s
+at_head s is id m e place at head p = by (admits m.patterns p) refl
   where
     late : IsNotAfter place.generation place.sequence (now s.world)
     late = inr (sym head.generation, let last = head.sequence in omega arith)
@@ -318,34 +358,34 @@ at_head name s is id m e place at head p = by (admits m.patterns p) refl
     none =
         or_from _ _
         (ap (λ list. has (path_set (paths_said list)) p)
-        (none_said (commits_of s.world) place.generation place.sequence (now s.world).sequence s.world.opening s.world.past is.world.legal.1 late)
+        (none_said (commits_of s.world) place.generation place.sequence (now s.world).sequence s.world.opening s.world.past is.legal.1 late)
         ∙ has-none p)
         (ap (λ prefixes. below_any prefixes p)
-        (none_moved (commits_of s.world) place.generation place.sequence (now s.world).sequence s.world.opening s.world.past is.world.legal.1 late))
+        (none_moved (commits_of s.world) place.generation place.sequence (now s.world).sequence s.world.opening s.world.past is.legal.1 late))
 
     by : (b : Bool) → admits m.patterns p ≡ b → file_at m.files p ≡ (if b then file_at (now s.world).files p else None)
-    by true wanted = stood s.world place p (file_at m.files p) is.world.legal head.generation none ((is.sound id m e).kept.values place p at wanted)
+    by true wanted = stood s.world place p (file_at m.files p) is.legal head.generation none ((is.sound id m e).kept.values place p at wanted)
     by false out = (is.sound id m e).kept.outside p out
 
-together : (name : Namer) (s : Scene) → HoldsAll name s → OfPairs AgreeTogether s
-together name s is id other m n e f here there at_m at_n head_m head_n p wanted_m wanted_n =
-    (at_head name s is id m e here at_m head_m p ∙ ap (λ b. if b then file_at (now s.world).files p else None) wanted_m)
-    ∙ sym (at_head name s is other n f there at_n head_n p ∙ ap (λ b. if b then file_at (now s.world).files p else None) wanted_n)
+together : (s : Scene) → HoldsAll s → OfPairs AgreeTogether s
+together s is id other m n e f here there at_m at_n head_m head_n p wanted_m wanted_n =
+    (at_head s is id m e here at_m head_m p ∙ ap (λ b. if b then file_at (now s.world).files p else None) wanted_m)
+    ∙ sym (at_head s is other n f there at_n head_n p ∙ ap (λ b. if b then file_at (now s.world).files p else None) wanted_n)
 
-places : (name : Namer) (s : Scene) → HoldsAll name s → OfMirrors HasPlace s
-places name s is id m e place at =
+places : (s : Scene) → HoldsAll s → OfMirrors HasPlace s
+places s is id m e place at =
     record {
       is_place = (is.sound id m e).kept.placed place at;
-      in_time = never_ahead s.world s.sent id m place is.world.legal (is.sound id m e) at;
+      in_time = never_ahead s.world s.sent id m place is.legal (is.sound id m e) at;
     }
 
-values : (name : Namer) (s : Scene) → HoldsAll name s → OfMirrors HasValues s
-values name s is id m e place p at wanted = (is.sound id m e).kept.values place p at wanted
+values : (s : Scene) → HoldsAll s → OfMirrors HasValues s
+values s is id m e place p at wanted = (is.sound id m e).kept.values place p at wanted
 
 -- ---- after every schedule
 
-after_all : (Holds : Scene → Type 0) → ((name : Namer) (s : Scene) → HoldsAll name s → Holds s) → OnFreshRuns Holds
-after_all Holds means name s steps fresh may = means name (run_schedule name s steps) (all_run name s steps may (all_fresh name s fresh))
+after_all : (Holds : Scene → Type 0) → ((s : Scene) → HoldsAll s → Holds s) → OnFreshRuns Holds
+after_all Holds means s steps fresh may = means (run_schedule s steps) (all_run s steps may (all_fresh s fresh))
 
 pub runs_covered : OnFreshRuns (OfMirrors IsCovered)
 runs_covered = after_all (OfMirrors IsCovered) covered

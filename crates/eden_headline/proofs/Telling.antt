@@ -9,10 +9,9 @@ use Rattle.eden_ids.specs.declared.content.Content.{Content}
 use Rattle.eden_ids.specs.FileMaps.{file_at, has, path_set, paths, same_path}
 use Rattle.eden_ids.specs.Paths.{lies_below}
 use Rattle.eden_ids.proofs.FileMapLemmas.{has-listing, same_path-is}
-use Rattle.eden_globs.specs.Filters.{admits}
+use Rattle.eden_globs.specs.Filters.{Patterns, admits}
 use Rattle.eden_history.specs.declared.answer.SinceFault.{SinceFault}
 use Rattle.eden_history.specs.declared.answer.SinceFault.TheVariants as since_fault
-use Rattle.eden_history.specs.declared.change.Change.{Change}
 use Rattle.eden_messages.specs.declared.message.Cause.TheVariants.{TooLarge}
 use Rattle.eden_messages.specs.declared.message.Query.{Query}
 use Rattle.eden_messages.specs.declared.message.Reply.{Reply}
@@ -21,14 +20,14 @@ use Rattle.eden_messages.specs.declared.message.Request.{Request}
 use Rattle.eden_messages.specs.declared.message.Request.TheVariants.{Basis, Poll, Fetch, List as Below}
 use Rattle.eden_history.specs.declared.position.Position.{Position}
 use Rattle.eden_objects.specs.Objects.{Held}
-use Rattle.eden_history.specs.Worlds.{Event, Namer, WorldState, commits_of, now, position_of}
+use Rattle.eden_history.specs.Worlds.{Event, WorldState, commits_of, now, position_of}
 use Rattle.eden_history.specs.Said.{paths_said}
 use Rattle.eden_history.specs.Changes.{below, below_any, named_since, prefixes_since, prefixes_told, said_since}
 use Rattle.eden_history.specs.Legal.{IsLegal}
 use Rattle.eden_history.specs.Marks.{marked_since}
 use Rattle.eden_messages.specs.Mirrors.{is_among}
 use Rattle.eden_history.specs.Imports.{over_held}
-use Rattle.eden_history.specs.Outcome.{outcome, world_after}
+use Rattle.eden_history.specs.Outcome.{outcome}
 use Rattle.eden_history.specs.Outcome.Outcome.{Next}
 use Rattle.eden_history.specs.Recorded.{floor_of}
 use Rattle.eden_history.specs.Marks.{admitted}
@@ -39,16 +38,16 @@ use Rattle.eden_stream.specs.Frames.{body_limit}
 use Rattle.eden_history.specs.Status.{status, status_of}
 use Rattle.eden_messages.proofs.Replying.{admitted_listed, marked_paths}
 use Rattle.eden_history.proofs.Following.{Follows, event_follows}
-use Rattle.eden_history.proofs.Growing.{goes_on, grown}
+use Rattle.eden_history.proofs.Growing.{grown}
 use Rattle.eden_history.proofs.Kept.{below_listed, still}
-use Rattle.eden_headline.proofs.Keeping.{now_is_place, now_is_row, place_grown, place_in_time, place_on, place_over, stands_grown, stands_now, stands_on, stands_over}
+use Rattle.eden_headline.proofs.Keeping.{GoesOn, now_is_place, now_is_row, on_grown, on_over, place_in_time, stands_now}
 use Rattle.std.proofs.Math.Bool.{and-false}
 
 -- ---- what is true of a reply
 
 -- it answers some basis that was sent; at its position and later no file stood at an admitted path that is not listed
 pub record BasisTells (world : WorldState) (sent : List Request) (query : Query) (position : Position) (ps : List (List ℕ)) : Type 0 where
-  pub patterns : List (List ℕ)
+  pub patterns : Patterns
   pub asked : Contains sent (Basis query patterns)
   pub place : IsPlace world position
   pub refused : (p : List ℕ) → admits patterns p ≡ false → is_among p ps ≡ false
@@ -58,7 +57,7 @@ pub record BasisTells (world : WorldState) (sent : List Request) (query : Query)
 -- position, stood there at the target or later
 pub record PollTells (world : WorldState) (sent : List Request) (query : Query) (target : Position) (ps prefixes : List (List ℕ)) : Type 0 where
   pub since : Position
-  pub patterns : List (List ℕ)
+  pub patterns : Patterns
   pub asked : Contains sent (Poll query since patterns)
   pub place : IsPlace world target
   pub alike : since.generation ≡ target.generation
@@ -69,7 +68,7 @@ pub record PollTells (world : WorldState) (sent : List Request) (query : Query) 
 
 -- it answers some list that was asked for; at its position or later no file stood at an admitted path below the directory that is not listed
 pub record ListTells (world : WorldState) (sent : List Request) (query : Query) (position : Position) (prefix : List ℕ) (ps : List (List ℕ)) : Type 0 where
-  pub patterns : List (List ℕ)
+  pub patterns : Patterns
   pub asked : Contains sent (Below query prefix patterns)
   pub refused : (p : List ℕ) → admits patterns p ≡ false → is_among p ps ≡ false
   pub absent : (p : List ℕ) → admits patterns p ≡ true → lies_below p prefix ≡ true → is_among p ps ≡ false
@@ -129,10 +128,10 @@ stays_grown world event since target p file legal place made same stays is = by 
     by : ((is.row ≡ event.row) ⊎ IsRow world is.row) → Stands (grown world event) target.generation target.sequence p file
     by (inl new) = new_row world event target p file legal place made (ap (λ r. r.generation) (sym new) ∙ is.alike ∙ same) (ap (λ r. file_at r.files p) (sym new) ∙ is.value)
     by (inr old) =
-        stands_grown world event target.generation target.sequence p file
+        (on_grown world event).stands target.generation target.sequence p file
         (stays (record { row = is.row; is_row = old; alike = is.alike; after = is.after; value = is.value }))
 
-poll_grown : (world : WorldState) (event : Event) (sent : List Request) (query : Query) (target : Position) (ps prefixes : List (List ℕ))
+pub poll_grown : (world : WorldState) (event : Event) (sent : List Request) (query : Query) (target : Position) (ps prefixes : List (List ℕ))
     → IsLegal world → outcome (commits_of world) (now world) event.change ≡ Next event → PollTells world sent query target ps prefixes
     → PollTells (grown world event) sent query target ps prefixes
 poll_grown world event sent query target ps prefixes legal made is =
@@ -140,7 +139,7 @@ poll_grown world event sent query target ps prefixes legal made is =
       since = is.since;
       patterns = is.patterns;
       asked = is.asked;
-      place = place_grown world event target is.place;
+      place = (on_grown world event).place target is.place;
       alike = is.alike;
       before = is.before;
       refused = is.refused;
@@ -148,43 +147,42 @@ poll_grown world event sent query target ps prefixes legal made is =
     }
 
 -- the rows of a world that is given back its objects are its own
-poll_over : (world : WorldState) (held : List Held) (sent : List Request) (query : Query) (target : Position) (ps prefixes : List (List ℕ))
+pub poll_over : (world : WorldState) (held : List Held) (sent : List Request) (query : Query) (target : Position) (ps prefixes : List (List ℕ))
     → PollTells world sent query target ps prefixes → PollTells (over_held world held) sent query target ps prefixes
 poll_over world held sent query target ps prefixes is =
     record {
       since = is.since;
       patterns = is.patterns;
       asked = is.asked;
-      place = place_over world held target is.place;
+      place = (on_over world held).place target is.place;
       alike = is.alike;
       before = is.before;
       refused = is.refused;
-      stays = λ p file a none outside stood. stands_over world held target.generation target.sequence p file
-          (is.stays p file a none outside (stands_over (over_held world held) world.held is.since.generation is.since.sequence p file stood));
+      stays = λ p file a none outside stood. (on_over world held).stands target.generation target.sequence p file
+          (is.stays p file a none outside ((on_over (over_held world held) world.held).stands is.since.generation is.since.sequence p file stood));
     }
 
-pub true_on : (name : Namer) (world : WorldState) (sent : List Request) (change : Change) (reply : Reply) → IsLegal world → IsTrueOf world sent reply
-    → IsTrueOf (world_after name world change) sent reply
-true_on name world sent change (BasisIs query position ps) legal is =
+-- what is true of a reply is true of it of the next world, if what replies to polls say is
+pub true_on : (world next : WorldState) (sent : List Request) → GoesOn world next
+    → ((query : Query) (target : Position) (ps prefixes : List (List ℕ)) → PollTells world sent query target ps prefixes → PollTells next sent query target ps prefixes)
+    → (reply : Reply) → IsTrueOf world sent reply → IsTrueOf next sent reply
+true_on world next sent on poll (BasisIs query position ps) is =
     record {
       patterns = is.patterns;
       asked = is.asked;
-      place = place_on name world change position is.place;
+      place = on.place position is.place;
       refused = is.refused;
-      absent = λ p a none. stands_on name world change position.generation position.sequence p None (is.absent p a none);
+      absent = λ p a none. on.stands position.generation position.sequence p None (is.absent p a none);
     }
-true_on name world sent change (ChangesAre query target marked prefixes) legal is =
-    goes_on (λ w. PollTells w sent query target (paths_of marked) prefixes) name world change is
-    (λ event made. poll_grown world event sent query target (paths_of marked) prefixes legal made is)
-    (λ held. poll_over world held sent query target (paths_of marked) prefixes is)
-true_on name world sent change (ContentIs query position path content) legal is = stands_on name world change position.generation position.sequence path content is
-true_on name world sent change (Refused query cause) legal is = tt
-true_on name world sent change (ListIs query position prefix ps) legal is =
+true_on world next sent on poll (ChangesAre query target marked prefixes) is = poll query target (paths_of marked) prefixes is
+true_on world next sent on poll (ContentIs query position path content) is = on.stands position.generation position.sequence path content is
+true_on world next sent on poll (Refused query cause) is = tt
+true_on world next sent on poll (ListIs query position prefix ps) is =
     record {
       patterns = is.patterns;
       asked = is.asked;
       refused = is.refused;
-      absent = λ p a under none. stands_on name world change position.generation position.sequence p None (is.absent p a under none);
+      absent = λ p a under none. on.stands position.generation position.sequence p None (is.absent p a under none);
     }
 
 -- ---- lists of paths
@@ -193,7 +191,7 @@ among_filter : (test : List ℕ → Bool) (p : List ℕ) (ps : List (List ℕ)) 
 among_filter test p ps = any-filter_same (λ q. same_path p q) test (test p) (λ k e. ap test (sym (same_path-is p k e))) ps
 
 -- a path is listed in the reply to a poll where it is admitted and named since
-pub among_changes : (world : WorldState) (since : ℕ) (patterns : List (List ℕ)) (p : List ℕ)
+pub among_changes : (world : WorldState) (since : ℕ) (patterns : Patterns) (p : List ℕ)
     → is_among p (paths_of (admitted patterns (marked_since world since)))
     ≡ (admits patterns p && has (named_since (now world).generation since (now world).sequence world.opening world.past) p)
 among_changes world since patterns p =
@@ -204,7 +202,7 @@ among_changes world since patterns p =
 
 -- ---- what is replied now is true
 
-turned_down : (patterns : List (List ℕ)) (p : List ℕ) (b : Bool) → admits patterns p ≡ false → (admits patterns p && b) ≡ false
+turned_down : (patterns : Patterns) (p : List ℕ) (b : Bool) → admits patterns p ≡ false → (admits patterns p && b) ≡ false
 turned_down patterns p b out = ap (λ c. c && b) out
 
 left_over : (a b : Bool) → a ≡ true → (a && b) ≡ false → b ≡ false
@@ -219,15 +217,15 @@ bounded_true world sent query reply is = by (nat_lt body_limit (length (reply_by
     by false = is
 
 -- a path is among those listed of a world where it is admitted and holds a file
-among_admitted : (world : WorldState) (patterns : List (List ℕ)) (p : List ℕ)
+among_admitted : (world : WorldState) (patterns : Patterns) (p : List ℕ)
     → is_among p (admitted_paths patterns (now world).files) ≡ (admits patterns p && is_among p (paths (now world).files))
 among_admitted world patterns p = among_filter (admits patterns) p (paths (now world).files)
 
-none_refused : (world : WorldState) (patterns : List (List ℕ)) (p : List ℕ) → admits patterns p ≡ false → is_among p (admitted_paths patterns (now world).files) ≡ false
+none_refused : (world : WorldState) (patterns : Patterns) (p : List ℕ) → admits patterns p ≡ false → is_among p (admitted_paths patterns (now world).files) ≡ false
 none_refused world patterns p out = among_admitted world patterns p ∙ turned_down patterns p (is_among p (paths (now world).files)) out
 
 -- at a path that is admitted and not listed nothing stands now
-absent_now : (world : WorldState) (patterns : List (List ℕ)) (p : List ℕ) → admits patterns p ≡ true → is_among p (admitted_paths patterns (now world).files) ≡ false
+absent_now : (world : WorldState) (patterns : Patterns) (p : List ℕ) → admits patterns p ≡ true → is_among p (admitted_paths patterns (now world).files) ≡ false
     → Stands world (now world).generation (now world).sequence p None
 absent_now world patterns p wanted none = subst (Stands world (now world).generation (now world).sequence p) nothing (stands_now world p)
   where
@@ -240,7 +238,7 @@ absent_now world patterns p wanted none = subst (Stands world (now world).genera
         none_there (file_at (now world).files p)
         (fin.contains_key-keys (now world).files p ∙ left_over (admits patterns p) (is_among p (paths (now world).files)) wanted (sym (among_admitted world patterns p) ∙ none))
 
-basis_true : (world : WorldState) (sent : List Request) (query : Query) (patterns : List (List ℕ)) → Contains sent (Basis query patterns)
+basis_true : (world : WorldState) (sent : List Request) (query : Query) (patterns : Patterns) → Contains sent (Basis query patterns)
     → BasisTells world sent query (position_of (now world)) (admitted_paths patterns (now world).files)
 basis_true world sent query patterns asked =
     record {
@@ -251,7 +249,7 @@ basis_true world sent query patterns asked =
       absent = λ p wanted none. absent_now world patterns p wanted none;
     }
 
-list_true : (world : WorldState) (sent : List Request) (query : Query) (prefix : List ℕ) (patterns : List (List ℕ)) → Contains sent (Below query prefix patterns)
+list_true : (world : WorldState) (sent : List Request) (query : Query) (prefix : List ℕ) (patterns : Patterns) → Contains sent (Below query prefix patterns)
     → ListTells world sent query (position_of (now world)) prefix (below prefix (admitted_paths patterns (now world).files))
 list_true world sent query prefix patterns asked =
     record {
@@ -284,7 +282,7 @@ by_status Holds generation head floor position stale ahead truncated good =
     by true false true s l = truncated (eqb-true position.generation generation s) (ltb-false head position.sequence l)
     by true false false s l = good (eqb-true position.generation generation s) (ltb-false head position.sequence l)
 
-poll_true : (world : WorldState) (sent : List Request) (query : Query) (since : Position) (patterns : List (List ℕ)) → IsLegal world → Contains sent (Poll query since patterns)
+poll_true : (world : WorldState) (sent : List Request) (query : Query) (since : Position) (patterns : Patterns) → IsLegal world → Contains sent (Poll query since patterns)
     → IsTrueOf world sent (polled world query since.sequence patterns (status_of world since))
 poll_true world sent query since patterns legal asked =
     by_status (λ fault. IsTrueOf world sent (polled world query since.sequence patterns fault)) (now world).generation (now world).sequence (floor_of world) since

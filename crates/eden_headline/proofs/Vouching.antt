@@ -4,6 +4,7 @@ use Rattle.std.specs.Prelude.{Contains, slice_get, ◌==◌, if◌then◌else◌
 use Rattle.std.proofs.lemmas.Bool.{eqb-true}
 use Rattle.std.proofs.lemmas.List.Elements.{Contains-append_cases, Contains-append_left, Contains-append_right}
 use Rattle.std.proofs.lemmas.Option.{same_Some}
+use Rattle.eden_globs.specs.Filters.{Patterns}
 use Rattle.eden_history.specs.Worlds.{Namer, WorldState}
 use Rattle.eden_history.specs.Legal.{IsWorld}
 use Rattle.eden_logs.specs.declared.call.Answer.TheVariants.{Replied, Unanswered}
@@ -21,10 +22,12 @@ use Rattle.eden_logs.proofs.Covered.{nowhere}
 use Rattle.eden_headline.specs.declared.note.Note.{Note}
 use Rattle.eden_headline.specs.declared.note.Note.TheVariants.{Began, Sent, Came}
 use Rattle.eden_headline.specs.Headline.{AgreesAtHead, HasPlace, HasValues, IsCovered, IsTold, OfMirrors}
+use Rattle.eden_headline.specs.Imports.{OnFreshRunsWithImports}
 use Rattle.eden_headline.specs.Merges.{GoesWith, IsMerged, OnMerges, ending_of, merged, opened_with, opening_of}
 use Rattle.eden_headline.specs.Notes.{HasNotes, came_in, sent_in}
-use Rattle.eden_headline.specs.Schedules.{IsFresh, OnFreshRuns}
+use Rattle.eden_headline.specs.Schedules.{IsFresh}
 use Rattle.eden_headline.specs.Vouched.{AreVouched, IsAnswered, IsAsked, IsTimely, IsVouched, is_own}
+use Rattle.eden_headline.proofs.Importing.{with_imports}
 use Rattle.eden_headline.proofs.Merging.{IsComing, IsDue, IsInTime, IsReady, Merges, merges}
 use Rattle.eden_headline.proofs.Scheduling.{runs_at_head, runs_covered, runs_places, runs_told, runs_values}
 
@@ -138,7 +141,7 @@ due_under name world history legal noted reply right told = by right
 -- ---- the opening
 
 -- the one mirror of the opening is new
-only : (world : WorldState) (id life : ℕ) (patterns : List (List ℕ)) (other : ℕ) (m : MirrorState) → (opened_with world (new_mirror id life patterns)).mirrors other ≡ Some m
+only : (world : WorldState) (id life : ℕ) (patterns : Patterns) (other : ℕ) (m : MirrorState) → (opened_with world (new_mirror id life patterns)).mirrors other ≡ Some m
     → (other ≡ id) × (new_mirror id life patterns ≡ m)
 only world id life patterns other m e = by (other == id) refl e
   where
@@ -146,16 +149,17 @@ only world id life patterns other m e = by (other == id) refl e
     by true same is = (eqb-true other id same, same_Some _ _ is)
     by false apart is = absurd (let bad : ◌≡◌ {A = Option MirrorState} None (Some m) = is in cc)
 
-there_first : (world : WorldState) (id life : ℕ) (patterns : List (List ℕ)) → (opened_with world (new_mirror id life patterns)).mirrors id ≡ Some (new_mirror id life patterns)
+there_first : (world : WorldState) (id life : ℕ) (patterns : Patterns) → (opened_with world (new_mirror id life patterns)).mirrors id ≡ Some (new_mirror id life patterns)
 there_first world id life patterns = simp self refl
   where
     self : (id == id) ≡ true
     self = grind arith
 
-fresh_opening : (name : Namer) (world : WorldState) (id life : ℕ) (patterns : List (List ℕ)) → IsWorld name world → IsFresh name (opened_with world (new_mirror id life patterns))
+fresh_opening : (name : Namer) (world : WorldState) (id life : ℕ) (patterns : Patterns) → IsWorld name world → IsFresh (opened_with world (new_mirror id life patterns))
 fresh_opening name world id life patterns is =
     record {
-      world = is;
+      legal = is.legal;
+      begins = is.begins;
       sent = refl;
       replies = refl;
       mirrors = λ other m e. by other m (only world id life patterns other m e);
@@ -213,10 +217,10 @@ module _ (logs : List CallLog) (m : MirrorState) (notes : List Note) (has : HasN
   at_end = result.mirror ∙ ap (λ x. Some x) has.give
 
   -- what holds of each mirror after each schedule holds of this one
-  holds : (Holds : WorldState → MirrorState → Type 0) → OnFreshRuns (OfMirrors Holds) → Holds (replay name world history) m
+  holds : (Holds : WorldState → MirrorState → Type 0) → OnFreshRunsWithImports (OfMirrors Holds) → Holds (replay name world history) m
   holds Holds runs =
       subst (λ (w : WorldState). Holds w m) result.world
-      (runs name (opening_of world m) (merged m history notes) (fresh_opening name world m.id m.life m.patterns is_world) result.schedule m.id m at_end)
+      (runs name (opening_of world m) (merged m history notes) is_world (fresh_opening name world m.id m.life m.patterns is_world) result.schedule m.id m at_end)
 
   pub is_merged : IsMerged name world history m notes
   is_merged =
@@ -226,11 +230,11 @@ module _ (logs : List CallLog) (m : MirrorState) (notes : List Note) (has : HasN
         follows = at_end;
         faithful =
             record {
-              covered = holds IsCovered runs_covered;
-              told = holds IsTold runs_told;
-              at_head = holds AgreesAtHead runs_at_head;
-              place = holds HasPlace runs_places;
-              values = holds HasValues runs_values;
+              covered = holds IsCovered (with_imports (OfMirrors IsCovered) runs_covered);
+              told = holds IsTold (with_imports (OfMirrors IsTold) runs_told);
+              at_head = holds AgreesAtHead (with_imports (OfMirrors AgreesAtHead) runs_at_head);
+              place = holds HasPlace (with_imports (OfMirrors HasPlace) runs_places);
+              values = holds HasValues (with_imports (OfMirrors HasValues) runs_values);
             };
       }
 

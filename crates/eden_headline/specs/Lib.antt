@@ -1,4 +1,5 @@
 pub mod Schedules
+pub mod Imports
 pub mod Headline
 pub mod Notes
 pub mod Vouched

@@ -14,7 +14,8 @@ use Rattle.eden_headline.specs.declared.note.Note.{Note}
 use Rattle.eden_headline.specs.declared.note.Note.TheVariants.{Began, Sent, Came}
 use Rattle.eden_headline.specs.Headline.{AgreesAtHead, HasPlace, HasValues, IsCovered, IsTold}
 use Rattle.eden_headline.specs.Notes.{HasNotes}
-use Rattle.eden_headline.specs.Schedules.{IsSchedule, Scene, Step, run_schedule}
+use Rattle.eden_headline.specs.Imports.{IsScheduleWithImports, run_with_imports}
+use Rattle.eden_headline.specs.Schedules.{Scene, Step}
 use Rattle.eden_headline.specs.Schedules.Step.{Begins, Changes, Comes, Sends, Serves, Strange}
 use Rattle.eden_headline.specs.Vouched.{IsVouched, is_own}
 
@@ -65,7 +66,7 @@ abbrev pub merged : MirrorState → List Entry → List Note → List Step
 merged m entries notes = merge m.id m.life entries notes
 
 abbrev pub ending_of : Namer → WorldState → MirrorState → List Entry → List Note → Scene
-ending_of name world m entries notes = run_schedule name (opening_of world m) (merged m entries notes)
+ending_of name world m entries notes = run_with_imports name (opening_of world m) (merged m entries notes)
 
 -- what is promised of a mirror against a world, one mirror at a time
 pub record IsFaithful (world : WorldState) (m : MirrorState) : Type 0 where
@@ -75,10 +76,10 @@ pub record IsFaithful (world : WorldState) (m : MirrorState) : Type 0 where
   pub place : HasPlace world m
   pub values : HasValues world m
 
--- the merge is a schedule that ends with the history's world and the follower's mirror,
--- and the mirror is faithful to that world
+-- the merge is a schedule with imports that ends with the history's world and the
+-- follower's mirror, and the mirror is faithful to that world
 pub record IsMerged (name : Namer) (world : WorldState) (entries : List Entry) (m : MirrorState) (notes : List Note) : Type 0 where
-  pub schedule : IsSchedule name (opening_of world m) (merged m entries notes)
+  pub schedule : IsScheduleWithImports name (opening_of world m) (merged m entries notes)
   pub replays : (ending_of name world m entries notes).world ≡ replay name world entries
   pub follows : (ending_of name world m entries notes).mirrors m.id ≡ Some m
   pub faithful : IsFaithful (replay name world entries) m

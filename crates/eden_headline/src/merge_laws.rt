@@ -3,22 +3,22 @@
 
 ghost use Rattle.std.specs.Prelude.{◌≡◌, Some};
 ghost use Rattle.eden_headline.specs.Headline.{AgreesAtHead, HasPlace, HasValues, IsCovered, IsTold};
+ghost use Rattle.eden_headline.specs.Imports.{IsScheduleWithImports};
 ghost use Rattle.eden_headline.specs.Merges.{OnMerges, ending_of, merged, opening_of};
-ghost use Rattle.eden_headline.specs.Schedules.{IsSchedule};
 ghost use Rattle.eden_logs.specs.Histories.{replay};
 
 /// States that a history and a follower's notes merge into one schedule.
 ///
 /// The history may be any legal one from any world, with which logs agree; the follower,
-/// any for which these logs vouch. The schedule ends with the world that the history
-/// makes and the follower's mirror. So what is true after every schedule is true of that
-/// mirror against that world.
+/// any for which these logs vouch. The schedule, whose changes may be imports, ends with
+/// the world that the history makes and the follower's mirror. So what is true after every
+/// schedule is true of that mirror against that world (`import_law`).
 ///
 /// It is a statement about lists. The participants may have run in any number of threads
 /// and machines, over any network.
 pub fn merge_law()
     // Each step of the merge may happen at its place.
-    ensures schedule { OnMerges (λ name world entries m notes. IsSchedule name (opening_of world m) (merged m entries notes)) }
+    ensures schedule { OnMerges (λ name world entries m notes. IsScheduleWithImports name (opening_of world m) (merged m entries notes)) }
     // It ends with the world that the history makes.
     ensures world { OnMerges (λ name world entries m notes. (ending_of name world m entries notes).world ≡ replay name world entries) }
     // It ends with the follower's mirror.

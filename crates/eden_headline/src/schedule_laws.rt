@@ -6,7 +6,7 @@ ghost use Rattle.eden_headline.specs.Schedules.{OnFreshRuns};
 
 /// States what holds of every mirror after every schedule.
 ///
-/// A schedule has changes, checkouts, resets, flushes, remounts, imports of objects,
+/// A schedule has changes, checkouts, resets, flushes, remounts, growth of the store,
 /// restarts of mirrors, and requests and replies that are served, delivered, lost,
 /// repeated or reordered. After it, each path at which a placed mirror and the working
 /// copy differ is reported since the mirror's place, or the place is refused. So mirrors
@@ -15,7 +15,8 @@ ghost use Rattle.eden_headline.specs.Schedules.{OnFreshRuns};
 /// A schedule's steps are those of the definitions to which the mount, the service and
 /// the mirror are proved equal. It is assumed only that each request that is served was
 /// sent, and that each reply that comes was made. Also, a mirror starts again under a
-/// greater life, and no other client asks under a mirror's name.
+/// greater life, and no other client asks under a mirror's name. An import of objects is
+/// a step by which the store grows (`import_law`).
 pub fn schedule_law()
     // Each path that the mirror's filter admits, and at which its files and the working
     // copy differ, is among the changes since its place, or the place is refused. It is

@@ -1,13 +1,13 @@
 use Rattle.std.proofs.Common.{◌≡◌, Some}
 use Rattle.eden_logs.specs.Histories.{replay}
 use Rattle.eden_headline.specs.Headline.{AgreesAtHead, HasPlace, HasValues, IsCovered, IsTold}
+use Rattle.eden_headline.specs.Imports.{IsScheduleWithImports}
 use Rattle.eden_headline.specs.Merges.{ending_of, merged, opening_of}
-use Rattle.eden_headline.specs.Schedules.{IsSchedule}
 use Rattle.eden_headline.proofs.Vouching.{on_merges}
 use Rattle.eden_headline.proofs.merge_laws.merge_law.Goals as goal
 
 pub returns-clause-schedule : goal.returns-clause-schedule
-returns-clause-schedule c = on_merges (λ name world entries m notes. IsSchedule name (opening_of world m) (merged m entries notes)) (λ name world entries m notes is. is.schedule)
+returns-clause-schedule c = on_merges (λ name world entries m notes. IsScheduleWithImports name (opening_of world m) (merged m entries notes)) (λ name world entries m notes is. is.schedule)
 
 pub returns-clause-world : goal.returns-clause-world
 returns-clause-world c = on_merges (λ name world entries m notes. (ending_of name world m entries notes).world ≡ replay name world entries) (λ name world entries m notes is. is.replays)
