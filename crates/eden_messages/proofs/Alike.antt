@@ -1,10 +1,11 @@
 -- When `==` says that two messages are the same: if they are one.
-use Rattle.std.proofs.Common.{◌≡◌, rules}
+use Rattle.std.proofs.Common.{◌≡◌, ap, rules}
 use Rattle.std.specs.Bool.{Decides}
 use Rattle.std.specs.Cmp.Lexicographic.{bytes_decides}
 use Rattle.std.proofs.lemmas.Bool.Decides.{Decides-and, Decides-like}
 use Rattle.eden_ids.proofs.Alike.{found_decides, paths_decide}
-use Rattle.eden_history.proofs.Alike.{change_decides, marks_decide, position_decides}
+use Rattle.eden_globs.specs.Filters.{Patterns, same_filter}
+use Rattle.eden_history.proofs.Alike.{marks_decide, position_decides}
 use Rattle.eden_messages.specs.declared.message.Cause.{Cause}
 use Rattle.eden_messages.specs.declared.message.Query.{Query}
 use Rattle.eden_messages.specs.declared.message.Reply.{Reply}
@@ -22,17 +23,22 @@ query_decides a b = search rules
 cause_decides : (a b : Cause) → Decides (cause.ghosts.eq a b) (a ≡ b)
 cause_decides a b = search rules
 
+filters_decide : (f g : Patterns) → Decides (same_filter f g) (f ≡ g)
+filters_decide f g =
+    Decides-like _ (λ (h : (f.included ≡ g.included) × (f.excluded ≡ g.excluded)). λ i. record { included = h.0 i; excluded = h.1 i })
+    (λ e. (ap (λ (k : Patterns). k.included) e, ap (λ (k : Patterns). k.excluded) e)) (Decides-and _ _ (paths_decide f.included g.included) (paths_decide f.excluded g.excluded))
+
 pub request_decides : (a b : Request) → Decides (request.ghosts.eq a b) (a ≡ b)
 request_decides (Basis q f) (Basis r g) =
-    Decides-like _ (λ (h : (q ≡ r) × (f ≡ g)). λ i. Basis (h.0 i) (h.1 i)) (λ e. ((cc), (cc))) (Decides-and _ _ (query_decides q r) (paths_decide f g))
+    Decides-like _ (λ (h : (q ≡ r) × (f ≡ g)). λ i. Basis (h.0 i) (h.1 i)) (λ e. ((cc), (cc))) (Decides-and _ _ (query_decides q r) (filters_decide f g))
 request_decides (Poll q p f) (Poll r o g) =
     Decides-like _ (λ (h : (q ≡ r) × ((p ≡ o) × (f ≡ g))). λ i. Poll (h.0 i) (h.1.0 i) (h.1.1 i)) (λ e. ((cc), ((cc), (cc))))
-    (Decides-and _ _ (query_decides q r) (Decides-and _ _ (position_decides p o) (paths_decide f g)))
+    (Decides-and _ _ (query_decides q r) (Decides-and _ _ (position_decides p o) (filters_decide f g)))
 request_decides (Fetch q a) (Fetch r b) =
     Decides-like _ (λ (h : (q ≡ r) × (a ≡ b)). λ i. Fetch (h.0 i) (h.1 i)) (λ e. ((cc), (cc))) (Decides-and _ _ (query_decides q r) (bytes_decides a b))
 request_decides (Below q p f) (Below r o g) =
     Decides-like _ (λ (h : (q ≡ r) × ((p ≡ o) × (f ≡ g))). λ i. Below (h.0 i) (h.1.0 i) (h.1.1 i)) (λ e. ((cc), ((cc), (cc))))
-    (Decides-and _ _ (query_decides q r) (Decides-and _ _ (bytes_decides p o) (paths_decide f g)))
+    (Decides-and _ _ (query_decides q r) (Decides-and _ _ (bytes_decides p o) (filters_decide f g)))
 request_decides a b = search rules
 
 pub reply_decides : (a b : Reply) → Decides (reply.ghosts.eq a b) (a ≡ b)

@@ -1,10 +1,11 @@
 -- How long the bodies of replies are, and what is done with one that is too long.
-use Rattle.std.proofs.Common.{◌≡◌, ℕ, ◌+◌, ◌<◌, true, false, cond, nat_lt, List, length, get_or, take, Option, Some, None, refl, ap, arith}
+use Rattle.std.proofs.Common.{◌≡◌, ℕ, ◌+◌, ◌<◌, true, false, cond, nat_lt, List, [], ◌∷◌, length, get_or, take, Option, Some, None, refl, ap, arith}
 use Rattle.std.specs.List.{flat_map}
 use Rattle.std.proofs.lemmas.List.{length-append}
 use Rattle.std.proofs.lemmas.Bool.{lt-ltb}
 use Rattle.std.proofs.lemmas.List.Folds.{length-flat_map-take}
 use Rattle.eden_ids.specs.declared.content.Content.{Content}
+use Rattle.eden_globs.specs.Filters.{Patterns}
 use Rattle.eden_history.specs.declared.mark.Marked.{Marked}
 use Rattle.eden_history.specs.declared.position.Position.{Position}
 use Rattle.eden_messages.specs.declared.message.Cause.TheVariants.{TooLarge}
@@ -13,7 +14,7 @@ use Rattle.eden_messages.specs.declared.message.Request.TheVariants.{Basis, Poll
 use Rattle.eden_messages.specs.declared.message.Reply.{Reply}
 use Rattle.eden_messages.specs.declared.message.Reply.TheVariants.{BasisIs, ChangesAre, ContentIs, Refused, ListIs}
 use Rattle.eden_messages.specs.Replies.{bounded}
-use Rattle.eden_messages.specs.Spells.{position_bytes, text_bytes, marked_bytes, filter_bytes, content_bytes, request_bytes, reply_bytes, if_small}
+use Rattle.eden_messages.specs.Spells.{position_bytes, text_bytes, marked_bytes, excluded_bytes, filter_bytes, content_bytes, request_bytes, reply_bytes, if_small}
 use Rattle.eden_stream.specs.Frames.{body_limit}
 
 -- a list whose bytes are too many up to a place has too many
@@ -33,19 +34,28 @@ pub list_front_small : (i : ℕ) (list : List Marked) (marked : Marked) → i < 
     → 16777216 < length (flat_map marked_bytes (take i list)) + length (marked_bytes marked) → if_small (length (flat_map marked_bytes list)) ≡ None
 list_front_small i list marked more is long = front_small marked_bytes i list marked more is long
 
-pub basis_request_len : (query : Query) (patterns : List (List ℕ)) → length (request_bytes (Basis query patterns)) ≡ 26 + length (filter_bytes patterns)
-basis_request_len query patterns = simp length-append (omega arith)
+pub none_excluded_len : (patterns : List (List ℕ)) → length patterns ≡ 0 → length (excluded_bytes patterns) ≡ 0
+none_excluded_len [] none = refl
+none_excluded_len (p ∷ ps) none = absurd (omega (arith, none))
 
-pub poll_len : (query : Query) (since : Position) (patterns : List (List ℕ))
-    → length (request_bytes (Poll query since patterns)) ≡ 26 + length (position_bytes since) + length (filter_bytes patterns)
-poll_len query since patterns = simp length-append (omega arith)
+pub excluded_len : (patterns : List (List ℕ)) → 0 < length patterns → length (excluded_bytes patterns) ≡ 2 + length (filter_bytes patterns)
+excluded_len [] some = absurd (omega (arith, some))
+excluded_len (p ∷ ps) some = omega arith
+
+pub basis_request_len : (query : Query) (filter : Patterns)
+    → length (request_bytes (Basis query filter)) ≡ 26 + (length (excluded_bytes filter.excluded) + length (filter_bytes filter.included))
+basis_request_len query filter = simp length-append (omega arith)
+
+pub poll_len : (query : Query) (since : Position) (filter : Patterns)
+    → length (request_bytes (Poll query since filter)) ≡ 26 + length (position_bytes since) + (length (excluded_bytes filter.excluded) + length (filter_bytes filter.included))
+poll_len query since filter = simp length-append (omega arith)
 
 pub fetch_len : (query : Query) (path : List ℕ) → length (request_bytes (Fetch query path)) ≡ 26 + length (text_bytes path)
 fetch_len query path = simp length-append (omega arith)
 
-pub list_request_len : (query : Query) (prefix : List ℕ) (patterns : List (List ℕ))
-    → length (request_bytes (Below query prefix patterns)) ≡ 26 + length (text_bytes prefix) + length (filter_bytes patterns)
-list_request_len query prefix patterns = simp length-append (omega arith)
+pub list_request_len : (query : Query) (prefix : List ℕ) (filter : Patterns)
+    → length (request_bytes (Below query prefix filter)) ≡ 26 + length (text_bytes prefix) + (length (excluded_bytes filter.excluded) + length (filter_bytes filter.included))
+list_request_len query prefix filter = simp length-append (omega arith)
 
 pub basis_len : (query : Query) (position : Position) (paths : List (List ℕ))
     → length (reply_bytes (BasisIs query position paths)) ≡ 30 + length (position_bytes position) + length (flat_map text_bytes paths)

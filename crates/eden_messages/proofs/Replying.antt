@@ -14,7 +14,7 @@ use Rattle.eden_ids.specs.Paths.{lies_below}
 use Rattle.eden_ids.specs.Texts.{AreTexts, IsPathText}
 use Rattle.eden_ids.proofs.ByteOrder.{fin_keys_rise, order}
 use Rattle.eden_ids.proofs.TextLemmas.{paths_texts}
-use Rattle.eden_globs.specs.Filters.{admits}
+use Rattle.eden_globs.specs.Filters.{Patterns, admits}
 use Rattle.eden_stream.specs.Frames.{body_limit}
 use Rattle.eden_history.specs.declared.answer.SinceFault.{SinceFault}
 use Rattle.eden_history.specs.declared.answer.SinceFault.TheVariants as since
@@ -123,7 +123,7 @@ all_below prefix (p ∷ ps) = by (lies_below p prefix) refl (all_below prefix ps
     by false e more = more
 
 -- the paths of marked ones, of which a filter admits some
-pub admitted_listed : (patterns : List (List ℕ)) (marked : List Marked) → paths_of (admitted patterns marked) ≡ filter (admits patterns) (paths_of marked)
+pub admitted_listed : (patterns : Patterns) (marked : List Marked) → paths_of (admitted patterns marked) ≡ filter (admits patterns) (paths_of marked)
 admitted_listed patterns [] = refl
 admitted_listed patterns (m ∷ ms) = by (admits patterns m.path) (admitted_listed patterns ms)
   where
@@ -172,12 +172,12 @@ module _ (name : List ℕ → List ℕ → Id) (world : WorldState) (is : IsWorl
   present : IsRowText (now world)
   present = now_texts name world is spellable
 
-  files_listed : (patterns : List (List ℕ)) → AreListed (admitted_paths patterns (now world).files)
+  files_listed : (patterns : Patterns) → AreListed (admitted_paths patterns (now world).files)
   files_listed patterns =
       sifted (admits patterns) (paths (now world).files)
       (record { texts = paths_texts (now world).files present.files; rise = fin_keys_rise (now world).files })
 
-  basis_spelled : (query : Query) (patterns : List (List ℕ)) → IsQuery query
+  basis_spelled : (query : Query) (patterns : Patterns) → IsQuery query
       → SpellsReply (reply_bytes (reply_of world (Basis query patterns))) (reply_of world (Basis query patterns))
   basis_spelled query patterns asked =
       bounded_spelled query (BasisIs query (position_of (now world)) (admitted_paths patterns (now world).files)) asked
@@ -189,7 +189,7 @@ module _ (name : List ℕ → List ℕ → Id) (world : WorldState) (is : IsWorl
         listed (admitted_paths patterns (now world).files) (files_listed patterns) (omega (arith, small, long, few)),
       ))
 
-  list_spelled : (query : Query) (prefix : List ℕ) (patterns : List (List ℕ)) → IsQuery query → IsPathText prefix
+  list_spelled : (query : Query) (prefix : List ℕ) (patterns : Patterns) → IsQuery query → IsPathText prefix
       → SpellsReply (reply_bytes (reply_of world (Below query prefix patterns))) (reply_of world (Below query prefix patterns))
   list_spelled query prefix patterns asked text =
       let paths = below prefix (admitted_paths patterns (now world).files) in
@@ -210,7 +210,7 @@ module _ (name : List ℕ → List ℕ → Id) (world : WorldState) (is : IsWorl
       bounded_spelled query (ContentIs query (position_of (now world)) path (file_at (now world).files path)) asked
       (λ small. (asked, position_text (now world) present, text, value_text (now world).files path present.files))
 
-  changes_listing : (since : ℕ) (patterns : List (List ℕ)) → length (admitted patterns (marked_since world since)) < 2 ^ 32
+  changes_listing : (since : ℕ) (patterns : Patterns) → length (admitted patterns (marked_since world since)) < 2 ^ 32
       → IsListing (paths_of (admitted patterns (marked_since world since)))
   changes_listing since patterns few =
       let named = listing (path_set (paths_said (said_since world since))) in
@@ -227,7 +227,7 @@ module _ (name : List ℕ → List ℕ → Id) (world : WorldState) (is : IsWorl
       listed (prefixes_since world since)
       (of_set (path_set (prefixes_told (now world).generation since (now world).sequence world.past)) (prefixes_texts name world since is spellable)) few
 
-  changes_spelled : (query : Query) (since : ℕ) (patterns : List (List ℕ)) → IsQuery query
+  changes_spelled : (query : Query) (since : ℕ) (patterns : Patterns) → IsQuery query
       → SpellsReply (reply_bytes (polled world query since patterns None)) (polled world query since patterns None)
   changes_spelled query since patterns asked =
       bounded_spelled query (ChangesAre query (position_of (now world)) (admitted patterns (marked_since world since)) (prefixes_since world since)) asked
@@ -241,7 +241,7 @@ module _ (name : List ℕ → List ℕ → Id) (world : WorldState) (is : IsWorl
         prefixes_listing since (omega (arith, small, long, more)),
       ))
 
-  polled_spelled : (query : Query) (since : ℕ) (patterns : List (List ℕ)) (fault : Option SinceFault) → IsQuery query → OfCause fault
+  polled_spelled : (query : Query) (since : ℕ) (patterns : Patterns) (fault : Option SinceFault) → IsQuery query → OfCause fault
       → SpellsReply (reply_bytes (polled world query since patterns fault)) (polled world query since patterns fault)
   polled_spelled query since patterns None asked fits = changes_spelled query since patterns asked
   polled_spelled query since patterns (Some fault) asked fits = refused_spelled query (cause_of fault) asked fits

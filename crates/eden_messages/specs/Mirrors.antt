@@ -10,6 +10,7 @@ use Rattle.std.specs.List.{list_any}
 use Rattle.eden_ids.specs.declared.content.Content.{Content}
 use Rattle.eden_ids.specs.FileMaps.{FileMap, no_files, put_option, same_path}
 use Rattle.eden_ids.specs.Paths.{lies_below}
+use Rattle.eden_globs.specs.Filters.{Patterns}
 use Rattle.eden_history.specs.declared.position.Position.{Position}
 use Rattle.eden_messages.specs.declared.message.Query.{Query}
 use Rattle.eden_messages.specs.declared.message.Request.{Request}
@@ -36,13 +37,13 @@ pub data Round : Type 0 where
 pub record MirrorState : Type 0 where
   pub id : ℕ
   pub life : ℕ
-  pub patterns : List (List ℕ)
+  pub patterns : Patterns
   pub last : ℕ
   pub files : FileMap
   pub place : Option Position
   pub round : Round
 
-abbrev pub new_mirror : ℕ → ℕ → List (List ℕ) → MirrorState
+abbrev pub new_mirror : ℕ → ℕ → Patterns → MirrorState
 new_mirror id life patterns = record { id = id; life = life; patterns = patterns; last = 0; files = no_files; place = None; round = Idle }
 
 -- ---- a round begins
@@ -53,7 +54,7 @@ has_number m = nat_lt m.last (2 ^ 64 - 1)
 
 -- the request that begins a round: what changed since a place, or all paths if there is
 -- none
-abbrev pub list_request : Query → Option Position → List (List ℕ) → Request
+abbrev pub list_request : Query → Option Position → Patterns → Request
 list_request query None patterns = Basis query patterns
 list_request query (Some place) patterns = Poll query place patterns
 
@@ -72,7 +73,7 @@ begun m = if has_number m then next_round m else m
 
 -- the requests that a round still waits for: its list; or a list for each awaited
 -- directory, under the mirror's filter, and a content for each awaited path
-abbrev pub requests_in : List (List ℕ) → Round → List Request
+abbrev pub requests_in : Patterns → Round → List Request
 requests_in patterns Idle = []
 requests_in patterns (Asked request) = request ∷ []
 requests_in patterns (Gathering query target awaited prefixes) =
@@ -200,5 +201,5 @@ delivered m reply = delivered_in m m.round reply
 
 -- the files were those of the old filter; the number stays, so that no later round is
 -- taken for an earlier one
-unfoldable pub refiltered : MirrorState → List (List ℕ) → MirrorState
+unfoldable pub refiltered : MirrorState → Patterns → MirrorState
 refiltered m patterns = record m { patterns = patterns; files = no_files; place = None; round = Idle }

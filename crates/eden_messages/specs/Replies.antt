@@ -2,7 +2,7 @@
 use Rattle.std.specs.Prelude.{ℕ, nat_lt, if◌then◌else◌, List, length, Option, Some, None, filter}
 use Rattle.eden_ids.specs.declared.id.Id.{Id}
 use Rattle.eden_ids.specs.FileMaps.{FileMap, file_at, paths}
-use Rattle.eden_globs.specs.Filters.{admits}
+use Rattle.eden_globs.specs.Filters.{Patterns, admits}
 use Rattle.eden_history.specs.declared.answer.SinceFault.{SinceFault}
 use Rattle.eden_history.specs.declared.answer.SinceFault.TheVariants as since
 use Rattle.eden_messages.specs.declared.message.Cause.{Cause}
@@ -29,7 +29,7 @@ cause_of (since.Truncated floor) = Truncated floor
 cause_of since.NoMemory = TooLarge
 
 -- the paths that hold a file and that the patterns admit, ascending
-abbrev pub admitted_paths : List (List ℕ) → FileMap → List (List ℕ)
+abbrev pub admitted_paths : Patterns → FileMap → List (List ℕ)
 admitted_paths patterns files = filter (admits patterns) (paths files)
 
 -- a reply whose body would be longer than a frame's may be becomes a refusal
@@ -37,7 +37,7 @@ unfoldable pub bounded : Query → Reply → Reply
 bounded query reply = if nat_lt body_limit (length (reply_bytes reply)) then Refused query TooLarge else reply
 
 -- the paths that hold a file now
-abbrev pub basis_reply : WorldState → Query → List (List ℕ) → Reply
+abbrev pub basis_reply : WorldState → Query → Patterns → Reply
 basis_reply world query patterns =
     bounded query (BasisIs query (position_of (now world)) (admitted_paths patterns (now world).files))
 
@@ -47,17 +47,17 @@ content_reply world query path =
     bounded query (ContentIs query (position_of (now world)) path (file_at (now world).files path))
 
 -- the paths below the directory that hold a file now
-abbrev pub list_reply : WorldState → Query → List ℕ → List (List ℕ) → Reply
+abbrev pub list_reply : WorldState → Query → List ℕ → Patterns → Reply
 list_reply world query prefix patterns =
     bounded query (ListIs query (position_of (now world)) prefix (below prefix (admitted_paths patterns (now world).files)))
 
 -- what changed since a number: the paths that the patterns admit, and all directories
 -- between which files were moved
-abbrev pub changes_reply : WorldState → Query → ℕ → List (List ℕ) → Reply
+abbrev pub changes_reply : WorldState → Query → ℕ → Patterns → Reply
 changes_reply world query since patterns =
     bounded query (ChangesAre query (position_of (now world)) (admitted patterns (marked_since world since)) (prefixes_since world since))
 
-abbrev pub polled : WorldState → Query → ℕ → List (List ℕ) → Option SinceFault → Reply
+abbrev pub polled : WorldState → Query → ℕ → Patterns → Option SinceFault → Reply
 polled world query since patterns (Some fault) = Refused query (cause_of fault)
 polled world query since patterns None = changes_reply world query since patterns
 

@@ -12,7 +12,7 @@ use Rattle.eden_ids.specs.declared.content.Kind.{Kind}
 use Rattle.eden_ids.specs.declared.content.Kind.TheVariants.{Plain, Exec, Link}
 use Rattle.eden_ids.specs.Paths.{lies_below}
 use Rattle.eden_ids.specs.Texts.{AreBytes, IsContentText, IsPathText}
-use Rattle.eden_globs.specs.Filters.{IsFilter}
+use Rattle.eden_globs.specs.Filters.{IsFilter, Patterns}
 use Rattle.eden_stream.specs.Frames.{body_limit}
 use Rattle.eden_history.specs.declared.mark.Mark.{Mark}
 use Rattle.eden_history.specs.declared.mark.Mark.TheVariants.{Created, Removed, Changed, Root}
@@ -54,9 +54,16 @@ text_bytes text = to_be_bytes w16 (length text) ++ text
 abbrev pub filter_bytes : List (List ℕ) → List ℕ
 filter_bytes patterns = length patterns ∷ flat_map text_bytes patterns
 
-pub record IsFilterText (patterns : List (List ℕ)) : Type 0 where
-  pub filter : IsFilter patterns
-  pub bytes : AllByRecursion AreBytes patterns
+-- what comes before a request whose filter excludes patterns: the version, the tag 7, and
+-- those patterns
+abbrev pub excluded_bytes : List (List ℕ) → List ℕ
+excluded_bytes [] = []
+excluded_bytes (pattern ∷ patterns) = 2 ∷ 7 ∷ filter_bytes (pattern ∷ patterns)
+
+pub record IsFilterText (wanted : Patterns) : Type 0 where
+  pub filter : IsFilter wanted
+  pub included : AllByRecursion AreBytes wanted.included
+  pub excluded : AllByRecursion AreBytes wanted.excluded
 
 -- the path sorts before each of the list that follows it; since that ascends, it is
 -- enough to compare the first
@@ -131,12 +138,15 @@ IsCause TooLarge = Unit {0}
 
 -- ---- bodies
 
--- the bytes of a request's body, if it has an encoding
+-- the bytes of a request's body, if it has an encoding; what a filter excludes comes before
+-- a request of what it includes
 abbrev pub request_bytes : Request → List ℕ
-request_bytes (Basis query filter) = 2 ∷ 1 ∷ query_bytes query ++ filter_bytes filter
-request_bytes (Poll query since filter) = 2 ∷ 2 ∷ query_bytes query ++ (position_bytes since ++ filter_bytes filter)
+request_bytes (Basis query filter) = excluded_bytes filter.excluded ++ (2 ∷ 1 ∷ query_bytes query ++ filter_bytes filter.included)
+request_bytes (Poll query since filter) =
+    excluded_bytes filter.excluded ++ (2 ∷ 2 ∷ query_bytes query ++ (position_bytes since ++ filter_bytes filter.included))
 request_bytes (Fetch query path) = 2 ∷ 3 ∷ query_bytes query ++ text_bytes path
-request_bytes (Below query prefix filter) = 2 ∷ 4 ∷ query_bytes query ++ (text_bytes prefix ++ filter_bytes filter)
+request_bytes (Below query prefix filter) =
+    excluded_bytes filter.excluded ++ (2 ∷ 4 ∷ query_bytes query ++ (text_bytes prefix ++ filter_bytes filter.included))
 
 abbrev pub IsRequest : Request → Type 0
 IsRequest (Basis query filter) = IsQuery query × IsFilterText filter

@@ -1,8 +1,9 @@
 //! The lengths of message bodies, known before a byte of them is written.
 
-ghost use Rattle.std.specs.Prelude.{◌≡◌, ◌≤◌, length};
+ghost use Rattle.std.specs.Prelude.{◌≡◌, ◌≤◌, ◌+◌, None, length};
 ghost use Rattle.std.specs.List.{flat_map};
-ghost use Rattle.eden_messages.specs.Spells.{position_bytes, text_bytes, filter_bytes, marked_bytes, content_bytes, request_bytes, reply_bytes, if_small};
+ghost use Rattle.eden_globs.specs.Filters.{filter_fault, lists};
+ghost use Rattle.eden_messages.specs.Spells.{position_bytes, text_bytes, excluded_bytes, filter_bytes, marked_bytes, content_bytes, request_bytes, reply_bytes, if_small};
 
 use crate::message::{Reply, Request};
 use eden_globs::Filter;
@@ -85,13 +86,13 @@ fn len_of_content(content: &Option<Content>) -> Option<usize>
     Some(5 + len)
 }
 
-/// Returns the length of a filter: its count, and each pattern with its length.
+/// Returns the length of a filter's patterns: their count, and each with its length.
 #[tactic(auto, using(crate::proofs::Filters::patterns_few, crate::proofs::Filters::patterns_short))]
-fn len_of_filter(filter: &Filter) -> usize
-    ensures len { result ≡ length (filter_bytes filter.now) }
+fn len_of_patterns(patterns: &[Vec<u8>]) -> usize
+    requires { filter_fault (lists patterns.now) ≡ None }
+    ensures len { result ≡ length (filter_bytes (lists patterns.now)) }
     ensures few { result ≤ 8257 }
 {
-    let patterns = filter.patterns();
     let mut len = 1;
     for pattern in patterns {
         len += 2 + pattern.len();
@@ -99,12 +100,33 @@ fn len_of_filter(filter: &Filter) -> usize
     len
 }
 
+/// Returns the length of what a filter excludes, which comes before a request.
+#[tactic(auto, using(crate::proofs::BodyLengths::excluded_len, crate::proofs::BodyLengths::none_excluded_len))]
+fn len_of_excluded(filter: &Filter) -> usize
+    ensures len { result ≡ length (excluded_bytes filter.now.excluded) }
+    ensures few { result ≤ 8259 }
+{
+    let patterns = filter.excluded();
+    if patterns.is_empty() {
+        return 0;
+    }
+    2 + len_of_patterns(patterns)
+}
+
+/// Returns the length of a filter: of what it excludes and of what it includes.
+fn len_of_filter(filter: &Filter) -> usize
+    ensures len { result ≡ length (excluded_bytes filter.now.excluded) + length (filter_bytes filter.now.included) }
+    ensures few { result ≤ 16516 }
+{
+    len_of_excluded(filter) + len_of_patterns(filter.patterns())
+}
+
 impl Request {
-    /// Returns the length of the request's body: at most 9,344 bytes. Does not allocate.
+    /// Returns the length of the request's body: at most 17,568 bytes. Does not allocate.
     #[tactic(auto, using(crate::proofs::BodyLengths::basis_request_len, crate::proofs::BodyLengths::poll_len, crate::proofs::BodyLengths::fetch_len, crate::proofs::BodyLengths::list_request_len))]
     pub fn body_len(&self) -> u32
         ensures len { result ≡ length (request_bytes self.now) }
-        ensures few { result ≤ 9344 }
+        ensures few { result ≤ 17568 }
     {
         match self {
             Request::Basis { filter, .. } => (26 + len_of_filter(filter)) as u32,

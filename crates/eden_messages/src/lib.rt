@@ -33,7 +33,7 @@
 pub use crate::message::{Cause, Query, Reply, Request};
 pub use crate::outcome::Outcome;
 pub use crate::replies::admitted;
-pub use crate::spelling_law::{one_message_law, one_spelling_law, reply_spelling_law};
+pub use crate::spelling_law::{one_spelling_law, reply_spelling_law};
 pub use crate::text_laws::request_text_law;
 
 mod lengths;

@@ -13,13 +13,6 @@ pub fn one_spelling_law()
     ensures replies { (a b : List ℕ) (reply : Reply) → SpellsReply a reply → SpellsReply b reply → a ≡ b }
 {}
 
-/// States that a body encodes at most one message.
-pub fn one_message_law()
-    ensures requests { (body : List ℕ) (x y : Request) → SpellsRequest body x → SpellsRequest body y → x ≡ y }
-    ensures replies { (body : List ℕ) (x y : Reply) → SpellsReply body x → SpellsReply body y → x ≡ y }
-    ensures either { (body : List ℕ) (x : Request) (y : Reply) → SpellsRequest body x → SpellsReply body y → ⊥ }
-{}
-
 /// States that each reply of a world has an encoding.
 ///
 /// Its paths, files, ids and numbers must be ones that values can be (`IsSpellable`).

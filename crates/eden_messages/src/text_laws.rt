@@ -37,6 +37,7 @@ fn filter_law(filter: &Filter)
     ensures { IsFilterText filter.now }
 {
     patterns_law(filter.patterns());
+    patterns_law(filter.excluded());
 }
 
 /// States that each part of a request can be encoded.

@@ -1,6 +1,7 @@
 -- What is made of a list that counts.
 use Rattle.std.proofs.Common.{◌≡◌, ℕ, ◌==◌, Bool, true, false, ◌&&◌, nat_le, List, [], ◌∷◌, ◌++◌, Option, Some, None, is_none, refl, sym, ap, ◌∙◌}
 use Rattle.eden_ids.specs.FileMaps.{FileMap}
+use Rattle.eden_globs.specs.Filters.{Patterns}
 use Rattle.eden_history.specs.declared.mark.Marked.{Marked}
 use Rattle.eden_history.specs.declared.position.Position.{Position}
 use Rattle.eden_messages.specs.declared.message.Query.{Query}
@@ -16,7 +17,7 @@ gathers_any m round query target [] [] = refl
 gathers_any m round query target [] (prefix ∷ prefixes) = refl
 gathers_any m round query target (path ∷ paths) prefixes = refl
 
-pub changes_delivered : (m : MirrorState) (asked : Query) (place : Option Position) (patterns : List (List ℕ)) (query : Query) (target : Position) (marked : List Marked) (moved : List (List ℕ))
+pub changes_delivered : (m : MirrorState) (asked : Query) (place : Option Position) (patterns : Patterns) (query : Query) (target : Position) (marked : List Marked) (moved : List (List ℕ))
     → m.round ≡ Asked (list_request asked place patterns) → is_none place ≡ false → same_query query asked ≡ true
     → gathers m asked target (distinct (paths_of marked)) (distinct moved) ≡ delivered m (ChangesAre query target marked moved)
 unfolding delivered

@@ -1,19 +1,19 @@
 -- A body is read as what is asked exactly if it spells it.
-use Rattle.std.proofs.Common.{◌≡◌, ℕ, ◌<◌, ◌≤◌, ◌^◌, true, false, cond, eqb, List, ◌∷◌, ◌++◌, length, Result, Ok, Err, refl, sym, ap, subst, ◌∙◌, inl, inr, arith, append_assoc, length-append}
+use Rattle.std.proofs.Common.{◌≡◌, ℕ, ◌<◌, ◌≤◌, ◌^◌, true, cond, eqb, List, ◌∷◌, ◌++◌, length, Result, Ok, Err, refl, sym, ap, subst, ◌∙◌, inl, inr, arith, append_assoc, length-append}
 use Rattle.std.specs.Prelude.{IfOk, OnOk}
 use Rattle.std.specs.Int.{w32, to_be_bytes}
 use Rattle.std.proofs.lemmas.Bool.{eqb-true}
 use Rattle.eden_messages.specs.declared.message.Request.{Request}
-use Rattle.eden_messages.specs.declared.message.Request.TheVariants.{Basis, Poll, Fetch, List as Below}
-use Rattle.eden_messages.specs.Spells.{query_bytes, position_bytes, text_bytes, filter_bytes, request_bytes, IsRequest, SpellsRequest}
+use Rattle.eden_messages.specs.Spells.{request_bytes, IsRequest, SpellsRequest}
 use Rattle.eden_stream.specs.Frames.{frame}
 use Rattle.eden_wire.specs.declared.asking.Asked.{Asked}
 use Rattle.eden_wire.specs.declared.fault.DecodeFault.{DecodeFault}
 use Rattle.eden_wire.specs.Asking.{SpellsAsked, asked_bytes, patience_bytes, read_asked}
-use Rattle.eden_wire.specs.Reading.{◌>>=◌, Gives, number_at, read_request, tag_at}
+use Rattle.eden_wire.specs.Formats.{◌>>=◌, number_at}
+use Rattle.eden_wire.specs.Reading.{Gives, read_request, tag_at}
 use Rattle.eden_wire.proofs.Numbers.{IsBytes, along, bind_ok, number_again, number_takes, wide32}
-use Rattle.eden_wire.proofs.FieldLaws.{chosen}
-use Rattle.eden_wire.proofs.BodyLaws.{HasTag, request_read, request_spelled, tag_again, tag_takes, tagged}
+use Rattle.eden_wire.proofs.TagLaws.{chosen}
+use Rattle.eden_wire.proofs.BodyLaws.{HasTag, request_asked, request_read, request_spelled, tag_again, tag_takes}
 
 -- a request after these milliseconds
 abbrev behind : ℕ → Request → Asked
@@ -21,19 +21,13 @@ behind patience request = record { patience = patience; request = request }
 
 -- ---- what is written is read
 
--- no request has the tag of a patience
-no_patience : (request : Request) → length (request_bytes request) ≤ 16777216
-    → (x : ℕ × List ℕ) × (tag_at (request_bytes request) ≡ Ok x) × (eqb x.0 5 ≡ false)
-no_patience (Basis query filter) limit = ((1, query_bytes query ++ filter_bytes filter), tag_again 1 _ limit, refl)
-no_patience (Poll query since filter) limit = ((2, query_bytes query ++ (position_bytes since ++ filter_bytes filter)), tag_again 2 _ limit, refl)
-no_patience (Fetch query path) limit = ((3, query_bytes query ++ text_bytes path), tag_again 3 _ limit, refl)
-no_patience (Below query prefix filter) limit = ((4, query_bytes query ++ (text_bytes prefix ++ filter_bytes filter)), tag_again 4 _ limit, refl)
-
 alone_again : (request : Request) → SpellsRequest (request_bytes request) request → read_asked (request_bytes request) ≡ Ok (behind 0 request)
 unfolding read_asked
 alone_again request spells =
-    let tag = no_patience request spells.limit in
-    rw (tag.1, tag.2, request_read (request_bytes request) request spells) refl
+    let asked = request_asked request in
+    let tag : tag_at (request_bytes request) ≡ Ok (asked.tag, asked.rest) =
+    ap tag_at asked.parts ∙ tag_again asked.tag asked.rest (subst (λ (b : List ℕ). length b ≤ 16777216) asked.parts spells.limit) in
+    rw (tag, asked.alone, request_read (request_bytes request) request spells) refl
 
 behind_again : (patience : ℕ) (request : Request) → patience < 2 ^ 32 → length (patience_bytes patience ++ request_bytes request) ≤ 16777216
     → SpellsRequest (request_bytes request) request → read_asked (patience_bytes patience ++ request_bytes request) ≡ Ok (behind patience request)
@@ -68,8 +62,7 @@ spelled_behind body tag rest asked t is e =
     let t0 = number_takes w32 (2 ^ 32) wide32 rest a.0 t.rest_fits a.1 in
     let spells = request_spelled a.0.1 b.0 t0.0.rest_fits b.1 in
     let parts : rest ≡ to_be_bytes w32 a.0.0 ++ request_bytes b.0 = t0.0.parts ∙ ap (λ (r : List ℕ). to_be_bytes w32 a.0.0 ++ r) spells.bytes in
-    let bytes : body ≡ patience_bytes a.0.0 ++ request_bytes b.0 =
-    t.parts ∙ tagged 5 tag rest (patience_bytes a.0.0 ++ request_bytes b.0) is (ap (λ (r : List ℕ). 2 ∷ 5 ∷ r) parts) in
+    let bytes : body ≡ patience_bytes a.0.0 ++ request_bytes b.0 = t.parts ∙ ap (λ (n : ℕ). 2 ∷ n ∷ rest) (eqb-true tag 5 is) ∙ ap (λ (r : List ℕ). 2 ∷ 5 ∷ r) parts in
     along (λ (y : Asked). SpellsAsked body y) (behind a.0.0 b.0) asked b.2
     (record { fields = spells.fields; patience = t0.1; bytes = inr bytes; limit = t.limit })
 
@@ -106,7 +99,7 @@ spells asked fields few limit =
 
 -- a length and the body
 pub framed : {X E : Type 0} (result : Result X E) (asked : Asked) (len : ℕ) (old mid new : List ℕ) → IsRequest asked.request → asked.patience < 2 ^ 32
-    → len ≡ length (asked_bytes asked) → len ≤ 9350 → mid ≡ old ++ to_be_bytes w32 len → OnOk result (new ≡ mid ++ asked_bytes asked)
+    → len ≡ length (asked_bytes asked) → len ≤ 17574 → mid ≡ old ++ to_be_bytes w32 len → OnOk result (new ≡ mid ++ asked_bytes asked)
     → OnOk result ((body : List ℕ) × SpellsAsked body asked × (new ≡ old ++ frame body))
 unfolding frame
 framed (Ok x) asked len old mid new fields few is short head told =

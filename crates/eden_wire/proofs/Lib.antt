@@ -1,7 +1,16 @@
 mod Loops
 mod Numbers
-mod FieldLaws
+mod FormatLaws
+mod ListLaws
+mod TagLaws
+mod MessageLaws
+mod Same
+mod Whole
+mod WholeChanges
 pub mod BodyLaws
 mod AskedLaws
+mod DoLaws
+mod DoLengths
+mod DoneLaws
 mod Lists
 mod Written

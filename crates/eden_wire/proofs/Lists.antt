@@ -17,7 +17,7 @@ marks_len [] = omega arith
 marks_len (m ∷ ms) = omega (arith, ap length (flat_map-cons marked_bytes m ms), length-append (marked_bytes m) (flat_map marked_bytes ms), marks_len ms)
 
 -- and so does each path
-paths_len : (paths : List (List ℕ)) → length paths ≤ length (flat_map text_bytes paths)
+pub paths_len : (paths : List (List ℕ)) → length paths ≤ length (flat_map text_bytes paths)
 paths_len [] = omega arith
 paths_len (p ∷ ps) = omega (arith, ap length (flat_map-cons text_bytes p ps), length-append (text_bytes p) (flat_map text_bytes ps), paths_len ps)
 

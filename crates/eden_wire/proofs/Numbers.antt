@@ -1,16 +1,12 @@
--- Steps of reading, and the numbers and texts that are read and written.
-use Rattle.std.proofs.Common.{◌≡◌, ℕ, suc, ◌+◌, ◌^◌, ◌<◌, ◌≤◌, Bool, true, false, ◌||◌, cond, ltb, eqb, List, [], ◌∷◌, ◌++◌, length, get_or, take, drop, Result, Ok, Err, refl, sym, ap, subst, ◌∙◌, append_assoc, arith, inl, inr}
+-- Steps of reading, and the numbers that are read and written.
+use Rattle.std.proofs.Common.{◌≡◌, ℕ, suc, ◌+◌, ◌^◌, ◌<◌, ◌≤◌, Bool, true, false, cond, ltb, List, [], ◌∷◌, ◌++◌, length, get_or, take, drop, Result, Ok, Err, refl, sym, ap, subst, ◌∙◌, append_assoc, arith, inl, inr}
 use Rattle.std.specs.Int.{Width, w16, w32, w64, byte_len, from_be_bytes, to_be_bytes}
-use Rattle.std.proofs.lemmas.Bool.{cases_lt, ltb-false, le-ltb, eqb-false, eqb-true, ne_eqb, or_from}
-use Rattle.std.proofs.lemmas.List.{take_at, drop_at, take-append-drop, length-append, length-take, get_or-drop, get_or-take, get_or_past, nil_from_length}
+use Rattle.std.proofs.lemmas.Bool.{cases_lt, ltb-false, le-ltb}
+use Rattle.std.proofs.lemmas.List.{take_at, drop_at, take-append-drop, length-append, length-take, get_or-drop, get_or-take, get_or_past}
 use Rattle.std.proofs.lemmas.Nat.{be_bytes_2, be_bytes_4, be_bytes_8, from_be_bytes-to_be_bytes_2, from_be_bytes-to_be_bytes_4, from_be_bytes-to_be_bytes_8}
-use Rattle.eden_ids.specs.Texts.{AreBytes}
-use Rattle.eden_ids.proofs.Texts.{bytes_are}
-use Rattle.eden_messages.specs.Spells.{text_bytes}
-use Rattle.eden_messages.proofs.Spelling.{IsText}
 use Rattle.eden_wire.specs.declared.fault.DecodeFault.{DecodeFault}
-use Rattle.eden_wire.specs.declared.fault.DecodeFault.TheVariants.{CutShort, BadField, Trailing}
-use Rattle.eden_wire.specs.Reading.{◌>>=◌, byte_at, number_at, text_at, ended}
+use Rattle.eden_wire.specs.declared.fault.DecodeFault.TheVariants.{CutShort}
+use Rattle.eden_wire.specs.Formats.{◌>>=◌, byte_at, number_at}
 
 -- ---- bytes
 
@@ -47,7 +43,7 @@ pub held_ok : {A : Type 0} (b : Bool) (r : Result A DecodeFault) (d : DecodeFaul
 held_ok true r d y e = (refl, e)
 held_ok false r d y e = absurd cc
 
-abbrev done : {A : Type 0} → A → Result A DecodeFault
+abbrev pub done : {A : Type 0} → A → Result A DecodeFault
 done x = Ok x
 
 pub ok_is : {A : Type 0} (x y : A) → done x ≡ done y → x ≡ y
@@ -118,42 +114,3 @@ number_again w limit wide n rest lt =
     let len = wide.len n in
     let long : ltb (length (to_be_bytes w n ++ rest)) (byte_len w) ≡ false = le-ltb _ _ (omega (arith, length-append (to_be_bytes w n) rest)) in
     rw (long, take_at (to_be_bytes w n) rest (byte_len w) len, drop_at (to_be_bytes w n) rest (byte_len w) len, wide.again n lt) refl
-
--- ---- texts
-
-some_of : (n : ℕ) → eqb n 0 ≡ false → 0 < n
-some_of n e = let ne : n ≡ 0 → ⊥ = eqb-false n 0 e in omega arith
-
-pub text_takes : (limit : ℕ) (bytes : List ℕ) (x : List ℕ × List ℕ) → IsBytes bytes → text_at limit bytes ≡ Ok x
-    → Takes bytes (text_bytes x.0) x.1 × AreBytes x.0
-unfolding text_at
-text_takes limit bytes x fits e =
-    let b = bind_ok (number_at w16 bytes) (λ n. cond (eqb n.0 0 || ltb limit n.0) (Err BadField) (cond (ltb (length n.1) n.0) (Err CutShort) (Ok (take n.0 n.1, drop n.0 n.1)))) x e in
-    let n = b.0 in
-    let t = number_takes w16 (2 ^ 16) wide16 bytes n fits b.1 in
-    let g = guard_ok (eqb n.0 0 || ltb limit n.0) BadField (cond (ltb (length n.1) n.0) (Err CutShort) (Ok (take n.0 n.1, drop n.0 n.1))) x b.2 in
-    let h = guard_ok (ltb (length n.1) n.0) CutShort (Ok (take n.0 n.1, drop n.0 n.1)) x g.1 in
-    let long : n.0 ≤ length n.1 = ltb-false _ _ h.0 in
-    let len : length (take n.0 n.1) ≡ n.0 = omega (arith, length-take n.0 n.1) in
-    let second : Takes n.1 (take n.0 n.1) (drop n.0 n.1) = record { parts = sym (take-append-drop n.0 n.1); rest_fits = IsBytes-drop n.0 n.1 t.0.rest_fits } in
-    let both = Takes-then bytes (to_be_bytes w16 n.0) n.1 (take n.0 n.1) (drop n.0 n.1) t.0 second in
-    let whole : Takes bytes (text_bytes (take n.0 n.1)) (drop n.0 n.1) = subst (λ (k : ℕ). Takes bytes (to_be_bytes w16 k ++ take n.0 n.1) (drop n.0 n.1)) (sym len) both in
-    along (λ (p : List ℕ × List ℕ). Takes bytes (text_bytes p.0) p.1 × AreBytes p.0) (take n.0 n.1, drop n.0 n.1) x h.1
-    (whole, bytes_are (take n.0 n.1) (IsBytes-take n.0 n.1 t.0.rest_fits))
-
-pub text_again : (limit : ℕ) (text rest : List ℕ) → limit < 2 ^ 16 → IsText limit text → text_at limit (text_bytes text ++ rest) ≡ Ok (text, rest)
-unfolding text_at
-text_again limit text rest small is =
-    let some : eqb (length text) 0 ≡ false = ne_eqb _ _ (omega (arith, is.some)) in
-    let few : ltb limit (length text) ≡ false = le-ltb _ _ is.few in
-    let in_limit : (eqb (length text) 0 || ltb limit (length text)) ≡ false = or_from _ _ some few in
-    let long : ltb (length (text ++ rest)) (length text) ≡ false = le-ltb _ _ (omega (arith, length-append text rest)) in
-    ap (text_at limit) (append_assoc (to_be_bytes w16 (length text)) text rest)
-    ∙ rw (number_again w16 (2 ^ 16) wide16 (length text) (text ++ rest) (omega (arith, is.few)), in_limit, long, take_at text rest (length text) refl, drop_at text rest (length text) refl) refl
-
--- ---- the end
-
-pub ended_ok : {A : Type 0} (message : A) (rest : List ℕ) (y : A) → ended message rest ≡ Ok y → (message ≡ y) × (rest ≡ [])
-ended_ok message rest y e =
-    let h = held_ok (eqb (length rest) 0) (Ok message) Trailing y e in
-    (ok_is message y h.1, nil_from_length rest (eqb-true _ _ h.0))

@@ -6,7 +6,8 @@ use Rattle.eden_messages.specs.Spells.{IsRequest, request_bytes}
 use Rattle.eden_stream.specs.Frames.{body_limit}
 use Rattle.eden_wire.specs.declared.asking.Asked.{Asked}
 use Rattle.eden_wire.specs.declared.fault.DecodeFault.{DecodeFault}
-use Rattle.eden_wire.specs.Reading.{◌>>=◌, number_at, read_request, tag_at}
+use Rattle.eden_wire.specs.Formats.{◌>>=◌, number}
+use Rattle.eden_wire.specs.Reading.{read_request, tag_at}
 
 -- what comes before a request: the version, the tag 5, and four bytes of milliseconds
 abbrev pub patience_bytes : ℕ → List ℕ
@@ -30,7 +31,7 @@ unfoldable pub read_asked : List ℕ → Result Asked DecodeFault
 read_asked body = do
   tag ← tag_at body
   if tag.0 == 5 then (do
-    patience ← number_at w32 tag.1
+    patience ← (number w32).read tag.1
     request ← read_request patience.1
     Ok (record { patience = patience.0; request = request }))
       else (do

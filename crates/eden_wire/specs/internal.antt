@@ -1,2 +1,3 @@
 -- Definitions that the code alone uses.
 pub mod Listing
+pub mod Steps

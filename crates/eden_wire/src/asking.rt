@@ -24,7 +24,7 @@ pub struct Asked {
 }
 
 #[tactic(auto, unfolding(crate::specs::Asking::read_asked))]
-fn asked_of(alloc: Global, body: &[u8]) -> Result<Asked, DecodeFault>
+pub(crate) fn asked_of(alloc: Global, body: &[u8]) -> Result<Asked, DecodeFault>
     ensures { Gives (λ asked. asked) result (read_asked body.now) }
 {
     let (tag, rest) = tag_of(body)?;
@@ -81,7 +81,7 @@ fn put_asked(out: &mut Vec<u8>, asked: &Asked) -> Result<(), AllocError>
 /// Returns the length of the body of what is asked.
 fn len_of_asked(asked: &Asked) -> u32
     ensures len { result ≡ length (asked_bytes asked.now) }
-    ensures few { result ≤ 9350 }
+    ensures few { result ≤ 17574 }
     ensures patience { asked.now.patience < 2 ^ 32 }
 {
     let front = if asked.patience > 0 { 6 } else { 0 };

@@ -1,25 +1,43 @@
 //! Decoding: a request or a reply from the bytes of its body.
 
-ghost use Rattle.std.specs.Prelude.{◌≡◌, None, Ok, IfOk};
+ghost use Rattle.std.specs.Prelude.{◌≡◌, None, Some, Ok, IfOk};
 ghost use Rattle.std.specs.Option.{option_copied};
 ghost use Rattle.eden_messages.specs.declared.message.Request.{Request};
+ghost use Rattle.eden_messages.specs.declared.message.Request.TheVariants.{Basis, Poll, Fetch, List as Below};
 ghost use Rattle.eden_messages.specs.declared.message.Reply.{Reply};
+ghost use Rattle.eden_messages.specs.declared.message.Reply.TheVariants.{BasisIs, ChangesAre, ContentIs, Refused, ListIs};
 ghost use Rattle.eden_messages.specs.Spells.{SpellsRequest, SpellsReply};
-ghost use Rattle.eden_wire.specs.Reading.{Gives, tag_at, next_at, paths_at, path_listing_at, marked_at, list_at, listing_at, basis_at, poll_at, ended, fetch_at, list_request_at, basis_is_at, changes_are_at, content_is_at, refused_at, list_is_at, read_request, read_reply};
-ghost use Rattle.eden_wire.specs.Reading as reading;
-ghost use Rattle.eden_wire.specs.internal.Listing.{last_marked, last_path};
+ghost use Rattle.eden_wire.specs.Formats.{byte, items_at, only, tagged, then_by, versioned, ◌▹◌};
+ghost use Rattle.eden_wire.specs.Messages.{query, position, path, filter, excluded, excepting, filtered_of, filtered_cases, marked_path, is_above, is_within, paths_within, ascending_marks, marked_paths, content, cause};
+ghost use Rattle.eden_wire.specs.Messages as messages;
+ghost use Rattle.eden_wire.specs.Reading.{Gives, tag_at, read_request, read_reply};
+ghost use Rattle.eden_wire.specs.internal.Listing.{last_item};
+ghost use Rattle.eden_wire.specs.internal.Steps.{ended, read_to_end};
 
 use crate::fault::DecodeFault;
 use crate::fields::{
-    byte_of, cause_of, content_of, filter_of, mark_of, path_of, position_of, query_of, u32_of,
+    byte_of, cause_of, content_of, excluded_of, filter_of, mark_of, path_of, position_of, query_of,
+    u32_of,
 };
+use eden_globs::Filter;
 use eden_history::Marked;
-use eden_ids::{Path, Sequence};
+use eden_ids::{NoMemory, Path, Sequence};
 use eden_messages::{Reply, Request};
 use eden_stream::BODY_LIMIT;
 use std::alloc::Global;
 
 /// Reads the version and the tag after it.
+fn head_of(bytes: &[u8]) -> Result<(u8, &[u8]), DecodeFault>
+    ensures { Gives (λ x. (x.0, x.1.now)) result ((versioned byte).read bytes.now) }
+{
+    let (version, rest) = byte_of(bytes)?;
+    if version != 2 {
+        return Err(DecodeFault::Version);
+    }
+    byte_of(rest)
+}
+
+/// Reads the version and the tag of a body.
 #[tactic(auto, unfolding(crate::specs::Reading::tag_at))]
 pub(crate) fn tag_of(body: &[u8]) -> Result<(u8, &[u8]), DecodeFault>
     ensures { Gives (λ x. (x.0, x.1.now)) result (tag_at body.now) }
@@ -27,18 +45,14 @@ pub(crate) fn tag_of(body: &[u8]) -> Result<(u8, &[u8]), DecodeFault>
     if body.len() > BODY_LIMIT {
         return Err(DecodeFault::TooLarge);
     }
-    let (version, rest) = byte_of(body)?;
-    if version != 2 {
-        return Err(DecodeFault::Version);
-    }
-    byte_of(rest)
+    head_of(body)
 }
 
 /// Returns true if the path sorts after the last one.
 ///
 /// It also does if there is none.
 fn is_above(last: Option<&Path>, path: &Path) -> bool
-    ensures { result ≡ reading.is_above (option_copied last.entry) path.now }
+    ensures { result ≡ messages.is_above (option_copied last.entry) path.now }
 {
     match last {
         None => true,
@@ -50,7 +64,7 @@ fn is_above(last: Option<&Path>, path: &Path) -> bool
 ///
 /// It also is if there is none.
 fn is_within(prefix: Option<&Path>, path: &Path) -> bool
-    ensures { result ≡ reading.is_within (option_copied prefix.entry) path.now }
+    ensures { result ≡ messages.is_within (option_copied prefix.entry) path.now }
 {
     match prefix {
         None => true,
@@ -61,14 +75,13 @@ fn is_within(prefix: Option<&Path>, path: &Path) -> bool
 /// Reads a path that may follow these in a list.
 ///
 /// The list is that of a directory or of any paths.
-#[tactic(auto, unfolding(crate::specs::Reading::next_at))]
 fn next_of<'a>(
     alloc: Global,
     prefix: Option<&Path>,
     before: &[Path],
     bytes: &'a [u8],
 ) -> Result<(Path, &'a [u8]), DecodeFault>
-    ensures { Gives (λ x. (x.0, x.1.now)) result (next_at (option_copied prefix.entry) (last_path before.now) bytes.now) }
+    ensures { Gives (λ x. (x.0, x.1.now)) result ((only (only path (is_within (option_copied prefix.entry))) (is_above (last_item before.now))).read bytes.now) }
 {
     let (path, rest) = path_of(alloc, bytes)?;
     if !is_above(before.last(), &path) || !is_within(prefix, &path) {
@@ -87,7 +100,7 @@ fn paths_of<'a>(
     count: u32,
     bytes: &'a [u8],
 ) -> Result<(Vec<Path>, &'a [u8]), DecodeFault>
-    ensures { Gives (λ x. (x.0.items, x.1.now)) result (paths_at (option_copied prefix.entry) count None bytes.now) }
+    ensures { Gives (λ x. (x.0.items, x.1.now)) result (items_at (only path (is_within (option_copied prefix.entry))) is_above count None bytes.now) }
 {
     let mut list = Vec::new(alloc);
     let mut rest = bytes;
@@ -99,13 +112,12 @@ fn paths_of<'a>(
     Ok((list, rest))
 }
 
-#[tactic(auto, unfolding(crate::specs::Reading::path_listing_at))]
-fn path_listing_of<'a>(
+pub(crate) fn path_listing_of<'a>(
     alloc: Global,
     prefix: Option<&Path>,
     bytes: &'a [u8],
 ) -> Result<(Sequence<Path>, &'a [u8]), DecodeFault>
-    ensures { Gives (λ x. (x.0, x.1.now)) result (path_listing_at (option_copied prefix.entry) bytes.now) }
+    ensures { Gives (λ x. (x.0, x.1.now)) result ((paths_within (option_copied prefix.entry)).read bytes.now) }
 {
     let (count, rest) = u32_of(bytes)?;
     let (list, rest) = paths_of(alloc, prefix, count, rest)?;
@@ -113,13 +125,12 @@ fn path_listing_of<'a>(
 }
 
 /// Reads a marked path that may follow these.
-#[tactic(auto, unfolding(crate::specs::Reading::marked_at))]
 fn marked_of<'a>(
     alloc: Global,
     before: &[Marked],
     bytes: &'a [u8],
 ) -> Result<(Marked, &'a [u8]), DecodeFault>
-    ensures { Gives (λ x. (x.0, x.1.now)) result (marked_at (last_marked before.now) bytes.now) }
+    ensures { Gives (λ x. (x.0, x.1.now)) result ((only marked_path (ascending_marks (last_item before.now))).read bytes.now) }
 {
     let (mark, rest) = mark_of(bytes)?;
     let (path, rest) = path_of(alloc, rest)?;
@@ -133,7 +144,7 @@ fn marked_of<'a>(
 ///
 /// No room is reserved for a count that was only read.
 fn list_of(alloc: Global, count: u32, bytes: &[u8]) -> Result<(Vec<Marked>, &[u8]), DecodeFault>
-    ensures { Gives (λ x. (x.0.items, x.1.now)) result (list_at count None bytes.now) }
+    ensures { Gives (λ x. (x.0.items, x.1.now)) result (items_at marked_path ascending_marks count None bytes.now) }
 {
     let mut list = Vec::new(alloc);
     let mut rest = bytes;
@@ -145,9 +156,8 @@ fn list_of(alloc: Global, count: u32, bytes: &[u8]) -> Result<(Vec<Marked>, &[u8
     Ok((list, rest))
 }
 
-#[tactic(auto, unfolding(crate::specs::Reading::listing_at))]
 fn listing_of(alloc: Global, bytes: &[u8]) -> Result<(Sequence<Marked>, &[u8]), DecodeFault>
-    ensures { Gives (λ x. (x.0, x.1.now)) result (listing_at bytes.now) }
+    ensures { Gives (λ x. (x.0, x.1.now)) result (marked_paths.read bytes.now) }
 {
     let (count, rest) = u32_of(bytes)?;
     let (list, rest) = list_of(alloc, count, rest)?;
@@ -155,7 +165,7 @@ fn listing_of(alloc: Global, bytes: &[u8]) -> Result<(Sequence<Marked>, &[u8]), 
 }
 
 /// Returns the message that was read, if nothing follows it.
-fn whole<T: Drop>(message: T, rest: &[u8]) -> Result<T, DecodeFault>
+pub(crate) fn whole<T: Drop>(message: T, rest: &[u8]) -> Result<T, DecodeFault>
     ensures { result ≡ ended message rest.now }
 {
     if rest.is_empty() {
@@ -165,27 +175,24 @@ fn whole<T: Drop>(message: T, rest: &[u8]) -> Result<T, DecodeFault>
     }
 }
 
-#[tactic(auto, unfolding(crate::specs::Reading::basis_at))]
 fn basis_of(alloc: Global, bytes: &[u8]) -> Result<Request, DecodeFault>
-    ensures { Gives (λ request. request) result (basis_at bytes.now) }
+    ensures { Gives (λ request. request) result (read_to_end (query ▹ filter) (λ x. Basis x.0 x.1) bytes.now) }
 {
     let (query, rest) = query_of(bytes)?;
     let (filter, rest) = filter_of(alloc, rest)?;
     whole(Request::Basis { query, filter }, rest)
 }
 
-#[tactic(auto, unfolding(crate::specs::Reading::fetch_at))]
 fn fetch_of(alloc: Global, bytes: &[u8]) -> Result<Request, DecodeFault>
-    ensures { Gives (λ request. request) result (fetch_at bytes.now) }
+    ensures { Gives (λ request. request) result (read_to_end (query ▹ path) (λ x. Fetch x.0 x.1) bytes.now) }
 {
     let (query, rest) = query_of(bytes)?;
     let (path, rest) = path_of(alloc, rest)?;
     whole(Request::Fetch { query, path }, rest)
 }
 
-#[tactic(auto, unfolding(crate::specs::Reading::poll_at))]
 fn poll_of(alloc: Global, bytes: &[u8]) -> Result<Request, DecodeFault>
-    ensures { Gives (λ request. request) result (poll_at bytes.now) }
+    ensures { Gives (λ request. request) result (read_to_end (query ▹ position ▹ filter) (λ x. Poll x.0 x.1.0 x.1.1) bytes.now) }
 {
     let (query, rest) = query_of(bytes)?;
     let (since, rest) = position_of(rest)?;
@@ -198,9 +205,8 @@ fn poll_of(alloc: Global, bytes: &[u8]) -> Result<Request, DecodeFault>
     whole(message, rest)
 }
 
-#[tactic(auto, unfolding(crate::specs::Reading::list_request_at))]
 fn list_request_of(alloc: Global, bytes: &[u8]) -> Result<Request, DecodeFault>
-    ensures { Gives (λ request. request) result (list_request_at bytes.now) }
+    ensures { Gives (λ request. request) result (read_to_end (query ▹ path ▹ filter) (λ x. Below x.0 x.1.0 x.1.1) bytes.now) }
 {
     let (query, rest) = query_of(bytes)?;
     let (prefix, rest) = path_of(alloc, rest)?;
@@ -213,9 +219,68 @@ fn list_request_of(alloc: Global, bytes: &[u8]) -> Result<Request, DecodeFault>
     whole(message, rest)
 }
 
-#[tactic(auto, unfolding(crate::specs::Reading::basis_is_at))]
+/// Returns the request with the patterns of another filter excluded.
+fn excepting(request: Request, excluded: &Filter) -> Result<Request, NoMemory>
+    ensures { IfOk result (λ r. r ≡ excepting excluded.now request) }
+{
+    match request {
+        Request::Basis { query, filter } => {
+            let filter = filter.except(excluded)?;
+            Ok(Request::Basis { query, filter })
+        }
+        Request::Poll {
+            query,
+            since,
+            filter,
+        } => {
+            let filter = filter.except(excluded)?;
+            Ok(Request::Poll {
+                query,
+                since,
+                filter,
+            })
+        }
+        Request::List {
+            query,
+            prefix,
+            filter,
+        } => {
+            let filter = filter.except(excluded)?;
+            Ok(Request::List {
+                query,
+                prefix,
+                filter,
+            })
+        }
+        Request::Fetch { .. } => Ok(request),
+    }
+}
+
+/// Reads a request with a filter, from its version on.
+#[tactic(auto, using(crate::proofs::Whole::filtered_whole))]
+fn filtered_of(alloc: Global, bytes: &[u8]) -> Result<Request, DecodeFault>
+    ensures { Gives (λ request. request) result (read_to_end (versioned (tagged filtered_cases)) filtered_of bytes.now) }
+{
+    let (tag, rest) = head_of(bytes)?;
+    match tag {
+        0x01 => basis_of(alloc, rest),
+        0x02 => poll_of(alloc, rest),
+        0x04 => list_request_of(alloc, rest),
+        _ => Err(DecodeFault::BadTag),
+    }
+}
+
+/// Reads what a filter excludes, and the request after it.
+fn excluding_of(alloc: Global, bytes: &[u8]) -> Result<Request, DecodeFault>
+    ensures { Gives (λ request. request) result (read_to_end (excluded ▹ versioned (tagged filtered_cases)) (λ x. excepting x.0 (filtered_of x.1)) bytes.now) }
+{
+    let (excluded, rest) = excluded_of(alloc, bytes)?;
+    let request = filtered_of(alloc, rest)?;
+    Ok(excepting(request, &excluded)?)
+}
+
 fn basis_is_of(alloc: Global, bytes: &[u8]) -> Result<Reply, DecodeFault>
-    ensures { Gives (λ reply. reply) result (basis_is_at bytes.now) }
+    ensures { Gives (λ reply. reply) result (read_to_end (query ▹ position ▹ paths_within None) (λ x. BasisIs x.0 x.1.0 x.1.1) bytes.now) }
 {
     let (query, rest) = query_of(bytes)?;
     let (position, rest) = position_of(rest)?;
@@ -228,9 +293,8 @@ fn basis_is_of(alloc: Global, bytes: &[u8]) -> Result<Reply, DecodeFault>
     whole(message, rest)
 }
 
-#[tactic(auto, unfolding(crate::specs::Reading::content_is_at))]
 fn content_is_of(alloc: Global, bytes: &[u8]) -> Result<Reply, DecodeFault>
-    ensures { Gives (λ reply. reply) result (content_is_at bytes.now) }
+    ensures { Gives (λ reply. reply) result (read_to_end (query ▹ position ▹ path ▹ content) (λ x. ContentIs x.0 x.1.0 x.1.1.0 x.1.1.1) bytes.now) }
 {
     let (query, rest) = query_of(bytes)?;
     let (position, rest) = position_of(rest)?;
@@ -245,9 +309,8 @@ fn content_is_of(alloc: Global, bytes: &[u8]) -> Result<Reply, DecodeFault>
     whole(message, rest)
 }
 
-#[tactic(auto, unfolding(crate::specs::Reading::changes_are_at))]
 fn changes_are_of(alloc: Global, bytes: &[u8]) -> Result<Reply, DecodeFault>
-    ensures { Gives (λ reply. reply) result (changes_are_at bytes.now) }
+    ensures { Gives (λ reply. reply) result (read_to_end (query ▹ position ▹ marked_paths ▹ paths_within None) (λ x. ChangesAre x.0 x.1.0 x.1.1.0 x.1.1.1) bytes.now) }
 {
     let (query, rest) = query_of(bytes)?;
     let (target, rest) = position_of(rest)?;
@@ -262,18 +325,16 @@ fn changes_are_of(alloc: Global, bytes: &[u8]) -> Result<Reply, DecodeFault>
     whole(message, rest)
 }
 
-#[tactic(auto, unfolding(crate::specs::Reading::refused_at))]
 fn refused_of(bytes: &[u8]) -> Result<Reply, DecodeFault>
-    ensures { Gives (λ reply. reply) result (refused_at bytes.now) }
+    ensures { Gives (λ reply. reply) result (read_to_end (query ▹ cause) (λ x. Refused x.0 x.1) bytes.now) }
 {
     let (query, rest) = query_of(bytes)?;
     let (cause, rest) = cause_of(rest)?;
     whole(Reply::Refused { query, cause }, rest)
 }
 
-#[tactic(auto, unfolding(crate::specs::Reading::list_is_at))]
 fn list_is_of(alloc: Global, bytes: &[u8]) -> Result<Reply, DecodeFault>
-    ensures { Gives (λ reply. reply) result (list_is_at bytes.now) }
+    ensures { Gives (λ reply. reply) result (read_to_end (query ▹ position ▹ then_by path (λ prefix. paths_within (Some prefix))) (λ x. ListIs x.0 x.1.0 x.1.1.0 x.1.1.1) bytes.now) }
 {
     let (query, rest) = query_of(bytes)?;
     let (position, rest) = position_of(rest)?;
@@ -288,7 +349,7 @@ fn list_is_of(alloc: Global, bytes: &[u8]) -> Result<Reply, DecodeFault>
     whole(message, rest)
 }
 
-#[tactic(auto, unfolding(crate::specs::Reading::read_request))]
+#[tactic(auto, using(crate::proofs::Whole::request_whole))]
 pub(crate) fn request_of(alloc: Global, body: &[u8]) -> Result<Request, DecodeFault>
     ensures { Gives (λ request. request) result (read_request body.now) }
 {
@@ -298,11 +359,12 @@ pub(crate) fn request_of(alloc: Global, body: &[u8]) -> Result<Request, DecodeFa
         0x02 => poll_of(alloc, rest),
         0x03 => fetch_of(alloc, rest),
         0x04 => list_request_of(alloc, rest),
+        0x07 => excluding_of(alloc, rest),
         _ => Err(DecodeFault::BadTag),
     }
 }
 
-#[tactic(auto, unfolding(crate::specs::Reading::read_reply))]
+#[tactic(auto, using(crate::proofs::Whole::reply_whole))]
 fn reply_of(alloc: Global, body: &[u8]) -> Result<Reply, DecodeFault>
     ensures { Gives (λ reply. reply) result (read_reply body.now) }
 {
@@ -325,7 +387,8 @@ fn reply_of(alloc: Global, body: &[u8]) -> Result<Reply, DecodeFault>
 /// left:
 ///
 /// - `CutShort` if the body ends inside a field.
-/// - `Version` or `BadTag` if one of its first two bytes is wrong.
+/// - `Version` or `BadTag` if a version or a tag is wrong: of the first two bytes, or of those
+///   after what a filter excludes.
 /// - `BadField` if a field has an invalid value.
 /// - `Trailing` if there are bytes after the last field.
 ///

@@ -1,8 +1,10 @@
 //! Encoding: bodies, and the frames around them.
 
-ghost use Rattle.std.specs.Prelude.{◌≡◌, ◌≢◌, ◌<◌, ◌≤◌, ◌^◌, ◌↔◌, ◌++◌, ◌∷◌, List, ℕ, length, Err, OnOk, IfOk};
+ghost use Rattle.std.specs.Prelude.{◌≡◌, ◌≢◌, ◌<◌, ◌≤◌, ◌^◌, ◌↔◌, ◌++◌, ◌∷◌, List, ℕ, length, Err, None, OnOk, IfOk};
+ghost use Rattle.std.specs.Int.{w32, to_be_bytes};
 ghost use Rattle.eden_ids.specs.Fronts.{KeepsFront};
-ghost use Rattle.eden_messages.specs.Spells.{query_bytes, position_bytes, text_bytes, filter_bytes, paths_bytes, mark_byte, marked_bytes, list_bytes, kind_byte, content_bytes, cause_bytes, request_bytes, reply_bytes, SpellsRequest, SpellsReply};
+ghost use Rattle.eden_globs.specs.Filters.{filter_fault, lists};
+ghost use Rattle.eden_messages.specs.Spells.{query_bytes, position_bytes, text_bytes, excluded_bytes, filter_bytes, paths_bytes, mark_byte, marked_bytes, list_bytes, kind_byte, content_bytes, cause_bytes, request_bytes, reply_bytes, SpellsRequest, SpellsReply};
 ghost use Rattle.eden_stream.specs.Frames.{frame};
 
 use crate::fault::EncodeFault;
@@ -33,7 +35,7 @@ fn put_query(out: &mut Vec<u8>, query: &Query) -> Result<(), AllocError>
 }
 
 #[tactic(auto, using(eden_ids::proofs::Fronts::grown_keeps))]
-fn put_position(out: &mut Vec<u8>, position: &Position) -> Result<(), AllocError>
+pub(crate) fn put_position(out: &mut Vec<u8>, position: &Position) -> Result<(), AllocError>
     ensures told { OnOk result (out.new.items ≡ out.old.items ++ position_bytes position.now) }
     ensures front { KeepsFront out.old.items out.new.items }
 {
@@ -51,17 +53,39 @@ fn put_text(out: &mut Vec<u8>, text: &[u8]) -> Result<(), AllocError>
     put_bytes(out, text)
 }
 
+/// Writes the patterns of a list: their count, and each with its length.
 #[tactic(auto, using(eden_messages::proofs::Filters::patterns_few, eden_messages::proofs::Filters::patterns_short))]
-fn put_filter(out: &mut Vec<u8>, filter: &Filter) -> Result<(), AllocError>
-    ensures told { OnOk result (out.new.items ≡ out.old.items ++ filter_bytes filter.now) }
+fn put_patterns(out: &mut Vec<u8>, patterns: &[Vec<u8>]) -> Result<(), AllocError>
+    requires { filter_fault (lists patterns.now) ≡ None }
+    ensures told { OnOk result (out.new.items ≡ out.old.items ++ filter_bytes (lists patterns.now)) }
     ensures front { KeepsFront out.old.items out.new.items }
 {
-    let patterns = filter.patterns();
     put_bytes(out, &[patterns.len() as u8])?;
     for pattern in patterns {
         put_text(out, pattern)?;
     }
     Ok(())
+}
+
+/// Writes what a filter excludes, if it excludes anything.
+fn put_excluded(out: &mut Vec<u8>, filter: &Filter) -> Result<(), AllocError>
+    ensures told { OnOk result (out.new.items ≡ out.old.items ++ excluded_bytes filter.now.excluded) }
+    ensures front { KeepsFront out.old.items out.new.items }
+{
+    let patterns = filter.excluded();
+    if patterns.is_empty() {
+        return Ok(());
+    }
+    put_bytes(out, &[0x02, 0x07])?;
+    put_patterns(out, patterns)
+}
+
+/// Writes what a filter includes.
+fn put_included(out: &mut Vec<u8>, filter: &Filter) -> Result<(), AllocError>
+    ensures told { OnOk result (out.new.items ≡ out.old.items ++ filter_bytes filter.now.included) }
+    ensures front { KeepsFront out.old.items out.new.items }
+{
+    put_patterns(out, filter.patterns())
 }
 
 fn byte_of_mark(mark: Mark) -> u8
@@ -83,15 +107,24 @@ fn put_marked(out: &mut Vec<u8>, marked: &Marked) -> Result<(), AllocError>
     put_path(out, &marked.path)
 }
 
+/// Returns the length of a path with its two bytes of length.
 #[tactic(auto, using(eden_messages::proofs::Spelling::path_few))]
-fn put_path(out: &mut Vec<u8>, path: &Path) -> Result<(), AllocError>
+pub(crate) fn len_of_path(path: &Path) -> usize
+    ensures len { result ≡ length (text_bytes path.now) }
+    ensures few { result ≤ 1026 }
+{
+    2 + path.as_bytes().len()
+}
+
+#[tactic(auto, using(eden_messages::proofs::Spelling::path_few))]
+pub(crate) fn put_path(out: &mut Vec<u8>, path: &Path) -> Result<(), AllocError>
     ensures told { OnOk result (out.new.items ≡ out.old.items ++ text_bytes path.now) }
     ensures front { KeepsFront out.old.items out.new.items }
 {
     put_text(out, path.as_bytes())
 }
 
-fn put_paths(out: &mut Vec<u8>, paths: &[Path]) -> Result<(), AllocError>
+pub(crate) fn put_paths(out: &mut Vec<u8>, paths: &[Path]) -> Result<(), AllocError>
     requires { length paths.now < 2 ^ 32 }
     ensures told { OnOk result (out.new.items ≡ out.old.items ++ paths_bytes paths.now) }
     ensures front { KeepsFront out.old.items out.new.items }
@@ -125,17 +158,35 @@ fn byte_of_kind(kind: Kind) -> u8
     }
 }
 
+/// Writes four bytes of count, and the bytes.
+pub(crate) fn put_counted(out: &mut Vec<u8>, bytes: &[u8]) -> Result<(), AllocError>
+    requires { length bytes.now < 2 ^ 32 }
+    ensures told { OnOk result (out.new.items ≡ out.old.items ++ (to_be_bytes w32 (length bytes.now) ++ bytes.now)) }
+    ensures front { KeepsFront out.old.items out.new.items }
+{
+    put_bytes(out, &(bytes.len() as u32).to_be_bytes())?;
+    put_bytes(out, bytes)
+}
+
+/// Writes a file: its kind, and its bytes with their count.
+pub(crate) fn put_file(out: &mut Vec<u8>, kind: Kind, bytes: &[u8]) -> Result<(), AllocError>
+    requires { length bytes.now < 2 ^ 32 }
+    ensures told { OnOk result (out.new.items ≡ out.old.items ++ (kind_byte kind ∷ to_be_bytes w32 (length bytes.now) ++ bytes.now)) }
+    ensures front { KeepsFront out.old.items out.new.items }
+{
+    put_bytes(out, &[byte_of_kind(kind)])?;
+    put_counted(out, bytes)
+}
+
 fn put_content(out: &mut Vec<u8>, content: &Option<Content>) -> Result<(), AllocError>
     requires { length (content_bytes content.now) ≤ 16777216 }
     ensures told { OnOk result (out.new.items ≡ out.old.items ++ content_bytes content.now) }
     ensures front { KeepsFront out.old.items out.new.items }
 {
-    let Some(content) = content else {
-        return put_bytes(out, &[0]);
-    };
-    put_bytes(out, &[byte_of_kind(content.kind)])?;
-    put_bytes(out, &(content.bytes.len() as u32).to_be_bytes())?;
-    put_bytes(out, content.bytes.as_slice())
+    match content {
+        None => put_bytes(out, &[0]),
+        Some(content) => put_file(out, content.kind, content.bytes.as_slice()),
+    }
 }
 
 fn put_cause(out: &mut Vec<u8>, cause: Cause) -> Result<(), AllocError>
@@ -154,7 +205,7 @@ fn put_cause(out: &mut Vec<u8>, cause: Cause) -> Result<(), AllocError>
 
 /// Writes the beginning of each body: the version, the tag and the query.
 #[tactic(auto, using(eden_ids::proofs::Fronts::grown_keeps))]
-fn put_head(out: &mut Vec<u8>, tag: u8, query: &Query) -> Result<(), AllocError>
+pub(crate) fn put_head(out: &mut Vec<u8>, tag: u8, query: &Query) -> Result<(), AllocError>
     ensures told { OnOk result (out.new.items ≡ out.old.items ++ (2 ∷ tag ∷ query_bytes query.now)) }
     ensures front { KeepsFront out.old.items out.new.items }
 {
@@ -170,8 +221,9 @@ pub(crate) fn put_request(out: &mut Vec<u8>, request: &Request) -> Result<(), Al
 {
     match request {
         Request::Basis { query, filter } => {
+            put_excluded(out, filter)?;
             put_head(out, 0x01, query)?;
-            put_filter(out, filter)?;
+            put_included(out, filter)?;
             Ok(())
         }
         Request::Poll {
@@ -179,9 +231,10 @@ pub(crate) fn put_request(out: &mut Vec<u8>, request: &Request) -> Result<(), Al
             since,
             filter,
         } => {
+            put_excluded(out, filter)?;
             put_head(out, 0x02, query)?;
             put_position(out, since)?;
-            put_filter(out, filter)?;
+            put_included(out, filter)?;
             Ok(())
         }
         Request::Fetch { query, path } => {
@@ -194,9 +247,10 @@ pub(crate) fn put_request(out: &mut Vec<u8>, request: &Request) -> Result<(), Al
             prefix,
             filter,
         } => {
+            put_excluded(out, filter)?;
             put_head(out, 0x04, query)?;
             put_path(out, prefix)?;
-            put_filter(out, filter)?;
+            put_included(out, filter)?;
             Ok(())
         }
     }

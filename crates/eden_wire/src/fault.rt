@@ -1,6 +1,7 @@
 //! Why a message cannot be encoded, and why bytes cannot be decoded.
 
 use bytes::TryGetError;
+use eden_ids::NoMemory;
 use std::alloc::{AllocError, AllocFailed};
 use thiserror::Error;
 
@@ -8,6 +9,8 @@ use thiserror::Error;
 #[derive(Clone, Copy, Debug, PartialEq, Eq, Error)]
 pub enum EncodeFault {
     /// The body would have more than 16,777,216 bytes.
+    ///
+    /// In a change also if the bytes of a file or of an object are more than 8,388,608.
     #[error("TooLarge")]
     TooLarge,
     /// An allocation failed.
@@ -63,6 +66,17 @@ impl From<TryGetError> for DecodeFault {
 
     fn from(_fault: TryGetError) -> DecodeFault {
         DecodeFault::CutShort
+    }
+}
+
+impl From<NoMemory> for DecodeFault {
+    ghost use Rattle.std.specs.Prelude.{◌≡◌};
+    ghost use Rattle.eden_wire.specs.declared.fault.DecodeFault.TheVariants as fault;
+
+    ghost from_gives = { λ _ f. f ≡ fault.NoMemory };
+
+    fn from(_fault: NoMemory) -> DecodeFault {
+        DecodeFault::NoMemory
     }
 }
 

@@ -1,8 +1,12 @@
 //! The fields of bodies, read one after another.
 
-ghost use Rattle.std.specs.Prelude.{◌≡◌, map};
+ghost use Rattle.std.specs.Prelude.{◌≡◌, None, map};
 ghost use Rattle.std.specs.Int.{w16, w32, w64};
-ghost use Rattle.eden_wire.specs.Reading.{Gives, byte_at, number_at, text_at, query_at, root_at, position_at, path_of, path_at, patterns_at, filter_of, filter_at, mark_of_byte, mark_at, kind_of_byte, bytes_at, content_at, cause_of, cause_at};
+ghost use Rattle.eden_messages.specs.Spells.{kind_byte, mark_byte};
+ghost use Rattle.eden_wire.specs.Formats.{byte, number, exactly, items_at, find};
+ghost use Rattle.eden_wire.specs.Messages.{query, position, text, path, any_order, filter, excluded, marks, mark, file_bytes, content, cause};
+ghost use Rattle.eden_wire.specs.Reading.{Gives};
+ghost use Rattle.eden_wire.specs.internal.Steps.{path_of, filter_of, kinds, cause_by};
 
 use crate::fault::DecodeFault;
 use bytes::Buf;
@@ -16,7 +20,7 @@ use std::alloc::Global;
 ///
 /// Each reader below returns a field in this way, or the first fault in it.
 pub(crate) fn byte_of(bytes: &[u8]) -> Result<(u8, &[u8]), DecodeFault>
-    ensures { Gives (λ x. (x.0, x.1.now)) result (byte_at bytes.now) }
+    ensures { Gives (λ x. (x.0, x.1.now)) result (byte.read bytes.now) }
 {
     let mut rest = bytes;
     let byte = rest.try_get_u8()?;
@@ -24,7 +28,7 @@ pub(crate) fn byte_of(bytes: &[u8]) -> Result<(u8, &[u8]), DecodeFault>
 }
 
 fn u16_of(bytes: &[u8]) -> Result<(u16, &[u8]), DecodeFault>
-    ensures { Gives (λ x. (x.0, x.1.now)) result (number_at w16 bytes.now) }
+    ensures { Gives (λ x. (x.0, x.1.now)) result ((number w16).read bytes.now) }
 {
     let mut rest = bytes;
     let number = rest.try_get_u16()?;
@@ -32,15 +36,15 @@ fn u16_of(bytes: &[u8]) -> Result<(u16, &[u8]), DecodeFault>
 }
 
 pub(crate) fn u32_of(bytes: &[u8]) -> Result<(u32, &[u8]), DecodeFault>
-    ensures { Gives (λ x. (x.0, x.1.now)) result (number_at w32 bytes.now) }
+    ensures { Gives (λ x. (x.0, x.1.now)) result ((number w32).read bytes.now) }
 {
     let mut rest = bytes;
     let number = rest.try_get_u32()?;
     Ok((number, rest))
 }
 
-fn u64_of(bytes: &[u8]) -> Result<(u64, &[u8]), DecodeFault>
-    ensures { Gives (λ x. (x.0, x.1.now)) result (number_at w64 bytes.now) }
+pub(crate) fn u64_of(bytes: &[u8]) -> Result<(u64, &[u8]), DecodeFault>
+    ensures { Gives (λ x. (x.0, x.1.now)) result ((number w64).read bytes.now) }
 {
     let mut rest = bytes;
     let number = rest.try_get_u64()?;
@@ -48,9 +52,8 @@ fn u64_of(bytes: &[u8]) -> Result<(u64, &[u8]), DecodeFault>
 }
 
 /// Reads a count of two bytes and that many bytes: at least one and at most `limit`.
-#[tactic(auto, unfolding(crate::specs::Reading::text_at))]
 fn text_of(limit: u16, bytes: &[u8]) -> Result<(&[u8], &[u8]), DecodeFault>
-    ensures { Gives (λ x. (x.0.now, x.1.now)) result (text_at limit bytes.now) }
+    ensures { Gives (λ x. (x.0.now, x.1.now)) result ((text limit).read bytes.now) }
 {
     let (count, rest) = u16_of(bytes)?;
     if count == 0 || count > limit {
@@ -63,9 +66,8 @@ fn text_of(limit: u16, bytes: &[u8]) -> Result<(&[u8], &[u8]), DecodeFault>
     Ok(rest.split_at(count))
 }
 
-#[tactic(auto, unfolding(crate::specs::Reading::query_at))]
 pub(crate) fn query_of(bytes: &[u8]) -> Result<(Query, &[u8]), DecodeFault>
-    ensures { Gives (λ x. (x.0, x.1.now)) result (query_at bytes.now) }
+    ensures { Gives (λ x. (x.0, x.1.now)) result (query.read bytes.now) }
 {
     let (mirror, rest) = u64_of(bytes)?;
     let (life, rest) = u64_of(rest)?;
@@ -78,22 +80,21 @@ pub(crate) fn query_of(bytes: &[u8]) -> Result<(Query, &[u8]), DecodeFault>
     Ok((query, rest))
 }
 
-fn root_of(bytes: &[u8]) -> Result<(Id, &[u8]), DecodeFault>
-    ensures { Gives (λ x. (x.0, x.1.now)) result (root_at bytes.now) }
+pub(crate) fn id_of(bytes: &[u8]) -> Result<(Id, &[u8]), DecodeFault>
+    ensures { Gives (λ x. (x.0.0, x.1.now)) result ((exactly 20).read bytes.now) }
 {
     let mut rest = bytes;
-    let mut root = [0; 20];
-    rest.try_copy_to_slice(&mut root)?;
-    Ok((Id(root), rest))
+    let mut id = [0; 20];
+    rest.try_copy_to_slice(&mut id)?;
+    Ok((Id(id), rest))
 }
 
-#[tactic(auto, unfolding(crate::specs::Reading::position_at))]
 pub(crate) fn position_of(bytes: &[u8]) -> Result<(Position, &[u8]), DecodeFault>
-    ensures { Gives (λ x. (x.0, x.1.now)) result (position_at bytes.now) }
+    ensures { Gives (λ x. (x.0, x.1.now)) result (position.read bytes.now) }
 {
     let (generation, rest) = u64_of(bytes)?;
     let (sequence, rest) = u64_of(rest)?;
-    let (root, rest) = root_of(rest)?;
+    let (root, rest) = id_of(rest)?;
     let position = Position {
         generation,
         sequence,
@@ -112,9 +113,8 @@ fn parsed_path(alloc: Global, text: &[u8]) -> Result<Path, DecodeFault>
     }
 }
 
-#[tactic(auto, unfolding(crate::specs::Reading::path_at))]
 pub(crate) fn path_of(alloc: Global, bytes: &[u8]) -> Result<(Path, &[u8]), DecodeFault>
-    ensures { Gives (λ x. (x.0, x.1.now)) result (path_at bytes.now) }
+    ensures { Gives (λ x. (x.0, x.1.now)) result (path.read bytes.now) }
 {
     let (text, rest) = text_of(1024, bytes)?;
     Ok((parsed_path(alloc, text)?, rest))
@@ -132,7 +132,7 @@ fn parsed_filter(alloc: Global, patterns: &[&[u8]]) -> Result<Filter, DecodeFaul
 
 /// Reads `count` patterns, without copying them.
 fn patterns_of(alloc: Global, count: u8, bytes: &[u8]) -> Result<(Vec<&[u8]>, &[u8]), DecodeFault>
-    ensures { Gives (λ x. (map (λ p. p.now) x.0.items, x.1.now)) result (patterns_at count bytes.now) }
+    ensures { Gives (λ x. (map (λ p. p.now) x.0.items, x.1.now)) result (items_at (text 256) any_order count None bytes.now) }
 {
     let mut patterns = Vec::new(alloc);
     let mut rest = bytes;
@@ -147,9 +147,8 @@ fn patterns_of(alloc: Global, count: u8, bytes: &[u8]) -> Result<(Vec<&[u8]>, &[
     Ok((patterns, rest))
 }
 
-#[tactic(auto, unfolding(crate::specs::Reading::filter_at))]
 pub(crate) fn filter_of(alloc: Global, bytes: &[u8]) -> Result<(Filter, &[u8]), DecodeFault>
-    ensures { Gives (λ x. (x.0, x.1.now)) result (filter_at bytes.now) }
+    ensures { Gives (λ x. (x.0, x.1.now)) result (filter.read bytes.now) }
 {
     let (count, rest) = byte_of(bytes)?;
     if count > 32 {
@@ -159,8 +158,19 @@ pub(crate) fn filter_of(alloc: Global, bytes: &[u8]) -> Result<(Filter, &[u8]), 
     Ok((parsed_filter(alloc, patterns.as_slice())?, rest))
 }
 
+/// Reads the patterns that a filter excludes, of which there is one at least.
+pub(crate) fn excluded_of(alloc: Global, bytes: &[u8]) -> Result<(Filter, &[u8]), DecodeFault>
+    ensures { Gives (λ x. (x.0, x.1.now)) result (excluded.read bytes.now) }
+{
+    let (filter, rest) = filter_of(alloc, bytes)?;
+    if filter.patterns().is_empty() {
+        return Err(DecodeFault::BadField);
+    }
+    Ok((filter, rest))
+}
+
 fn mark_of_byte(byte: u8) -> Result<Mark, DecodeFault>
-    ensures { result ≡ mark_of_byte byte }
+    ensures { result ≡ find mark_byte marks byte }
 {
     match byte {
         1 => Ok(Mark::Created),
@@ -171,16 +181,15 @@ fn mark_of_byte(byte: u8) -> Result<Mark, DecodeFault>
     }
 }
 
-#[tactic(auto, unfolding(crate::specs::Reading::mark_at))]
 pub(crate) fn mark_of(bytes: &[u8]) -> Result<(Mark, &[u8]), DecodeFault>
-    ensures { Gives (λ x. (x.0, x.1.now)) result (mark_at bytes.now) }
+    ensures { Gives (λ x. (x.0, x.1.now)) result (mark.read bytes.now) }
 {
     let (byte, rest) = byte_of(bytes)?;
     Ok((mark_of_byte(byte)?, rest))
 }
 
 fn kind_of_byte(byte: u8) -> Result<Kind, DecodeFault>
-    ensures { result ≡ kind_of_byte byte }
+    ensures { result ≡ find kind_byte kinds byte }
 {
     match byte {
         1 => Ok(Kind::Plain),
@@ -190,10 +199,11 @@ fn kind_of_byte(byte: u8) -> Result<Kind, DecodeFault>
     }
 }
 
-/// Reads the count and the bytes of a file. Copies nothing before all of them are there.
-#[tactic(auto, unfolding(crate::specs::Reading::bytes_at))]
-fn bytes_of(bytes: &[u8]) -> Result<(&[u8], &[u8]), DecodeFault>
-    ensures { Gives (λ x. (x.0.now, x.1.now)) result (bytes_at bytes.now) }
+/// Reads the count and the bytes of a file or of an object.
+///
+/// Copies nothing before all of them are there.
+pub(crate) fn bytes_of(bytes: &[u8]) -> Result<(&[u8], &[u8]), DecodeFault>
+    ensures { Gives (λ x. (x.0.now, x.1.now)) result (file_bytes.read bytes.now) }
 {
     let (count, rest) = u32_of(bytes)?;
     let len = count as usize;
@@ -207,12 +217,12 @@ fn bytes_of(bytes: &[u8]) -> Result<(&[u8], &[u8]), DecodeFault>
 }
 
 /// Reads a file, or its absence.
-#[tactic(auto, unfolding(crate::specs::Reading::content_at))]
+#[tactic(auto, using(crate::proofs::Whole::content_whole))]
 pub(crate) fn content_of(
     alloc: Global,
     bytes: &[u8],
 ) -> Result<(Option<Content>, &[u8]), DecodeFault>
-    ensures { Gives (λ x. (x.0, x.1.now)) result (content_at bytes.now) }
+    ensures { Gives (λ x. (x.0, x.1.now)) result (content.read bytes.now) }
 {
     let (byte, rest) = byte_of(bytes)?;
     if byte == 0 {
@@ -228,7 +238,7 @@ pub(crate) fn content_of(
 }
 
 fn cause_by(byte: u8, value: u64) -> Result<Cause, DecodeFault>
-    ensures { result ≡ cause_of byte value }
+    ensures { result ≡ cause_by byte value }
 {
     match byte {
         1 => Ok(Cause::Stale(value)),
@@ -239,9 +249,9 @@ fn cause_by(byte: u8, value: u64) -> Result<Cause, DecodeFault>
     }
 }
 
-#[tactic(auto, unfolding(crate::specs::Reading::cause_at))]
+#[tactic(auto, using(crate::proofs::Whole::cause_whole))]
 pub(crate) fn cause_of(bytes: &[u8]) -> Result<(Cause, &[u8]), DecodeFault>
-    ensures { Gives (λ x. (x.0, x.1.now)) result (cause_at bytes.now) }
+    ensures { Gives (λ x. (x.0, x.1.now)) result (cause.read bytes.now) }
 {
     let (byte, rest) = byte_of(bytes)?;
     if byte == 0 || byte > 4 {

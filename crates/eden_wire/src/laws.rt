@@ -1,6 +1,11 @@
 //! Laws of encoding and decoding, each as the contract of a function that does nothing.
 
+ghost use Rattle.std.specs.Prelude.{◌≡◌, ℕ, List};
+ghost use Rattle.eden_messages.specs.declared.message.Request.{Request};
+ghost use Rattle.eden_messages.specs.declared.message.Reply.{Reply};
+ghost use Rattle.eden_messages.specs.Spells.{SpellsRequest, SpellsReply};
 ghost use Rattle.eden_wire.specs.Asking.{AskedAreReadBack, ReadAskedAreSpelled};
+ghost use Rattle.eden_wire.specs.Doing.{CommandsAreReadBack, DoneAreReadBack, ReadCommandsAreSpelled, ReadDoneAreSpelled};
 ghost use Rattle.eden_wire.specs.Laws.{RequestsAreReadBack, ReadRequestsAreSpelled, RepliesAreReadBack, ReadRepliesAreSpelled};
 
 /// States that the body of a request is decoded to it.
@@ -27,4 +32,28 @@ pub fn reply_law()
 pub fn asked_law()
     ensures decoded { AskedAreReadBack }
     ensures encoded { ReadAskedAreSpelled }
+{}
+
+/// States that the body of what is asked for is decoded to it.
+///
+/// It is a request, alone or after a patience, or a change. Conversely, a body that was decoded to
+/// what is asked for encodes it.
+pub fn command_law()
+    ensures decoded { CommandsAreReadBack }
+    ensures encoded { ReadCommandsAreSpelled }
+{}
+
+/// States that the body of an answer to a change is decoded to it.
+///
+/// Conversely, a body that was decoded to an answer encodes it.
+pub fn done_law()
+    ensures decoded { DoneAreReadBack }
+    ensures encoded { ReadDoneAreSpelled }
+{}
+
+/// States that a body encodes at most one message.
+pub fn one_message_law()
+    ensures requests { (body : List ℕ) (x y : Request) → SpellsRequest body x → SpellsRequest body y → x ≡ y }
+    ensures replies { (body : List ℕ) (x y : Reply) → SpellsReply body x → SpellsReply body y → x ≡ y }
+    ensures either { (body : List ℕ) (x : Request) (y : Reply) → SpellsRequest body x → SpellsReply body y → ⊥ }
 {}

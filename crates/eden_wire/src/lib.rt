@@ -3,13 +3,19 @@
 //! `encode_request` and `encode_reply` return the frame of a message: four bytes of
 //! length, and its body. `decode_request` and `decode_reply` read a body. Each message
 //! has at most one encoding, and exactly the bodies that encode a message are accepted;
-//! any other is refused with the first `DecodeFault` from the left. A request may come after
-//! a patience, which says for how long its reply may wait. `append_asked` and `decode_asked`
-//! write and read both.
+//! any other is refused with the first `DecodeFault` from the left. What a filter excludes
+//! comes before its request. A request may come after a patience, which says for how long
+//! its reply may wait. `append_asked` and `decode_asked` write and read both.
+//!
+//! A body can also ask for a change of the mount: `encode_do` writes its frame, and
+//! `decode_command` reads it or a request. What became of the change is a `Done`, which
+//! `append_done` writes and `decode_done` reads.
 //!
 //! The bytes of a message are defined in eden_messages' `specs/Spells.antt`, and the
-//! faults in `specs/Reading.antt`. Nothing here depends on a mount, so a client links
-//! only the messages.
+//! faults here: `specs/Messages.antt` has the format of each message, which says in which
+//! order its fields are read, and `specs/Formats.antt` what formats are made of.
+//! `specs/Doing.antt` has the formats of changes and of their answers. Nothing here depends
+//! on a mount, so a client links only the messages.
 //!
 //! ```rust
 //! use eden_ids::Path;
@@ -34,12 +40,16 @@
 
 pub use crate::asking::{Asked, append_asked, decode_asked};
 pub use crate::decoding::{decode_reply, decode_request};
+pub use crate::doing::{Command, Doing, decode_command, encode_do};
+pub use crate::done::{Done, append_done, decode_done};
 pub use crate::encoding::{append_reply, encode_reply, encode_request};
 pub use crate::fault::{DecodeFault, EncodeFault};
-pub use crate::laws::{asked_law, reply_law, request_law};
+pub use crate::laws::{asked_law, command_law, done_law, one_message_law, reply_law, request_law};
 
 mod asking;
 mod decoding;
+mod doing;
+mod done;
 mod encoding;
 mod fault;
 mod fields;

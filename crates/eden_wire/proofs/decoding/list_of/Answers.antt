@@ -1,6 +1,7 @@
 use Rattle.std.proofs.Common.{None}
 use Rattle.std.proofs.lemmas.Result.{err_from_is_err_and}
-use Rattle.eden_wire.specs.Reading.{list_at, marked_at}
+use Rattle.eden_wire.specs.Formats.{items_at}
+use Rattle.eden_wire.specs.Messages.{marked_path, ascending_marks}
 use Rattle.eden_wire.proofs.Loops.{items_go_on, items_end, items_done}
 use Rattle.eden_wire.proofs.decoding.list_of.Goals as goal
 
@@ -8,15 +9,16 @@ pub returns-in_err-marked : goal.returns-in_err-marked
 returns-in_err-marked c =
     let p = err_from_is_err_and c.from_residual.result c.from_residual.ensures.1 in
     let refused = rw c.as_slice.ensures.value at c.in_err-marked.ensures in
-    rw (p.1, p.2) (items_end (λ m. m.path) marked_at c.in_err-marked.field-0.0 c.loop.list.items c.args.count c.loop.counter c.loop.rest.now
-    (list_at c.args.count None c.args.bytes.now) c.loop-test.true refused c.loop.invariant)
+    rw (p.1, p.2) (items_end marked_path ascending_marks c.loop.list.items c.args.count c.loop.counter c.loop.rest.now
+    (items_at marked_path ascending_marks c.args.count None c.args.bytes.now) c.in_err-marked.field-0.0 c.loop-test.true refused c.loop.invariant)
 
 pub loop-preserved : goal.loop-preserved
 loop-preserved c =
     let read = rw c.as_slice.ensures.value at c.in_ok-marked.ensures in
-    rw c.in_ok-push.ensures.items (items_go_on (λ m. m.path) marked_at c.loop.list.items c.args.count c.loop.counter c.loop.rest.now c.in_ok-marked.marked c.in_ok-marked.after.now
-    (list_at c.args.count None c.args.bytes.now) c.loop-test.true read c.loop.invariant)
+    rw c.in_ok-push.ensures.items (items_go_on marked_path ascending_marks c.loop.list.items c.args.count c.loop.counter c.loop.rest.now
+    (items_at marked_path ascending_marks c.args.count None c.args.bytes.now) c.in_ok-marked.marked c.in_ok-marked.after.now c.loop-test.true read c.loop.invariant)
 
 pub returns : goal.returns
 returns c =
-    items_done (λ m. m.path) marked_at c.loop.list.items c.args.count c.loop.counter c.loop.rest.now (list_at c.args.count None c.args.bytes.now) c.loop-test.false c.loop.invariant
+    items_done marked_path ascending_marks c.loop.list.items c.args.count c.loop.counter c.loop.rest.now
+    (items_at marked_path ascending_marks c.args.count None c.args.bytes.now) c.loop-test.false c.loop.invariant

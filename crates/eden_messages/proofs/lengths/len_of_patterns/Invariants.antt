@@ -2,7 +2,7 @@ use Rattle.std.proofs.Common.{◌≡◌, ◌≤◌, ◌+◌, ◌*◌, length, ta
 use Rattle.std.specs.List.{flat_map}
 use Rattle.eden_globs.specs.Filters.{lists}
 use Rattle.eden_messages.specs.Spells.{text_bytes}
-use Rattle.eden_messages.proofs.lengths.len_of_filter.Given as goal
+use Rattle.eden_messages.proofs.lengths.len_of_patterns.Given as goal
 
 abbrev pub invariant-loop-pattern : goal.invariant-loop-pattern
 invariant-loop-pattern l =
