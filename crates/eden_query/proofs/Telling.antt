@@ -5,6 +5,7 @@ use Rattle.eden_ids.specs.declared.id.Id.{Id}
 use Rattle.eden_objects.specs.Commits.{commit_map}
 use Rattle.eden_ids.specs.declared.content.Content.{Content}
 use Rattle.eden_ids.specs.FileMaps.{file_at}
+use Rattle.eden_globs.specs.Filters.{Patterns}
 use Rattle.eden_ranges.specs.declared.ranges.Range.{Range}
 use Rattle.eden_ranges.specs.Expanded.{are_commits}
 use Rattle.eden_ranges.proofs.Columns.{commits_are_comparable}
@@ -29,7 +30,7 @@ use Rattle.eden_query.specs.Raws.{NamesCommits, is_answerable, told}
 use Rattle.eden_logs.specs.Histories.{settled_by, settled_of}
 use Rattle.eden_query.specs.Settled.{settled}
 
-pub ranged_tells : (mount : State) (query : Query) (since : Position) (patterns : List (List ℕ)) (range : Range)
+pub ranged_tells : (mount : State) (query : Query) (since : Position) (patterns : Patterns) (range : Range)
     → IsStatus mount since None → EndsNow mount range → Tells mount since range
     → ((world : WorldState) → StandsFor mount world → range.prefixes ≡ prefixes_since world since.sequence) → (world : WorldState) → StandsFor mount world
     → told mount.held patterns (raw.Ranged query range) ≡ reply_of world (Poll query since patterns)
@@ -37,28 +38,28 @@ ranged_tells mount query since patterns range good ends tells prefixes world h =
     (λ i. bounded query (ChangesAre query (ends world h i) (admitted patterns (tells world h i)) (prefixes world h i)))
     ∙ sym (ap (polled world query since.sequence patterns) (good world h))
 
-pub refused_tells : (mount : State) (query : Query) (since : Position) (patterns : List (List ℕ)) (fault : SinceFault) (cause : Cause)
+pub refused_tells : (mount : State) (query : Query) (since : Position) (patterns : Patterns) (fault : SinceFault) (cause : Cause)
     → IsStatus mount since (Some fault) → cause ≡ cause_of fault → (world : WorldState) → StandsFor mount world
     → told mount.held patterns (raw.Refused query cause) ≡ reply_of world (Poll query since patterns)
 refused_tells mount query since patterns fault cause is same world h =
     ap (Refused query) same ∙ sym (ap (polled world query since.sequence patterns) (is world h))
 
-pub based_tells : (mount : State) (query : Query) (patterns : List (List ℕ)) (snapshot : Snapshot)
+pub based_tells : (mount : State) (query : Query) (patterns : Patterns) (snapshot : Snapshot)
     → ((world : WorldState) → StandsFor mount world → snapshot.position ≡ position_of (now world))
-    → ((world : WorldState) → StandsFor mount world → (ps : List (List ℕ)) → shown_to ps mount.held snapshot ≡ admitted_paths ps (now world).files)
+    → ((world : WorldState) → StandsFor mount world → (ps : Patterns) → shown_to ps mount.held snapshot ≡ admitted_paths ps (now world).files)
     → (world : WorldState) → StandsFor mount world
     → told mount.held patterns (raw.Based query snapshot) ≡ reply_of world (Basis query patterns)
 based_tells mount query patterns snapshot place files world h = λ i. bounded query (BasisIs query (place world h i) (files world h patterns i))
 
-pub listed_tells : (mount : State) (query : Query) (prefix : List ℕ) (patterns : List (List ℕ)) (snapshot : Snapshot)
+pub listed_tells : (mount : State) (query : Query) (prefix : List ℕ) (patterns : Patterns) (snapshot : Snapshot)
     → ((world : WorldState) → StandsFor mount world → snapshot.position ≡ position_of (now world))
-    → ((world : WorldState) → StandsFor mount world → (ps : List (List ℕ)) → shown_to ps mount.held snapshot ≡ admitted_paths ps (now world).files)
+    → ((world : WorldState) → StandsFor mount world → (ps : Patterns) → shown_to ps mount.held snapshot ≡ admitted_paths ps (now world).files)
     → (world : WorldState) → StandsFor mount world
     → told mount.held patterns (raw.Listed query snapshot prefix) ≡ reply_of world (Below query prefix patterns)
 listed_tells mount query prefix patterns snapshot place files world h =
     λ i. bounded query (ListIs query (place world h i) prefix (below prefix (files world h patterns i)))
 
-pub held_tells : (mount : State) (query : Query) (patterns : List (List ℕ)) (position : Position) (path : List ℕ) (content : Option Content)
+pub held_tells : (mount : State) (query : Query) (patterns : Patterns) (position : Position) (path : List ℕ) (content : Option Content)
     → ((world : WorldState) → StandsFor mount world → position ≡ position_of (now world)) → content ≡ file_at (files_of mount) path
     → (world : WorldState) → StandsFor mount world
     → told mount.held patterns (raw.Held query position path content) ≡ reply_of world (Fetch query path)

@@ -3,7 +3,7 @@ use Rattle.std.proofs.Common.{◌≡◌, ℕ, true, ◌&&◌, List, [], ◌∷�
 use Rattle.std.specs.Prelude.{IsSome, is_some, filter}
 use Rattle.std.specs.List.{list_all}
 use Rattle.std.proofs.lemmas.Bool.{and_parts}
-use Rattle.eden_globs.specs.Filters.{admits}
+use Rattle.eden_globs.specs.Filters.{Patterns, admits}
 use Rattle.eden_ids.specs.declared.id.Id.{Id}
 use Rattle.eden_ids.specs.FileMaps.{FileMap, PathSet, differ, listing, union}
 use Rattle.eden_history.specs.Changes.{below}
@@ -27,7 +27,7 @@ use Rattle.eden_query.specs.declared.raw.Raw.TheVariants as raw
 use Rattle.eden_query.proofs.Telling.{named_answerable}
 
 -- the paths that a snapshot shows over the files of its commit
-abbrev shown_of : List (List ℕ) → Snapshot → Option FileMap → List (List ℕ)
+abbrev shown_of : Patterns → Snapshot → Option FileMap → List (List ℕ)
 shown_of patterns snapshot files = filter (admits patterns) (listing (shown_over (at_paths (seen_through (files_of files) snapshot.moves)) snapshot.touched))
 
 module _ (held more : List Held) (closed : IsClosed held) (grown : IsClosed more) (all : HasAll held more) where
@@ -51,7 +51,7 @@ module _ (held more : List Held) (closed : IsClosed held) (grown : IsClosed more
       let parts = and_parts (is_some (commit_map held root)) (list_all (λ id. is_some (commit_map held id)) roots) there in
       same_after root roots parts.0 parts.1
 
-  same_told : (patterns : List (List ℕ)) (raw : Raw) → NamesCommits (commit_map held) raw → told more patterns raw ≡ told held patterns raw
+  same_told : (patterns : Patterns) (raw : Raw) → NamesCommits (commit_map held) raw → told more patterns raw ≡ told held patterns raw
   same_told patterns (raw.Ranged query range) names =
       ap (λ (paths : PathSet). bounded query (ChangesAre query range.to
       (admitted patterns (map mark_said (ends (map by_touch range.changes ++ map by_root (range.unclean ++ listing paths))))) range.prefixes))

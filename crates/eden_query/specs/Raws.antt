@@ -1,5 +1,6 @@
 -- The reply that is made of what was held of a mount.
 use Rattle.std.specs.Prelude.{◌≡◌, Bool, true, is_some, IsSome, List, [], ℕ}
+use Rattle.eden_globs.specs.Filters.{Patterns, all_paths}
 use Rattle.eden_objects.specs.Closed.{IsClosed}
 use Rattle.eden_objects.specs.Commits.{commit_map}
 use Rattle.eden_objects.specs.Laws.{HasAll}
@@ -20,7 +21,7 @@ use Rattle.eden_query.specs.declared.raw.Raw.TheVariants as raw
 -- The reply over a store's objects. Of a range: its end, the paths that it names and the patterns
 -- admit, and all its directories. Of a snapshot: the paths of its files that the patterns admit,
 -- all of them or those below a directory. Else what was held.
-abbrev pub told : List Held → List (List ℕ) → Raw → Reply
+abbrev pub told : List Held → Patterns → Raw → Reply
 told held patterns (raw.Ranged query range) = bounded query (ChangesAre query range.to (admitted patterns (expanded held range)) range.prefixes)
 told held patterns (raw.Based query snapshot) = bounded query (BasisIs query snapshot.position (shown_to patterns held snapshot))
 told held patterns (raw.Held query position path content) = bounded query (ContentIs query position path content)
@@ -45,16 +46,16 @@ NamesCommits commits (raw.Held query position path content) = IsSome (commits po
 NamesCommits commits (raw.Listed query snapshot prefix) = IsSome (commits snapshot.position.root)
 NamesCommits commits (raw.Refused query cause) = Unit {0}
 
--- the patterns of a request's filter, and none if it has no filter
-abbrev pub patterns_of : Request → List (List ℕ)
+-- a request's filter, and that of all paths if it has none
+abbrev pub patterns_of : Request → Patterns
 patterns_of (Basis query patterns) = patterns
-patterns_of (Fetch query path) = []
+patterns_of (Fetch query path) = all_paths
 patterns_of (Poll query since patterns) = patterns
 patterns_of (Below query prefix patterns) = patterns
 
 -- if each commit that it names is there, the reply is the same over a store with more objects
 abbrev pub TellsOver : Type 0
-TellsOver = (held more : List Held) → IsClosed held → IsClosed more → HasAll held more → (patterns : List (List ℕ)) (raw : Raw)
+TellsOver = (held more : List Held) → IsClosed held → IsClosed more → HasAll held more → (patterns : Patterns) (raw : Raw)
     → NamesCommits (commit_map held) raw → told more patterns raw ≡ told held patterns raw
 
 -- and it can be made over them

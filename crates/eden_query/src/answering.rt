@@ -1,6 +1,7 @@
 //! The reply to a request, from what was held of a mount.
 
-ghost use Rattle.std.specs.Prelude.{◌≡◌, ◌≢◌, ◌≤◌, [], length, true, false, is_some, IfOk, IfErr, OnOk};
+ghost use Rattle.std.specs.Prelude.{◌≡◌, ◌≢◌, ◌≤◌, length, true, false, is_some, IfOk, IfErr, OnOk};
+ghost use Rattle.eden_globs.specs.Filters.{all_paths};
 ghost use Rattle.eden_objects.specs.Commits.{commit_map};
 ghost use Rattle.eden_messages.specs.Replies.{bounded};
 ghost use Rattle.eden_messages.specs.Spells.{SpellsReply, reply_bytes};
@@ -119,7 +120,7 @@ fn answered<N: Naming + Drop>(
 
 /// Returns the filter of a request, or the other one if the request has none.
 fn filter_of<'a>(request: &'a Request, everything: &'a Filter) -> &'a Filter
-    requires { everything.now ≡ [] }
+    requires { everything.now ≡ all_paths }
     ensures { result.now ≡ patterns_of request.now }
 {
     match request {

@@ -12,8 +12,6 @@
 //! use eden_query::{encode_request, serve};
 //! use eden_stream::Counted;
 //!
-//! let store = Store::new(alloc, GitNaming);
-//! let mut mount = Mount::mount(alloc, store, Id::ZERO, 7, 1000)?;
 //! let query = Query {
 //!     mirror: 1,
 //!     life: 1,
@@ -21,6 +19,9 @@
 //! };
 //! let path = Path::parse(alloc, b"a".as_slice())?;
 //! let frame = encode_request(alloc, &Request::Fetch { query, path })?;
+//!
+//! let store = Store::new(alloc, GitNaming);
+//! let mut mount = Mount::mount(alloc, store, Id::ZERO, 7, 1000)?;
 //! let mut replies = Counted::new(Vec::new(alloc));
 //! let mut requests = Counted::new(frame.as_slice());
 //! let served = serve(alloc, &mut requests, &mut replies, &mut mount);

@@ -2,6 +2,7 @@
 
 ghost use Rattle.std.specs.Prelude.{◌≡◌, ℕ, List, None, IfOk};
 ghost use Rattle.eden_ids.specs.FileMaps.{file_at};
+ghost use Rattle.eden_globs.specs.Filters.{Patterns};
 ghost use Rattle.eden_objects.specs.Commits.{commit_map};
 ghost use Rattle.eden_accumulate.specs.Mounts.{StandsFor, files_of};
 ghost use Rattle.eden_history.specs.Worlds.{WorldState, now, position_of};
@@ -22,7 +23,7 @@ use eden_objects::Store;
 /// Holds which files there are, for a basis.
 #[tactic(auto, using(crate::proofs::Telling::based_tells, crate::proofs::Telling::based_commits, crate::proofs::Telling::based_settled))]
 fn hold_basis<N: Naming + Drop>(mount: &Mount<N>, query: Query) -> Result<Raw, NoMemory>
-    ensures replies { IfOk result (λ raw. (world : WorldState) → StandsFor mount.now world → (patterns : List (List ℕ))
+    ensures replies { IfOk result (λ raw. (world : WorldState) → StandsFor mount.now world → (patterns : Patterns)
         → told mount.now.held patterns raw ≡ reply_of world (Request.Basis query patterns)) }
     ensures settled { IfOk result (λ raw. (world : WorldState) → StandsFor mount.now world → settled raw ≡ Ok (position_of (now world))) }
     ensures commits { IfOk result (λ raw. NamesCommits (commit_map mount.now.held) raw) }
@@ -39,7 +40,7 @@ fn hold_list<N: Naming + Drop>(
     query: Query,
     prefix: &Path,
 ) -> Result<Raw, NoMemory>
-    ensures replies { IfOk result (λ raw. (world : WorldState) → StandsFor mount.now world → (patterns : List (List ℕ))
+    ensures replies { IfOk result (λ raw. (world : WorldState) → StandsFor mount.now world → (patterns : Patterns)
         → told mount.now.held patterns raw ≡ reply_of world (Request.List query prefix.now patterns)) }
     ensures settled { IfOk result (λ raw. (world : WorldState) → StandsFor mount.now world → settled raw ≡ Ok (position_of (now world))) }
     ensures commits { IfOk result (λ raw. NamesCommits (commit_map mount.now.held) raw) }
@@ -56,7 +57,7 @@ fn hold_poll<N: Naming + Drop>(
     query: Query,
     since: &Position,
 ) -> Result<Raw, NoMemory>
-    ensures replies { IfOk result (λ raw. (world : WorldState) → StandsFor mount.now world → (patterns : List (List ℕ))
+    ensures replies { IfOk result (λ raw. (world : WorldState) → StandsFor mount.now world → (patterns : Patterns)
         → told mount.now.held patterns raw ≡ reply_of world (Request.Poll query since.now patterns)) }
     ensures settled { IfOk result (λ raw. (world : WorldState) → StandsFor mount.now world
         → settled raw ≡ settled_by (position_of (now world)) (status_of world since.now)) }

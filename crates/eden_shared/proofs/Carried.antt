@@ -1,25 +1,23 @@
--- What frames tell of a desk, or of a lock of which nothing is logged, carried on from body to body.
+-- What frames tell of a desk, carried on from body to body.
 use Rattle.std.proofs.Common.{◌≡◌, ℕ, ◌⊎◌, inl, inr, List, [], ◌∷◌, ◌++◌, length, take, Ok, refl, sym, ap, ◌∙◌, subst, arith, append_assoc, append-nil, length-append}
 use Rattle.std.specs.List.{AllZip}
 use Rattle.std.proofs.lemmas.List.{flat_map_more, take_at}
 use Rattle.eden_logs.specs.declared.log.LogEntry.{LogEntry}
-use Rattle.eden_stream.specs.Frames.{frame}
 use Rattle.eden_stream.specs.declared.frame_fault.FrameFault.{FrameFault}
 use Rattle.eden_logs.specs.declared.call.Answer.TheVariants.{Unanswered}
 use Rattle.eden_logs.specs.declared.call.Call.TheVariants.{Ask}
 use Rattle.eden_messages.specs.declared.message.Reply.{Reply}
 use Rattle.eden_messages.specs.declared.message.Request.{Request}
-use Rattle.eden_messages.specs.Spells.{reply_bytes}
 use Rattle.eden_stream.specs.Stories.{Tells}
 use Rattle.eden_stream.specs.declared.teller.Step.{Step}
 use Rattle.eden_stream.specs.declared.teller.Step.TheVariants.{Told, Fault, NoMemory}
 use Rattle.eden_wire.specs.declared.asking.Asked.{Asked}
 use Rattle.eden_wire.specs.Asking.{read_asked}
 use Rattle.eden_shared.specs.Desks.{DeskView, LeftUnanswered, noted}
-use Rattle.eden_shared.specs.Servings.{AsksLast, AsksOne, GivesUp, Replies, RepliesOne, Serves, desk_story, frame_of, unlogged_story}
-use Rattle.eden_shared.specs.internal.Steps.{TakesStep, Took, UnloggedStep}
+use Rattle.eden_shared.specs.Servings.{AsksLast, AsksOne, GivesUp, Serves, desk_story, frame_of}
+use Rattle.eden_shared.specs.internal.Steps.{TakesStep, Took}
 
-all_zip_more : {A B : Type 0} (R : A → B → Type 0) (xs : List A) (ys : List B) (x : A) (y : B) → AllZip R xs ys → R x y → AllZip R (xs ++ x ∷ []) (ys ++ y ∷ [])
+pub all_zip_more : {A B : Type 0} (R : A → B → Type 0) (xs : List A) (ys : List B) (x : A) (y : B) → AllZip R xs ys → R x y → AllZip R (xs ++ x ∷ []) (ys ++ y ∷ [])
 all_zip_more R [] [] x y each one = (one, tt)
 all_zip_more R [] (first ∷ ys) x y each one = absurd each
 all_zip_more R (first ∷ xs) [] x y each one = absurd each
@@ -93,28 +91,3 @@ module _ (IsTold : ℕ → ℕ → Request → Reply → Type 0) (before old new
   pub desk_tells : (answer : Step FrameFault) → TakesStep (IsTold old.caller) old new body from text answer → Serves (IsTold before.caller) before old bodies (sent ++ from)
       → Tells (desk_story (IsTold before.caller) before new) bodies sent body from text answer
   desk_tells answer step served = carried answer (subst (λ caller. TakesStep (IsTold caller) old new body from text answer) served.caller step) served
-
--- no frame is told nothing
-pub replies_none : (IsTold : ℕ → Request → Reply → Type 0) → Replies IsTold [] []
-replies_none IsTold = record { replies = []; each = tt; text_is = refl }
-
-module _ (IsTold : ℕ → Request → Reply → Type 0) (bodies : List (List ℕ)) (body : List ℕ) where
-  -- one more body is told a reply
-  replies_more : (text : List ℕ) (reply : Reply) → Replies IsTold bodies text → RepliesOne IsTold body reply
-      → Replies IsTold (bodies ++ body ∷ []) (text ++ frame (reply_bytes reply))
-  replies_more text reply before one = record {
-    replies = before.replies ++ reply ∷ [];
-    each = all_zip_more (RepliesOne IsTold) bodies before.replies body reply before.each one;
-    text_is = ap (λ t. t ++ frame (reply_bytes reply)) before.text_is ∙ flat_map_more (λ (r : Reply). frame (reply_bytes r)) [] before.replies reply;
-  }
-
-  -- what the answer to one body tells, after what was told so far
-  pub unlogged_tells : (sent from text : List ℕ) (answer : Step FrameFault) → UnloggedStep IsTold body from text answer → Replies IsTold bodies (sent ++ from)
-      → Tells (unlogged_story IsTold) bodies sent body from text answer
-  unlogged_tells sent from text Told step before =
-      subst (Replies IsTold (bodies ++ body ∷ [])) (append_assoc sent from (frame (reply_bytes step.0)) ∙ ap (λ t. sent ++ t) (sym step.2))
-      (replies_more (sent ++ from) step.0 before step.1)
-  unlogged_tells sent from text (Fault fault) step before = (subst (λ t. Replies IsTold bodies (sent ++ t)) (sym step.1) before, step.0)
-  unlogged_tells sent from text NoMemory step before =
-      let same : take (length from) text ≡ from = ap (take (length from)) step.1 ∙ take_at from step.0 (length from) refl in
-      subst (λ t. Replies IsTold bodies (sent ++ t)) (sym same) before

@@ -6,5 +6,6 @@ pub mod Walked
 pub mod Counting
 pub mod Telling
 pub mod Carried
+pub mod Answered
 pub mod Reaching
 pub mod HeadLemmas

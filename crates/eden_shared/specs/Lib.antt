@@ -7,4 +7,5 @@ pub mod Gives
 pub mod Reached
 pub mod Desks
 pub mod Servings
+pub mod Commands
 pub mod internal

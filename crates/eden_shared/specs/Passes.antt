@@ -11,8 +11,10 @@ abbrev pub made_by : List PassView → ℕ
 made_by [] = 0
 made_by (pass ∷ passes) = pass.amount + made_by passes
 
--- how many passes were given, how many of them came back, and how many calls those count
+-- how many passes there are, how many of them were given, how many of those came back, and how many
+-- calls these count
 pub record PassesView : Type 0 where
+  pub most : ℕ
   pub given : ℕ
   pub back : ℕ
   pub amount : ℕ

@@ -1,5 +1,4 @@
--- What the frames of a stream ask of a desk, or of a lock of which nothing is logged, and what is
--- written of the replies.
+-- What the frames of a stream ask of a desk, and what is written of the replies.
 use Rattle.std.specs.Prelude.{◌≡◌, ◌⊎◌, ℕ, ◌+◌, List, [], ◌∷◌, ◌++◌, length, Some, Ok, Err}
 use Rattle.std.specs.List.{AllZip, flat_map}
 use Rattle.eden_logs.specs.declared.log.LogEntry.{LogEntry}
@@ -78,32 +77,4 @@ desk_story Told before now = record {
   lost = Serves Told before now;
   refused = λ bodies body fault. IsUnasked body fault;
   spent = λ bodies body text. Serves Told before now bodies text ⊎ GivesUp Told before now bodies body text;
-}
-
--- the frames of these replies, in order
-abbrev pub reply_frames : List Reply → List ℕ
-reply_frames replies = flat_map (λ (reply : Reply). frame (reply_bytes reply)) replies
-
--- The body asks a request to which this reply was told, and the reply's bytes spell it.
-pub record RepliesOne (Told : ℕ → Request → Reply → Type 0) (body : List ℕ) (reply : Reply) : Type 0 where
-  pub number : ℕ
-  pub asked : Asked
-  pub read : read_asked body ≡ Ok asked
-  pub told : Told number asked.request reply
-  pub spelled : SpellsReply (reply_bytes reply) reply
-
--- The text is the frames of replies, one to each body, in order, and no other.
-pub record Replies (Told : ℕ → Request → Reply → Type 0) (bodies : List (List ℕ)) (text : List ℕ) : Type 0 where
-  pub replies : List Reply
-  pub each : AllZip (RepliesOne Told) bodies replies
-  pub text_is : text ≡ reply_frames replies
-
--- What frames tell of a server of which nothing is logged. A body that can't be read is told
--- nothing.
-abbrev pub unlogged_story : (ℕ → Request → Reply → Type 0) → Story FrameFault
-unlogged_story Told = record {
-  told = Replies Told;
-  lost = Replies Told;
-  refused = λ bodies body fault. IsUnasked body fault;
-  spent = λ bodies body text. Replies Told bodies text;
 }

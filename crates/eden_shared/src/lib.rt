@@ -11,7 +11,8 @@
 //! `Unlogged` is over any server. No call has a number, and no caller has a log, so nothing grows
 //! with the number of calls, and no audit can be made. Proofs still count the changes: each reply
 //! is right of what exactly some number of changes have made of the server. A poll can wait until
-//! there is a change that it would name.
+//! there is a change that it would name. `serve_unlogged` answers the frames of a connection, which
+//! may change the server if it has a pass.
 //!
 //! `HeadWord` is a number that threads share and that only rises. It is a hint when to poll. A
 //! caller that has changed something raises the ticket of the change. A follower loads the number,

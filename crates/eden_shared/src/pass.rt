@@ -7,9 +7,6 @@ use std::marker::Model;
 use std::sync::ledger::{Book, Ledger, Share};
 use thiserror::Error;
 
-/// The most passes of a lock.
-const MOST_PASSES: u64 = 255;
-
 /// What a caller calls with: its number, and how many of its calls are counted.
 ///
 /// A lock takes all passes back at its end (`Shared::finish`, `Unlogged::finish`). One that was
@@ -44,11 +41,12 @@ impl<L: Ledger> Pass<L> {
 
 /// The passes of a lock that no caller has, and the calls that those count which came back.
 ///
-/// A lock has 256 parts of a ledger. Each pass that a caller has is one of them, and the rest is
-/// here.
+/// A lock has a part of a ledger for each pass, and one more. Each pass that a caller has is one of
+/// them, and the rest is here.
 #[derive(Drop)]
 pub struct Passes<L: Ledger> {
     rest: Share<L>,
+    most: u64,
     given: u64,
     back: u64,
 }
@@ -59,19 +57,21 @@ impl<L: Ledger> Model for Passes<L> {
 
     ghost Value = { PassesView };
 
-    ghost view = { λ passes. record { given = passes.given; back = passes.back; amount = passes.rest.amount } };
+    ghost view = { λ passes. record { most = passes.most; given = passes.given; back = passes.back; amount = passes.rest.amount } };
 
-    ghost invariant = { λ passes. (passes.rest.parts + passes.given ≡ 256 + passes.back) × (passes.back ≤ passes.given) × (passes.given ≤ 255) };
+    ghost invariant = { λ passes. (passes.rest.parts + passes.given ≡ passes.most + 1 + passes.back) × (passes.back ≤ passes.given) × (passes.given ≤ passes.most) × (L.parts ≡ passes.most + 1) };
 }
 
 impl<L: Ledger> Passes<L> {
-    /// Makes the passes of a lock, of which none is given yet.
-    pub(crate) fn new(rest: Share<L>) -> Passes<L>
-        requires parts { rest.parts ≡ 256 }
-        ensures { result ≡ record { given = 0; back = 0; amount = rest.amount } }
+    /// Makes this many passes of a lock, of which none is given yet.
+    pub(crate) fn new(rest: Share<L>, most: u64) -> Passes<L>
+        requires parts { rest.parts ≡ most + 1 }
+        requires whole { L.parts ≡ most + 1 }
+        ensures { result ≡ record { most = most; given = 0; back = 0; amount = rest.amount } }
     {
         Passes {
             rest,
+            most,
             given: 0,
             back: 0,
         }
@@ -86,14 +86,14 @@ impl<L: Ledger> Passes<L> {
 
     /// Gives a pass to one more caller, under the next number: 1, 2 and so on.
     ///
-    /// `CallersSpent` if 255 passes were given. Nothing is allocated.
+    /// `CallersSpent` if all passes were given. Nothing is allocated.
     pub fn give(&mut self) -> Result<Pass<L>, CallersSpent>
         ensures pass { IfOk result (λ pass. pass ≡ record { caller = self.old.given + 1; amount = 0 }) }
-        ensures given { OnOk result (self.new ≡ record { given = self.old.given + 1; back = self.old.back; amount = self.old.amount }) }
-        ensures most { self.new.given ≤ 255 }
-        ensures spent { OnErr result ((self.old.given ≡ 255) × (self.new ≡ self.old)) }
+        ensures given { OnOk result (self.new ≡ record { most = self.old.most; given = self.old.given + 1; back = self.old.back; amount = self.old.amount }) }
+        ensures most { self.new.given ≤ self.old.most }
+        ensures spent { OnErr result ((self.old.given ≡ self.old.most) × (self.new ≡ self.old)) }
     {
-        if self.given >= MOST_PASSES {
+        if self.given >= self.most {
             return Err(CallersSpent);
         }
         let Passes { rest, given, .. } = self;
@@ -109,8 +109,7 @@ impl<L: Ledger> Passes<L> {
     ///
     /// Nothing is allocated.
     pub fn take_back(&mut self, pass: Pass<L>)
-        requires whole { L.parts ≡ 256 }
-        ensures { self.new ≡ record { given = self.old.given; back = self.old.back + 1; amount = self.old.amount + pass.amount } }
+        ensures { self.new ≡ record { most = self.old.most; given = self.old.given; back = self.old.back + 1; amount = self.old.amount + pass.amount } }
     {
         let Passes { rest, back, .. } = self;
         rest.merge(pass.share);
@@ -120,7 +119,7 @@ impl<L: Ledger> Passes<L> {
     /// Takes these passes back.
     #[tactic(auto, using(crate::proofs::Counting::made_by_snoc))]
     pub(crate) fn take_all_back(&mut self, passes: Vec<Pass<L>>)
-        requires whole { L.parts ≡ 256 }
+        ensures most { self.new.most ≡ self.old.most }
         ensures given { self.new.given ≡ self.old.given }
         ensures back { self.new.back ≡ self.old.back + length passes.items }
         ensures amount { self.new.amount ≡ self.old.amount + made_by passes.items }
@@ -132,7 +131,6 @@ impl<L: Ledger> Passes<L> {
 
     /// Shows that the passes count all calls of the book, if all of them are back.
     pub(crate) fn settle(&mut self, book: &mut Book<L>)
-        requires whole { L.parts ≡ 256 }
         requires all_back { self.old.back ≡ self.old.given }
         ensures total { book.old.total ≡ self.old.amount }
         ensures same_book { book.new.total ≡ book.old.total }
@@ -142,7 +140,7 @@ impl<L: Ledger> Passes<L> {
     }
 }
 
-/// A lock has given its 255 passes.
+/// A lock has given all its passes.
 #[derive(Clone, Copy, Debug, PartialEq, Eq, Error)]
-#[error("all 255 passes are given")]
+#[error("all passes are given")]
 pub struct CallersSpent;

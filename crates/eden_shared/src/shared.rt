@@ -22,6 +22,9 @@ use std::marker::PhantomData;
 use std::sync::ledger::{Blank, Book, Ledger};
 use std::sync::{Mutex, Wait};
 
+/// How many passes a lock has whose server stores its history.
+const MOST_PASSES: u64 = 255;
+
 /// What was held for a request under the lock, with the number of the call.
 #[derive(Drop)]
 pub struct Ticketed<N: Naming + Drop> {
@@ -45,6 +48,7 @@ struct Locked<N: Naming + Drop, T: Served<N>, L: Ledger> {
     passes: Passes<L>,
     // The stored history has an entry for each call.
     ghost counted: { T.stored object ≡ Some book.total },
+    ghost most: { passes.most ≡ 255 },
     // No pass is back yet, and all calls are of passes that are out.
     ghost none_back: { passes.back ≡ 0 },
     ghost unused: { passes.amount ≡ 0 },
@@ -162,7 +166,7 @@ impl<N: Naming + Drop, T: Served<N>, L: Ledger> Shared<N, T, L> {
                 naming: PhantomData,
                 object,
                 book,
-                passes: Passes::new(rest),
+                passes: Passes::new(rest, MOST_PASSES),
             }),
         }
     }

@@ -27,6 +27,9 @@ use std::time::{Clock, Duration};
 /// As which caller the server is asked and changed. Nothing says who called.
 const CALLER: u64 = 0;
 
+/// How many passes a lock has of which nothing is logged.
+const MOST_PASSES: u64 = 2047;
+
 /// What was held for a request under the lock.
 #[derive(Drop)]
 pub struct Holding<N: Naming + Drop> {
@@ -124,14 +127,15 @@ impl<N: Naming + Drop, T: Served<N>, L: Origin> Unlogged<N, T, L> {
     /// Puts a server behind a lock, and returns the lock and its passes.
     ///
     /// The server stands for each of the worlds that `L` names. The blank becomes the ledger of its
-    /// changes, with 256 parts. Nothing is allocated.
+    /// changes, with 2,048 parts: one for each of 2,047 passes, and one that is never given. Nothing
+    /// is allocated.
     #[tactic(auto, using(crate::proofs::Reaching::begins_reached))]
     pub fn new(object: T, blank: Blank) -> (Unlogged<N, T, L>, Passes<L>)
         requires opens { (world : WorldState) → L.opens world → T.stands_for object world }
         requires name { blank.name ≡ L.name }
         requires parts { blank.parts ≡ L.parts }
-        requires whole { blank.parts ≡ 256 }
-        ensures { result.1 ≡ record { given = 0; back = 0; amount = 0 } }
+        requires whole { blank.parts ≡ 2048 }
+        ensures { result.1 ≡ record { most = 2047; given = 0; back = 0; amount = 0 } }
     {
         let (book, rest) = blank.open::<L>();
         let held = Mutex::new(Tallied {
@@ -140,7 +144,7 @@ impl<N: Naming + Drop, T: Served<N>, L: Origin> Unlogged<N, T, L> {
             book,
         });
         let changed = Bell::new();
-        (Unlogged { held, changed }, Passes::new(rest))
+        (Unlogged { held, changed }, Passes::new(rest, MOST_PASSES))
     }
 
     /// Makes a change, in one hold of the lock, and then wakes those that wait for one.
@@ -228,7 +232,6 @@ impl<N: Naming + Drop, T: Served<N>, L: Origin> Unlogged<N, T, L> {
     /// It is what exactly the changes that the passes count have made of its opening worlds.
     /// `PassOut` if a pass is still out. Nothing is allocated.
     pub fn finish(self, passes: Passes<L>) -> Result<T, PassOut<N, T, L>>
-        requires whole { L.parts ≡ 256 }
         ensures reached { IfOk result (λ object. IsReached N.id T.stands_for L.opens passes.amount object) }
         ensures back { IfOk result (λ object. passes.back ≡ passes.given) }
         ensures missing { IfErr result (λ fault. (fault.passes ≡ passes) × (passes.back ≡ passes.given → ⊥)) }

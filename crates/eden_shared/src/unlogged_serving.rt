@@ -1,27 +1,34 @@
-//! A lock of which nothing is logged, asked by frames over any reader and writer.
+//! A lock of which nothing is logged, asked and changed by frames over any reader and writer.
 
-ghost use Rattle.std.specs.Prelude.{◌+◌, ◌≤◌, IsErrOf};
-ghost use Rattle.eden_stream.specs.FrameTellings.{EndsTelling};
-ghost use Rattle.eden_shared.specs.Gives.{IsTold};
-ghost use Rattle.eden_shared.specs.Reached.{IsReached};
-ghost use Rattle.eden_shared.specs.Servings.{unlogged_story};
-ghost use Rattle.eden_shared.specs.internal.Steps.{UnloggedStep};
+ghost use Rattle.std.specs.Prelude.{◌≡◌, ◌+◌, ◌≤◌, ◌⊎◌, ℕ, List, ◌++◌, length, IfOk, OnOk, OnErr, IsErrOf};
+ghost use Rattle.eden_ids.specs.Fronts.{KeepsFront};
 ghost use Rattle.eden_stream.specs.Counts.{Rose, RoseBy};
+ghost use Rattle.eden_stream.specs.FrameTellings.{EndsTelling};
+ghost use Rattle.eden_messages.specs.declared.message.Query.{Query};
+ghost use Rattle.eden_stream.specs.Frames.{body_limit, frame};
+ghost use Rattle.eden_wire.specs.Doing.{done_bytes};
+ghost use Rattle.eden_wire.specs.declared.doing.Command.TheVariants as commands;
+ghost use Rattle.eden_shared.specs.Commands.{EndsSo, MakesUnsaid, Reads, Says, SaysReply, changes_of, counting, unlogged_story};
+ghost use Rattle.eden_shared.specs.Gives.{IsMade, IsTold};
+ghost use Rattle.eden_shared.specs.Reached.{IsReached};
+ghost use Rattle.eden_shared.specs.internal.Steps.{UnloggedStep};
 
 use crate::origin::Origin;
+use crate::pass::Pass;
 use crate::patience::{Peer, patience_of};
 use crate::unlogged::Unlogged;
-use eden_ids::Naming;
+use eden_history::Change;
+use eden_ids::{Naming, NoMemory};
 use eden_query::{Served, append_reply, fault_of_frame};
 use eden_stream::{
     CountedRead, CountedWrite, FrameFault, Frames, ServeFault, Step, Teller, tell_frames,
 };
-use eden_wire::decode_asked;
+use eden_wire::{Asked, Command, Doing, Done, append_done, decode_command};
 use std::alloc::Global;
 use std::sync::Wait;
 use std::time::Clock;
 
-/// Asks a lock what the bodies of frames spell, for a peer.
+/// Does at a lock what the bodies of frames ask for, for a peer.
 #[derive(Drop)]
 struct UnloggedAsker<'a, N: Naming + Drop, T: Served<N>, L: Origin, P: Peer, R: Wait + Clock> {
     rt: &'a R,
@@ -30,17 +37,97 @@ struct UnloggedAsker<'a, N: Naming + Drop, T: Served<N>, L: Origin, P: Peer, R: 
     peer: &'a P,
 }
 
-/// Asks what a body spells, and adds the frame of the reply to a text.
-#[tactic(auto, using(eden_ids::proofs::Fronts::kept))]
-fn ask_unlogged<N: Naming + Drop, T: Served<N>, L: Origin, P: Peer, R: Wait + Clock>(
+/// Asks a request, and adds the frame of the reply to a text.
+fn ask<N: Naming + Drop, T: Served<N>, L: Origin, P: Peer, R: Wait + Clock>(
     asker: &UnloggedAsker<N, T, L, P, R>,
+    asked: &Asked,
+    text: &mut Vec<u8>,
+) -> Result<(), NoMemory>
+    ensures said { OnOk result ((said : List ℕ) × SaysReply (IsTold (IsReached N.id T.stands_for L.opens) T.stands_for T.held T.hold_gives 0) asked.now.request said
+        × (text.new.items ≡ text.old.items ++ frame said)) }
+    ensures front { KeepsFront text.old.items text.new.items }
+{
+    let patience = patience_of(asked.patience);
+    let reply = asker
+        .unlogged
+        .ask_patiently(asker.rt, &asked.request, patience, asker.peer)?;
+    append_reply(text, &reply)?;
+    Ok(())
+}
+
+/// Makes a change with a caller's pass, if it has one, and returns how that ended.
+#[tactic(auto, using(crate::proofs::Answered::not_writable_fits))]
+fn make<N: Naming + Drop, T: Served<N>, L: Origin, P: Peer, R: Wait + Clock>(
+    asker: &UnloggedAsker<N, T, L, P, R>,
+    writing: &mut Option<Pass<L>>,
+    change: &Change,
+) -> Result<Done, NoMemory>
+    ensures ends { IfOk result (λ done. EndsSo (IsMade (IsReached N.id T.stands_for L.opens) N.id T.stands_for T.apply_gives 0) writing.old change.now done) }
+    ensures fits { IfOk result (λ done. (query : Query) → length (done_bytes query done) ≤ body_limit) }
+    ensures counted { OnOk result (writing.new ≡ counting 1 writing.old) }
+    ensures unchanged { OnErr result (writing.new ≡ writing.old) }
+{
+    match writing {
+        Some(pass) => Ok(Done::of(asker.unlogged.change(asker.rt, pass, change)?)),
+        None => Ok(Done::NotWritable),
+    }
+}
+
+/// Makes the change that a body asks for, and adds the frame of its answer to a text.
+fn change<N: Naming + Drop, T: Served<N>, L: Origin, P: Peer, R: Wait + Clock>(
+    asker: &UnloggedAsker<N, T, L, P, R>,
+    writing: &mut Option<Pass<L>>,
+    doing: &Doing,
+    text: &mut Vec<u8>,
+) -> Result<(), NoMemory>
+    ensures said { OnOk result ((said : List ℕ) × Says (IsTold (IsReached N.id T.stands_for L.opens) T.stands_for T.held T.hold_gives 0)
+        (IsMade (IsReached N.id T.stands_for L.opens) N.id T.stands_for T.apply_gives 0) writing.old (commands.Do doing.now) said
+        × (text.new.items ≡ text.old.items ++ frame said)) }
+    ensures counted { OnOk result (writing.new ≡ counting 1 writing.old) }
+    ensures left { OnErr result ((body : List ℕ) → Reads body (commands.Do doing.now) → (writing.new ≡ writing.old)
+        ⊎ MakesUnsaid (IsMade (IsReached N.id T.stands_for L.opens) N.id T.stands_for T.apply_gives 0) body writing.old writing.new) }
+    ensures front { KeepsFront text.old.items text.new.items }
+{
+    let done = make(asker, writing, &doing.change)?;
+    append_done(text, doing.query, &done)?;
+    Ok(())
+}
+
+/// Does what a body asks for, and adds the frame of what is said of it to a text.
+fn answer<N: Naming + Drop, T: Served<N>, L: Origin, P: Peer, R: Wait + Clock>(
+    asker: &UnloggedAsker<N, T, L, P, R>,
+    writing: &mut Option<Pass<L>>,
+    command: &Command,
+    text: &mut Vec<u8>,
+) -> Result<(), NoMemory>
+    ensures said { OnOk result ((said : List ℕ) × Says (IsTold (IsReached N.id T.stands_for L.opens) T.stands_for T.held T.hold_gives 0)
+        (IsMade (IsReached N.id T.stands_for L.opens) N.id T.stands_for T.apply_gives 0) writing.old command.now said
+        × (text.new.items ≡ text.old.items ++ frame said)) }
+    ensures counted { OnOk result (writing.new ≡ counting (changes_of command.now) writing.old) }
+    ensures left { OnErr result ((body : List ℕ) → Reads body command.now → (writing.new ≡ writing.old)
+        ⊎ MakesUnsaid (IsMade (IsReached N.id T.stands_for L.opens) N.id T.stands_for T.apply_gives 0) body writing.old writing.new) }
+    ensures front { KeepsFront text.old.items text.new.items }
+{
+    match command {
+        Command::Ask(asked) => ask(asker, asked, text),
+        Command::Do(doing) => change(asker, writing, doing, text),
+    }
+}
+
+/// Reads a body and does what it asks for, and adds the frame of what is said of it to a text.
+#[tactic(auto, using(eden_ids::proofs::Fronts::kept))]
+fn answer_body<N: Naming + Drop, T: Served<N>, L: Origin, P: Peer, R: Wait + Clock>(
+    asker: &UnloggedAsker<N, T, L, P, R>,
+    writing: &mut Option<Pass<L>>,
     body: &[u8],
     text: &mut Vec<u8>,
 ) -> Step<FrameFault>
-    ensures { UnloggedStep (IsTold (IsReached N.id T.stands_for L.opens) T.stands_for T.held T.hold_gives 0) body.now text.old.items text.new.items result }
+    ensures { UnloggedStep (IsTold (IsReached N.id T.stands_for L.opens) T.stands_for T.held T.hold_gives 0)
+        (IsMade (IsReached N.id T.stands_for L.opens) N.id T.stands_for T.apply_gives 0)
+        writing.old writing.new body.now text.old.items text.new.items result }
 {
-    let asked = match decode_asked(asker.alloc, body) {
-        Ok(asked) => asked,
+    let command = match decode_command(asker.alloc, body) {
+        Ok(command) => command,
         Err(fault) => {
             return match fault_of_frame(fault) {
                 Some(fault) => Step::Fault(fault),
@@ -48,46 +135,50 @@ fn ask_unlogged<N: Naming + Drop, T: Served<N>, L: Origin, P: Peer, R: Wait + Cl
             };
         }
     };
-    let patience = patience_of(asked.patience);
-    let replied = asker
-        .unlogged
-        .ask_patiently(asker.rt, &asked.request, patience, asker.peer);
-    let reply = match replied {
-        Ok(reply) => reply,
-        Err(_) => return Step::NoMemory,
-    };
-    match append_reply(text, &reply) {
+    match answer(asker, writing, &command, text) {
         Ok(()) => Step::Told,
         Err(_) => Step::NoMemory,
     }
 }
 
-// What was asked is noted nowhere.
+// What was asked is noted nowhere. What was changed is counted by the caller's pass.
 impl<'a, N: Naming + Drop, T: Served<N>, L: Origin, P: Peer, R: Wait + Clock> Teller<
     Frames,
-    (),
+    Option<Pass<L>>,
     FrameFault,
 > for UnloggedAsker<'a, N, T, L, P, R> {
-    ghost story = { λ _ _ _. unlogged_story (IsTold (IsReached N.id T.stands_for L.opens) T.stands_for T.held T.hold_gives 0) };
+    ghost story = { λ _ before now. unlogged_story (IsTold (IsReached N.id T.stands_for L.opens) T.stands_for T.held T.hold_gives 0)
+        (IsMade (IsReached N.id T.stands_for L.opens) N.id T.stands_for T.apply_gives 0) before now };
 
-    fn tell(&self, _noted: &mut (), body: &[u8], text: &mut Vec<u8>) -> Step<FrameFault> {
-        ask_unlogged(self, body, text)
+    fn tell(
+        &self,
+        writing: &mut Option<Pass<L>>,
+        body: &[u8],
+        text: &mut Vec<u8>,
+    ) -> Step<FrameFault> {
+        answer_body(self, writing, body, text)
     }
 
     ghost lawful = { λ _ _ _. record { passes = λ _ _ _ silent _. absurd silent; stops = λ _ _ told. told } };
 }
 
-/// Serves requests to a lock of which nothing is logged, and returns the number of frames.
+/// Serves a connection to a lock of which nothing is logged, and returns the number of frames.
 ///
-/// The frames of the requests are read from `reader`. What they spell is asked in order, and the
-/// frames of the replies are written to `writer`. Each reply is that of the server at some moment
-/// after its own frame was read. Others may change the server between two frames.
+/// The frames are read from `reader`. What their bodies ask for (`eden_wire::decode_command`) is
+/// done in order. The frames of the replies, and of how each change ended, are written to `writer`.
+/// Each is that of the server at some moment after its own frame was read. Others may change the
+/// server between two frames.
 ///
-/// A request may come after a patience (`eden_wire::decode_asked`). `Unlogged::ask_patiently` asks
-/// it for the peer then, for at most `LONGEST` milliseconds. Frames after it wait too, and so do
-/// the replies before it that are not written yet.
+/// A change is made once, with the pass that `writing` has. The pass counts it. If `writing` has no
+/// pass, the change is not made, its frame is that of `Done::NotWritable`, and the connection goes
+/// on. A connection that ends after a change was sent leaves the client unsure whether the change
+/// was made. The client then polls since the position that it had.
 ///
-/// Whole frames are answered before the next read, of 64 KiB each. Replies are gathered. They are
+/// A request may come after a patience. `Unlogged::ask_patiently` asks it for the peer then, for at
+/// most `LONGEST` milliseconds. Frames after it wait too, and so do the answers before it that are
+/// not written yet.
+///
+/// Whole frames are answered before the next read, of 64 KiB each. Answers are gathered. They are
 /// written before the next read, and whenever there are 64 KiB of them. Nothing is left once this
 /// ends.
 ///
@@ -95,12 +186,15 @@ impl<'a, N: Naming + Drop, T: Served<N>, L: Origin, P: Peer, R: Wait + Clock> Te
 ///
 /// - `Frame`, with its number from 1: `CutShort` if the input ends inside it, `TooLarge` if its
 ///   length is above 16,777,216, which is found as soon as its four bytes are there, else the first
-///   fault of its body. The replies to the frames before it are written.
-/// - `Read` and `Write` if the device failed in this call. The replies to all whole frames that
-///   were read are written; after `Write`, the first bytes of the replies to some first frames.
-/// - `TurnsSpent` after 1,000,000 reads in this call. The replies to all whole frames that were
+///   fault of its body. The answers to the frames before it are written.
+/// - `Read` and `Write` if the device failed in this call. The answers to all whole frames that
+///   were read are written; after `Write`, the first bytes of the answers to some first frames.
+/// - `TurnsSpent` after 1,000,000 reads in this call. The answers to all whole frames that were
 ///   read are written.
-/// - `NoMemory` if an allocation fails. The replies to some first frames are written.
+/// - `NoMemory` if an allocation fails. The answers to some first frames are written.
+///
+/// After `NoMemory` the change of the frame after those that are answered may have been made, once.
+/// So it may after `Write`, which can be returned instead of `NoMemory`.
 pub fn serve_unlogged<
     N: Naming + Drop,
     T: Served<N>,
@@ -115,9 +209,11 @@ pub fn serve_unlogged<
     reader: &mut R,
     writer: &mut W,
     unlogged: &Unlogged<N, T, L>,
+    writing: &mut Option<Pass<L>>,
     peer: &P,
 ) -> Result<u64, ServeFault>
-    ensures ends { EndsTelling (unlogged_story (IsTold (IsReached N.id T.stands_for L.opens) T.stands_for T.held T.hold_gives 0))
+    ensures ends { EndsTelling (unlogged_story (IsTold (IsReached N.id T.stands_for L.opens) T.stands_for T.held T.hold_gives 0)
+        (IsMade (IsReached N.id T.stands_for L.opens) N.id T.stands_for T.apply_gives 0) writing.old writing.new)
         (R.remaining reader.old) (R.remaining reader.new) (W.contents writer.old) (W.contents writer.new) result }
     ensures read { IsErrOf result ServeFault.Read → Rose (R.failed reader.old) (R.failed reader.new) }
     ensures write { IsErrOf result ServeFault.Write → Rose (W.failed writer.old) (W.failed writer.new) }
@@ -130,5 +226,5 @@ pub fn serve_unlogged<
         unlogged,
         peer,
     };
-    tell_frames(alloc, reader, writer, &asker, &mut ())
+    tell_frames(alloc, reader, writer, &asker, writing)
 }

@@ -1,15 +1,19 @@
 -- What the answer to one body says of the desk, or of the lock, that was asked.
-use Rattle.std.specs.Prelude.{◌≡◌, ◌⊎◌, ℕ, ◌+◌, List, [], ◌∷◌, ◌++◌}
+use Rattle.std.specs.Prelude.{◌≡◌, ◌⊎◌, ℕ, ◌+◌, List, [], ◌∷◌, ◌++◌, Option}
+use Rattle.eden_history.specs.declared.answer.Answer.{Answer}
+use Rattle.eden_history.specs.declared.change.Change.{Change}
 use Rattle.eden_logs.specs.declared.log.LogEntry.{LogEntry}
 use Rattle.eden_stream.specs.Frames.{frame}
 use Rattle.eden_stream.specs.declared.frame_fault.FrameFault.{FrameFault}
 use Rattle.eden_messages.specs.declared.message.Reply.{Reply}
 use Rattle.eden_messages.specs.declared.message.Request.{Request}
-use Rattle.eden_messages.specs.Spells.{reply_bytes}
 use Rattle.eden_stream.specs.declared.teller.Step.{Step}
 use Rattle.eden_stream.specs.declared.teller.Step.TheVariants.{Told, Fault, NoMemory}
+use Rattle.eden_wire.specs.declared.doing.Command.{Command}
+use Rattle.eden_shared.specs.Commands.{IsUnread, MakesUnsaid, Reads, Says, changes_of, counting}
 use Rattle.eden_shared.specs.Desks.{DeskView}
-use Rattle.eden_shared.specs.Servings.{AsksLast, AsksOne, IsUnasked, RepliesOne, frame_of}
+use Rattle.eden_shared.specs.Passes.{PassView}
+use Rattle.eden_shared.specs.Servings.{AsksLast, AsksOne, IsUnasked, frame_of}
 
 -- one more call was taken of the desk, and is noted so
 pub record Took (old new : DeskView) (entry : LogEntry) : Type 0 where
@@ -24,7 +28,9 @@ TakesStep Tells old new body before text NoMemory = ((extra : List ℕ) × (text
     × ((new ≡ old) ⊎ ((entry : LogEntry) × AsksLast Tells body entry × Took old new entry))
 
 -- the same of a lock of which nothing is logged
-abbrev pub UnloggedStep : (ℕ → Request → Reply → Type 0) → List ℕ → List ℕ → List ℕ → Step FrameFault → Type 0
-UnloggedStep Tells body before text Told = (reply : Reply) × RepliesOne Tells body reply × (text ≡ before ++ frame (reply_bytes reply))
-UnloggedStep Tells body before text (Fault fault) = IsUnasked body fault × (text ≡ before)
-UnloggedStep Tells body before text NoMemory = (extra : List ℕ) × (text ≡ before ++ extra)
+abbrev pub UnloggedStep : (ℕ → Request → Reply → Type 0) → (ℕ → Change → Answer → Type 0) → Option PassView → Option PassView
+    → List ℕ → List ℕ → List ℕ → Step FrameFault → Type 0
+UnloggedStep Tells Makes old new body before text Told = (command : Command) × Reads body command
+    × (new ≡ counting (changes_of command) old) × ((said : List ℕ) × Says Tells Makes old command said × (text ≡ before ++ frame said))
+UnloggedStep Tells Makes old new body before text (Fault fault) = IsUnread body fault × (new ≡ old) × (text ≡ before)
+UnloggedStep Tells Makes old new body before text NoMemory = ((extra : List ℕ) × (text ≡ before ++ extra)) × ((new ≡ old) ⊎ MakesUnsaid Makes body old new)

@@ -8,6 +8,7 @@ invariant_of-self g c =
     let same = sym c.in_err-raw.ensures.unchanged in
     let was = c.args.self.now in record {
       counted = subst (λ t. g.T.Served.stored t ≡ Some was.book.total) same was.counted;
+      most = was.most;
       none_back = was.none_back;
       unused = was.unused;
       descends = subst (IsDescended g.T.Served.stored g.T.Served.apply_gives g.T.Served.hold_gives was.book.total) same was.descends;
