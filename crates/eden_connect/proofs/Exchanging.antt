@@ -46,14 +46,10 @@ receives_frame a b c told body len first spelled same second =
 
 -- ---- requests that are gathered
 
-length_bytes : (n : ℕ) → length (to_be_bytes w32 n) ≡ 4
-length_bytes n = refl
-
 pub sized : (request : Request) (len : ℕ) → len ≡ length (request_bytes request) → 4 + len ≡ frame_size request
 unfolding frame
 sized request len e =
-    ap (λ n. 4 + n) e ∙ sym (length-append (to_be_bytes w32 (length (request_bytes request))) (request_bytes request)
-    ∙ ap (λ n. n + length (request_bytes request)) (length_bytes (length (request_bytes request))))
+    ap (λ n. 4 + n) e ∙ sym (length-append (to_be_bytes w32 (length (request_bytes request))) (request_bytes request))
 
 -- the first of the requests are
 pub record IsGathered (window window' : List ℕ) (requests rest : List Request) (text text' : List ℕ) : Type 0 where

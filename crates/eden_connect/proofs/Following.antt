@@ -6,8 +6,8 @@ use Rattle.std.proofs.Math.Bool.{or-false, or_assoc}
 use Rattle.eden_ids.specs.FileMaps.{put_option}
 use Rattle.eden_history.specs.declared.position.Position.{Position}
 use Rattle.eden_messages.specs.declared.message.Query.{Query}
-use Rattle.eden_messages.specs.declared.message.Request.TheVariants.{Basis, Poll, Fetch, List as Below}
-use Rattle.eden_messages.specs.declared.message.Cause.TheVariants.{Stale, Ahead, Truncated, TooLarge}
+use Rattle.eden_messages.specs.declared.message.Request.TheVariants.{Basis, Poll}
+use Rattle.eden_messages.specs.declared.message.Cause.TheVariants.{TooLarge}
 use Rattle.eden_messages.specs.declared.message.Reply.{Reply}
 use Rattle.eden_messages.specs.declared.message.Reply.TheVariants.{BasisIs, ChangesAre, ContentIs, Refused, ListIs}
 use Rattle.eden_messages.specs.declared.outcome.Outcome.{Outcome}
@@ -77,32 +77,17 @@ taken_last false m made e = refl
 
 in_last : (m : MirrorState) (round : Round) (reply : Reply) → (delivered_in m round reply).0.last ≡ m.last
 in_last m Idle (BasisIs query position paths) = refl
-in_last m Idle (ChangesAre query target marked prefixes) = refl
-in_last m Idle (ContentIs query position path content) = refl
-in_last m Idle (Refused query cause) = refl
-in_last m Idle (ListIs query position prefix paths) = refl
 in_last m (Asked (Basis asked patterns)) (BasisIs query position paths) = taken_last _ m _ (gathers_last (emptied m) asked position (distinct paths) [])
-in_last m (Asked (Poll asked since patterns)) (BasisIs query position paths) = refl
-in_last m (Asked (Fetch asked path)) (BasisIs query position paths) = refl
-in_last m (Asked (Below asked prefix patterns)) (BasisIs query position paths) = refl
-in_last m (Asked (Basis asked patterns)) (ChangesAre query target marked prefixes) = refl
 in_last m (Asked (Poll asked since patterns)) (ChangesAre query target marked prefixes) =
     taken_last _ m _ (gathers_last m asked target (distinct (paths_of marked)) (distinct prefixes))
-in_last m (Asked (Fetch asked path)) (ChangesAre query target marked prefixes) = refl
-in_last m (Asked (Below asked prefix patterns)) (ChangesAre query target marked prefixes) = refl
-in_last m (Asked request) (ContentIs query position path content) = refl
-in_last m (Asked request) (Refused query (Stale generation)) = taken_last _ m _ refl
-in_last m (Asked request) (Refused query (Ahead head)) = taken_last _ m _ refl
-in_last m (Asked request) (Refused query (Truncated floor)) = taken_last _ m _ refl
 in_last m (Asked request) (Refused query TooLarge) = taken_last _ m _ refl
-in_last m (Asked request) (ListIs query position prefix paths) = refl
-in_last m (Gathering asked target awaited prefixes) (BasisIs query position paths) = refl
-in_last m (Gathering asked target awaited prefixes) (ChangesAre query position marked others) = refl
 in_last m (Gathering asked target awaited prefixes) (ContentIs query position path content) =
     taken_last _ m _ (gathers_last (record m { files = put_option m.files path content }) asked target (without path awaited) prefixes)
 in_last m (Gathering asked target awaited prefixes) (Refused query cause) = taken_last _ m _ refl
 in_last m (Gathering asked target awaited prefixes) (ListIs query position prefix paths) =
     taken_last _ m _ (gathers_last (record m { files = listed_files m.files prefix paths }) asked target (distinct (awaited ++ paths)) (without prefix prefixes))
+in_last m (Asked request) (Refused query cause) = taken_last _ m _ refl
+in_last m round reply = refl
 
 delivered_last : (m : MirrorState) (reply : Reply) → (delivered m reply).0.last ≡ m.last
 unfolding delivered

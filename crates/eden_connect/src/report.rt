@@ -4,7 +4,6 @@ ghost use Rattle.std.specs.Prelude.{◌≡◌, ◌++◌, ◌∷◌, [], ℕ, cod
 ghost use Rattle.std.specs.List.{flat_map};
 ghost use Rattle.std.specs.Io.KnownBytes.{Appends, Keeps};
 ghost use Rattle.eden_ids.specs.FileMaps.{file_at};
-ghost use Rattle.std.specs.Bool.{OnFalse, OnTrue};
 ghost use Rattle.eden_connect.specs.Reports.{AppendsFront, position_text, place_text, file_text, files_text, report_text};
 
 use crate::fault::ConnectFault;
@@ -12,11 +11,9 @@ use eden_history::Position;
 use eden_ids::{Content, NoMemory, Path};
 use eden_mirror::Mirror;
 use eden_script::{kind_name, push_bytes, push_escaped, push_id, push_number};
+use eden_stream::print;
 use std::alloc::{AllocError, Global};
-use std::io::{ErrorKind, Write};
-
-/// How often in a row an interrupted write is tried again.
-const MOST_TRIES: u32 = 1_000;
+use std::io::Write;
 
 /// Appends the line of a position.
 fn push_position(text: &mut Vec<u8>, position: &Position) -> Result<(), AllocError>
@@ -79,32 +76,6 @@ pub(crate) fn report_text(alloc: Global, mirror: &Mirror) -> Result<Vec<u8>, NoM
     Ok(text)
 }
 
-/// Writes a text again and again while the output takes only a part. Returns whether it is all
-/// written.
-fn write_text<W: Write>(output: &mut W, text: &[u8]) -> bool
-    ensures written { OnTrue result (Appends (W.contents output.old) (W.contents output.new) text.now) }
-    ensures torn { OnFalse result (AppendsFront (W.contents output.old) (W.contents output.new) text.now) }
-{
-    let mut at = 0;
-    let mut tries = MOST_TRIES;
-    while at < text.len() {
-        match output.write(&text[at..]) {
-            Ok(0) => return false,
-            Ok(taken) => {
-                at += taken;
-                tries = MOST_TRIES;
-            }
-            Err(error) => {
-                if error.kind() != ErrorKind::Interrupted || tries == 0 {
-                    return false;
-                }
-                tries -= 1;
-            }
-        }
-    }
-    true
-}
-
 /// Writes that text. Returns `Unplaced` after it if the mirror has no position.
 pub(crate) fn tell<W: Write>(
     alloc: Global,
@@ -121,7 +92,7 @@ pub(crate) fn tell<W: Write>(
     let Ok(text) = report_text(alloc, mirror) else {
         return Err(ConnectFault::NoMemory);
     };
-    if !write_text(output, text.as_slice()) || output.flush().is_err() {
+    if !print(output, text.as_slice()) {
         return Err(ConnectFault::Write);
     }
     match mirror.position() {

@@ -11,7 +11,7 @@ use std::marker::Model;
 ///
 /// A socket takes that many even if its peer reads none. So a write of them returns while the peer
 /// waits for its replies to be read.
-const LIMIT: u32 = 16_384;
+const LIMIT: u32 = 32_768;
 
 /// The sizes in bytes of the frames that were sent and are not answered, oldest first.
 #[derive(Drop)]
@@ -28,7 +28,7 @@ impl Model for Window {
 
     ghost view = { λ w. w.sizes.items };
 
-    ghost invariant = { λ w. (w.bytes ≡ sum w.sizes.items) × (w.bytes ≤ 16384) };
+    ghost invariant = { λ w. (w.bytes ≡ sum w.sizes.items) × (w.bytes ≤ 32768) };
 }
 
 impl Window {
@@ -44,22 +44,22 @@ impl Window {
 
     /// Returns whether half of the bytes are answered, so that more is worth a write.
     pub(crate) fn is_half_free(&self) -> bool
-        ensures { result ≡ nat_le (sum self.now) 8192 }
+        ensures { result ≡ nat_le (sum self.now) 16384 }
     {
         self.bytes <= LIMIT / 2
     }
 
     /// Returns whether one more frame may be sent.
     pub(crate) fn fits(&self, size: u32) -> bool
-        requires { size ≤ 16384 }
-        ensures { result ≡ nat_le (sum self.now + size) 16384 }
+        requires { size ≤ 32768 }
+        ensures { result ≡ nat_le (sum self.now + size) 32768 }
     {
         self.bytes + size <= LIMIT
     }
 
     /// Adds a frame that is sent.
     pub(crate) fn add(&mut self, size: u32) -> Result<(), NoMemory>
-        requires { sum self.old + size ≤ 16384 }
+        requires { sum self.old + size ≤ 32768 }
         ensures ok { OnOk result (self.new ≡ self.old ++ size ∷ []) }
         ensures err { OnErr result (self.new ≡ self.old) }
     {

@@ -1,17 +1,9 @@
 -- What a verdict prints.
-use Rattle.std.proofs.Common.{◌≡◌, ℕ, Bool, true, false, List, length, take, Option, Result, Ok, Err, refl, subst, sym}
-use Rattle.std.proofs.KnownBytes.{Appends-kept}
-use Rattle.std.proofs.Math.Seq.{take-length}
-use Rattle.std.specs.Io.KnownBytes.{Appends, Keeps}
+use Rattle.std.proofs.Common.{◌≡◌, ℕ, Bool, true, false, List, take, Option, Result, Ok, subst}
+use Rattle.std.specs.Io.KnownBytes.{Appends}
 use Rattle.std.specs.Prelude.{⊤, codes}
 use Rattle.eden_logs.specs.declared.fault.AuditFault.{AuditFault}
 use Rattle.eden_demo.specs.Verdicts.{Prints, PrintsFront, audit_name, verdict_text}
-
-pub torn_kept : (w0 w1 w2 : Option (List ℕ)) (text : List ℕ) → Appends w0 w1 text → Keeps w1 w2 → (count : ℕ) × Appends w0 w2 (take count text)
-torn_kept w0 w1 w2 text written kept = (length text, subst (Appends w0 w2) (sym (take-length text)) (Appends-kept w0 w1 w2 text written kept))
-
-pub appends_kept : (w0 w1 w2 : Option (List ℕ)) (text : List ℕ) → Appends w0 w1 text → Keeps w1 w2 → Appends w0 w2 text
-appends_kept = Appends-kept
 
 module _ (w0 w1 : Option (List ℕ)) (bytes text : List ℕ) (audit : Result ⊤ AuditFault) (agree : Bool) (bytes_are : bytes ≡ text)
     (text_is : text ≡ verdict_text (audit_name audit) agree) where

@@ -1,8 +1,7 @@
 //! What is found in the end, and how it is printed.
 
-ghost use Rattle.std.specs.Bool.{OnFalse, OnTrue};
 ghost use Rattle.std.specs.Io.KnownBytes.{Appends, Keeps};
-ghost use Rattle.std.specs.Prelude.{◌≡◌, ℕ, List, true, false, Ok, Err, IfOk, OnOk, IsErrOf, codes, take};
+ghost use Rattle.std.specs.Prelude.{◌≡◌, true, false, Ok, Err, IfOk, OnOk, IsErrOf, codes};
 ghost use Rattle.std.specs.String.{string_bytes};
 ghost use Rattle.eden_demo.specs.Verdicts.{Prints, PrintsFront, audit_name, verdict_text};
 ghost use Rattle.eden_logs.specs.declared.fault.AuditFault.{AuditFault};
@@ -10,52 +9,9 @@ ghost use Rattle.eden_logs.specs.declared.fault.AuditFault.{AuditFault};
 use crate::fault::DemoFault;
 use eden_ids::NoMemory;
 use eden_shared::AuditFault;
+use eden_stream::print;
 use std::alloc::Global;
-use std::io::{ErrorKind, Write};
-
-/// How often in a row an interrupted write is tried again.
-const MOST_TRIES: u32 = 1_000;
-
-/// Writes a text again and again while the writer takes only a part. Returns whether it is all
-/// written.
-fn write_text<W: Write>(writer: &mut W, text: &[u8]) -> bool
-    ensures written { OnTrue result (Appends (W.contents writer.old) (W.contents writer.new) text.now) }
-    ensures torn { OnFalse result ((count : ℕ) × Appends (W.contents writer.old) (W.contents writer.new) (take count text.now)) }
-{
-    let mut at = 0;
-    let mut tries = MOST_TRIES;
-    while at < text.len() {
-        match writer.write(&text[at..]) {
-            Ok(0) => return false,
-            Ok(taken) => {
-                at += taken;
-                tries = MOST_TRIES;
-            }
-            Err(error) => {
-                if error.kind() != ErrorKind::Interrupted || tries == 0 {
-                    return false;
-                }
-                tries -= 1;
-            }
-        }
-    }
-    true
-}
-
-/// Writes and flushes a text, and returns whether the writer took it all.
-#[tactic(auto, using(crate::proofs::Telling::appends_kept))]
-fn print<W: Write>(writer: &mut W, text: &[u8]) -> bool
-    ensures printed { OnTrue result (Appends (W.contents writer.old) (W.contents writer.new) text.now) }
-    ensures torn { OnFalse result ((count : ℕ) × Appends (W.contents writer.old) (W.contents writer.new) (take count text.now)) }
-{
-    if !write_text(writer, text) {
-        return false;
-    }
-    match writer.flush() {
-        Ok(()) => true,
-        Err(_) => false,
-    }
-}
+use std::io::Write;
 
 /// Returns what an audit found, as it is printed.
 fn audit_name(audit: Result<(), AuditFault>) -> &'static str

@@ -3,6 +3,7 @@ use Rattle.std.proofs.Common.{◌≡◌, List, ℕ, sym, ap, subst, ◌∙◌}
 use Rattle.std.specs.Prelude.{IsSome}
 use Rattle.eden_ids.specs.declared.id.Id.{Id}
 use Rattle.eden_ids.specs.FileMaps.{differ, listing}
+use Rattle.eden_globs.specs.Filters.{Patterns}
 use Rattle.eden_objects.specs.Objects.{Held}
 use Rattle.eden_objects.specs.Commits.{commit_map}
 use Rattle.eden_objects.specs.Files.{commit_files}
@@ -28,8 +29,8 @@ root_there mount snapshot held place some same =
     (subst (λ (r : Id). IsSome (commit_map mount.held r)) (sym root) some.1.fits.root)
 
 -- what a snapshot of a mount shows over the mount's objects is what the world's files are
-pub snapshot_lists : (mount : State) (snapshot : Snapshot) (held : List Held) (patterns listed : List (List ℕ))
-    → ((world : WorldState) → StandsFor mount world → (ps : List (List ℕ)) → shown_to ps mount.held snapshot ≡ admitted ps (now world).files)
+pub snapshot_lists : (mount : State) (snapshot : Snapshot) (held : List Held) (patterns : Patterns) (listed : List (List ℕ))
+    → ((world : WorldState) → StandsFor mount world → (ps : Patterns) → shown_to ps mount.held snapshot ≡ admitted ps (now world).files)
     → held ≡ mount.held → listed ≡ shown_to patterns held snapshot
     → (world : WorldState) → StandsFor mount world → listed ≡ admitted patterns (now world).files
 snapshot_lists mount snapshot held patterns listed files same shown world h =

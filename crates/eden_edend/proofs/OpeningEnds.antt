@@ -2,7 +2,6 @@
 use Rattle.std.proofs.Common.{◌≡◌, Bool, true, false, ℕ, inl, inr, ◌⊎◌, List, Option, Some, Result, Ok, Err, sym, ap, ◌∙◌, subst}
 use Rattle.std.specs.Prelude.{IfOk, IfErr, OnOk, codes}
 use Rattle.eden_accumulate.specs.Mounts.{State}
-use Rattle.eden_script.specs.ScriptText.{script_text}
 use Rattle.eden_script.specs.Sessions.{Session}
 use Rattle.eden_stream.specs.Counts.{one_more}
 use Rattle.eden_stream.specs.Ends.{Ends, EndsWell, LeavesMachine}
@@ -10,7 +9,7 @@ use Rattle.eden_stream.specs.LineEnds.{StopsAtBadLine}
 use Rattle.eden_stream.specs.Lines.{IsTooLong}
 use Rattle.eden_stream.specs.Scripts.{in_front}
 use Rattle.eden_stream.specs.declared.lines.RunFault.{RunFault}
-use Rattle.eden_stream.specs.declared.lines.RunFault.TheVariants.{BadLine, Read, Write, TurnsSpent, NoMemory}
+use Rattle.eden_stream.specs.declared.lines.RunFault.TheVariants.{BadLine}
 use Rattle.eden_stream.proofs.LineSays.{stops_at_bad_line}
 use Rattle.eden_edend.specs.declared.objects.Objects.{Objects}
 use Rattle.eden_edend.specs.declared.opening.Opened.{Opened}
@@ -61,7 +60,4 @@ module _ (script : List (List ℕ) → Option (List ℕ)) (r0 r1 w0 w1 : Option 
 
   pub ended_early : (fault : RunFault) → Ends script r0 r1 w0 w1 (Err fault) → EndsOpening script r0 r1 w0 w1 (Err fault)
   ended_early (BadLine number) ends = inl ends
-  ended_early Read ends = ends
-  ended_early Write ends = ends
-  ended_early TurnsSpent ends = ends
-  ended_early NoMemory ends = ends
+  ended_early fault ends = ends

@@ -20,7 +20,7 @@ pub(crate) fn path_of(word: Word) -> Result<Path, Refusal>
     }
 }
 
-/// The commit that the label is bound to.
+/// Returns the commit that a label is bound to.
 fn commit_of(labels: &Labels, label: &Label) -> Result<Id, Refusal>
     ensures accepts { IfOk result (λ commit. bound labels.now label.now ≡ Some commit) }
     ensures refuses { IfErr result (λ cause. (bound labels.now label.now ≡ None) × (cause ≡ Refusal.NoLabel)) }
@@ -31,9 +31,14 @@ fn commit_of(labels: &Labels, label: &Label) -> Result<Id, Refusal>
     }
 }
 
-/// Returns what a line changes, or why it changes nothing: `Path` for the first word that is not a
-/// path, and `NoLabel` where its label is bound to nothing. Whether the mount makes the change is
-/// not asked. This takes no memory: the bytes are moved.
+/// Returns what a line changes, or why it changes nothing.
+///
+/// Whether the mount makes the change is not asked. Nothing is allocated: the bytes are moved.
+///
+/// # Errors
+///
+/// - `Path` for the first word that is not a path.
+/// - `NoLabel` if the line's label is bound to nothing.
 pub fn change_of(labels: &Labels, line: ChangeLine) -> Result<Change, Refusal>
     ensures { result ≡ change_of labels.now line }
 {

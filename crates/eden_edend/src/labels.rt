@@ -15,7 +15,7 @@ use std::alloc::{AllocError, Global};
 use std::collections::BTreeMap;
 use std::marker::Model;
 
-/// What each label is bound to.
+/// Maps each label to what it is bound to.
 #[derive(Drop)]
 struct Bound {
     ids: BTreeMap<Label, Id>,
@@ -85,8 +85,9 @@ impl Firsts {
         }
     }
 
-    /// Notes the place of a binding to an id, unless that of an earlier one is noted. With no
-    /// memory nothing is.
+    /// Notes the place of a binding to an id, unless an earlier one is noted.
+    ///
+    /// If an allocation fails, nothing is noted.
     fn note(&mut self, id: Id, at: usize) -> Result<(), AllocError>
         ensures ok { OnOk result (IsNoted self.old.places.entries self.new.places.entries id at) }
         ensures err { OnErr result (self.new.places.entries ≡ self.old.places.entries) }
@@ -101,8 +102,9 @@ impl Firsts {
     }
 }
 
-/// What each label of a script is bound to. It is found in a time that grows with the logarithm of
-/// the number of bindings.
+/// Holds what each label of a script is bound to.
+///
+/// A look-up takes a time that grows with the logarithm of the number of bindings.
 ///
 /// Its value is the list of the bindings that were made, the newest first.
 #[derive(Drop)]
@@ -127,7 +129,7 @@ impl Model for Labels {
         × AreFirsts labels.firsts.places.entries labels.made.items };
 }
 
-/// Whether the label was bound to the id, and that one is this.
+/// Returns true if an id was found, and is this one.
 fn is_id(found: Option<Id>, id: Id) -> bool
     ensures { result ≡ is_id found id }
 {
@@ -138,7 +140,9 @@ fn is_id(found: Option<Id>, id: Id) -> bool
 }
 
 impl Labels {
-    /// No binding. Does not allocate.
+    /// Makes a table without bindings.
+    ///
+    /// Does not allocate.
     pub fn new(alloc: Global) -> Labels
         ensures { result ≡ [] }
     {
@@ -159,7 +163,9 @@ impl Labels {
         }
     }
 
-    /// What the label is bound to. Does not allocate.
+    /// Returns what a label is bound to.
+    ///
+    /// The label `empty` is bound to the empty commit. Does not allocate.
     pub fn get(&self, label: &Label) -> Option<Id>
         ensures { result ≡ bound self.now label.now }
     {
@@ -170,10 +176,14 @@ impl Labels {
         }
     }
 
-    /// Binds the label to the id, from now on. One that `Label::read_to_bind` read is not `empty`,
-    /// which `get` answers as the empty commit whatever it is bound to.
+    /// Binds a label to an id, from now on.
     ///
-    /// `AllocError` comes where a growth was refused.
+    /// A label that `Label::read_to_bind` read is not `empty`. For that one `get` returns the empty
+    /// commit, whatever it is bound to.
+    ///
+    /// # Errors
+    ///
+    /// - `AllocError` if an allocation fails; nothing changes.
     #[tactic(auto, using(crate::proofs::LabelLemmas::bound_map_more, crate::proofs::LabelLemmas::reverse_one))]
     pub fn bind(&mut self, label: Label, id: Id) -> Result<(), AllocError>
         ensures binds { OnOk result (self.new ≡ record { label = label; id = id } ∷ self.old) }
@@ -205,8 +215,10 @@ impl Labels {
         }
     }
 
-    /// The first label that was ever bound to the id and still is. The search begins at the first
-    /// binding to the id, and goes on only where that label was bound to another one since.
+    /// Returns the first label that was ever bound to an id and still is.
+    ///
+    /// The search begins at the first binding to the id. It goes on only if that label was bound to
+    /// another id since. Does not allocate.
     pub fn first_bound(&self, id: Id) -> Option<&Label>
         ensures { option_copied result ≡ label_of self.now id }
     {

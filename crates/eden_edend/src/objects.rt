@@ -15,8 +15,7 @@ use eden_script::{Label, PutLine, Refusal, Told, TreeEntry, push_bytes, push_id}
 use std::alloc::{AllocError, Global};
 use std::mem;
 
-/// The bytes that an entry puts into a tree: its mode, a space, its name, NUL and the bytes of the
-/// id.
+/// Adds an entry of a tree: its mode, a space, its name, NUL and the id's bytes.
 fn push_entry(payload: &mut Vec<u8>, entry: &TreeEntry, id: Id) -> Result<(), AllocError>
     ensures { OnOk result (payload.new.items ≡ payload.old.items ++ (entry.now.mode ++ 32 ∷ entry.now.name ++ 0 ∷ id.0)) }
 {
@@ -27,7 +26,7 @@ fn push_entry(payload: &mut Vec<u8>, entry: &TreeEntry, id: Id) -> Result<(), Al
     push_bytes(payload, id.0.as_slice())
 }
 
-/// The payload of a tree, or none where a label is not bound.
+/// Returns the payload of a tree, or `None` if a label is not bound.
 #[tactic(auto, using(crate::proofs::PayloadLemmas::payload_none))]
 fn tree_payload(
     alloc: Global,
@@ -46,7 +45,7 @@ fn tree_payload(
     Ok(Some(payload))
 }
 
-/// The payload of a commit of this tree.
+/// Returns the payload of a commit of this tree.
 fn commit_payload(alloc: Global, tree: Option<Id>) -> Result<Option<Vec<u8>>, AllocError>
     ensures { IfOk result (λ payload. option_map (λ v. v.items) payload ≡ commit_payload tree) }
 {
@@ -60,7 +59,7 @@ fn commit_payload(alloc: Global, tree: Option<Id>) -> Result<Option<Vec<u8>>, Al
     Ok(Some(payload))
 }
 
-/// The object of this kind whose payload there is.
+/// Returns the object of this type, if there is a payload.
 fn object_with(word: Word, payload: Option<Vec<u8>>) -> Option<Object>
     ensures { result ≡ object_with word (option_map (λ v. v.items) payload) }
 {
@@ -73,8 +72,9 @@ fn object_with(word: Word, payload: Option<Vec<u8>>) -> Option<Object>
     }
 }
 
-/// The label that a line binds, and the object that it names; no object where a label in it is not
-/// bound.
+/// Returns the label that a line binds, and the object that it names.
+///
+/// There is no object if a label in the line is not bound.
 pub(crate) fn object_of(
     alloc: Global,
     labels: &Labels,
@@ -119,8 +119,9 @@ pub(crate) fn bind_put(
     }
 }
 
-/// The objects, and the labels that are bound to them. A mount takes the store: the one that is
-/// left has no object.
+/// Holds the objects, and the labels that are bound to them.
+///
+/// A mount takes the store. The store that is left has no object.
 #[derive(Drop)]
 pub struct Objects {
     /// The objects.
@@ -132,7 +133,9 @@ pub struct Objects {
 impl Objects {
     ghost use Rattle.std.specs.Prelude.{[]};
 
-    /// No object and no binding. Does not allocate.
+    /// Makes a store without objects, and no binding.
+    ///
+    /// Does not allocate.
     pub fn new(alloc: Global) -> Objects
         ensures store { result.store ≡ [] }
         ensures labels { result.labels ≡ [] }

@@ -16,7 +16,7 @@ use eden_objects::CommitFault;
 use eden_script::{AskLine, Lent, Refusal, Told, Word};
 use std::alloc::{AllocError, Global};
 
-/// The bytes of some words.
+/// Returns the bytes of some words.
 fn bytes_of(alloc: Global, words: &[Word]) -> Result<Vec<&[u8]>, AllocError>
     ensures { IfOk result (λ bytes. map (λ b. b.now) bytes.items ≡ words.now) }
 {
@@ -27,7 +27,7 @@ fn bytes_of(alloc: Global, words: &[Word]) -> Result<Vec<&[u8]>, AllocError>
     Ok(bytes)
 }
 
-/// The paths of the files that the filter admits.
+/// Lists the paths of the files that a filter admits.
 #[tactic(auto, using(crate::proofs::Asking::root_there, crate::proofs::Asking::snapshot_lists))]
 fn listed(mount: &Mount<GitNaming>, wanted: &Filter) -> Result<Vec<Path>, NoMemory>
     ensures { IfOk result (λ listed. (world : WorldState) → StandsFor mount.now world → listed.items ≡ filter (globs.admits wanted.now) (paths (now world).files)) }
@@ -42,14 +42,16 @@ fn listed(mount: &Mount<GitNaming>, wanted: &Filter) -> Result<Vec<Path>, NoMemo
     }
 }
 
-/// The present position. Does not allocate.
+/// Returns the present position.
+///
+/// Does not allocate.
 fn position(mount: &Mount<GitNaming>) -> Told<'_>
     ensures { (world : WorldState) → StandsFor mount.now world → result ≡ asked world AskLine.Position }
 {
     Told::Answer(Answer::At(mount.position()))
 }
 
-/// The paths of the files that the patterns admit.
+/// Lists the paths of the files that some patterns admit.
 fn list<'a>(mount: &'a Mount<GitNaming>, patterns: &[Word]) -> Result<Told<'a>, NoMemory>
     ensures { IfOk result (λ told. (world : WorldState) → StandsFor mount.now world → told ≡ asked world (AskLine.ListFiles patterns.now)) }
 {
@@ -65,7 +67,7 @@ fn list<'a>(mount: &'a Mount<GitNaming>, patterns: &[Word]) -> Result<Told<'a>, 
     }
 }
 
-/// The paths at which the files differ from those of the commit.
+/// Lists the paths at which the files differ from those of the commit.
 #[tactic(auto, using(crate::proofs::Asking::dirty_asked))]
 fn dirty(mount: &Mount<GitNaming>) -> Result<Told<'_>, NoMemory>
     ensures { IfOk result (λ told. (world : WorldState) → StandsFor mount.now world → told ≡ asked world AskLine.Dirty) }
@@ -74,7 +76,9 @@ fn dirty(mount: &Mount<GitNaming>) -> Result<Told<'_>, NoMemory>
     Ok(Told::Dirty(Sequence::from_vec(paths)))
 }
 
-/// The file at a path. This takes no memory: its bytes are lent.
+/// Returns the file at a path.
+///
+/// Does not allocate: the bytes are lent.
 fn read(mount: &Mount<GitNaming>, path: Word) -> Told<'_>
     ensures { (world : WorldState) → StandsFor mount.now world → result ≡ asked world (AskLine.Read path) }
 {
@@ -91,7 +95,7 @@ fn read(mount: &Mount<GitNaming>, path: Word) -> Told<'_>
     }
 }
 
-/// What changed since a position.
+/// Returns what changed since a position.
 fn since(mount: &Mount<GitNaming>, generation: u64, sequence: u64) -> Result<Told<'_>, NoMemory>
     ensures { IfOk result (λ told. (world : WorldState) → StandsFor mount.now world → told ≡ asked world (AskLine.Since generation sequence)) }
 {
@@ -111,7 +115,11 @@ fn since(mount: &Mount<GitNaming>, generation: u64, sequence: u64) -> Result<Tol
     }
 }
 
-/// What a line comes to that asks a mount. `NoMemory` comes where a growth was refused.
+/// Returns what a line that asks a mount comes to.
+///
+/// # Errors
+///
+/// - `NoMemory` if an allocation fails.
 pub(crate) fn ask(mount: &Mount<GitNaming>, line: AskLine) -> Result<Told<'_>, NoMemory>
     ensures { IfOk result (λ told. (world : WorldState) → StandsFor mount.now world → told ≡ asked world line) }
 {

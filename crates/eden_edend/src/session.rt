@@ -27,7 +27,7 @@ use eden_script::{AskLine, ChangeLine, Command, Label, MountLine, PutLine, Refus
 use eden_stream::{Answered, LineMachine};
 use std::alloc::{AllocError, Global};
 
-/// What a line asks for, or none where it can't be read.
+/// Reads what a line asks for. Returns `None` if it can't be read.
 pub(crate) fn read_line(alloc: Global, line: &[u8]) -> Result<Option<Command>, AllocError>
     ensures { IfOk result (λ command. command ≡ option_and_then command_of (words_of line.now)) }
 {
@@ -37,7 +37,7 @@ pub(crate) fn read_line(alloc: Global, line: &[u8]) -> Result<Option<Command>, A
     }
 }
 
-/// The id that a label is bound to.
+/// Returns the id that a label is bound to.
 fn id_of(labels: &Labels, label: &Label) -> Told<'static>
     ensures { result ≡ id_told (bound labels.now label.now) }
 {
@@ -74,7 +74,9 @@ pub(crate) struct Session {
 }
 
 impl Session {
-    /// A session with these objects and no mount. Does not allocate.
+    /// Makes a session with these objects and no mount.
+    ///
+    /// Does not allocate.
     pub(crate) fn new(alloc: Global, objects: Objects) -> Session
         ensures { SessionStands result.mount result.objects (script_text (session_over objects.store objects.labels)) }
     {
@@ -155,8 +157,9 @@ impl Session {
         }
     }
 
-    /// Does what a line asks for, and adds what it prints to the text. If memory runs out, part of
-    /// it may have been added.
+    /// Does what a line asks for, and adds what it prints to the text.
+    ///
+    /// If an allocation fails, part of it may have been added.
     fn tell(&mut self, command: Command, text: &mut Vec<u8>) -> Result<(), NoMemory>
         ensures told { OnOk result (Tells self.old.mount self.old.objects command self.new.mount self.new.objects text.old.items text.new.items) }
         ensures front { KeepsFront text.old.items text.new.items }

@@ -37,7 +37,7 @@ fn push_position(text: &mut Vec<u8>, labels: &Labels, position: &Position) -> Re
     push_root(text, labels, &position.root)
 }
 
-/// The line of a position: the present one, or that after a change.
+/// Adds the line of a position: the present one, or that after a change.
 fn push_at(text: &mut Vec<u8>, labels: &Labels, position: &Position) -> Result<(), AllocError>
     ensures told { OnOk result (text.new.items ≡ text.old.items ++ at_text labels.now position.now) }
     ensures front { KeepsFront text.old.items text.new.items }
@@ -64,8 +64,9 @@ fn push_answer(text: &mut Vec<u8>, labels: &Labels, answer: &Answer) -> Result<(
     }
 }
 
-/// The lines of the directories that were renamed, where there are some: how many, and then each of
-/// them.
+/// Adds the lines of the directories that were renamed, if there are some.
+///
+/// The first line has their number.
 fn push_prefixes(text: &mut Vec<u8>, prefixes: &[Path]) -> Result<(), AllocError>
     ensures told { OnOk result (text.new.items ≡ text.old.items ++ prefixes_text prefixes.now) }
     ensures front { KeepsFront text.old.items text.new.items }
@@ -76,8 +77,9 @@ fn push_prefixes(text: &mut Vec<u8>, prefixes: &[Path]) -> Result<(), AllocError
     push_listed(text, b"prefixes ".as_slice(), prefixes)
 }
 
-/// The lines of what changed since a position: how many paths up to which position, and then each
-/// of them.
+/// Adds the lines of what changed since a position.
+///
+/// The first line has the number of paths, and the position up to which they changed.
 fn push_changes(
     text: &mut Vec<u8>,
     labels: &Labels,
@@ -97,8 +99,9 @@ fn push_changes(
     push_prefixes(text, prefixes)
 }
 
-/// Prints what a line came to, by the labels after it. If memory runs out, part of it may have been
-/// added.
+/// Adds what a line came to, by the labels after it.
+///
+/// If an allocation fails, part of it may have been added.
 pub(crate) fn push_told(
     text: &mut Vec<u8>,
     labels: &Labels,

@@ -209,9 +209,10 @@ fn run_task<
 /// `run` runs a script from the input and writes what it prints to the output, as `eden_edend::run`
 /// does. `serve` serves the mount of a script at a port or a Unix socket, as
 /// `eden_serve::run_daemon` does: until N connections have ended, or with `--stay` until the input
-/// has. The files of the socket are removed at the end. With `--objects FILE` both first
-/// put the objects of that file, as `git cat-file --batch` prints them, and bind each commit to the
-/// label of the first 32 digits of its id. `--version` writes name and version to the output.
+/// has. With `--writable` connections can change the mount. The files of the socket are removed at
+/// the end. With `--objects FILE` both first put the objects of that file, as `git cat-file --batch`
+/// prints them, and bind each commit to the label of the first 32 digits of its id. `--version`
+/// writes name and version to the output.
 ///
 /// - 0: the script was run, or served, or the version was written.
 /// - 1: a line of the script can't be read: `line N: BadLine: ` and why. Or an object can't be put:

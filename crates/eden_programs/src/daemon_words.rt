@@ -4,7 +4,7 @@ use crate::ends::{EDEND, VERSION};
 use crate::options::{number_of, number_option, optional_number, place_of, with_place};
 use clap::error::ErrorKind;
 use clap::{Arg, ArgAction, ArgMatches, Command, Error};
-use eden_serve::Until;
+use eden_serve::{Terms, Until};
 use eden_sockets::Place;
 use std::alloc::Global;
 use std::time::Duration;
@@ -56,7 +56,11 @@ history of the mount, and prints `audit ok`, or `audit` and what is wrong.
 With --stay it serves N connections at a time until the script ends. It keeps no
 history and prints no audit, so its memory does not grow with the calls. A
 connection ends if a frame that has begun does not come within the limit, or a
-reply is not read within it. Between two frames it may wait for any time.";
+reply is not read within it. Between two frames it may wait for any time. If all
+N are taken, one more waits for the limit at most.
+
+With --writable, connections can change the mount too (docs/formats.md). Each
+change is answered. The memory then grows with what they write.";
 
 /// What `--objects` is for.
 const ABOUT_OBJECTS: &str = "Put these objects first, in the form that
@@ -137,10 +141,16 @@ fn serve_command<'a>(alloc: Global) -> Result<Command<'a>, Error> {
         "SECONDS",
         1,
         3_600,
-        "With --stay, the most that a peer takes for a frame",
+        "With --stay, the most that a frame or a free place takes",
     )
     .default_value("10")
     .requires_arg("stay")?;
+    let writable = Arg::new(alloc, "writable")
+        .long("writable")
+        .help("With --socket and --stay, let connections change the mount")
+        .action(ArgAction::SetTrue)
+        .requires_arg("stay")?
+        .conflicts_with("port")?;
     let verbose = Arg::new(alloc, "verbose")
         .long("verbose")
         .help("Print what is refused, and where the script has ended")
@@ -157,6 +167,7 @@ fn serve_command<'a>(alloc: Global) -> Result<Command<'a>, Error> {
     .arg(connections)?
     .arg(stay)?
     .arg(limit)?
+    .arg(writable)?
     .arg(verbose)?
     .arg(objects_option(alloc))?;
     Ok(command)
@@ -176,10 +187,11 @@ fn service_of(
         return Err(command.error(ErrorKind::ValueValidation, limit)?);
     }
     let until = if stays {
-        Until::Input {
+        Until::Input(Terms {
             threads: connections,
             limit: Duration::from_secs(number_of(command, serve, "limit")?),
-        }
+            writable: serve.get_flag("writable"),
+        })
     } else {
         Until::Connections(connections)
     };

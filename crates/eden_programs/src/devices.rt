@@ -12,7 +12,7 @@ pub(crate) struct Noting<D> {
 }
 
 impl<D> Noting<D> {
-    /// A reader that has not failed.
+    /// Makes a reader that has not failed.
     pub(crate) fn new(device: D) -> Noting<D> {
         Noting {
             device,

@@ -1,7 +1,7 @@
 //! The program `follow`: what it does with its command line, its statuses, and what it prints if it
 //! can't go on.
 
-ghost use Rattle.std.specs.Prelude.{◌≤◌};
+ghost use Rattle.std.specs.Prelude.{◌≤◌, IfErr};
 
 use crate::ends::{FOLLOW, end_connect, end_demo, end_unrun, fail};
 use crate::explained::explain_patterns;
@@ -76,6 +76,36 @@ fn tell_pattern<E: Write>(errors: &mut E, fault: FilterFault, patterns: &[&str])
     };
 }
 
+/// Returns the filter of some patterns, or prints why they are refused.
+///
+/// An error is the status that the program ends with.
+fn read_filter<E: Write>(alloc: Global, patterns: &[&str], errors: &mut E) -> Result<Filter, u8>
+    ensures { IfErr result (λ status. status ≤ 4) }
+{
+    match filter_of(alloc, patterns) {
+        Ok(filter) => Ok(filter),
+        Err(FilterFault::NoMemory) => Err(fail(errors, FOLLOW, "NoMemory")),
+        Err(fault) => {
+            tell_pattern(errors, fault, patterns);
+            Err(2)
+        }
+    }
+}
+
+/// Returns the filter that the command line gives, or prints why a pattern is refused.
+///
+/// An error is the status that the program ends with.
+fn filter_given<E: Write>(alloc: Global, wanted: &Wanted<'_>, errors: &mut E) -> Result<Filter, u8>
+    ensures { IfErr result (λ status. status ≤ 4) }
+{
+    let filter = read_filter(alloc, wanted.patterns.as_slice(), errors)?;
+    let excluded = read_filter(alloc, wanted.excluded.as_slice(), errors)?;
+    match filter.except(&excluded) {
+        Ok(filter) => Ok(filter),
+        Err(_) => Err(fail(errors, FOLLOW, "NoMemory")),
+    }
+}
+
 /// Returns why a fault came.
 fn explain(
     alloc: Global,
@@ -108,13 +138,9 @@ fn connect<R: Net<Stream = TcpStream> + Clock, O: Write, E: Write>(
 ) -> u8
     ensures { result ≤ 4 }
 {
-    let filter = match filter_of(alloc, wanted.patterns.as_slice()) {
+    let filter = match filter_given(alloc, wanted, errors) {
         Ok(filter) => filter,
-        Err(FilterFault::NoMemory) => return fail(errors, FOLLOW, "NoMemory"),
-        Err(fault) => {
-            tell_pattern(errors, fault, wanted.patterns.as_slice());
-            return 2;
-        }
+        Err(status) => return status,
     };
     let ended = match screen {
         Screen::Terminal => {

@@ -25,7 +25,8 @@ It makes N rounds, and prints the mirror: `placed GENERATION SEQUENCE ROOT` or
 `unplaced`, `files N`, and a line `KIND LENGTH PATH` for each file.
 
 A PATTERN is a path in which `*` matches any part of a name, and `**` any
-directories. Without a pattern the mirror has all files.";
+directories. Without a pattern the mirror has all files, and it never has those
+of an `--except` pattern.";
 
 /// Says what `follow connect` is to do.
 #[derive(Drop)]
@@ -40,6 +41,8 @@ pub(crate) struct Wanted<'a> {
     pub(crate) rounds: u32,
     /// The patterns of the paths that it wants.
     pub(crate) patterns: Vec<&'a str>,
+    /// The patterns of the paths that it leaves out.
+    pub(crate) excluded: Vec<&'a str>,
 }
 
 /// Says what a command line asks for.
@@ -82,6 +85,11 @@ fn connect_command<'a>(alloc: Global) -> Result<Command<'a>, Error> {
         .help("The paths that the mirror has")
         .num_args(0..)
         .action(ArgAction::Append);
+    let excluded = Arg::new(alloc, "except")
+        .long("except")
+        .value_name("PATTERN")
+        .help("Paths that the mirror leaves out; may be given more than once")
+        .action(ArgAction::Append);
     let command = Command::new(alloc, "connect")
         .about(ABOUT_CONNECT)
         .long_about(LONG_ABOUT_CONNECT);
@@ -94,8 +102,21 @@ fn connect_command<'a>(alloc: Global) -> Result<Command<'a>, Error> {
     .arg(mirror)?
     .arg(life)?
     .arg(rounds)?
+    .arg(excluded)?
     .arg(patterns)?;
     Ok(command)
+}
+
+/// Returns the words that were given for an argument.
+fn words_of<'a>(
+    alloc: Global,
+    connect: &ArgMatches<'a>,
+    name: &str,
+) -> Result<Vec<&'a str>, Error> {
+    match connect.get_strs(name) {
+        Some(words) => Ok(words.to_vec(alloc)?),
+        None => Ok(Vec::new(alloc)),
+    }
 }
 
 /// Returns what `follow connect` is to do.
@@ -104,16 +125,15 @@ fn wanted_of<'a>(
     command: &mut Command<'_>,
     connect: &ArgMatches<'a>,
 ) -> Result<Wanted<'a>, Error> {
-    let patterns = match connect.get_strs("pattern") {
-        Some(patterns) => patterns.to_vec(alloc)?,
-        None => Vec::new(alloc),
-    };
+    let patterns = words_of(alloc, connect, "pattern")?;
+    let excluded = words_of(alloc, connect, "except")?;
     Ok(Wanted {
         place: place_of(alloc, command, connect)?,
         mirror: number_of(command, connect, "mirror")?,
         life: number_of(command, connect, "life")?,
         rounds: small_of(command, connect, "rounds")?,
         patterns,
+        excluded,
     })
 }
 

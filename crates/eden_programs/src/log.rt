@@ -15,6 +15,7 @@ struct Heard<'a, E> {
     changes: u64,
     frames: u64,
     late: u64,
+    away: u64,
     taken: u64,
 }
 
@@ -50,6 +51,7 @@ impl<'a, 'b, E: Write, R: Wait> Log<'a, 'b, E, R> {
             changes: 0,
             frames: 0,
             late: 0,
+            away: 0,
             taken: 0,
         };
         Log {
@@ -66,12 +68,13 @@ impl<'a, 'b, E: Write, R: Wait> Log<'a, 'b, E, R> {
             changes,
             frames,
             late,
+            away,
             taken,
         } = self.heard.into_inner();
-        if changes > 0 || frames > 0 || late > 0 || taken > 0 {
+        if changes > 0 || frames > 0 || late > 0 || away > 0 || taken > 0 {
             let _ = write!(
                 errors,
-                "{EDEND}: refused changes: {changes}; connections that ended at an invalid frame: {frames}, since their peer was too slow: {late}; times that all places were taken: {taken}\n"
+                "{EDEND}: refused changes: {changes}; connections that ended at an invalid frame: {frames}, since their peer was too slow: {late}, since no place was free: {away}; times that all places were taken: {taken}\n"
             );
         }
     }
@@ -119,6 +122,17 @@ impl<'a, 'b, E: Write, R: Wait> Observer for Log<'a, 'b, E, R> {
             let _ = write!(
                 heard.errors,
                 "{EDEND}: a connection has ended: its peer took longer than the limit\n"
+            );
+        }
+    }
+
+    fn turned_away(&self) {
+        if self.is_verbose {
+            let mut heard = self.heard.lock(self.rt);
+            heard.away = heard.away.saturating_add(1);
+            let _ = write!(
+                heard.errors,
+                "{EDEND}: a connection has ended: no place was free within the limit\n"
             );
         }
     }

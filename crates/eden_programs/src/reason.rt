@@ -26,7 +26,7 @@ pub(crate) enum Field {
     Mode,
 }
 
-/// Whether a line of a script can be read.
+/// Returns true if a line of a script can be read.
 fn is_read(alloc: Global, line: &[u8]) -> Result<bool, AllocError>
     ensures { IfOk result (λ read. read ≡ is_some (option_and_then command_of (words_of line.now))) }
 {
@@ -37,8 +37,9 @@ fn is_read(alloc: Global, line: &[u8]) -> Result<bool, AllocError>
 }
 
 impl Field {
-    /// Whether this may be such a word: whether the line of a script can be read that is put
-    /// together from it and others that are right.
+    /// Returns true if this may be such a word.
+    ///
+    /// It may if a line of it and of other words that are right can be read.
     fn admits(self, alloc: Global, word: &[u8]) -> Result<bool, AllocError> {
         let (front, behind) = match self {
             Field::Any => return Ok(true),
@@ -199,7 +200,7 @@ const ROWS: &[Row] = &[
 ];
 
 impl Row {
-    /// Whether a line may have this number of words after its first.
+    /// Returns true if a line may have this number of words after its first.
     fn admits_count(&self, count: usize) -> bool {
         match count.checked_sub(self.fields.len()) {
             Some(more) => more.checked_rem(self.more.len()).unwrap_or(more) == 0,
@@ -207,7 +208,7 @@ impl Row {
         }
     }
 
-    /// What the word at a place after the first has to be.
+    /// Returns what the word at a place after the first has to be.
     fn field(&self, place: usize) -> Field {
         if let Some(field) = self.fields.get(place) {
             return *field;
@@ -311,7 +312,7 @@ impl<'a> fmt::Display for Reason<'a> {
     }
 }
 
-/// Why a line has no words: how its spaces or its escapes are wrong.
+/// Returns why a line has no words: how its spaces or its escapes are wrong.
 fn spelling_reason<'a>(alloc: Global, line: &'a [u8]) -> Result<Reason<'a>, AllocError> {
     for part in line.split(|b| *b == b' ') {
         if !part.is_empty() && words(alloc, part)?.is_none() {
@@ -325,7 +326,7 @@ fn spelling_reason<'a>(alloc: Global, line: &'a [u8]) -> Result<Reason<'a>, Allo
     }
 }
 
-/// Why a line can't be read that has words, and begins as a row does.
+/// Returns why a line that has words, and begins as a row does, can't be read.
 fn row_reason<'a>(alloc: Global, line: &'a [u8], row: &Row) -> Result<Reason<'a>, AllocError> {
     let count = line.split(|b| *b == b' ').count();
     let wrong_count = Reason::Count {
@@ -344,7 +345,7 @@ fn row_reason<'a>(alloc: Global, line: &'a [u8], row: &Row) -> Result<Reason<'a>
     Ok(wrong_count)
 }
 
-/// Why a line that can't be read can't be.
+/// Returns why a line can't be read. It is one that can't.
 fn line_reason<'a>(alloc: Global, line: &'a [u8]) -> Result<Reason<'a>, AllocError> {
     let Some(words) = words(alloc, line)? else {
         return spelling_reason(alloc, line);

@@ -22,7 +22,7 @@ struct Passed {
     mount: Option<(u64, Vec<u8>)>,
 }
 
-/// A line less the carriage return at its end.
+/// Returns a line without the carriage return at its end.
 fn without_return(line: &[u8]) -> &[u8] {
     line.strip_suffix(b"\r".as_slice()).unwrap_or(line)
 }
@@ -46,7 +46,7 @@ impl Passed {
         }
     }
 
-    /// Why `listen` can't be read.
+    /// Returns why `listen` can't be read.
     fn explain_listen(&self, setting: Setting) -> Result<String, AllocError> {
         let alloc = self.alloc;
         let Setting::Serve { has_objects } = setting else {
@@ -72,7 +72,7 @@ impl Passed {
         }
     }
 
-    /// Why a line that comes after these can't be read.
+    /// Returns why a line that comes after these can't be read.
     fn explain(&self, line: &[u8], setting: Setting) -> Result<String, AllocError> {
         let alloc = self.alloc;
         if line.len() > LINE_LIMIT {
@@ -94,7 +94,7 @@ impl Passed {
         }
     }
 
-    /// Why the script may not end after these lines.
+    /// Returns why the script may not end after these lines.
     fn explain_end(&self) -> Result<String, AllocError> {
         let alloc = self.alloc;
         if self.count == 0 {
@@ -121,7 +121,7 @@ pub(crate) struct Script<I> {
 }
 
 impl<I> Script<I> {
-    /// A script of which nothing is read.
+    /// Makes a script of which nothing is read.
     pub(crate) fn new(alloc: Global, device: I) -> Script<I> {
         Script {
             device,

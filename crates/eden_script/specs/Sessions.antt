@@ -193,7 +193,7 @@ position_asked generation sequence = record { generation = generation; sequence 
 abbrev pub asked : WorldState → AskLine → Told
 asked world asking.Position = told.Answer (At (position_of (now world)))
 asked world (asking.ListFiles patterns) =
-    unless (option_map refusal.Patterns (globs.filter_fault patterns)) (told.Files (filter (globs.admits patterns) (paths (now world).files)))
+    unless (option_map refusal.Patterns (globs.filter_fault patterns)) (told.Files (filter (globs.admits (globs.including patterns)) (paths (now world).files)))
 asked world asking.Dirty = told.Dirty (listing (differ (now world).files (files_of (commits_of world (now world).root))))
 asked world (asking.Read path) =
     unless (path_refusal path) (

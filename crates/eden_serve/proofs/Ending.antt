@@ -3,7 +3,6 @@ use Rattle.std.proofs.Common.{◌≡◌, ℕ, List, [], Option, Result, Ok, Err,
 use Rattle.std.specs.Prelude.{⊤}
 use Rattle.std.proofs.KnownBytes.{Appends-nil, Consumes-nil, Keeps-refl}
 use Rattle.std.specs.Io.KnownBytes.{Appends, Keeps}
-use Rattle.std.specs.declared.time.Duration.{Duration}
 use Rattle.eden_edend.specs.Openings.{EndsOpening}
 use Rattle.eden_edend.specs.declared.opening.Opened.{Opened}
 use Rattle.eden_stream.specs.Torn.{Tears}
@@ -12,7 +11,7 @@ use Rattle.eden_logs.specs.declared.fault.AuditFault.{AuditFault}
 use Rattle.eden_serve.specs.declared.fault.DaemonFault.{DaemonFault}
 use Rattle.eden_serve.specs.declared.fault.DaemonFault.TheVariants.{Script, NoConnection, Audit}
 use Rattle.eden_serve.specs.declared.program.Until.{Until}
-use Rattle.eden_serve.specs.declared.program.Until.TheVariants.{Connections, Input}
+use Rattle.eden_serve.specs.declared.program.Until.TheVariants.{Connections}
 use Rattle.eden_script.specs.declared.label.Binding.{Binding}
 use Rattle.eden_sockets.specs.declared.place.Place.{Place}
 use Rattle.eden_script.specs.ScriptText.{script_text}
@@ -51,9 +50,6 @@ module _ (labels : List Binding) (from : ℕ) (until : Until) (input w0 w1 : Opt
   pub all_ended : (number : ℕ) → Ran labels from input (Ok number) → Appends w0 w1 (last_text until (Ok tt)) → ServingEnds labels from until input w0 w1 (Ok tt)
   all_ended number ran written = (number, ran, written)
 
-  pub all_ended_as : (ran : Result ℕ RunFault) (number : ℕ) → ran ≡ Ok number → Ran labels from input ran → Appends w0 w1 (last_text until (Ok tt)) → ServingEnds labels from until input w0 w1 (Ok tt)
-  all_ended_as ran number ran_is ended written = all_ended number (subst (Ran labels from input) ran_is ended) written
-
 -- an audit that has failed
 pub audit_failed : (labels : List Binding) (from count : ℕ) (input w0 w1 : Option (List ℕ)) (fault : DaemonFault) → AuditFails w0 w1 fault
     → ServingEnds labels from (Connections count) input w0 w1 (Err fault)
@@ -71,20 +67,6 @@ module _ (labels : List Binding) (from : ℕ) (until : Until) (input w : Option 
 
   pub no_memory : ServingEnds labels from until input w w (Err (Script NoMemory))
   no_memory = inl (Keeps-refl w)
-
--- nothing is written while a daemon stays
-module _ (labels : List Binding) (from threads : ℕ) (limit : Duration) (input w : Option (List ℕ)) where
-  pub stayed : (number : ℕ) → Ran labels from input (Ok number) → ServingEnds labels from (Input threads limit) input w w (Ok tt)
-  stayed number ran = (number, ran, Appends-nil w)
-
-  pub lines_stayed : (fault : RunFault) → Ran labels from input (Err fault) → ServingEnds labels from (Input threads limit) input w w (Err (Script fault))
-  lines_stayed fault ran = lines_ended labels from (Input threads limit) input w w fault ran (Appends-nil w)
-
-  pub stayed_as : (ran : Result ℕ RunFault) (number : ℕ) → ran ≡ Ok number → Ran labels from input ran → ServingEnds labels from (Input threads limit) input w w (Ok tt)
-  stayed_as ran number ran_is ended = stayed number (subst (Ran labels from input) ran_is ended)
-
-  pub lines_stayed_as : (ran : Result ℕ RunFault) (fault : RunFault) → ran ≡ Err fault → Ran labels from input ran → ServingEnds labels from (Input threads limit) input w w (Err (Script fault))
-  lines_stayed_as ran fault ran_is ended = lines_stayed fault (subst (Ran labels from input) ran_is ended)
 
 pub kept : (w : Option (List ℕ)) → Keeps w w
 kept = Keeps-refl

@@ -2,4 +2,3 @@ mod Ending
 mod Judging
 pub mod Kept
 mod LinesEnding
-mod Tearing

@@ -8,10 +8,9 @@ ghost use Rattle.eden_shared.specs.Passes.{made_by};
 
 use crate::changes::Behind;
 use crate::fault::DaemonFault;
-use crate::printing::print;
 use eden_ids::GitNaming;
 use eden_shared::{AuditFault, Audited, CallLog, Pass, audit};
-use eden_stream::{CountedWrite, RunFault};
+use eden_stream::{CountedWrite, RunFault, print};
 use std::alloc::Global;
 use std::sync::ledger::Ledger;
 

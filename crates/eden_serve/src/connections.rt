@@ -6,6 +6,7 @@ ghost use Rattle.eden_serve.specs.Endings.{Ran, ServingEnds};
 
 use crate::auditing::close;
 use crate::changes::{AtDesk, Behind, Lines, Service, Writer};
+use crate::end_of_lines::end_lines;
 use crate::fault::DaemonFault;
 use crate::observing::Observer;
 use crate::program::Until;
@@ -273,10 +274,90 @@ fn open_desks<L: Ledger>(
     Ok(desks)
 }
 
+/// Opens a desk for the lines and one for each connection, and runs all threads to their ends.
+#[tactic(auto, using(crate::proofs::Ending::no_connection, crate::proofs::Ending::no_memory))]
+fn run_desks<
+    L: Ledger + Send + Sync,
+    R: Threads + Wait + Sync,
+    I: CountedRead + Send,
+    V: Observer + Sync,
+>(
+    rt: &R,
+    alloc: Global,
+    shared: &Behind<L>,
+    listener: &Listener,
+    lines: Lines<'_, I>,
+    count: u64,
+    observer: &V,
+) -> Result<Ended<L>, DaemonFault>
+    ensures ran { IfOk result (λ ended. Ran lines.entry.labels lines.entry.from (I.remaining lines.entry.input.now) ended.ran) }
+    ensures unwritten { IfErr result (λ fault. (w : Option (List ℕ)) → (labels : List Binding) (from : ℕ) (r : Option (List ℕ)) → ServingEnds labels from (Until.Connections count) r w w (Err fault)) }
+{
+    let Ok(desk) = open_desk(rt, alloc, shared) else {
+        return Err(DaemonFault::NoConnection);
+    };
+    let desks = match open_desks(rt, alloc, shared, count) {
+        Ok(desks) => desks,
+        Err(fault) => return Err(fault),
+    };
+    let writing = Writing { desk, lines };
+    match run_threads(rt, alloc, shared, listener, desks, writing, observer) {
+        Ok(ended) => Ok(ended),
+        Err(_) => Err(DaemonFault::Script(RunFault::NoMemory)),
+    }
+}
+
+/// Audits what the threads have noted, writes what that found, and returns how the daemon ends.
+#[tactic(auto, using(crate::proofs::Ending::audit_failed))]
+fn end<L: Ledger, W: CountedWrite>(
+    alloc: Global,
+    shared: Behind<L>,
+    ended: Ended<L>,
+    writer: &mut W,
+) -> Result<(), DaemonFault>
+    requires { L.parts ≡ 256 }
+    ensures { (labels : List Binding) → (from count : ℕ) (input : Option (List ℕ)) → Ran labels from input ended.ran → ServingEnds labels from (Until.Connections count) input (W.contents writer.old) (W.contents writer.new) result }
+{
+    let Ended { kept, ran } = ended;
+    let Kept { passes, logs } = kept;
+    match close(alloc, shared, passes, logs, writer) {
+        Ok(_agreed) => end_lines(ran),
+        Err(fault) => Err(fault),
+    }
+}
+
+/// Serves this many connections at a lock while the lines run, and audits them.
+///
+/// The lock is owned here, and only lent to what can fail: each way out drops all that it holds.
+fn serve_locked<
+    L: Ledger + Send + Sync,
+    R: Threads + Wait + Sync,
+    I: CountedRead + Send,
+    W: CountedWrite,
+    V: Observer + Sync,
+>(
+    rt: &R,
+    alloc: Global,
+    shared: Behind<L>,
+    listener: &Listener,
+    lines: Lines<'_, I>,
+    count: u64,
+    writer: &mut W,
+    observer: &V,
+) -> Result<(), DaemonFault>
+    requires { L.parts ≡ 256 }
+    ensures { ServingEnds lines.entry.labels lines.entry.from (Until.Connections count) (I.remaining lines.entry.input.now) (W.contents writer.old) (W.contents writer.new) result }
+{
+    match run_desks(rt, alloc, &shared, listener, lines, count, observer) {
+        Ok(ended) => end(alloc, shared, ended, writer),
+        Err(fault) => Err(fault),
+    }
+}
+
 /// Serves this many connections while the lines run, audits them, and writes what that found.
 ///
 /// It is as `serve_listener` says, with this kind of ledger in the lock.
-#[tactic(auto, using(crate::proofs::Ending::audit_failed, crate::proofs::Ending::all_ended, crate::proofs::Ending::lines_ended, crate::proofs::Ending::no_connection, crate::proofs::Ending::no_memory))]
+#[tactic(auto, using(crate::proofs::Ending::no_memory))]
 pub(crate) fn serve_connections<
     L: Ledger + Send + Sync,
     R: Threads + Wait + Sync,
@@ -302,29 +383,11 @@ pub(crate) fn serve_connections<
         listener,
         lines,
     } = service;
-    let Ok(audited) = store_history(alloc, mount) else {
-        return Err(DaemonFault::Script(RunFault::NoMemory));
-    };
-    let shared: Behind<L> = Shared::new(audited, blank);
-    let Ok(desk) = open_desk(rt, alloc, &shared) else {
-        return Err(DaemonFault::NoConnection);
-    };
-    let desks = match open_desks(rt, alloc, &shared, count) {
-        Ok(desks) => desks,
-        Err(fault) => return Err(fault),
-    };
-    let writing = Writing { desk, lines };
-    let Ok(ended) = run_threads(rt, alloc, &shared, &listener, desks, writing, observer) else {
-        return Err(DaemonFault::Script(RunFault::NoMemory));
-    };
-    let Ended { kept, ran } = ended;
-    let Kept { passes, logs } = kept;
-    let _agreed = match close(alloc, shared, passes, logs, writer) {
-        Ok(agreed) => agreed,
-        Err(fault) => return Err(fault),
-    };
-    match ran {
-        Ok(_) => Ok(()),
-        Err(fault) => Err(DaemonFault::Script(fault)),
+    match store_history(alloc, mount) {
+        Ok(audited) => {
+            let shared: Behind<L> = Shared::new(audited, blank);
+            serve_locked(rt, alloc, shared, &listener, lines, count, writer, observer)
+        }
+        Err(_) => Err(DaemonFault::Script(RunFault::NoMemory)),
     }
 }

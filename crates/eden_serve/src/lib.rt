@@ -4,7 +4,7 @@
 //! A script makes a mount up to its line `listen`. Then the mount is served to connections, while
 //! the lines after `listen` change it. `Until` says how long: for a number of connections, after
 //! which an audit compares what all callers noted with the mount's history; or as long as there is
-//! input, while nothing is noted.
+//! input, while nothing is noted. Then connections may change the mount too, if the `Terms` say so.
 //!
 //! ```rust
 //! use eden_edend::Objects;
@@ -33,13 +33,14 @@ pub use crate::fault::DaemonFault;
 pub use crate::input::ScriptInput;
 pub use crate::listening::{Listening, listen};
 pub use crate::observing::{Observer, Unobserved};
-pub use crate::program::{Daemon, Until, run_daemon, serve_listener, serve_program};
+pub use crate::program::{Daemon, Terms, Until, run_daemon, serve_listener, serve_program};
 pub use crate::stopping::Stoppable;
 pub use crate::timely::Timely;
 
 mod auditing;
 mod changes;
 mod connections;
+mod end_of_lines;
 mod fault;
 mod input;
 mod listening;

@@ -7,10 +7,10 @@ ghost use Rattle.eden_serve.specs.Endings.{ListenEnds};
 ghost use Rattle.eden_stream.specs.Counts.{Rose, RoseBy};
 
 use crate::fault::DaemonFault;
-use crate::printing::{listening_line, print};
+use crate::printing::listening_line;
 use eden_edend::{Objects, Opened, run_to_listen};
 use eden_sockets::{Listener, Place};
-use eden_stream::{CountedRead, CountedWrite, RunFault};
+use eden_stream::{CountedRead, CountedWrite, RunFault, print};
 use std::alloc::Global;
 use std::fs::{File, Files};
 use std::net::{Net, TcpListener, TcpStream};

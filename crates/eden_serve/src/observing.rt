@@ -17,6 +17,9 @@ pub trait Observer {
     /// Hears that a connection has ended since its peer was slower than the limit.
     fn peer_late(&self);
 
+    /// Hears that a connection has ended since no place was free for it within the limit.
+    fn turned_away(&self);
+
     /// Hears that each place has a connection, so that the next one waits.
     fn places_taken(&self);
 }
@@ -33,6 +36,8 @@ impl Observer for Unobserved {
     fn frame_refused(&self, _number: u64, _fault: FrameFault) {}
 
     fn peer_late(&self) {}
+
+    fn turned_away(&self) {}
 
     fn places_taken(&self) {}
 }

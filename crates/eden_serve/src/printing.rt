@@ -1,15 +1,11 @@
-//! What a daemon writes beside the text of its script.
+//! The line in which a daemon says where it accepts connections.
 
 ghost use Rattle.std.specs.Prelude.{◌≡◌, IfOk};
-ghost use Rattle.std.specs.Bool.{OnFalse, OnTrue};
-ghost use Rattle.std.specs.Io.KnownBytes.{Appends};
 ghost use Rattle.eden_serve.specs.Endings.{listening_text};
-ghost use Rattle.eden_stream.specs.Torn.{Tears};
 
 use eden_ids::NoMemory;
 use eden_script::{push_bytes, push_number};
 use eden_sockets::Place;
-use eden_stream::{CountedWrite, write_text};
 use std::alloc::Global;
 
 /// Returns the line that says where connections are accepted.
@@ -27,21 +23,4 @@ pub(crate) fn listening_line(alloc: Global, place: &Place) -> Result<Vec<u8>, No
     }
     push_bytes(&mut text, b"\n".as_slice())?;
     Ok(text)
-}
-
-/// Writes and flushes a text, and returns whether the output took it all.
-///
-/// If not, some first bytes are written.
-#[tactic(auto, using(crate::proofs::Tearing::appends_kept))]
-pub(crate) fn print<W: CountedWrite>(writer: &mut W, text: &[u8]) -> bool
-    ensures printed { OnTrue result (Appends (W.contents writer.old) (W.contents writer.new) text.now) }
-    ensures torn { OnFalse result (Tears (W.contents writer.old) (W.contents writer.new) text.now) }
-{
-    if !write_text(writer, text) {
-        return false;
-    }
-    match writer.flush() {
-        Ok(()) => true,
-        Err(_) => false,
-    }
 }

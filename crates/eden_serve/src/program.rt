@@ -36,14 +36,23 @@ pub enum Until {
     /// Until the input has ended.
     ///
     /// Nothing is noted, so nothing grows with the number of calls or connections.
-    Input {
-        /// How many threads serve connections, each one after another.
-        threads: u64,
-        /// How long a frame that has begun may take to come, and a reply to be read.
-        ///
-        /// A connection that takes longer ends. The time between two frames is not limited.
-        limit: Duration,
-    },
+    Input(Terms),
+}
+
+/// How connections are served until the input has ended.
+#[derive(Clone, Copy, Debug, PartialEq, Eq)]
+pub struct Terms {
+    /// How many connections are served at a time, each in a thread.
+    pub threads: u64,
+    /// How long a frame that has begun may take to come, a reply to be read, and a place to be
+    /// free.
+    ///
+    /// A connection that takes longer ends. The time between two frames is not limited.
+    pub limit: Duration,
+    /// Whether a connection may change the mount.
+    ///
+    /// Anybody who can connect can then change it, and put objects into its store.
+    pub writable: bool,
 }
 
 /// What a daemon begins with.
@@ -61,7 +70,8 @@ pub struct Daemon {
 ///
 /// The listener accepts the connections. A connection ends when its peer ends it, with a fault, or
 /// after 1,000,000 reads. That ends no other. The lines are run as `eden_edend::run_changes` does.
-/// The observer hears of each change that is refused and of each frame that can't be answered.
+/// The observer hears of each change of theirs that is refused and of each frame that can't be
+/// answered.
 ///
 /// - `Connections`: each connection is served by `eden_shared::serve_shared`, and one that can't be
 ///   accepted counts as one that has ended. If no thread can be made, a connection is served before
@@ -71,10 +81,19 @@ pub struct Daemon {
 ///   also hears of a line that can't be read.
 /// - `Input`: each thread accepts the next connection when its last one has ended. If not all of
 ///   the threads can be made, there are fewer. A connection also ends when its peer is slower than
-///   the limit. Once the input has ended, or a line has a fault, no connection is accepted any
-///   more. Those that are open end within 200 ms or so, whatever their peers do. What is not read
-///   or not written by then is lost. The observer also hears of each peer that is too slow, and
-///   each time that the last thread takes a connection. Nothing is written.
+///   the limit. While all threads serve, one more connection is accepted, and ends if none of them
+///   has ended its own within the limit. Once the input has ended, or a line has a fault, no
+///   connection is accepted any more. Those that are open end within 200 ms or so, whatever their
+///   peers do. What is not read or not written by then is lost. The observer also hears of each
+///   peer that is too slow, of each connection that found no place, and each time that the last
+///   place is taken. Nothing is written.
+///
+///   Each connection is served by `eden_shared::serve_unlogged`. If the terms are writable, each
+///   thread has a pass, which it lends to one connection after another. So connections can change
+///   the mount. Their changes are answered, and the observer hears of none. A lock has 2,047
+///   passes, and the lines have one: a thread for which none is left counts as one that can't be
+///   made. Once the input has ended, a change may be made whose answer is lost. If the terms are
+///   not writable, each change is answered as `NotWritable`.
 ///
 /// # Errors
 ///
@@ -129,13 +148,12 @@ pub fn serve_listener<
             writer,
             observer,
         ),
-        Until::Input { threads, limit } => serve_input::<Brand, R, I, V>(
+        Until::Input(terms) => serve_input::<Brand, R, I, V>(
             rt,
             alloc,
-            Blank::new(256),
+            Blank::new(2048),
             service,
-            threads,
-            limit,
+            terms,
             observer,
         ),
     }

@@ -1,6 +1,6 @@
 -- The story of the lines that change what was opened.
 use Rattle.std.proofs.Common.{◌≡◌, None, List, [], ◌∷◌, ◌++◌, inl, refl, subst}
-use Rattle.std.specs.Prelude.{ℕ, ⊤, ◌+◌, ◌⊎◌, Result, Ok, Err}
+use Rattle.std.specs.Prelude.{ℕ, ⊤, ◌⊎◌, Result, Ok, Err}
 use Rattle.eden_history.specs.declared.change.Change.{Change}
 use Rattle.eden_script.specs.declared.label.Binding.{Binding}
 use Rattle.eden_stream.specs.LineGrammar.{line_grammar}

@@ -1,7 +1,7 @@
 -- The changing ends as the telling of its lines does.
 use Rattle.std.proofs.Common.{arith, refl, sym, ◌∙◌, subst}
 use Rattle.eden_edend.specs.Changings.{EndsChanging}
-use Rattle.eden_edend.proofs.ChangingEnds.{changing_ends, numbered_read, numbered_spent}
+use Rattle.eden_edend.proofs.ChangingEnds.{changing_ends, own_fault}
 use Rattle.eden_edend.proofs.changing.run_changes.Goals as goal
 
 pub returns-clause-ends : goal.returns-clause-ends
@@ -15,7 +15,7 @@ returns-clause-ends g c =
     (λ e. omega (arith, c.tell_lines-outcome.ensures.write e)) (c.tell_lines-outcome.ensures.ends old refl))
 
 pub returns-clause-read : goal.returns-clause-read
-returns-clause-read g c = λ e. c.tell_lines-outcome.ensures.read (numbered_read c.args.from c.tell_lines-outcome.result (sym c.numbered.ensures ∙ e))
+returns-clause-read g c = λ e. c.tell_lines-outcome.ensures.read ((own_fault c.args.from c.tell_lines-outcome.result).read (sym c.numbered.ensures ∙ e))
 
 pub returns-clause-turns_spent : goal.returns-clause-turns_spent
-returns-clause-turns_spent g c = λ e. c.tell_lines-outcome.ensures.turns_spent (numbered_spent c.args.from c.tell_lines-outcome.result (sym c.numbered.ensures ∙ e))
+returns-clause-turns_spent g c = λ e. c.tell_lines-outcome.ensures.turns_spent ((own_fault c.args.from c.tell_lines-outcome.result).turns_spent (sym c.numbered.ensures ∙ e))

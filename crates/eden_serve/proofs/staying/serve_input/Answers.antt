@@ -1,14 +1,8 @@
-use Rattle.eden_serve.proofs.Ending.{lines_stayed_as, stayed_as}
+use Rattle.std.proofs.KnownBytes.{Appends-nil}
+use Rattle.eden_serve.specs.declared.program.Until.TheVariants.{Input}
 use Rattle.eden_serve.proofs.staying.serve_input.Goals as goal
 
--- src/staying.rt:116:1
-pub returns-in-Some-Ok : goal.returns-in-Some-Ok
-returns-in-Some-Ok g c =
-    λ w. stayed_as c.args.service.lines.labels c.args.service.lines.from c.args.threads c.args.limit _ w c.in-Some-Ok.field-0 c.in-Some-Ok.field-0-0 c.in-Some-Ok.field-0-is
-    c.in-Some-Ok.ensures
-
--- src/staying.rt:116:1
-pub returns-in-Some-Err : goal.returns-in-Some-Err
-returns-in-Some-Err g c =
-    λ w. lines_stayed_as c.args.service.lines.labels c.args.service.lines.from c.args.threads c.args.limit _ w c.in-Some-Err.field-0 c.in-Some-Err.fault c.in-Some-Err.field-0-is
-    c.in-Some-Err.ensures
+-- nothing is written
+pub returns-in-Some : goal.returns-in-Some
+returns-in-Some g c =
+    λ w. c.end_lines.ensures c.args.service.lines.labels c.args.service.lines.from (Input c.args.terms) _ w w c.in-Some.ensures (Appends-nil w)
