@@ -2,7 +2,7 @@
 //!
 //! `edend run` runs a script from standard input, and writes what it prints to standard output. `edend serve --socket PATH --connections N`
 //! runs one up to its line `listen`. Then it serves the mount at a Unix socket, or with `--port P` at a port of 127.0.0.1, while the lines after
-//! `listen` change the mount; with `--stay` until they end.
+//! `listen` change the mount; with `--stay` until they end. With `--writable` connections can change it too.
 //! With `--objects FILE` both first put the objects of that file, as `git cat-file --batch` prints them. `edend --version` prints its name and
 //! version.
 //!

@@ -73,7 +73,15 @@ fn served_behind<L: Origin, W: Wait + Clock>(
     let mut text = room;
     let mut reader = Counted::new(frames);
     let mut writer = Counted::new(&mut text);
-    let ended = serve_unlogged(wait, alloc, &mut reader, &mut writer, unlogged, &Present);
+    let ended = serve_unlogged(
+        wait,
+        alloc,
+        &mut reader,
+        &mut writer,
+        unlogged,
+        &mut None,
+        &Present,
+    );
     (text, ended)
 }
 
@@ -184,7 +192,7 @@ fn stay_behind<L: Origin, W: Wait + Clock>(
     requires opens { (world : WorldState) → L.opens world → StandsFor mount world }
     requires name { blank.name ≡ L.name }
     requires parts { blank.parts ≡ L.parts }
-    requires whole { blank.parts ≡ 256 }
+    requires whole { blank.parts ≡ 2048 }
 {
     let alloc = rt.alloc();
     let (unlogged, mut passes) = Unlogged::<GitNaming, _, L>::new(mount, blank);
@@ -200,5 +208,5 @@ fn stay_behind<L: Origin, W: Wait + Clock>(
 pub(crate) fn stay<W: Wait + Clock>(rt: &HostRuntime, wait: &W) -> Result<u64> {
     let mut refusals = Refusals::new();
     let mount = mounted(rt.alloc(), &mut refusals)?;
-    stay_behind::<Brand, W>(rt, wait, refusals, mount, Blank::new(256))
+    stay_behind::<Brand, W>(rt, wait, refusals, mount, Blank::new(2048))
 }

@@ -8,7 +8,7 @@ use eden_ids::{GitNaming, Id, Kind, Sequence};
 use std::alloc::Global;
 use std::process::Abort;
 use std::test::Fail;
-use test_kit::path;
+use test_kit::{Commits, path};
 
 /// What is done to a file.
 #[derive(Clone, Copy)]
@@ -84,14 +84,19 @@ fn add_of_roots(changes: &mut Vec<Change>, commits: &[Id; 2]) -> Result<(), Fail
     Ok(())
 }
 
-/// Returns all of these, and then the removal of a file of the second commit.
-fn changes(alloc: Global, commits: &[Id; 2]) -> Result<Vec<Change>, Fail> {
-    let mut changes = Vec::new(alloc);
+/// Adds all of these, and then the removal of a file of the second commit.
+fn add_all(alloc: Global, changes: &mut Vec<Change>, commits: &[Id; 2]) -> Result<(), Fail> {
     for (at, act) in OF_FILES {
         changes.push(change_of(alloc, at, *act)?)?;
     }
-    add_of_roots(&mut changes, commits)?;
-    changes.push(change_of(alloc, "c", Act::Remove)?)?;
+    add_of_roots(changes, commits)?;
+    Ok(changes.push(change_of(alloc, "c", Act::Remove)?)?)
+}
+
+/// Returns all of these.
+fn changes(alloc: Global, commits: &[Id; 2]) -> Result<Vec<Change>, Fail> {
+    let mut changes = Vec::new(alloc);
+    add_all(alloc, &mut changes, commits)?;
     Ok(changes)
 }
 
@@ -127,13 +132,17 @@ fn go_through(
     Ok(())
 }
 
+/// Goes so through changes of a mount and a world of the first commit.
+fn go_alike(rt: &impl Abort, alloc: Global, commits: &mut Commits<2>) -> Result<(), Fail> {
+    let mut pair = Pair::mounted(alloc, &mut commits.store, commits.ids[0], 1000)?;
+    go_through(rt, alloc, &mut pair, &commits.ids)
+}
+
 #[test]
 fn beside_world(rt: HostRuntime) -> Result<(), Fail> {
     let alloc = rt.alloc();
     let mut commits = two_commits(alloc)?;
-    let root = commits.ids[0];
-    let mut pair = Pair::mounted(alloc, &mut commits.store, root, 1000)?;
-    go_through(&rt, alloc, &mut pair, &commits.ids)
+    go_alike(&rt, alloc, &mut commits)
 }
 
 /// Checks out a commit on both, and compares what changed since each number.
@@ -151,12 +160,16 @@ fn go_over(alloc: Global, pair: &mut Pair, commit: Id) -> Result<(), Fail> {
     pair.same_past(alloc, &step)
 }
 
+/// Goes so from the first commit to the second.
+fn go_to_second(alloc: Global, commits: &mut Commits<2>) -> Result<(), Fail> {
+    let mut pair = Pair::mounted(alloc, &mut commits.store, commits.ids[0], 1000)?;
+    go_over(alloc, &mut pair, commits.ids[1])
+}
+
 // Few files are shared here, so that the plain, slow program can answer too.
 #[test]
 fn checkout_of_small_subtrees(rt: HostRuntime) -> Result<(), Fail> {
     let alloc = rt.alloc();
     let mut commits = sharing(alloc, 3)?;
-    let root = commits.ids[0];
-    let mut pair = Pair::mounted(alloc, &mut commits.store, root, 1000)?;
-    go_over(alloc, &mut pair, commits.ids[1])
+    go_to_second(alloc, &mut commits)
 }

@@ -80,40 +80,86 @@ fn admits(filter: &Filter, path: &Path) -> bool {
     filter.admits(path)
 }
 
+/// The parts of an included pattern, and of an excluded one.
+///
+/// Without an excluded pattern there is one part, which is empty and so matches no name.
+#[derive(Drop)]
+struct Plain<'a> {
+    included: Vec<&'a [u8]>,
+    excluded: Vec<&'a [u8]>,
+}
+
+impl Plain<'_> {
+    fn admits(&self, names: &[&[u8]]) -> bool {
+        is_matched(self.included.as_slice(), names) && !is_matched(self.excluded.as_slice(), names)
+    }
+
+    /// Returns whether a directory is entered, which the excluded pattern must not match by a last part `**`.
+    fn enters(&self, names: &[&[u8]]) -> bool {
+        let excluded = self.excluded.as_slice();
+        let taken = excluded.last() == Some(&b"**".as_slice()) && is_matched(excluded, names);
+        is_entered(self.included.as_slice(), names) && !taken
+    }
+}
+
+/// Returns the filter of a pattern that excludes another one, if that is not empty.
+fn filter_except(alloc: Global, pattern: &[u8], excluded: &[u8]) -> Result<Filter, Fail> {
+    let filter = Filter::parse(alloc, &[pattern])?;
+    if excluded.is_empty() {
+        return Ok(filter);
+    }
+    Ok(filter.except(&Filter::parse(alloc, &[excluded])?)?)
+}
+
 /// Returns whether a filter answers of a directory what the plain matcher does.
 ///
 /// And it enters each directory above a path that it admits.
 fn same_entry(
     filter: &Filter,
     directory: &[u8],
-    parts: &[&[u8]],
+    plain: &Plain<'_>,
     names: &[&[u8]],
     admitted: bool,
 ) -> bool {
     let told = filter.admits_below(directory);
-    told == is_entered(parts, names) && (told || !admitted)
+    told == plain.enters(names) && (told || !admitted)
 }
 
-/// Returns whether a pattern's filter and the plain matcher agree on a path.
+/// Returns whether a filter and the plain matcher agree on a path.
 ///
 /// They are compared at each directory above it too.
-fn same_answers(alloc: Global, pattern: &[u8], path: &Path) -> Result<bool, Fail> {
-    let filter = Filter::parse(alloc, &[pattern])?;
-    let parts = split(alloc, pattern)?;
+fn same_as_plain(
+    alloc: Global,
+    filter: &Filter,
+    plain: &Plain<'_>,
+    path: &Path,
+) -> Result<bool, Fail> {
     let bytes = path.as_bytes();
     let names = split(alloc, bytes)?;
-    let admitted = is_matched(parts.as_slice(), names.as_slice());
-    let mut same = admits(&filter, path) == admitted;
+    let admitted = plain.admits(names.as_slice());
+    let mut same = admits(filter, path) == admitted;
     let mut above: usize = 0;
     for (place, byte) in bytes.iter().enumerate() {
         if *byte == b'/' {
             above = above.min(63) + 1;
             let front = names.get(..above).ok_or("a name is missing")?;
-            same = same && same_entry(&filter, &bytes[..place], parts.as_slice(), front, admitted);
+            same = same && same_entry(filter, &bytes[..place], plain, front, admitted);
         }
     }
     Ok(same)
 }
+
+/// Returns whether a filter of two patterns and the plain matcher agree so on a path.
+fn same_answers(alloc: Global, pattern: &[u8], excluded: &[u8], path: &Path) -> Result<bool, Fail> {
+    let plain = Plain {
+        included: split(alloc, pattern)?,
+        excluded: split(alloc, excluded)?,
+    };
+    let filter = filter_except(alloc, pattern, excluded)?;
+    same_as_plain(alloc, &filter, &plain, path)
+}
+
+const EMPTY: &[u8] = b"";
 
 /// Patterns of each kind.
 const PATTERNS: &[&str] = &[
@@ -146,15 +192,13 @@ const PATHS: &[&str] = &[
 fn same_at_all(alloc: Global, pattern: &str) -> Result<bool, Fail> {
     for path in PATHS {
         let path = Path::parse(alloc, path.as_bytes())?;
-        if !same_answers(alloc, pattern.as_bytes(), &path)? {
-            return Ok(false);
+        for excluded in ["", "**/x", "a/**", "**/a/**"] {
+            if !same_answers(alloc, pattern.as_bytes(), excluded.as_bytes(), &path)? {
+                return Ok(false);
+            }
         }
     }
     Ok(true)
-}
-
-fn is_admitted(alloc: Global, pattern: &[u8], path: &Path) -> Result<bool, Fail> {
-    Ok(Filter::parse(alloc, &[pattern])?.admits(path))
 }
 
 #[test]
@@ -171,18 +215,46 @@ fn admitted_pairs(rt: &impl Abort, alloc: Global, lot: &mut Lot) -> Result<u32, 
     for pair in 0..2000_u32 {
         let pattern = pattern(alloc, lot)?;
         let path = long_path(alloc, lot)?;
-        let same = same_answers(alloc, pattern.as_slice(), &path)?;
+        let same = same_answers(alloc, pattern.as_slice(), EMPTY, &path)?;
         assert!(rt; same, "pair {pair}: {pattern:?} at {path:?}");
-        if is_admitted(alloc, pattern.as_slice(), &path)? {
+        if filter_except(alloc, pattern.as_slice(), EMPTY)?.admits(&path) {
             admitted = pair.min(admitted) + 1;
         }
     }
     Ok(admitted)
 }
 
+/// Checks two thousand patterns with an exclusion, and returns how many paths it leaves out.
+fn excluded_paths(rt: &impl Abort, alloc: Global, lot: &mut Lot) -> Result<u32, Fail> {
+    let mut left_out = 0;
+    for turn in 0..2000_u32 {
+        let included = pattern(alloc, lot)?;
+        let excluded = pattern(alloc, lot)?;
+        let path = long_path(alloc, lot)?;
+        let same = same_answers(alloc, included.as_slice(), excluded.as_slice(), &path)?;
+        assert!(rt;
+            same,
+            "turn {turn}: {included:?} except {excluded:?} at {path:?}"
+        );
+        let whole = filter_except(alloc, included.as_slice(), EMPTY)?;
+        let filter = filter_except(alloc, included.as_slice(), excluded.as_slice())?;
+        if whole.admits(&path) && !filter.admits(&path) {
+            left_out = turn.min(left_out) + 1;
+        }
+    }
+    Ok(left_out)
+}
+
 #[test]
 fn generated_pairs(rt: HostRuntime) -> Result<(), Fail> {
     let admitted = admitted_pairs(&rt, rt.alloc(), &mut Lot::new(1))?;
     assert!(rt; admitted > 100, "{admitted} pairs are admitted");
+    Ok(())
+}
+
+#[test]
+fn generated_exclusions(rt: HostRuntime) -> Result<(), Fail> {
+    let left_out = excluded_paths(&rt, rt.alloc(), &mut Lot::new(2))?;
+    assert!(rt; left_out > 20, "{left_out} paths are left out");
     Ok(())
 }

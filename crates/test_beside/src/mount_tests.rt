@@ -11,7 +11,7 @@ use eden_workcopy::WorkCopy;
 use std::alloc::Global;
 use std::process::Abort;
 use std::test::Fail;
-use test_kit::{path, spaced};
+use test_kit::{Commits, path, spaced};
 
 /// Mounts a commit at the last number, at which its journal begins.
 fn last(alloc: Global, store: &mut Store<GitNaming>, root: Id) -> Result<Mount<GitNaming>, Fail> {
@@ -117,12 +117,21 @@ fn refuses_write(rt: &impl Abort, alloc: Global, mount: &mut Mount<GitNaming>) -
     Ok(())
 }
 
+/// Checks so a mount of the empty commit.
+fn refuses_at_last(
+    rt: &impl Abort,
+    alloc: Global,
+    store: &mut Store<GitNaming>,
+) -> Result<(), Fail> {
+    let mut mount = last(alloc, store, Id::ZERO)?;
+    refuses_write(rt, alloc, &mut mount)
+}
+
 #[test]
 fn sequence_exhausted(rt: HostRuntime) -> Result<(), Fail> {
     let alloc = rt.alloc();
     let mut commits = two_commits(alloc)?;
-    let mut mount = last(alloc, &mut commits.store, Id::ZERO)?;
-    refuses_write(&rt, alloc, &mut mount)
+    refuses_at_last(&rt, alloc, &mut commits.store)
 }
 
 /// Why a call is refused that takes a number, if nothing else is wrong and none is left.
@@ -187,13 +196,21 @@ fn stays_at_last(
     Ok(())
 }
 
+/// Checks so a mount of the first commit.
+fn first_stays_at_last(
+    rt: &impl Abort,
+    alloc: Global,
+    commits: &mut Commits<2>,
+) -> Result<(), Fail> {
+    let mut mount = last(alloc, &mut commits.store, commits.ids[0])?;
+    stays_at_last(rt, alloc, &mut mount, &commits.ids)
+}
+
 #[test]
 fn sequence_exhausted_over_files(rt: HostRuntime) -> Result<(), Fail> {
     let alloc = rt.alloc();
     let mut commits = sharing(alloc, 1)?;
-    let root = commits.ids[0];
-    let mut mount = last(alloc, &mut commits.store, root)?;
-    stays_at_last(&rt, alloc, &mut mount, &commits.ids)
+    first_stays_at_last(&rt, alloc, &mut commits)
 }
 
 /// Returns whether a store has that file, by the id from `git hash-object`.
@@ -258,13 +275,23 @@ fn part_from_copy(
     part(rt, alloc, store, &before, mount)
 }
 
+/// Checks so with a mount of a commit.
+fn part_from_store(
+    rt: &impl Abort,
+    alloc: Global,
+    store: &mut Store<GitNaming>,
+    root: Id,
+) -> Result<(), Fail> {
+    let mut mount = mounted(alloc, store, root, 1000)?;
+    part_from_copy(rt, alloc, store, &mut mount)
+}
+
 #[test]
 fn copies_part(rt: HostRuntime) -> Result<(), Fail> {
     let alloc = rt.alloc();
     let mut commits = two_commits(alloc)?;
     let root = commits.ids[0];
-    let mut mount = mounted(alloc, &mut commits.store, root, 1000)?;
-    part_from_copy(&rt, alloc, &commits.store, &mut mount)
+    part_from_store(&rt, alloc, &mut commits.store, root)
 }
 
 /// Writes a file and removes another one, and checks what a snapshot lists.
@@ -277,13 +304,23 @@ fn lists_changed(rt: &impl Abort, alloc: Global, mount: &mut Mount<GitNaming>) -
     Ok(())
 }
 
+/// Checks so a mount of a commit.
+fn mount_lists_changed(
+    rt: &impl Abort,
+    alloc: Global,
+    store: &mut Store<GitNaming>,
+    root: Id,
+) -> Result<(), Fail> {
+    let mut mount = mounted(alloc, store, root, 1000)?;
+    lists_changed(rt, alloc, &mut mount)
+}
+
 #[test]
 fn snapshot_lists(rt: HostRuntime) -> Result<(), Fail> {
     let alloc = rt.alloc();
     let mut commits = two_commits(alloc)?;
     let root = commits.ids[0];
-    let mut mount = mounted(alloc, &mut commits.store, root, 1000)?;
-    lists_changed(&rt, alloc, &mut mount)
+    mount_lists_changed(&rt, alloc, &mut commits.store, root)
 }
 
 /// Returns the checkout that goes over to a commit.
@@ -353,12 +390,16 @@ fn changes_one(
     Ok(())
 }
 
+/// Checks so a mount of the first commit.
+fn mount_changes_one(rt: &impl Abort, alloc: Global, commits: &mut Commits<2>) -> Result<(), Fail> {
+    let mut mount = mounted(alloc, &mut commits.store, commits.ids[0], 1000)?;
+    changes_one(rt, alloc, &mut mount, commits.ids[1])
+}
+
 // Of the two to the fortieth files that the commits share none is read or listed, or the test would not end.
 #[test]
 fn checkout_of_shared_subtrees(rt: HostRuntime) -> Result<(), Fail> {
     let alloc = rt.alloc();
     let mut commits = sharing(alloc, 40)?;
-    let root = commits.ids[0];
-    let mut mount = mounted(alloc, &mut commits.store, root, 1000)?;
-    changes_one(&rt, alloc, &mut mount, commits.ids[1])
+    mount_changes_one(&rt, alloc, &mut commits)
 }

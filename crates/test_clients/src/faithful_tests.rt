@@ -97,37 +97,56 @@ fn is_at_head(
     Ok(same && mirror.position() == Some(mount.position()))
 }
 
-/// Checks a follower that asks after a write, with all logs and without the writer's.
+/// Writes as the writer, and asks for the follower. Returns the asker's log and the writer's.
+fn both_logs(
+    alloc: Global,
+    audited: &mut Audited<GitNaming>,
+    follower: &mut Follower,
+) -> Result<Vec<CallLog>, Fail> {
+    let written = change(alloc, audited, write(alloc, "a", "1")?)?;
+    let asked = follow(alloc, audited, follower)?;
+    Ok(vec![in alloc; asked, written]?)
+}
+
+/// Checks that another follower of the same id is not vouched for.
 ///
-/// Another follower of the same id, which sent none of the requests in the logs, is not vouched for.
+/// It sent none of the requests in the logs.
+fn is_strange(rt: &impl Abort, alloc: Global, audited: &mut Audited<GitNaming>, logs: &[CallLog]) {
+    let other = Follower::new(alloc, 3, 1, Filter::all(alloc));
+    let strange = FollowFault::Vouch(VouchFault::StrangeRequest);
+    assert_eq!(rt; follows(alloc, audited, logs, &other), Err(strange));
+}
+
+/// Checks a follower that asks after a write, with all logs and without the writer's.
 fn check(
     rt: &impl Abort,
     alloc: Global,
     audited: &mut Audited<GitNaming>,
     follower: &mut Follower,
 ) -> Result<(), Fail> {
-    let written = change(alloc, audited, write(alloc, "a", "1")?)?;
-    let asked = follow(alloc, audited, follower)?;
-    let mut logs = vec![in alloc; asked]?;
-    let alone = follows(alloc, audited, logs.as_slice(), follower);
+    let logs = both_logs(alloc, audited, follower)?;
+    let alone = logs.get(..1).ok_or("no log")?;
     let differ = FollowFault::Audit(AuditFault::CountsDiffer);
-    assert_eq!(rt; alone, Err(differ));
-    logs.push(written)?;
+    assert_eq!(rt; follows(alloc, audited, alone, follower), Err(differ));
     assert_eq!(rt; follows(alloc, audited, logs.as_slice(), follower), Ok(()));
     assert!(rt; is_at_head(alloc, audited, follower)?);
-    let other = Follower::new(alloc, 3, 1, Filter::all(alloc));
-    let strange = FollowFault::Vouch(VouchFault::StrangeRequest);
-    assert_eq!(rt;
-        follows(alloc, audited, logs.as_slice(), &other),
-        Err(strange)
-    );
+    is_strange(rt, alloc, audited, logs.as_slice());
     Ok(())
+}
+
+/// Checks a follower of every path.
+fn is_followed(
+    rt: &impl Abort,
+    alloc: Global,
+    audited: &mut Audited<GitNaming>,
+) -> Result<(), Fail> {
+    let mut follower = Follower::new(alloc, 3, 1, Filter::all(alloc));
+    check(rt, alloc, audited, &mut follower)
 }
 
 #[test]
 fn faithful_where_logs_agree_and_vouch(rt: HostRuntime) -> Result<(), Fail> {
     let alloc = rt.alloc();
     let mut audited = opened(alloc)?;
-    let mut follower = Follower::new(alloc, 3, 1, Filter::all(alloc));
-    check(&rt, alloc, &mut audited, &mut follower)
+    is_followed(&rt, alloc, &mut audited)
 }

@@ -7,7 +7,10 @@ use eden_connect::Quiet;
 use eden_ids::{GitNaming, Id};
 use eden_objects::Store;
 use std::alloc::Global;
+use std::net::{Net, TcpListener, TcpStream};
+use std::process::Abort;
 use std::test::Fail;
+use std::thread::Threads;
 use test_kit::{commit_of, push_entry};
 
 /// How many bytes the largest file has: 8 MiB.
@@ -90,14 +93,20 @@ fn mount_of_many(alloc: Global) -> Result<Mount<GitNaming>, Fail> {
     Ok(Mount::mount(alloc, store, commit, 7, 100_000)?)
 }
 
+/// Checks what a client writes that fetches all files of a mount.
+fn fetches_all<R>(rt: &R, alloc: Global, mount: &mut Mount<GitNaming>) -> Result<(), Fail>
+where
+    R: Net<Listener = TcpListener, Stream = TcpStream> + Threads + Abort + Sync,
+{
+    let (ended, output) = talk(rt, alloc, mount, &[Act::Serve], 1, &mut Quiet)?;
+    assert_eq!(rt; ended, Ok(()));
+    assert!(rt; output == told(alloc, mount.position().root)?);
+    Ok(())
+}
+
 #[test]
 fn many_fetches(rt: HostRuntime) -> Result<(), Fail> {
     let alloc = rt.alloc();
     let mut mount = mount_of_many(alloc)?;
-    let commit = mount.position().root;
-    let (ended, output) = talk(&rt, alloc, &mut mount, &[Act::Serve], 1, &mut Quiet)?;
-    drop(mount);
-    assert_eq!(rt; ended, Ok(()));
-    assert!(rt; output == told(alloc, commit)?);
-    Ok(())
+    fetches_all(&rt, alloc, &mut mount)
 }

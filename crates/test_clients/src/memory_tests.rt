@@ -84,6 +84,57 @@ fn fetch(alloc: Global) -> Result<Request, Fail> {
     })
 }
 
+/// What a connection gives.
+#[derive(Clone, Copy)]
+enum Gives {
+    /// The list of a round, and after it these bytes.
+    List(u64, &'static [u8]),
+    /// The content of the first round.
+    Content,
+    /// The list and the content of the first round.
+    Both,
+}
+
+/// The bytes that a connection to a mount gives.
+fn given(alloc: Global, mount: &mut Mount<GitNaming>, gives: Gives) -> Result<Vec<u8>, Fail> {
+    match gives {
+        Gives::List(number, more) => {
+            let mut list = replies(alloc, mount, &[basis(alloc, number)])?;
+            list.extend_from_slice(more)?;
+            Ok(list)
+        }
+        Gives::Content => replies(alloc, mount, &[fetch(alloc)?]),
+        Gives::Both => replies(alloc, mount, &[basis(alloc, 1), fetch(alloc)?]),
+    }
+}
+
+/// The bytes of connections to a mount, of which some are not made.
+fn all_given(
+    alloc: Global,
+    mount: &mut Mount<GitNaming>,
+    made: &[Option<Gives>],
+) -> Result<Vec<Option<Vec<u8>>>, Fail> {
+    let mut all = Vec::new(alloc);
+    for gives in made {
+        all.push(match *gives {
+            Some(gives) => Some(given(alloc, mount, gives)?),
+            None => None,
+        })?;
+    }
+    Ok(all)
+}
+
+/// The same of a mount of one file.
+fn connections(alloc: Global, made: &[Option<Gives>]) -> Result<Vec<Option<Vec<u8>>>, Fail> {
+    let mut mount = mount_of(alloc, &[("a", "1")])?;
+    all_given(alloc, &mut mount, made)
+}
+
+/// Whether a mirror is placed with one file.
+fn has_one(mirror: &Mirror) -> Result<bool, Fail> {
+    Ok(mirror.position().is_some() && mirror.files()?.len() == 1)
+}
+
 /// Follows a round over these connections. Returns whether it has placed the mirror with one file, and the number of connections that are left.
 fn followed(
     alloc: Global,
@@ -91,45 +142,34 @@ fn followed(
 ) -> Result<(Result<bool, RoundFault>, usize), Fail> {
     let mut dial = Canned { alloc, made };
     let mirror = Mirror::new(alloc, 1, 1, Filter::all(alloc));
-    match follow_rounds(alloc, &mut dial, mirror, 1, &mut Quiet) {
-        Ok(mirror) => {
-            let is_placed = mirror.position().is_some() && mirror.files()?.len() == 1;
-            Ok((Ok(is_placed), dial.made.len()))
-        }
-        Err(fault) => Ok((Err(fault), dial.made.len())),
-    }
+    let ended = match follow_rounds(alloc, &mut dial, mirror, 1, &mut Quiet) {
+        Ok(mirror) => Ok(has_one(&mirror)?),
+        Err(fault) => Err(fault),
+    };
+    Ok((ended, dial.made.len()))
 }
 
 #[test]
 fn one_connection(rt: HostRuntime) -> Result<(), Fail> {
-    let alloc = rt.alloc();
-    let mut mount = mount_of(alloc, &[("a", "1")])?;
-    let all = [basis(alloc, 1), fetch(alloc)?];
-    let made = vec![in alloc; Some(replies(alloc, &mut mount, &all)?)]?;
-    assert_eq!(rt; followed(alloc, made.as_slice())?, (Ok(true), 0));
+    let made = connections(rt.alloc(), &[Some(Gives::Both)])?;
+    assert_eq!(rt; followed(rt.alloc(), made.as_slice())?, (Ok(true), 0));
     Ok(())
 }
 
 #[test]
 fn refused_and_lost(rt: HostRuntime) -> Result<(), Fail> {
-    let alloc = rt.alloc();
-    let mut mount = mount_of(alloc, &[("a", "1")])?;
-    let mut list = replies(alloc, &mut mount, &[basis(alloc, 1)])?;
     // The list, and a part of the next frame.
-    list.extend_from_slice(&[0, 0, 0])?;
-    let content = replies(alloc, &mut mount, &[fetch(alloc)?])?;
-    let made = vec![in alloc; None, Some(list), None, Some(content), None]?;
-    assert_eq!(rt; followed(alloc, made.as_slice())?, (Ok(true), 1));
+    let list = Some(Gives::List(1, &[0, 0, 0]));
+    let made = connections(rt.alloc(), &[None, list, None, Some(Gives::Content), None])?;
+    assert_eq!(rt; followed(rt.alloc(), made.as_slice())?, (Ok(true), 1));
     Ok(())
 }
 
 #[test]
 fn given_up(rt: HostRuntime) -> Result<(), Fail> {
-    let alloc = rt.alloc();
-    let mut mount = mount_of(alloc, &[("a", "1")])?;
     // The reply is to a question that was not asked.
-    let made = vec![in alloc; Some(replies(alloc, &mut mount, &[basis(alloc, 2)])?), None]?;
-    assert_eq!(rt; followed(alloc, made.as_slice())?, (Ok(false), 1));
+    let made = connections(rt.alloc(), &[Some(Gives::List(2, &[])), None])?;
+    assert_eq!(rt; followed(rt.alloc(), made.as_slice())?, (Ok(false), 1));
     Ok(())
 }
 
@@ -159,11 +199,8 @@ fn printed(
 
 #[test]
 fn prints_what_it_holds(rt: HostRuntime) -> Result<(), Fail> {
-    let alloc = rt.alloc();
-    let mut mount = mount_of(alloc, &[("a", "1")])?;
-    let all = [basis(alloc, 1), fetch(alloc)?];
-    let made = vec![in alloc; Some(replies(alloc, &mut mount, &all)?)]?;
-    let (ended, text) = printed(alloc, made.as_slice())?;
+    let made = connections(rt.alloc(), &[Some(Gives::Both)])?;
+    let (ended, text) = printed(rt.alloc(), made.as_slice())?;
     assert_eq!(rt; ended, Ok(()));
     assert!(rt; text.ends_with(b"\nfiles 1\nplain 1 a\n"));
     Ok(())

@@ -9,6 +9,7 @@ use eden_ids::{GitNaming, Kind};
 use eden_sockets::Place;
 use std::alloc::Global;
 use std::net::{Net, TcpListener, TcpStream};
+use std::process::Abort;
 use std::test::Fail;
 use std::thread;
 use std::thread::Threads;
@@ -35,38 +36,77 @@ fn write_files(alloc: Global, mount: &mut Mount<GitNaming>) -> Result<(), Fail> 
     Ok(())
 }
 
-/// A mount of a commit of one file, to which the others are written.
-fn mount_of_kinds(alloc: Global) -> Result<Mount<GitNaming>, Fail> {
+/// A mount of a commit of one file.
+fn mount_of_one(alloc: Global) -> Result<Mount<GitNaming>, Fail> {
     // Git names the commit so.
     let objects = Objects::of(alloc, "blob x x;tree t 100644 a x;commit c t")?;
     let commit = objects.id("c");
-    let mut mount = Mount::mount(alloc, objects.store, commit, 7, 100_000)?;
+    Ok(Mount::mount(alloc, objects.store, commit, 7, 100_000)?)
+}
+
+/// The same, to which the other files are written.
+fn mount_of_kinds(alloc: Global) -> Result<Mount<GitNaming>, Fail> {
+    let mut mount = mount_of_one(alloc)?;
     write_files(alloc, &mut mount)?;
     Ok(mount)
+}
+
+/// Checks that a client that follows a mount for these rounds writes this.
+fn writes<R>(
+    rt: &R,
+    alloc: Global,
+    mount: &mut Mount<GitNaming>,
+    rounds: u32,
+    text: &str,
+) -> Result<(), Fail>
+where
+    R: Net<Listener = TcpListener, Stream = TcpStream> + Threads + Abort + Sync,
+{
+    let (ended, output) = talk(rt, alloc, mount, &[Act::Serve], rounds, &mut Quiet)?;
+    assert_eq!(rt; ended, Ok(()));
+    assert!(rt; output.as_slice() == text.as_bytes());
+    Ok(())
 }
 
 #[test]
 fn kinds_and_escapes(rt: HostRuntime) -> Result<(), Fail> {
     let alloc = rt.alloc();
     let mut mount = mount_of_kinds(alloc)?;
-    let (ended, output) = talk(&rt, alloc, &mut mount, &[Act::Serve], 1, &mut Quiet)?;
-    assert_eq!(rt; ended, Ok(()));
-    assert!(rt; output.as_slice() == TEXT.as_bytes());
-    Ok(())
+    writes(&rt, alloc, &mut mount, 1, TEXT)
 }
 
 #[test]
 fn no_files(rt: HostRuntime) -> Result<(), Fail> {
     let alloc = rt.alloc();
     let mut mount = mount_of(alloc, &[])?;
-    let (ended, output) = talk(&rt, alloc, &mut mount, &[Act::Serve], 2, &mut Quiet)?;
-    assert_eq!(rt; ended, Ok(()));
     let wanted = "placed 7 1 0000000000000000000000000000000000000000\nfiles 0\n";
-    assert!(rt; output.as_slice() == wanted.as_bytes());
-    Ok(())
+    writes(&rt, alloc, &mut mount, 2, wanted)
 }
 
-/// How the client ends whose output takes so many bytes.
+/// How the client of a mount ends whose output takes so many bytes.
+fn told_of<R>(
+    rt: &R,
+    alloc: Global,
+    mount: &mut Mount<GitNaming>,
+    room: usize,
+) -> Result<(Result<(), ConnectFault>, Vec<u8>), Fail>
+where
+    R: Net<Listener = TcpListener, Stream = TcpStream> + Threads + Sync,
+{
+    let (listener, port) = open_port(rt)?;
+    let mut output = Sink::new(alloc);
+    output.full_at = room;
+    let filter = Filter::all(alloc);
+    let place = Place::Port(port);
+    let (ended, _) = thread::join(
+        rt,
+        || connect_program(rt, alloc, &mut output, place, 1, 1, 1, &filter, &mut Quiet),
+        || listen(alloc, &listener, mount, &[Act::Serve]),
+    );
+    Ok((ended, output.bytes))
+}
+
+/// The same of a mount of no file.
 fn told_to<R>(
     rt: &R,
     alloc: Global,
@@ -76,17 +116,7 @@ where
     R: Net<Listener = TcpListener, Stream = TcpStream> + Threads + Sync,
 {
     let mut mount = mount_of(alloc, &[])?;
-    let (listener, port) = open_port(rt)?;
-    let mut output = Sink::new(alloc);
-    output.full_at = room;
-    let filter = Filter::all(alloc);
-    let place = Place::Port(port);
-    let (ended, _) = thread::join(
-        rt,
-        || connect_program(rt, alloc, &mut output, place, 1, 1, 1, &filter, &mut Quiet),
-        || listen(alloc, &listener, &mut mount, &[Act::Serve]),
-    );
-    Ok((ended, output.bytes))
+    told_of(rt, alloc, &mut mount, room)
 }
 
 #[test]

@@ -2,7 +2,9 @@
 
 use crate::listener::Act;
 use crate::talks::{mount_of, talk};
+use eden_accumulate::Mount;
 use eden_connect::{Progress, Shown};
+use eden_ids::GitNaming;
 use std::alloc::Global;
 use std::io;
 use std::net::{Net, TcpListener, TcpStream};
@@ -30,8 +32,14 @@ impl Progress for Notes {
     }
 }
 
-/// What is told of rounds over a mount of three files, with these connections.
-fn noted<R>(rt: &R, alloc: Global, acts: &[Act], rounds: u32) -> Result<Notes, Fail>
+/// What is told of rounds over a mount, with these connections.
+fn noted_of<R>(
+    rt: &R,
+    alloc: Global,
+    mount: &mut Mount<GitNaming>,
+    acts: &[Act],
+    rounds: u32,
+) -> Result<Notes, Fail>
 where
     R: Net<Listener = TcpListener, Stream = TcpStream> + Threads + Sync,
 {
@@ -40,9 +48,17 @@ where
         finished: 0,
         full: false,
     };
-    let mut mount = mount_of(alloc, &[("a", "1"), ("b", "2"), ("c", "3")])?;
-    let _ = talk(rt, alloc, &mut mount, acts, rounds, &mut notes)?;
+    let _ = talk(rt, alloc, mount, acts, rounds, &mut notes)?;
     Ok(notes)
+}
+
+/// The same of a mount of three files.
+fn noted<R>(rt: &R, alloc: Global, acts: &[Act], rounds: u32) -> Result<Notes, Fail>
+where
+    R: Net<Listener = TcpListener, Stream = TcpStream> + Threads + Sync,
+{
+    let mut mount = mount_of(alloc, &[("a", "1"), ("b", "2"), ("c", "3")])?;
+    noted_of(rt, alloc, &mut mount, acts, rounds)
 }
 
 /// Connections, rounds, and what is told.

@@ -108,13 +108,26 @@ pub(crate) struct Row {
 }
 
 impl Row {
+    /// Whether the row is right over a mount of its files.
+    fn is_right_over<R>(
+        &self,
+        rt: &R,
+        alloc: Global,
+        mount: &mut Mount<GitNaming>,
+    ) -> Result<bool, Fail>
+    where
+        R: Net<Listener = TcpListener, Stream = TcpStream> + Threads + Sync,
+    {
+        let (ended, output) = talk(rt, alloc, mount, self.acts, self.rounds, &mut Quiet)?;
+        Ok(ended == self.ended && output.as_slice() == self.text.as_bytes())
+    }
+
     /// Whether the row is right.
     pub(crate) fn is_right<R>(&self, rt: &R, alloc: Global) -> Result<bool, Fail>
     where
         R: Net<Listener = TcpListener, Stream = TcpStream> + Threads + Sync,
     {
         let mut mount = mount_of(alloc, self.files)?;
-        let (ended, output) = talk(rt, alloc, &mut mount, self.acts, self.rounds, &mut Quiet)?;
-        Ok(ended == self.ended && output.as_slice() == self.text.as_bytes())
+        self.is_right_over(rt, alloc, &mut mount)
     }
 }

@@ -1,12 +1,22 @@
 //! The examples at the heads of the libraries, each of which runs.
 
-// The body of each function but its last line is the text of the example at the head of that crate's lib.rt, and must stay so:
-// docs/examples.py, which `./test` runs, compares them.
+// The body of each function `CRATE_example` but its last line is the text of the example at the head of that crate's lib.rt, and must
+// stay so: docs/examples.py, which `./test` runs, compares them. There a call of a function of this crate stands for its body. An
+// example lends what it makes to such a function, and does not work with it itself: CONTRIBUTING.md, "Cheap tests", says why.
 
 ghost use Rattle.std.specs.Prelude.{◌≡◌};
 ghost use Rattle.eden_history.specs.Worlds.{WorldState};
 
 use crate::following::following;
+use crate::locks::{eden_shared_head, eden_shared_logged, eden_shared_unlogged};
+use crate::mounts::{
+    eden_accumulate_example, eden_checkout_example, eden_moves_example, eden_ranges_example,
+    eden_workcopy_example,
+};
+use eden_follow::Follower;
+use eden_ids::GitNaming;
+use eden_objects::Store;
+use eden_segments::{Shared, Table};
 use eden_shared::Origin;
 use std::alloc::Global;
 use std::fs::{File, Files};
@@ -48,7 +58,7 @@ fn examples(rt: HostRuntime) -> Result<(), Fail> {
     eden_ranges_example(&rt, alloc)?;
     eden_accumulate_example(&rt, alloc)?;
     eden_query_example(&rt, alloc)?;
-    let (blank, other) = (Blank::new(256), Blank::new(256));
+    let (blank, other) = (Blank::new(256), Blank::new(2048));
     eden_shared_example::<HostRuntime, Brand, Brand>(&rt, alloc, blank, other)?;
     eden_script_example(&rt, alloc)?;
     eden_edend_example(&rt, alloc)?;
@@ -110,6 +120,10 @@ fn eden_globs_example(rt: &impl Abort, alloc: Global) -> Result<(), Fail> {
     assert!(rt; filter.admits(&Path::parse(alloc, b"src/lib.rs".as_slice())?));
     assert!(rt; filter.admits(&Path::parse(alloc, b"README.md".as_slice())?));
     assert!(rt; !filter.admits(&Path::parse(alloc, b"docs/formats.md".as_slice())?));
+
+    let sources = filter.except(&Filter::parse(alloc, &[b"**/*.md".as_slice()])?)?;
+    assert!(rt; sources.admits(&Path::parse(alloc, b"src/lib.rs".as_slice())?));
+    assert!(rt; !sources.admits(&Path::parse(alloc, b"README.md".as_slice())?));
     Ok(())
 }
 
@@ -135,6 +149,16 @@ fn eden_segments_example(rt: &impl Abort, alloc: Global) -> Result<(), Fail> {
 
     let mut table = Table::new(alloc);
     table.add(Id([1; 20]), Shared::new(alloc, 1)?)?;
+    eden_segments_copied(rt, alloc, &mut table)
+}
+
+fn eden_segments_copied(
+    rt: &impl Abort,
+    alloc: Global,
+    table: &mut Table<Shared<i32>>,
+) -> Result<(), Fail> {
+    use eden_ids::Id;
+    use eden_segments::Shared;
 
     // A copy keeps its rows, and each of the two tables grows by itself.
     let copy = table.share()?;
@@ -200,10 +224,20 @@ fn eden_git_example(rt: &impl Abort, alloc: Global) -> Result<(), Fail> {
 }
 
 fn eden_objects_example(rt: &impl Abort, alloc: Global) -> Result<(), Fail> {
-    use eden_ids::{GitNaming, Naming, Path, Sequence};
-    use eden_objects::{Object, Store, Word};
+    use eden_ids::GitNaming;
+    use eden_objects::Store;
 
     let mut store = Store::new(alloc, GitNaming);
+    eden_objects_put(rt, alloc, &mut store)
+}
+
+fn eden_objects_put(
+    rt: &impl Abort,
+    alloc: Global,
+    store: &mut Store<GitNaming>,
+) -> Result<(), Fail> {
+    use eden_ids::Path;
+
     let file = store.put_blob(b"hello\n".as_slice())?;
     let mut tree = Vec::new(alloc);
     tree.extend_from_slice(b"100644 README\0".as_slice())?;
@@ -216,9 +250,28 @@ fn eden_objects_example(rt: &impl Abort, alloc: Global) -> Result<(), Fail> {
     let commit = store.put_commit(commit.as_slice())?;
     let readme = Path::parse(alloc, b"README".as_slice())?;
     assert!(rt; matches!(store.lookup(commit, &readme), Ok(Some((_, id))) if id == file));
+    eden_objects_shared(rt, alloc, store)
+}
 
+fn eden_objects_shared(
+    rt: &impl Abort,
+    alloc: Global,
+    store: &mut Store<GitNaming>,
+) -> Result<(), Fail> {
     // A copy keeps the objects that it has, and several objects are imported together, or none of them.
     let copy = store.share()?;
+    eden_objects_imported(rt, alloc, store, &copy)
+}
+
+fn eden_objects_imported(
+    rt: &impl Abort,
+    alloc: Global,
+    store: &mut Store<GitNaming>,
+    copy: &Store<GitNaming>,
+) -> Result<(), Fail> {
+    use eden_ids::{GitNaming, Naming, Sequence};
+    use eden_objects::{Object, Word};
+
     let mut objects = Vec::new(alloc);
     for bytes in [b"more\n".as_slice(), b"and more\n".as_slice()] {
         let payload = Sequence::from_vec(bytes.to_vec(alloc)?);
@@ -351,21 +404,39 @@ fn eden_logs_example(rt: &impl Abort, alloc: Global) -> Result<(), Fail> {
 }
 
 fn eden_headline_example(rt: &impl Abort, alloc: Global) -> Result<(), Fail> {
-    use eden_headline::{merge_law, schedule_law};
+    use eden_headline::{import_law, merge_law, schedule_law};
 
     schedule_law();
+    import_law();
     merge_law();
     Ok(())
 }
 
 fn eden_follow_example(rt: &impl Abort, alloc: Global) -> Result<(), Fail> {
-    use eden_follow::{Follower, VouchFault, vouch};
+    use eden_follow::Follower;
     use eden_globs::Filter;
-    use eden_messages::{Cause, Query, Reply, Request};
 
     let mut follower = Follower::new(alloc, 1, 1, Filter::all(alloc));
+    eden_follow_stepped(rt, &mut follower)?;
+    eden_follow_delivered(rt, alloc, follower)
+}
+
+fn eden_follow_stepped(rt: &impl Abort, follower: &mut Follower) -> Result<(), Fail> {
+    use eden_messages::Request;
+
     let requests = follower.step()?;
     assert!(rt; matches!(requests.as_slice(), [Request::Basis { .. }]));
+    Ok(())
+}
+
+fn eden_follow_delivered(
+    rt: &impl Abort,
+    alloc: Global,
+    mut follower: Follower,
+) -> Result<(), Fail> {
+    use eden_follow::{VouchFault, vouch};
+    use eden_messages::{Cause, Query, Reply};
+
     assert!(rt; vouch(alloc, &[], &follower).is_ok());
     // No log has this reply.
     let query = Query {
@@ -382,87 +453,6 @@ fn eden_follow_example(rt: &impl Abort, alloc: Global) -> Result<(), Fail> {
     Ok(())
 }
 
-fn eden_moves_example(rt: &impl Abort, alloc: Global) -> Result<(), Fail> {
-    use eden_globs::Filter;
-    use eden_ids::{GitNaming, Id, Path};
-    use eden_moves::{Moved, Moves};
-    use eden_objects::Store;
-
-    let store = Store::new(alloc, GitNaming);
-    let mut moves = Moves::new(alloc);
-    let old = Path::parse(alloc, b"src".as_slice())?;
-    let new = Path::parse(alloc, b"lib".as_slice())?;
-    moves.rename(&old, &new)?;
-    assert_eq!(rt; moves.entries().len(), 2);
-    let moved = Moved::of(store.commit_files(Id::ZERO), &moves);
-    assert!(rt; moved.file(b"lib/main".as_slice()).is_none());
-    assert!(rt; moved.list(alloc, &Filter::all(alloc))?.is_empty());
-    Ok(())
-}
-
-fn eden_workcopy_example(rt: &impl Abort, alloc: Global) -> Result<(), Fail> {
-    use eden_ids::{GitNaming, Id, Kind, Path};
-    use eden_objects::Store;
-    use eden_workcopy::WorkCopy;
-
-    let store = Store::new(alloc, GitNaming);
-    let mut work = WorkCopy::new(alloc, &store, Id::ZERO)?;
-    let notes = Path::parse(alloc, b"notes".as_slice())?;
-    work.write(&store, &notes, Kind::Plain, b"to do".as_slice())?;
-    assert_eq!(rt; work.dirty(&store)?.len(), 1);
-    Ok(())
-}
-
-fn eden_checkout_example(rt: &impl Abort, alloc: Global) -> Result<(), Fail> {
-    use eden_checkout::plan;
-    use eden_history::Mode;
-    use eden_ids::{GitNaming, Id};
-    use eden_objects::Store;
-    use eden_workcopy::WorkCopy;
-
-    let store = Store::new(alloc, GitNaming);
-    let work = WorkCopy::new(alloc, &store, Id::ZERO)?;
-    let planned = plan(alloc, &store, &work, Id::ZERO, Mode::Normal)?;
-    assert!(rt; planned.conflicts.is_empty() && planned.unclean.is_empty());
-    Ok(())
-}
-
-fn eden_ranges_example(rt: &impl Abort, alloc: Global) -> Result<(), Fail> {
-    use eden_history::Position;
-    use eden_ids::{GitNaming, Id, Path};
-    use eden_journal::{FileDelta, Journal};
-    use eden_objects::Store;
-    use eden_ranges::{accumulate, expand};
-
-    let mut journal = Journal::new(alloc, 7, Id::ZERO, 1000);
-    let delta = FileDelta::created(Path::parse(alloc, b"notes".as_slice())?);
-    assert_eq!(rt; journal.add_file(&delta), Ok(2));
-    let mounted = Position {
-        generation: 7,
-        sequence: 1,
-        root: Id::ZERO,
-    };
-    let range = accumulate(alloc, &journal, &mounted)?;
-    let store = Store::new(alloc, GitNaming);
-    assert_eq!(rt; expand(alloc, &store, &range)?.len(), 1);
-    Ok(())
-}
-
-fn eden_accumulate_example(rt: &impl Abort, alloc: Global) -> Result<(), Fail> {
-    use eden_accumulate::Mount;
-    use eden_ids::{GitNaming, Id, Kind, Path};
-    use eden_objects::Store;
-
-    let store = Store::new(alloc, GitNaming);
-    let mut mount = Mount::mount(alloc, store, Id::ZERO, 7, 1000)?;
-    let mounted = mount.position();
-    let notes = Path::parse(alloc, b"notes".as_slice())?;
-    mount.write(&notes, Kind::Plain, b"to do".as_slice())?;
-    let changes = mount.changes_since(&mounted)?;
-    assert_eq!(rt; (changes.to.sequence, changes.marked.len()), (2, 1));
-    Ok(())
-}
-
 fn eden_query_example(rt: &impl Abort, alloc: Global) -> Result<(), Fail> {
     use eden_accumulate::Mount;
     use eden_messages::{Query, Request};
@@ -471,8 +461,6 @@ fn eden_query_example(rt: &impl Abort, alloc: Global) -> Result<(), Fail> {
     use eden_query::{encode_request, serve};
     use eden_stream::Counted;
 
-    let store = Store::new(alloc, GitNaming);
-    let mut mount = Mount::mount(alloc, store, Id::ZERO, 7, 1000)?;
     let query = Query {
         mirror: 1,
         life: 1,
@@ -480,6 +468,9 @@ fn eden_query_example(rt: &impl Abort, alloc: Global) -> Result<(), Fail> {
     };
     let path = Path::parse(alloc, b"a".as_slice())?;
     let frame = encode_request(alloc, &Request::Fetch { query, path })?;
+
+    let store = Store::new(alloc, GitNaming);
+    let mut mount = Mount::mount(alloc, store, Id::ZERO, 7, 1000)?;
     let mut replies = Counted::new(Vec::new(alloc));
     let mut requests = Counted::new(frame.as_slice());
     let served = serve(alloc, &mut requests, &mut replies, &mut mount);
@@ -499,53 +490,11 @@ fn eden_shared_example<R: Abort + Wait, L: Ledger, K: Origin>(
     requires opens { (world : WorldState) → K.opens world → ⊥ }
     requires other_name { other.name ≡ K.name }
     requires other_parts { other.parts ≡ K.parts }
-    requires other_whole { other.parts ≡ 256 }
+    requires other_whole { other.parts ≡ 2048 }
 {
-    use eden_accumulate::Mount;
-    use eden_history::Change;
-    use eden_ids::{GitNaming, Id, Path};
-    use eden_messages::{Query, Reply, Request};
-    use eden_objects::Store;
-    use eden_shared::{Audited, Desk, HeadWord, Shared, Unlogged, audit};
-
-    // A mount that stores its history.
-    let store = Store::new(alloc, GitNaming);
-    let mount = Mount::mount(alloc, store, Id::ZERO, 7, 1000)?;
-    let shared = Shared::<GitNaming, _, L>::new(Audited::new(alloc, mount)?, blank);
-    let mut desk = Desk::new(alloc, shared.pass(rt)?);
-    let (ticket, _) = desk.change(rt, &shared, &Change::Flush)?;
-    assert_eq!(rt; ticket, 1);
-    let (pass, log) = desk.finish();
-    let mut audited = shared.finish(vec![in alloc; pass]?)?;
-    let logs = vec![in alloc; log]?;
-    assert_eq!(rt; audit(alloc, &mut audited, logs.as_slice()), Ok(()));
-
-    // One of which nothing is logged.
-    let store = Store::new(alloc, GitNaming);
-    let mount = Mount::mount(alloc, store, Id::ZERO, 7, 1000)?;
-    let (unlogged, mut passes) = Unlogged::<GitNaming, _, K>::new(mount, other);
-    let mut pass = passes.give()?;
-    let _position = unlogged.change(rt, &mut pass, &Change::Flush)?;
-    let query = Query {
-        mirror: 1,
-        life: 1,
-        number: 1,
-    };
-    let path = Path::parse(alloc, b"a".as_slice())?;
-    let reply = unlogged.ask(rt, &Request::Fetch { query, path })?;
-    assert!(rt; matches!(&reply, Reply::ContentIs { content: None, .. }));
-    passes.take_back(pass);
-    let mount = unlogged.finish(passes)?;
-    assert_eq!(rt; mount.position().sequence, 2);
-
-    // When to ask again.
-    let (head, mut writer) = HeadWord::new(alloc)?;
-    let mut follower = head.split(&mut writer);
-    assert_eq!(rt; head.load(&mut follower), 0);
-    head.raise(&mut writer, 5);
-    head.raise(&mut writer, 3);
-    assert_eq!(rt; head.load(&mut follower), 5);
-    Ok(())
+    eden_shared_logged::<R, L>(rt, alloc, blank)?;
+    eden_shared_unlogged::<R, K>(rt, alloc, other)?;
+    eden_shared_head(rt, alloc)
 }
 
 fn eden_script_example(rt: &impl Abort, alloc: Global) -> Result<(), Fail> {
@@ -662,14 +611,21 @@ fn eden_world_example(rt: &impl Abort, alloc: Global) -> Result<(), Fail> {
 
 fn test_kit_example(rt: &impl Abort, alloc: Global) -> Result<(), Fail> {
     use eden_ids::Id;
-    use test_kit::{Objects, commit_of, push_entry};
+    use test_kit::{commit_of, push_entry};
 
-    let objects = Objects::of(alloc, "blob x hello;tree t 100644 a x;commit c t")?;
-    assert!(rt; objects.store.has_commit(objects.id("c")));
+    test_kit_objects(rt, alloc)?;
     let mut tree = Vec::new(alloc);
     push_entry(&mut tree, "100644", b"notes".as_slice(), Id::ZERO)?;
     assert_eq!(rt; tree.len(), 33);
     assert_eq!(rt; commit_of(alloc, Id::ZERO, "")?.len(), 46);
+    Ok(())
+}
+
+fn test_kit_objects(rt: &impl Abort, alloc: Global) -> Result<(), Fail> {
+    use test_kit::Objects;
+
+    let objects = Objects::of(alloc, "blob x hello;tree t 100644 a x;commit c t")?;
+    assert!(rt; objects.store.has_commit(objects.id("c")));
     Ok(())
 }
 

@@ -27,12 +27,23 @@ fn reply_to(alloc: Global, mount: &mut Mount<GitNaming>, request: &Request) -> R
     Ok(decode_reply(alloc, body)?)
 }
 
-/// Asks all that is outstanding, and takes in the replies.
-fn ask(alloc: Global, mount: &mut Mount<GitNaming>, mirror: &mut Mirror) -> Result<(), Fail> {
+/// Asks a request, and takes in the reply.
+fn ask(
+    alloc: Global,
+    mount: &mut Mount<GitNaming>,
+    mirror: &mut Mirror,
+    request: &Request,
+) -> Result<(), Fail> {
+    let reply = reply_to(alloc, mount, request)?;
+    mirror.deliver(&reply)?;
+    Ok(())
+}
+
+/// Asks all that is outstanding.
+fn ask_all(alloc: Global, mount: &mut Mount<GitNaming>, mirror: &mut Mirror) -> Result<(), Fail> {
     let requests = mirror.outstanding()?;
     for request in &requests {
-        let reply = reply_to(alloc, mount, request)?;
-        mirror.deliver(&reply)?;
+        ask(alloc, mount, mirror, request)?;
     }
     Ok(())
 }
@@ -40,23 +51,33 @@ fn ask(alloc: Global, mount: &mut Mount<GitNaming>, mirror: &mut Mirror) -> Resu
 /// A round of the mirror: first it asks which paths to fetch, and then for the content of each.
 fn follow(alloc: Global, mount: &mut Mount<GitNaming>, mirror: &mut Mirror) -> Result<(), Fail> {
     mirror.begin()?;
-    ask(alloc, mount, mirror)?;
-    ask(alloc, mount, mirror)
+    ask_all(alloc, mount, mirror)?;
+    ask_all(alloc, mount, mirror)
 }
 
-/// A file is written, and a mirror that wants what is below `src` has it after its next round.
-pub(crate) fn following(rt: &impl Abort, alloc: Global) -> Result<(), Fail> {
-    let store = Store::new(alloc, GitNaming);
-    let mut mount = Mount::mount(alloc, store, Id::ZERO, 7, 1000)?;
-    let wanted = Filter::parse(alloc, &[b"src/**".as_slice()])?;
-    let mut mirror = Mirror::new(alloc, 1, 1, wanted);
-    follow(alloc, &mut mount, &mut mirror)?;
+/// A file is written, and the mirror has it after its next round.
+fn write_and_follow(
+    rt: &impl Abort,
+    alloc: Global,
+    mount: &mut Mount<GitNaming>,
+    mirror: &mut Mirror,
+) -> Result<(), Fail> {
+    follow(alloc, mount, mirror)?;
     assert_eq!(rt; mirror.position(), Some(mount.position()));
 
     let path = Path::parse(alloc, b"src/lib.rs".as_slice())?;
     mount.write(&path, Kind::Plain, b"mod mount;\n".as_slice())?;
-    follow(alloc, &mut mount, &mut mirror)?;
+    follow(alloc, mount, mirror)?;
     assert_eq!(rt; mirror.position(), Some(mount.position()));
     assert!(rt; mirror.get(&path).is_some());
     Ok(())
+}
+
+/// A mount of the empty commit, and a mirror that wants what is below `src`.
+pub(crate) fn following(rt: &impl Abort, alloc: Global) -> Result<(), Fail> {
+    let wanted = Filter::parse(alloc, &[b"src/**".as_slice()])?;
+    let store = Store::new(alloc, GitNaming);
+    let mut mount = Mount::mount(alloc, store, Id::ZERO, 7, 1000)?;
+    let mut mirror = Mirror::new(alloc, 1, 1, wanted);
+    write_and_follow(rt, alloc, &mut mount, &mut mirror)
 }

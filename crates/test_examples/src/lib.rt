@@ -8,3 +8,7 @@
 mod example_tests;
 #[cfg(test)]
 mod following;
+#[cfg(test)]
+mod locks;
+#[cfg(test)]
+mod mounts;

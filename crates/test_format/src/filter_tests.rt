@@ -1,4 +1,5 @@
-//! Filters: which paths they admit, which directories they enter, and which patterns are refused.
+//! Filters: which paths they admit and exclude, which directories they enter, and which patterns are
+//! refused.
 
 use eden_globs::{Filter, FilterFault, Front};
 use eden_ids::Path;
@@ -72,6 +73,89 @@ fn pattern_table(rt: HostRuntime) -> Result<(), Fail> {
     Ok(())
 }
 
+/// Returns a filter that includes and excludes these patterns.
+fn filter_except(alloc: Global, included: &[&[u8]], excluded: &[&[u8]]) -> Result<Filter, Fail> {
+    let filter = Filter::parse(alloc, included)?;
+    Ok(filter.except(&Filter::parse(alloc, excluded)?)?)
+}
+
+/// Included patterns, excluded ones, a path, and whether it is admitted.
+const EXCLUSIONS: &[(&[&[u8]], &[&[u8]], &str, bool)] = &[
+    (&[], &[], "x", true),
+    (&[], &[b"x"], "x", false),
+    (&[], &[b"x"], "x/y", true),
+    (&[], &[b".git/**"], ".git", false),
+    (&[], &[b".git/**"], ".git/config", false),
+    (&[], &[b".git/**"], ".git/a/b", false),
+    (&[], &[b".git/**"], ".gitignore", true),
+    (&[], &[b".git/**"], "a/.git/config", true),
+    (&[], &[b"**/out/**"], "out/x.o", false),
+    (&[], &[b"**/out/**"], "a/b/out/c/x.o", false),
+    (&[], &[b"**/out/**"], "a/out", false),
+    (&[], &[b"**/out/**"], "a/out.md", true),
+    (&[], &[b"**/out/**"], "a/layout/x", true),
+    (&[b"src/**"], &[b"**/*.o"], "src/a/x.c", true),
+    (&[b"src/**"], &[b"**/*.o"], "src/a/x.o", false),
+    (&[b"src/**"], &[b"**/*.o"], "x.c", false),
+    (&[b"src/**"], &[b"**/*.o"], "x.o", false),
+    (&[b"src/**"], &[b"src/**"], "src/x", false),
+    (&[b"src/**", b"*.md"], &[b"src/*", b"a.md"], "src/x", false),
+    (&[b"src/**", b"*.md"], &[b"src/*", b"a.md"], "src/a/x", true),
+    (&[b"src/**", b"*.md"], &[b"src/*", b"a.md"], "a.md", false),
+    (&[b"src/**", b"*.md"], &[b"src/*", b"a.md"], "b.md", true),
+    (&[b"src/**", b"*.md"], &[b"src/*", b"a.md"], "b.txt", false),
+    (&[b"*"], &[b"?"], "x", false),
+    (&[b"*"], &[b"?"], "xy", true),
+    (&[b"*"], &[b"\\*"], "*", false),
+    (&[b"*"], &[b"\\*"], "x", true),
+    (&[b"**/x"], &[b"a/**/x"], "a/x", false),
+    (&[b"**/x"], &[b"a/**/x"], "a/b/c/x", false),
+    (&[b"**/x"], &[b"a/**/x"], "b/a/x", true),
+];
+
+#[test]
+fn exclusion_table(rt: HostRuntime) -> Result<(), Fail> {
+    let alloc = rt.alloc();
+    for (row, (included, excluded, text, wanted)) in EXCLUSIONS.iter().enumerate() {
+        let filter = filter_except(alloc, included, excluded)?;
+        let path = path(alloc, text)?;
+        assert!(rt; filter.admits(&path) == *wanted, "row {row}");
+        assert!(rt; filter.copy()?.admits(&path) == *wanted, "row {row}");
+    }
+    Ok(())
+}
+
+/// Checks that these are the patterns of a filter.
+fn has_patterns(filter: &Filter, included: &[&[u8]], excluded: &[&[u8]]) -> bool {
+    are_same(filter.patterns(), included) && are_same(filter.excluded(), excluded)
+}
+
+fn are_same(patterns: &[Vec<u8>], wanted: &[&[u8]]) -> bool {
+    for (place, pattern) in patterns.iter().enumerate() {
+        if wanted.get(place) != Some(&pattern.as_slice()) {
+            return false;
+        }
+    }
+    patterns.len() == wanted.len()
+}
+
+// What each filter excluded before is not kept.
+#[test]
+fn except_replaces_what_is_excluded(rt: HostRuntime) -> Result<(), Fail> {
+    let alloc = rt.alloc();
+    let first = filter_except(alloc, &[b"a".as_slice()], &[b"b".as_slice()])?;
+    assert!(rt; has_patterns(&first, &[b"a"], &[b"b"]));
+    let second = filter_except(alloc, &[b"c".as_slice()], &[b"d".as_slice()])?;
+    let both = first.except(&second)?;
+    assert!(rt; has_patterns(&both, &[b"a"], &[b"c"]));
+    let none = first.except(&Filter::all(alloc))?;
+    assert!(rt; has_patterns(&none, &[b"a"], &[]));
+    let plain = Filter::parse(alloc, &[b"a".as_slice()])?;
+    assert!(rt; none == plain && both == both.copy()?);
+    assert!(rt; first != plain && first != both);
+    Ok(())
+}
+
 /// Patterns, a directory, and whether it is entered. One that is longer than a path is always entered.
 const DIRECTORIES: &[(&[&[u8]], &[u8], bool)] = &[
     (&[b"a/b"], b"", true),
@@ -116,6 +200,86 @@ fn directories(rt: HostRuntime) -> Result<(), Fail> {
     Ok(())
 }
 
+/// Included patterns, excluded ones, a directory, and whether it is entered.
+///
+/// It is not if an excluded pattern ends in `**` and matches it.
+const EXCLUDED_DIRECTORIES: &[(&[&[u8]], &[&[u8]], &[u8], bool)] = &[
+    (&[], &[b".git/**"], b"", true),
+    (&[], &[b".git/**"], b".git", false),
+    (&[], &[b".git/**"], b".git/objects", false),
+    (&[], &[b".git/**"], b"a/.git", true),
+    (&[], &[b"**/out/**"], b"out", false),
+    (&[], &[b"**/out/**"], b"a/out", false),
+    (&[], &[b"**/out/**"], b"a/out/b", false),
+    (&[], &[b"**/out/**"], b"a", true),
+    (&[], &[b"src/*"], b"src", true),
+    (&[], &[b"src/*"], b"src/a", true),
+    (&[], &[b"src"], b"src", true),
+    (&[], &[b"**/*"], b"src", true),
+    (&[], &[b"**"], b"", false),
+    (&[], &[b"**"], b"a/b", false),
+    (&[], &[b"**/**"], b"", false),
+    (&[], &[b"*/**"], b"", true),
+    (&[], &[b"*/**"], b"a", false),
+    (&[b"src/**"], &[b"src/out/**"], b"src", true),
+    (&[b"src/**"], &[b"src/out/**"], b"src/a", true),
+    (&[b"src/**"], &[b"src/out/**"], b"src/out", false),
+    (&[b"src/**"], &[b"src/out/**"], b"src/out/a", false),
+    (&[b"src/**"], &[b"src/out/**"], b"docs", false),
+    (&[b"src/*"], &[b"docs/**"], b"src/a", false),
+    (&[], &[b"a/**/b/**"], b"a/b", false),
+    (&[], &[b"a/**/b/**"], b"a/c/b/d", false),
+    (&[], &[b"a/**/b/**"], b"a/c", true),
+    (&[], &[b"*.o", b"b/**"], b"b", false),
+    (&[], &[b"*.o", b"b/**"], b"a.o", true),
+    (&[], &[b"a*/**"], &[b'a'; 1024], false),
+    (&[], &[b"b*/**"], &[b'a'; 1024], true),
+    (&[], &[b"a*/**"], &[b'a'; 1025], true),
+];
+
+#[test]
+fn directories_with_exclusions(rt: HostRuntime) -> Result<(), Fail> {
+    for (row, (included, excluded, directory, wanted)) in EXCLUDED_DIRECTORIES.iter().enumerate() {
+        let entered = filter_except(rt.alloc(), included, excluded)?.admits_below(directory);
+        assert!(rt; entered == *wanted, "row {row}");
+    }
+    Ok(())
+}
+
+/// How many names `a` a directory has before its last name, and whether each of two filters enters it.
+///
+/// The one excludes `**/b/**`, the other `a/**`. No path has more than 64 names.
+const DEEP: &[(usize, &[u8], bool, bool)] = &[
+    (15, b"a", true, false),
+    (15, b"b", false, false),
+    (16, b"a", true, false),
+    (16, b"b", false, false),
+    (63, b"b", false, false),
+    (64, b"a", true, false),
+    (64, b"b", false, false),
+    (511, b"b/", false, false),
+    (511, b"c/", true, false),
+];
+
+#[test]
+fn deep_directories(rt: HostRuntime) -> Result<(), Fail> {
+    let alloc = rt.alloc();
+    let anywhere = filter_except(alloc, &[], &[b"**/b/**".as_slice()])?;
+    let at_root = filter_except(alloc, &[], &[b"a/**".as_slice()])?;
+    for (row, (names, last, first, second)) in DEEP.iter().enumerate() {
+        let directory = repeated(alloc, b"a/", *names, last)?;
+        assert!(rt;
+            anywhere.admits_below(directory.as_slice()) == *first,
+            "row {row}"
+        );
+        assert!(rt;
+            at_root.admits_below(directory.as_slice()) == *second,
+            "row {row}"
+        );
+    }
+    Ok(())
+}
+
 /// Two patterns: one admits what is below `src`, and one names at the root alone.
 fn filter_of_two(alloc: Global) -> Result<Filter, Fail> {
     Ok(Filter::parse(alloc, &[b"src/**".as_slice(), b"*.md".as_slice()])?)
@@ -144,18 +308,53 @@ fn fronts_of_directories(rt: HostRuntime) -> Result<(), Fail> {
     Ok(())
 }
 
+/// The same two, without two kinds of directories and one kind of files.
+fn filter_of_two_except(alloc: Global) -> Result<Filter, Fail> {
+    let excluded: &[&[u8]] = &[b".git/**", b"**/out/**", b"old*"];
+    Ok(filter_of_two(alloc)?.except(&Filter::parse(alloc, excluded)?)?)
+}
+
+/// Directories as in `ENTERED`, of a walk that leaves some out.
+const ENTERED_EXCEPT: &[(&str, Option<usize>)] = &[
+    (".git", None),
+    ("docs", None),
+    ("src", Some(0)),
+    ("out", None),
+    ("a", Some(4)),
+    ("out", None),
+    ("b", Some(6)),
+];
+
+#[test]
+fn fronts_with_exclusions(rt: HostRuntime) -> Result<(), Fail> {
+    let alloc = rt.alloc();
+    let filter = filter_of_two_except(alloc)?;
+    let mut front = Front::new(alloc);
+    for (name, length) in ENTERED_EXCEPT {
+        let entered = front.enter(&filter, name.as_bytes())?;
+        assert!(rt; entered == *length, "{name}");
+    }
+    Ok(())
+}
+
 /// Whether a walk of the root wants a file, and its path is the file's name.
-fn is_wanted(alloc: Global, name: &str) -> Result<bool, Fail> {
+fn is_wanted(alloc: Global, filter: &Filter, name: &str) -> Result<bool, Fail> {
     let path = path(alloc, name)?;
     let mut front = Front::new(alloc);
-    let wanted = front.path_if_wanted(&filter_of_two(alloc)?, path.as_bytes())?;
+    let wanted = front.path_if_wanted(filter, path.as_bytes())?;
     Ok(wanted == Some(path))
 }
 
 #[test]
 fn fronts_of_files(rt: HostRuntime) -> Result<(), Fail> {
-    assert!(rt; is_wanted(rt.alloc(), "README.md")?);
-    assert!(rt; !is_wanted(rt.alloc(), "README")?);
+    let alloc = rt.alloc();
+    let filter = filter_of_two(alloc)?;
+    assert!(rt; is_wanted(alloc, &filter, "README.md")?);
+    assert!(rt; is_wanted(alloc, &filter, "old.md")?);
+    assert!(rt; !is_wanted(alloc, &filter, "README")?);
+    let filter = filter_of_two_except(alloc)?;
+    assert!(rt; is_wanted(alloc, &filter, "README.md")?);
+    assert!(rt; !is_wanted(alloc, &filter, "old.md")?);
     Ok(())
 }
 
@@ -184,6 +383,12 @@ fn hostile_patterns(rt: HostRuntime) -> Result<(), Fail> {
     let deep = repeated(alloc, b"**/a/", 50, b"b")?;
     let names = repeated(alloc, b"a/", 63, b"a")?;
     assert!(rt; !is_admitted(alloc, deep.as_slice(), names.as_slice())?);
+    let excluded = filter_except(alloc, &[], &[stars.as_slice(), deep.as_slice()])?;
+    assert!(rt; excluded.admits(&Path::parse(alloc, name.as_slice())?));
+    assert!(rt; excluded.admits(&Path::parse(alloc, names.as_slice())?));
+    let whole = repeated(alloc, b"**/a/", 50, b"b/**")?;
+    let excluded = filter_except(alloc, &[], &[whole.as_slice()])?;
+    assert!(rt; excluded.admits_below(names.as_slice()));
     Ok(())
 }
 

@@ -72,13 +72,18 @@ impl Lot {
         path(alloc, DIRECTORIES[self.below(8)])
     }
 
-    /// Draws a filter of none, one or two patterns.
+    /// Draws a filter of none, one or two patterns, which excludes another one now and then.
     pub fn filter(&mut self, alloc: Global) -> Result<Filter, Fail> {
         let patterns = [
             PATTERNS[self.below(8)].as_bytes(),
             PATTERNS[self.below(8)].as_bytes(),
         ];
-        Ok(Filter::parse(alloc, &patterns[..self.below(3)])?)
+        let filter = Filter::parse(alloc, &patterns[..self.below(3)])?;
+        if self.below(3) > 0 {
+            return Ok(filter);
+        }
+        let excluded = Filter::parse(alloc, &[PATTERNS[self.below(8)].as_bytes()])?;
+        Ok(filter.except(&excluded)?)
     }
 
     /// Draws a basis, a poll since a place not far from the present one, a fetch, and a list of what is below a directory, by a filter.

@@ -229,6 +229,33 @@ const ROWS: &[Row] = &[
         "error: the argument '--port <P>' cannot be used with '--socket <PATH>'",
     ),
     (
+        "edend serve --connections 1 --stay --writable",
+        ONE,
+        ALL,
+        ALL,
+        2,
+        "",
+        "error: the following required arguments were not provided:\n  <--port <P>|--socket <PATH>>",
+    ),
+    (
+        "edend serve --port 1 --connections 1 --stay --writable",
+        ONE,
+        ALL,
+        ALL,
+        2,
+        "",
+        "error: the argument '--port <P>' cannot be used with '--writable'",
+    ),
+    (
+        "edend serve --socket s --connections 1 --writable",
+        ONE,
+        ALL,
+        ALL,
+        2,
+        "",
+        "error: the following required arguments were not provided:\n  --stay",
+    ),
+    (
         "edend serve --socket /tmp/1234567890123456789012345678901234567890123456789012345678901234567890123456789012345678901234567 --connections 1",
         ONE,
         ALL,
@@ -538,7 +565,7 @@ const ENDINGS: &[(&str, &str)] = &[
     (
         "edend serve --port PORT --connections 1 --stay --verbose",
         "edend: `remove zz` was refused: NoEntry\n\
-edend: refused changes: 1; connections that ended at an invalid frame: 0, since their peer was too slow: 0; times that all places were taken: 0\n\
+edend: refused changes: 1; connections that ended at an invalid frame: 0, since their peer was too slow: 0, since no place was free: 0; times that all places were taken: 0\n\
 edend: the script has ended within line 5\n",
     ),
 ];

@@ -70,6 +70,13 @@ const ROWS: &[Row] = &[
         "follow: BadPattern 1: `[b]`: a pattern is empty, has an empty component, a `[` or `{` without a `\\`, or a `\\` before nothing or `/`\n",
     ),
     (
+        "follow connect --port 1 --mirror 1 --life 1 --rounds 1 --except a --except [b] a",
+        ALL,
+        2,
+        "",
+        "follow: BadPattern 1: `[b]`: a pattern is empty, has an empty component, a `[` or `{` without a `\\`, or a `\\` before nothing or `/`\n",
+    ),
+    (
         "follow connect --help",
         ALL,
         2,

@@ -55,7 +55,7 @@ const ROWS: &[Row] = &[
         BAD_TAG,
         0,
         "edend: a connection has ended: frame 1: BadTag\n\
-edend: refused changes: 0; connections that ended at an invalid frame: 1, since their peer was too slow: 0; times that all places were taken: 0\n\
+edend: refused changes: 0; connections that ended at an invalid frame: 1, since their peer was too slow: 0, since no place was free: 0; times that all places were taken: 0\n\
 edend: the script has ended after line 2\n",
     ),
     (
@@ -65,7 +65,7 @@ edend: the script has ended after line 2\n",
         0,
         "edend: `remove d/zz` was refused: NoEntry\n\
 edend: `remount` was refused: GenerationNotNew\n\
-edend: refused changes: 2; connections that ended at an invalid frame: 0, since their peer was too slow: 0; times that all places were taken: 0\n\
+edend: refused changes: 2; connections that ended at an invalid frame: 0, since their peer was too slow: 0, since no place was free: 0; times that all places were taken: 0\n\
 edend: the script has ended after line 6\n",
     ),
     (
@@ -104,7 +104,7 @@ line 4: BadLine: after `listen` only write, remove, rename, renamedir, checkout,
         0,
         "edend: all places are taken; the next connection waits\n\
 edend: a connection has ended: frame 1: CutShort\n\
-edend: refused changes: 0; connections that ended at an invalid frame: 1, since their peer was too slow: 0; times that all places were taken: 1\n\
+edend: refused changes: 0; connections that ended at an invalid frame: 1, since their peer was too slow: 0, since no place was free: 0; times that all places were taken: 1\n\
 edend: the script has ended after line 2\n",
     ),
 ];
@@ -125,7 +125,7 @@ fn send<R: Net<Stream = TcpStream> + Clock>(
 }
 
 /// Runs a daemon whose script goes on until the flag is set. Returns its status.
-fn serve<
+pub(crate) fn serve<
     R: Threads
         + Wait
         + Clock

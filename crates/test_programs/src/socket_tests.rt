@@ -1,15 +1,18 @@
 //! `edend serve` at a Unix socket: what it prints, and what becomes of the files.
 
-use crate::daemon_tests::{ALL, OneFile, ran};
+use crate::daemon_tests::{ALL, OneFile, ran, split_words};
+use crate::observed_tests::serve;
 use eden_sockets::{Listener, Place, SocketPath};
 use std::alloc::Global;
-use std::fs;
 use std::fs::{File, Files};
+use std::io::{Read, Write};
 use std::net::{Net, TcpListener, TcpStream};
 use std::sync::Wait;
+use std::sync::atomic::{AtomicBool, Ordering};
 use std::test::Fail;
 use std::thread::Threads;
-use std::time::Clock;
+use std::time::{Clock, Duration};
+use std::{fs, thread};
 use test_sockets::{files_of, fresh_path};
 
 /// A script that ends as soon as it is served.
@@ -126,5 +129,99 @@ fn bad_script_leaves_no_file(rt: HostRuntime) -> Result<(), Fail> {
     assert_eq!(rt; status, 1);
     assert!(rt; output.is_empty());
     assert_eq!(rt; files_of(&rt, alloc, path)?, (false, false));
+    Ok(())
+}
+
+/// A frame that asks for a flush.
+const FLUSH: &[u8] = b"\0\0\0\x1b\x02\x06\
+\0\0\0\0\0\0\0\x01\0\0\0\0\0\0\0\x01\0\0\0\0\0\0\0\x01\x06";
+
+/// The options of a daemon at a socket, and the frame that answers a flush.
+const FLUSHED: &[(&str, &[u8])] = &[
+    (
+        "--stay",
+        b"\0\0\0\x1b\x02\x86\
+\0\0\0\0\0\0\0\x01\0\0\0\0\0\0\0\x01\0\0\0\0\0\0\0\x01\0",
+    ),
+    (
+        "--stay --writable",
+        b"\0\0\0\x3f\x02\x86\
+\0\0\0\0\0\0\0\x01\0\0\0\0\0\0\0\x01\0\0\0\0\0\0\0\x01\x01\
+\0\0\0\0\0\0\0\x07\0\0\0\0\0\0\0\x02\0\0\0\0\0\0\0\0\0\0\0\0\0\0\0\0\0\0\0\0",
+    ),
+];
+
+/// Asks for a flush on a connection of its own, and returns the first bytes of what is answered.
+fn flush<R: Net<Stream = TcpStream>>(
+    rt: &R,
+    alloc: Global,
+    place: &Place,
+    length: usize,
+) -> Option<Vec<u8>> {
+    let stream = place.connect(rt).ok()?;
+    let mut stream = &stream;
+    stream.write_all(FLUSH).ok()?;
+    let mut answer = vec![in alloc; 0; length].ok()?;
+    stream.read_exact(&mut answer).ok()?;
+    Some(answer)
+}
+
+/// Asks for a flush until it is answered.
+///
+/// A connection may be lost before the script is read, when the place is only tried.
+fn flushed<R: Net<Stream = TcpStream> + Clock>(
+    rt: &R,
+    alloc: Global,
+    place: &Place,
+    length: usize,
+) -> Option<Vec<u8>> {
+    for _ in 0..10_000 {
+        if let Some(answer) = flush(rt, alloc, place, length) {
+            return Some(answer);
+        }
+        thread::sleep(rt, Duration::from_millis(1));
+    }
+    None
+}
+
+/// Flushes as a client, and then sets the flag. Returns whether this was answered.
+fn flush_alone<R: Net<Stream = TcpStream> + Clock>(
+    rt: &R,
+    alloc: Global,
+    place: &Place,
+    answer: &[u8],
+    ended: &AtomicBool,
+) -> bool {
+    let heard = flushed(rt, alloc, place, answer.len());
+    ended.store(true, Ordering::SeqCst);
+    heard.is_some_and(|heard| heard.as_slice() == answer)
+}
+
+#[test]
+fn writable_socket(rt: HostRuntime) -> Result<(), Fail> {
+    let alloc = rt.alloc();
+    for (options, answer) in FLUSHED {
+        let (path, ended) = (fresh_path(&rt, alloc)?, AtomicBool::new(false));
+        let (name, place) = (path.as_str(), Place::Socket(path));
+        let line = format!(in alloc; "edend serve --socket {name} --connections 1 {options}")?;
+        let words = split_words(alloc, line.as_str())?;
+        let mut errors = Vec::new(alloc);
+        let (status, is_answered) = thread::join(
+            &rt,
+            || serve(
+                &rt,
+                alloc,
+                words.as_slice(),
+                SERVED.as_bytes(),
+                &ended,
+                &mut errors,
+            ),
+            || flush_alone(&rt, alloc, &place, answer, &ended),
+        );
+        assert!(rt;
+            is_answered && status == 0 && errors.is_empty(),
+            "{options}"
+        );
+    }
     Ok(())
 }

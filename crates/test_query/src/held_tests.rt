@@ -110,17 +110,31 @@ fn holds(
     stays(alloc, mount, objects, held.as_slice(), &asked)
 }
 
+/// The same, and nothing was held before.
+fn holds_all(
+    alloc: Global,
+    mount: &mut Mount<GitNaming>,
+    objects: &mut Objects,
+) -> Result<bool, Fail> {
+    let mut held = Vec::new(alloc);
+    holds(alloc, mount, objects, &mut held)
+}
+
 /// The same of a mount of the first commit.
 fn mount_holds(alloc: Global, objects: &mut Objects) -> Result<bool, Fail> {
     let mut mount = mounted(alloc, objects)?;
-    let mut held = Vec::new(alloc);
-    holds(alloc, &mut mount, objects, &mut held)
+    holds_all(alloc, &mut mount, objects)
+}
+
+/// The same of those objects.
+fn held_stays(alloc: Global) -> Result<bool, Fail> {
+    let mut objects = Objects::of(alloc, BEFORE)?;
+    mount_holds(alloc, &mut objects)
 }
 
 #[test]
 fn what_was_held_stays(rt: HostRuntime) -> Result<(), Fail> {
-    let mut objects = Objects::of(rt.alloc(), BEFORE)?;
-    assert!(rt; mount_holds(rt.alloc(), &mut objects)?);
+    assert!(rt; held_stays(rt.alloc())?);
     Ok(())
 }
 
@@ -201,10 +215,15 @@ fn keeps_a_poll(alloc: Global, mount: &mut Mount<GitNaming>) -> Result<bool, Fai
     is_kept(alloc, mount, &held)
 }
 
+/// The same of a mount of the empty commit.
+fn poll_stays(alloc: Global) -> Result<bool, Fail> {
+    let store = Store::new(alloc, GitNaming);
+    let mut mount = Mount::mount(alloc, store, Id::ZERO, 7, LIMIT)?;
+    keeps_a_poll(alloc, &mut mount)
+}
+
 #[test]
 fn poll_that_was_held_stays(rt: HostRuntime) -> Result<(), Fail> {
-    let store = Store::new(rt.alloc(), GitNaming);
-    let mut mount = Mount::mount(rt.alloc(), store, Id::ZERO, 7, LIMIT)?;
-    assert!(rt; keeps_a_poll(rt.alloc(), &mut mount)?);
+    assert!(rt; poll_stays(rt.alloc())?);
     Ok(())
 }

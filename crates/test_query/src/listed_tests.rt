@@ -65,16 +65,29 @@ fn first_wrong(
     })
 }
 
+/// The same, and nothing was held before.
+fn first_wrong_of(
+    alloc: Global,
+    mount: &mut Mount<GitNaming>,
+) -> Result<Option<&'static str>, Fail> {
+    let mut held = Vec::new(alloc);
+    first_wrong(alloc, mount, &mut held)
+}
+
 /// The same of a mount of that commit.
 fn first_wrong_list(alloc: Global, objects: &mut Objects) -> Result<Option<&'static str>, Fail> {
     let mut mount = mounted(alloc, objects)?;
-    let mut held = Vec::new(alloc);
-    first_wrong(alloc, &mut mount, &mut held)
+    first_wrong_of(alloc, &mut mount)
+}
+
+/// The same of that commit's own objects.
+fn wrong_list(alloc: Global) -> Result<Option<&'static str>, Fail> {
+    let mut objects = Objects::of(alloc, COMMIT)?;
+    first_wrong_list(alloc, &mut objects)
 }
 
 #[test]
 fn lists_below_renamed_directories(rt: HostRuntime) -> Result<(), Fail> {
-    let mut objects = Objects::of(rt.alloc(), COMMIT)?;
-    assert_eq!(rt; first_wrong_list(rt.alloc(), &mut objects)?, None);
+    assert_eq!(rt; wrong_list(rt.alloc())?, None);
     Ok(())
 }

@@ -66,10 +66,15 @@ fn refuses_too_large(alloc: Global, mount: &mut Mount<GitNaming>) -> Result<bool
     Ok(answer == Answer::Refused(ChangeFault::TooLarge))
 }
 
+/// The same of a mount of the empty commit.
+fn is_refused(alloc: Global) -> Result<bool, Fail> {
+    let mut mount = opened(alloc)?;
+    refuses_too_large(alloc, &mut mount)
+}
+
 // No line of a script is long enough for this one.
 #[test]
 fn change_refusals(rt: HostRuntime) -> Result<(), Fail> {
-    let mut mount = opened(rt.alloc())?;
-    assert!(rt; refuses_too_large(rt.alloc(), &mut mount)?);
+    assert!(rt; is_refused(rt.alloc())?);
     Ok(())
 }

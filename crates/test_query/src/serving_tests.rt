@@ -114,7 +114,24 @@ pub(crate) fn is_served(
     written.as_slice() == text && ended == end
 }
 
-/// Whether these frames are answered by this text and this end, whole, byte by byte, and cut in two at each place.
+/// Whether a mount answers these frames by this text and this end, whole, byte by byte, and cut in two at each place.
+fn is_answered(
+    alloc: Global,
+    mount: &mut Mount<GitNaming>,
+    frames: &[u8],
+    text: &[u8],
+    end: Result<u64, ServeFault>,
+) -> bool {
+    let whole = (usize::MAX, usize::MAX);
+    let mut same = is_served(alloc, mount, frames, whole, text, end)
+        && is_served(alloc, mount, frames, (1, usize::MAX), text, end);
+    for cut in 0..frames.len() {
+        same = same && is_served(alloc, mount, frames, (usize::MAX, cut), text, end);
+    }
+    same
+}
+
+/// The same of a mount of the empty commit.
 fn answers(
     alloc: Global,
     frames: &[u8],
@@ -122,13 +139,7 @@ fn answers(
     end: Result<u64, ServeFault>,
 ) -> Result<bool, Fail> {
     let mut mount = opened(alloc)?;
-    let whole = (usize::MAX, usize::MAX);
-    let mut same = is_served(alloc, &mut mount, frames, whole, text, end)
-        && is_served(alloc, &mut mount, frames, (1, usize::MAX), text, end);
-    for cut in 0..frames.len() {
-        same = same && is_served(alloc, &mut mount, frames, (usize::MAX, cut), text, end);
-    }
-    Ok(same)
+    Ok(is_answered(alloc, &mut mount, frames, text, end))
 }
 
 /// The same of frames and a text in parts.
@@ -232,17 +243,22 @@ fn poll_frames(rt: HostRuntime) -> Result<(), Fail> {
     Ok(())
 }
 
-/// The first front of a frame, by its length, that is not refused as one that is cut short.
+/// The first front of a frame, by its length, that a mount does not refuse as one that is cut short.
+fn first_answered(alloc: Global, mount: &mut Mount<GitNaming>, frame: &[u8]) -> Option<usize> {
+    let (whole, end) = ((usize::MAX, usize::MAX), stops(1, FrameFault::CutShort));
+    for left in 1..frame.len() {
+        if !is_served(alloc, mount, &frame[..left], whole, &[], end) {
+            return Some(left);
+        }
+    }
+    None
+}
+
+/// The same of a mount of the empty commit, and of a frame in parts.
 fn not_cut_short(alloc: Global, parts: &[&[u8]]) -> Result<Option<usize>, Fail> {
     let frame = joined(alloc, parts)?;
     let mut mount = opened(alloc)?;
-    let (whole, end) = ((usize::MAX, usize::MAX), stops(1, FrameFault::CutShort));
-    for left in 1..frame.len() {
-        if !is_served(alloc, &mut mount, &frame[..left], whole, &[], end) {
-            return Ok(Some(left));
-        }
-    }
-    Ok(None)
+    Ok(first_answered(alloc, &mut mount, frame.as_slice()))
 }
 
 #[test]

@@ -42,6 +42,11 @@ fn write(alloc: Global, mount: &mut Mount<GitNaming>, path: Path) -> Result<(), 
     Ok(())
 }
 
+fn remove(mount: &mut Mount<GitNaming>, path: Path) -> Result<(), Fail> {
+    let _ = mount.apply(&Change::Remove { path })?;
+    Ok(())
+}
+
 /// What a mount writes to one frame, a basis of all paths.
 fn replied(alloc: Global, mount: &mut Mount<GitNaming>) -> Result<Vec<u8>, Fail> {
     let basis = joined(alloc, &[&[0, 0, 0, 0x1b, 2, 1], &Q, &[0]])?;
@@ -83,33 +88,45 @@ fn is_basis(
     Ok(whole && frame.starts_with(head.as_slice()))
 }
 
-/// Checks what a mount of the empty commit replies as it takes one long path after another.
-fn check_bases(rt: &impl Abort, alloc: Global, mount: &mut Mount<GitNaming>) -> Result<(), Fail> {
+/// Whether a mount replies by a basis of this length, sequence and count.
+///
+/// Its first path is the first that was written.
+fn replies_by_basis(
+    alloc: Global,
+    mount: &mut Mount<GitNaming>,
+    length: [u8; 4],
+    sequence: [u8; 2],
+    count: [u8; 2],
+) -> Result<bool, Fail> {
     let first = long_path(alloc, 0, 1024)?;
-    for number in 0..FILES {
-        write(alloc, mount, long_path(alloc, number, 1024)?)?;
-    }
-    // 16,776,192 bytes: 66, and 1,026 for each path.
-    let length = [0, 0xff, 0xfc, 0];
     let frame = replied(alloc, mount)?;
-    let row = ([0x3f, 0xe0], [0x3f, 0xdf]);
-    assert!(rt; is_basis(alloc, frame.as_slice(), length, row.0, row.1, &first)?);
-    // 16,777,216 bytes, which is the most.
-    let shorter = long_path(alloc, FILES, 1022)?;
-    write(alloc, mount, shorter.copy()?)?;
-    let length = [1, 0, 0, 0];
-    let frame = replied(alloc, mount)?;
-    let row = ([0x3f, 0xe1], [0x3f, 0xe0]);
-    assert!(rt; is_basis(alloc, frame.as_slice(), length, row.0, row.1, &first)?);
-    // Two bytes more.
-    let _ = mount.apply(&Change::Remove { path: shorter })?;
-    write(alloc, mount, long_path(alloc, FILES, 1024)?)?;
+    is_basis(alloc, frame.as_slice(), length, sequence, count, &first)
+}
+
+/// Whether a mount refuses a basis as one that is too large.
+fn refuses_basis(alloc: Global, mount: &mut Mount<GitNaming>) -> Result<bool, Fail> {
     let frame = replied(alloc, mount)?;
     let refused = joined(
         alloc,
         &[&[0, 0, 0, 0x23, 2, 0x84], &Q, &[4, 0, 0, 0, 0, 0, 0, 0, 0]],
     )?;
-    assert!(rt; frame.as_slice() == refused.as_slice());
+    Ok(frame.as_slice() == refused.as_slice())
+}
+
+/// Checks what a mount of the empty commit replies as it takes one long path after another.
+fn check_bases(rt: &impl Abort, alloc: Global, mount: &mut Mount<GitNaming>) -> Result<(), Fail> {
+    for number in 0..FILES {
+        write(alloc, mount, long_path(alloc, number, 1024)?)?;
+    }
+    // 16,776,192 bytes: 66, and 1,026 for each path.
+    assert!(rt; replies_by_basis(alloc, mount, [0, 0xff, 0xfc, 0], [0x3f, 0xe0], [0x3f, 0xdf])?);
+    // 16,777,216 bytes, which is the most.
+    write(alloc, mount, long_path(alloc, FILES, 1022)?)?;
+    assert!(rt; replies_by_basis(alloc, mount, [1, 0, 0, 0], [0x3f, 0xe1], [0x3f, 0xe0])?);
+    // Two bytes more.
+    remove(mount, long_path(alloc, FILES, 1022)?)?;
+    write(alloc, mount, long_path(alloc, FILES, 1024)?)?;
+    assert!(rt; refuses_basis(alloc, mount)?);
     Ok(())
 }
 

@@ -5,7 +5,7 @@ use eden_accumulate::Mount;
 use eden_globs::Filter;
 use eden_history::Change;
 use eden_ids::{GitNaming, Id};
-use eden_messages::{Outcome, Reply, Request};
+use eden_messages::{Outcome, Query, Reply, Request};
 use eden_mirror::Mirror;
 use eden_objects::Store;
 use eden_query::{decode_reply, encode_request, serve};
@@ -66,6 +66,74 @@ pub(crate) fn opened_mount(alloc: Global) -> Result<Mount<GitNaming>, Fail> {
     Ok(Mount::mount(alloc, store, Id::ZERO, 7, 1000)?)
 }
 
+/// The replies to these requests.
+fn replies_to<D: Daemon>(
+    alloc: Global,
+    daemon: &mut D,
+    requests: &[Request],
+) -> Result<Vec<Reply>, Fail> {
+    let mut replies = Vec::new(alloc);
+    for request in requests {
+        replies.push(daemon.reply(alloc, request)?)?;
+    }
+    Ok(replies)
+}
+
+/// Checks that replies are these.
+fn are_said(alloc: Global, replies: &[Reply], wanted: &[Said]) -> Result<(), Fail> {
+    if replies.len() != wanted.len() {
+        return Err(Fail::new(format_args!("{replies:?} in place of {wanted:?}")));
+    }
+    for (reply, said) in replies.iter().zip(wanted) {
+        if *reply != said.reply(alloc)? {
+            return Err(Fail::new(format_args!("{reply:?} in place of {said:?}")));
+        }
+    }
+    Ok(())
+}
+
+/// Checks that these requests are outstanding.
+fn are_outstanding(mirror: &Mirror, wanted: &[Request]) -> Result<(), Fail> {
+    let asked = mirror.outstanding()?;
+    if asked.as_slice() == wanted {
+        return Ok(());
+    }
+    Err(Fail::new(format_args!("{asked:?} in place of {wanted:?}")))
+}
+
+/// Adds requests for the lists of these directories.
+fn add_lists(
+    alloc: Global,
+    requests: &mut Vec<Request>,
+    query: Query,
+    prefixes: &[&str],
+) -> Result<(), Fail> {
+    for name in prefixes {
+        requests.push(Request::List {
+            query,
+            prefix: path(alloc, name)?,
+            filter: Filter::all(alloc),
+        })?;
+    }
+    Ok(())
+}
+
+/// Adds requests for the contents of these paths.
+fn add_fetches(
+    alloc: Global,
+    requests: &mut Vec<Request>,
+    query: Query,
+    paths: &[&str],
+) -> Result<(), Fail> {
+    for name in paths {
+        requests.push(Request::Fetch {
+            query,
+            path: path(alloc, name)?,
+        })?;
+    }
+    Ok(())
+}
+
 /// What happens to a pair, and what is wanted of it.
 #[derive(Clone, Copy, Debug)]
 pub(crate) enum Step {
@@ -113,11 +181,8 @@ impl<D: Daemon + Drop> Pair<D> {
 
     /// The replies to all that is outstanding, of which none is delivered yet.
     pub(crate) fn asked(&mut self) -> Result<Vec<Reply>, Fail> {
-        let mut replies = Vec::new(self.alloc);
-        for request in &self.mirror.outstanding()? {
-            replies.push(self.daemon.reply(self.alloc, request)?)?;
-        }
-        Ok(replies)
+        let requests = self.mirror.outstanding()?;
+        replies_to(self.alloc, &mut self.daemon, requests.as_slice())
     }
 
     /// Delivers a reply: what comes of it.
@@ -130,24 +195,17 @@ impl<D: Daemon + Drop> Pair<D> {
         let is_idle = self.mirror.is_idle();
         let next = self.mirror.next_requests()?;
         self.mirror.begin()?;
-        if is_idle && next.as_slice() != self.mirror.outstanding()?.as_slice() {
-            return Err(Fail::new(format_args!("{next:?} is not asked")));
+        if is_idle {
+            are_outstanding(&self.mirror, next.as_slice())
+        } else {
+            Ok(())
         }
-        Ok(())
     }
 
     /// Asks all that is outstanding, to which the replies are these.
     fn asks(&mut self, wanted: &[Said]) -> Result<(), Fail> {
         let replies = self.asked()?;
-        if replies.len() != wanted.len() {
-            return Err(Fail::new(format_args!("{replies:?} in place of {wanted:?}")));
-        }
-        for (reply, said) in replies.iter().zip(wanted) {
-            if *reply != said.reply(self.alloc)? {
-                return Err(Fail::new(format_args!("{reply:?} in place of {said:?}")));
-            }
-        }
-        Ok(())
+        are_said(self.alloc, replies.as_slice(), wanted)
     }
 
     /// Delivers a reply, which has this outcome.
@@ -161,26 +219,10 @@ impl<D: Daemon + Drop> Pair<D> {
 
     /// In the round with this number, lists of these directories are outstanding, and then the contents of these paths.
     fn awaits(&self, number: u64, prefixes: &[&str], paths: &[&str]) -> Result<(), Fail> {
-        let (alloc, query) = (self.alloc, query(number));
-        let mut wanted = Vec::new(alloc);
-        for name in prefixes {
-            wanted.push(Request::List {
-                query,
-                prefix: path(alloc, name)?,
-                filter: Filter::all(alloc),
-            })?;
-        }
-        for name in paths {
-            wanted.push(Request::Fetch {
-                query,
-                path: path(alloc, name)?,
-            })?;
-        }
-        let asked = self.mirror.outstanding()?;
-        if asked.as_slice() == wanted.as_slice() {
-            return Ok(());
-        }
-        Err(Fail::new(format_args!("{asked:?} in place of {wanted:?}")))
+        let mut wanted = Vec::new(self.alloc);
+        add_lists(self.alloc, &mut wanted, query(number), prefixes)?;
+        add_fetches(self.alloc, &mut wanted, query(number), paths)?;
+        are_outstanding(&self.mirror, wanted.as_slice())
     }
 
     /// The position at which the mirror is placed, and its files, are these.
@@ -232,6 +274,14 @@ impl<D: Daemon + Drop> Pair<D> {
     pub(crate) fn goes(&mut self, steps: &[Step]) -> Result<(), Fail> {
         for step in steps {
             self.happens(step)?;
+        }
+        Ok(())
+    }
+
+    /// The steps of one part after the other happen so.
+    pub(crate) fn goes_through(&mut self, parts: &[&[Step]]) -> Result<(), Fail> {
+        for steps in parts {
+            self.goes(steps)?;
         }
         Ok(())
     }

@@ -6,6 +6,8 @@ mod basis_tests;
 #[cfg(test)]
 mod daemon;
 #[cfg(test)]
+mod exclusion_tests;
+#[cfg(test)]
 mod largest_tests;
 #[cfg(test)]
 mod owned_tests;

@@ -70,11 +70,22 @@ fn comes_alike(
     are_alike(lent, given, said.as_str())
 }
 
+/// A reply has this outcome, lent or given, at a mirror and another one to which the same came.
+fn given_after(
+    alloc: Global,
+    lent: &mut Mirror,
+    came: &[Reply],
+    reply: Reply,
+    wanted: Outcome,
+) -> Result<(), Fail> {
+    let mut given = mirror_after(alloc, came)?;
+    comes_alike(alloc, lent, &mut given, reply, wanted)
+}
+
 /// A reply that comes after others has this outcome, lent or given.
 fn either_way(alloc: Global, came: &[Reply], reply: Reply, wanted: Outcome) -> Result<(), Fail> {
     let mut lent = mirror_after(alloc, came)?;
-    let mut given = mirror_after(alloc, came)?;
-    comes_alike(alloc, &mut lent, &mut given, reply, wanted)
+    given_after(alloc, &mut lent, came, reply, wanted)
 }
 
 /// In reply to its second question: that files were moved from or to `d`, and that `p` alone has changed by itself.
@@ -91,23 +102,37 @@ fn moved(alloc: Global) -> Result<Reply, Fail> {
     })
 }
 
-/// The mirror in its second round, which awaits a list of `d` and the content of `p`. It has the file `d/a`.
+/// The mirror after its first round. It has the file `d/a`.
+fn placed_mirror(alloc: Global) -> Result<Mirror, Fail> {
+    let file = plain(alloc, "x")?;
+    let listed = list(alloc, &["d/a"])?;
+    let came = [listed, content(alloc, query(1), "d/a", Some(file))?];
+    mirror_after(alloc, came.as_slice())
+}
+
+/// A second round of a mirror begins, and it is told that.
+fn take_moved(alloc: Global, mirror: &mut Mirror) -> Result<(), Fail> {
+    let came = [moved(alloc)?];
+    take(mirror, came.as_slice())
+}
+
+/// That mirror in its second round, which awaits a list of `d` and the content of `p`.
 fn told_mirror(alloc: Global) -> Result<Mirror, Fail> {
-    let first = [
-        list(alloc, &["d/a"])?,
-        content(alloc, query(1), "d/a", Some(plain(alloc, "x")?))?,
-    ];
-    let second = [moved(alloc)?];
-    let mut mirror = mirror_after(alloc, first.as_slice())?;
-    take(&mut mirror, second.as_slice())?;
+    let mut mirror = placed_mirror(alloc)?;
+    take_moved(alloc, &mut mirror)?;
     Ok(mirror)
+}
+
+/// A reply has this outcome, lent or given, at such a mirror and another one.
+fn told_given(alloc: Global, lent: &mut Mirror, reply: Reply, wanted: Outcome) -> Result<(), Fail> {
+    let mut given = told_mirror(alloc)?;
+    comes_alike(alloc, lent, &mut given, reply, wanted)
 }
 
 /// A reply that comes to that mirror has this outcome, lent or given.
 fn told_either_way(alloc: Global, reply: Reply, wanted: Outcome) -> Result<(), Fail> {
     let mut lent = told_mirror(alloc)?;
-    let mut given = told_mirror(alloc)?;
-    comes_alike(alloc, &mut lent, &mut given, reply, wanted)
+    told_given(alloc, &mut lent, reply, wanted)
 }
 
 /// What comes to that mirror, and with which outcome.

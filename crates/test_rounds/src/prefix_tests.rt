@@ -40,10 +40,21 @@ fn told(alloc: Global) -> Result<Pair<World<GitNaming>>, Fail> {
     Ok(pair)
 }
 
+/// These steps happen to the mirror that is placed.
+fn placed_goes(alloc: Global, steps: &[Step]) -> Result<(), Fail> {
+    let mut pair = placed(alloc)?;
+    pair.goes(steps)
+}
+
+/// These steps happen to the mirror that was told that files were moved.
+fn told_goes(alloc: Global, steps: &[Step]) -> Result<(), Fail> {
+    let mut pair = told(alloc)?;
+    pair.goes(steps)
+}
+
 #[test]
 fn lists_in_a_round(rt: HostRuntime) -> Result<(), Fail> {
-    let mut pair = told(rt.alloc())?;
-    pair.goes(&[
+    let steps = [
         Step::Awaits(2, &["d", "e"], &[]),
         Step::Comes(Said::Listed(2, (7, 4), "d", &[]), Outcome::Taken),
         Step::Holds(Some((7, 3)), &[("d.x", "0")]),
@@ -56,14 +67,14 @@ fn lists_in_a_round(rt: HostRuntime) -> Result<(), Fail> {
         Step::Comes(Said::Content(2, (7, 4), "e/x", "1"), Outcome::Taken),
         Step::Comes(Said::Content(2, (7, 5), "e/y", "2"), Outcome::Placed),
         Step::Holds(Some((7, 4)), &[("d.x", "0"), ("e/x", "1"), ("e/y", "2")]),
-    ])
+    ];
+    told_goes(rt.alloc(), &steps)
 }
 
 // The last reply that is awaited is a list; and a path that is listed again is asked again.
 #[test]
 fn listed_again(rt: HostRuntime) -> Result<(), Fail> {
-    let mut pair = told(rt.alloc())?;
-    pair.goes(&[
+    let steps = [
         Step::Comes(Said::Listed(2, (7, 4), "d", &["d/y"]), Outcome::Taken),
         Step::Holds(Some((7, 3)), &[("d.x", "0"), ("d/y", "2")]),
         Step::Awaits(2, &["e"], &["d/y"]),
@@ -71,14 +82,14 @@ fn listed_again(rt: HostRuntime) -> Result<(), Fail> {
         Step::Comes(Said::Content(2, (7, 4), "d/y", "4"), Outcome::Ignored),
         Step::Comes(Said::Listed(2, (7, 4), "e", &[]), Outcome::Placed),
         Step::Holds(Some((7, 4)), &[("d.x", "0"), ("d/y", "3")]),
-    ])
+    ];
+    told_goes(rt.alloc(), &steps)
 }
 
 // A directory within another one: what is below both is awaited once, and again where its content has come before it is listed.
 #[test]
 fn a_directory_in_a_directory(rt: HostRuntime) -> Result<(), Fail> {
-    let mut pair = placed(rt.alloc())?;
-    pair.goes(&[
+    let steps = [
         Step::Begin,
         Step::Comes(Said::Moved(2, (7, 4), &["a", "a/b", "d"]), Outcome::Taken),
         Step::Comes(Said::Listed(2, (7, 4), "d", &[]), Outcome::Taken),
@@ -93,14 +104,14 @@ fn a_directory_in_a_directory(rt: HostRuntime) -> Result<(), Fail> {
         Step::Comes(Said::Content(2, (7, 4), "a/b/x", "2"), Outcome::Taken),
         Step::Comes(Said::Content(2, (7, 4), "a/y", "3"), Outcome::Placed),
         Step::Holds(Some((7, 4)), &[("a/b/x", "2"), ("a/y", "3"), ("d.x", "0")]),
-    ])
+    ];
+    placed_goes(rt.alloc(), &steps)
 }
 
 #[test]
 fn a_list_that_is_too_large(rt: HostRuntime) -> Result<(), Fail> {
-    let mut pair = told(rt.alloc())?;
     let files = &[("d.x", "0"), ("d/x", "1"), ("d/y", "2")];
-    pair.goes(&[
+    let steps = [
         Step::Comes(Said::Refused(1, Cause::TooLarge), Outcome::Ignored),
         Step::Comes(Said::Refused(2, Cause::Truncated(9)), Outcome::Ignored),
         Step::Comes(Said::Refused(2, Cause::TooLarge), Outcome::Ended),
@@ -109,27 +120,27 @@ fn a_list_that_is_too_large(rt: HostRuntime) -> Result<(), Fail> {
         Step::Comes(Said::Listed(2, (7, 4), "d", &[]), Outcome::Ignored),
         Step::Comes(Said::Refused(2, Cause::TooLarge), Outcome::Ignored),
         Step::Holds(Some((7, 3)), files),
-    ])
+    ];
+    told_goes(rt.alloc(), &steps)
 }
 
 // Once the directories are listed, such a refusal answers nothing that is awaited.
 #[test]
 fn too_large_after_the_lists(rt: HostRuntime) -> Result<(), Fail> {
-    let mut pair = told(rt.alloc())?;
-    pair.goes(&[
+    let steps = [
         Step::Comes(Said::Listed(2, (7, 4), "d", &[]), Outcome::Taken),
         Step::Comes(Said::Listed(2, (7, 4), "e", &["e/x"]), Outcome::Taken),
         Step::Comes(Said::Refused(2, Cause::TooLarge), Outcome::Ignored),
         Step::Comes(Said::Content(2, (7, 4), "e/x", "1"), Outcome::Placed),
         Step::Holds(Some((7, 4)), &[("d.x", "0"), ("e/x", "1")]),
-    ])
+    ];
+    told_goes(rt.alloc(), &steps)
 }
 
 // A round that is begun anew ignores the lists of the one before.
 #[test]
 fn given_up_with_a_list_outstanding(rt: HostRuntime) -> Result<(), Fail> {
-    let mut pair = told(rt.alloc())?;
-    pair.goes(&[
+    let steps = [
         Step::Comes(Said::Listed(2, (7, 4), "d", &[]), Outcome::Taken),
         Step::Begin,
         Step::Comes(Said::Listed(2, (7, 4), "e", &["e/x"]), Outcome::Ignored),
@@ -137,5 +148,6 @@ fn given_up_with_a_list_outstanding(rt: HostRuntime) -> Result<(), Fail> {
         Step::Comes(Said::Listed(3, (7, 5), "e", &[]), Outcome::Taken),
         Step::Comes(Said::Listed(3, (7, 5), "d", &[]), Outcome::Placed),
         Step::Holds(Some((7, 5)), &[("d.x", "0")]),
-    ])
+    ];
+    told_goes(rt.alloc(), &steps)
 }

@@ -36,10 +36,7 @@ const OVERLAPPING: &[Step] = &[
 /// A mirror of a daemon goes through all the parts, one after the other.
 fn plays<D: Daemon + Drop>(alloc: Global, daemon: D, parts: &[&[Step]]) -> Result<(), Fail> {
     let mut pair = Pair::new(alloc, daemon);
-    for steps in parts {
-        pair.goes(steps)?;
-    }
-    Ok(())
+    pair.goes_through(parts)
 }
 
 /// Through all the parts, a world and a mount are followed alike.

@@ -112,17 +112,27 @@ fn is_awaited(round: Round, kind: Kind) -> bool {
     }
 }
 
-/// All that a mirror shows.
-fn shown(alloc: Global, mirror: &Mirror) -> Result<String, Fail> {
+/// Where a mirror is placed, and what it asks.
+fn place_and_requests(alloc: Global, mirror: &Mirror) -> Result<String, Fail> {
     let position = mirror.position();
     let requests = mirror.outstanding()?;
-    let paths = mirror.files()?;
-    let mut text = format!(in alloc; "{position:?} {requests:?}")?;
-    for path in &paths {
+    Ok(format!(in alloc; "{position:?} {requests:?}")?)
+}
+
+/// Adds the files of a mirror to a text.
+fn add_files(alloc: Global, mirror: &Mirror, text: &mut String) -> Result<(), Fail> {
+    for path in &mirror.files()? {
         let content = mirror.get(path);
         let line = format!(in alloc; " {path:?} {content:?}")?;
         text.push_str(line.as_str())?;
     }
+    Ok(())
+}
+
+/// All that a mirror shows.
+fn shown(alloc: Global, mirror: &Mirror) -> Result<String, Fail> {
+    let mut text = place_and_requests(alloc, mirror)?;
+    add_files(alloc, mirror, &mut text)?;
     Ok(text)
 }
 
@@ -250,13 +260,28 @@ fn ignores_unasked(
     Ok(())
 }
 
+/// So it is of replies of each kind.
+fn ignores_all_unasked(
+    pair: &mut Pair<World<GitNaming>>,
+    own: Query,
+    round: Round,
+) -> Result<(), Fail> {
+    for kind in KINDS {
+        ignores_unasked(pair, own, round, *kind)?;
+    }
+    Ok(())
+}
+
+/// So it is of a mirror that is in such a round.
+fn ignores_out_of(alloc: Global, round: Round) -> Result<(), Fail> {
+    let (mut pair, own) = mirror_in(alloc, round)?;
+    ignores_all_unasked(&mut pair, own, round)
+}
+
 #[test]
 fn replies_out_of_their_round(rt: HostRuntime) -> Result<(), Fail> {
     for round in ROUNDS {
-        let (mut pair, own) = mirror_in(rt.alloc(), *round)?;
-        for kind in KINDS {
-            ignores_unasked(&mut pair, own, *round, *kind)?;
-        }
+        ignores_out_of(rt.alloc(), *round)?;
     }
     Ok(())
 }

@@ -37,14 +37,32 @@ pub fn big_script(alloc: Global) -> Result<Vec<u8>, Fail> {
     Ok(script)
 }
 
-/// The frame that asks whether `w` changed since the mount.
-pub fn poll_frame(alloc: Global) -> Result<Vec<u8>, Fail> {
+/// Returns the frame that asks for what has changed since the mount, of what a filter admits.
+pub(crate) fn poll_for(alloc: Global, filter: Filter) -> Result<Vec<u8>, Fail> {
     let request = Request::Poll {
         query: QUERY,
         since: BEGUN,
-        filter: Filter::parse(alloc, &[b"w".as_slice()])?,
+        filter,
     };
     Ok(encode_request(alloc, &request)?)
+}
+
+/// The frame that asks whether `w` changed since the mount.
+pub fn poll_frame(alloc: Global) -> Result<Vec<u8>, Fail> {
+    poll_for(alloc, Filter::parse(alloc, &[b"w".as_slice()])?)
+}
+
+/// Returns the frame that asks for a change, whose bytes after the query are these.
+pub(crate) fn change_frame(alloc: Global, change: &[u8]) -> Result<Vec<u8>, Fail> {
+    let mut frame = Vec::new(alloc);
+    let length = u32::try_from(change.len().saturating_add(26)).unwrap_or(u32::MAX);
+    frame.extend_from_slice(&length.to_be_bytes())?;
+    frame.extend_from_slice(&[2, 6])?;
+    for number in [QUERY.mirror, QUERY.life, QUERY.number] {
+        frame.extend_from_slice(&number.to_be_bytes())?;
+    }
+    frame.extend_from_slice(change)?;
+    Ok(frame)
 }
 
 /// The frame that asks what stands at a path.

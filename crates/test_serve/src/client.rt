@@ -1,8 +1,9 @@
 //! A client that sends one frame and reads the reply.
 
+use crate::asking::QUERY;
 use eden_messages::Reply;
 use eden_sockets::{ListenFault, Listener, Place};
-use eden_wire::decode_reply;
+use eden_wire::{Done, decode_done, decode_reply};
 use std::alloc::Global;
 use std::io::{Read, Write};
 use std::net::{Ipv4Addr, Net, TcpListener, TcpStream};
@@ -46,14 +47,26 @@ pub fn connect<R: Net<Stream = TcpStream> + Clock>(rt: &R, port: u16) -> Option<
     None
 }
 
-/// Reads one reply. None where no whole frame comes, or where it is none of a reply.
-pub fn read_reply(alloc: Global, mut stream: &TcpStream) -> Option<Reply> {
+/// Reads the body of one frame, if a whole frame comes.
+fn read_body(alloc: Global, mut stream: &TcpStream) -> Option<Vec<u8>> {
     let mut length = [0; 4];
     stream.read_exact(&mut length).ok()?;
     let length = u32::from_be_bytes(length) as usize;
     let mut body = vec![in alloc; 0; length].ok()?;
     stream.read_exact(&mut body).ok()?;
-    decode_reply(alloc, &body).ok()
+    Some(body)
+}
+
+/// Reads one reply. None where no whole frame comes, or where it is none of a reply.
+pub fn read_reply(alloc: Global, stream: &TcpStream) -> Option<Reply> {
+    decode_reply(alloc, &read_body(alloc, stream)?).ok()
+}
+
+/// Sends the frame of a change, and reads what is answered, if anything is.
+pub(crate) fn ask_change(alloc: Global, mut stream: &TcpStream, frame: &[u8]) -> Option<Done> {
+    stream.write_all(frame).ok()?;
+    let (query, done) = decode_done(alloc, &read_body(alloc, stream)?).ok()?;
+    (query == QUERY).then_some(done)
 }
 
 /// Sends a frame, and reads the reply to it.

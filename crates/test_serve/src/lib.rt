@@ -52,3 +52,5 @@ mod staying;
 mod stopping_tests;
 #[cfg(test)]
 mod timely_tests;
+#[cfg(test)]
+mod writing_tests;

@@ -1,7 +1,7 @@
 //! A daemon that serves until its input ends.
 
 use eden_edend::Objects;
-use eden_serve::{Daemon, DaemonFault, ScriptInput, Unobserved, Until, run_daemon};
+use eden_serve::{Daemon, DaemonFault, ScriptInput, Terms, Unobserved, Until, run_daemon};
 use eden_sockets::Place;
 use eden_stream::CountedWrite;
 use std::alloc::Global;
@@ -33,14 +33,37 @@ pub fn stay<
     port: u16,
     threads: u64,
 ) -> Result<(), DaemonFault> {
+    stay_on(rt, alloc, script, writer, port, threads, false)
+}
+
+/// Runs a script as `stay` does. Clients may change the mount if it is writable.
+pub(crate) fn stay_on<
+    R: Threads
+        + Wait
+        + Clock
+        + Files<File = File>
+        + Net<Listener = TcpListener, Stream = TcpStream>
+        + Sync,
+    I: Read + Send + Drop,
+    W: CountedWrite,
+>(
+    rt: &R,
+    alloc: Global,
+    script: I,
+    writer: &mut W,
+    port: u16,
+    threads: u64,
+    writable: bool,
+) -> Result<(), DaemonFault> {
     let mut input = ScriptInput::new(alloc, script)?;
     let daemon = Daemon {
         objects: Objects::new(alloc),
         place: Place::Port(port),
-        until: Until::Input {
+        until: Until::Input(Terms {
             threads,
             limit: Duration::from_secs(LIMIT),
-        },
+            writable,
+        }),
     };
     run_daemon(rt, alloc, daemon, &mut input, writer, &Unobserved)
 }

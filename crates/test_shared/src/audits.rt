@@ -49,14 +49,16 @@ fn log_copy(alloc: Global, log: &CallLog) -> Result<CallLog, Fail> {
     })
 }
 
-/// These logs, of which the last one is altered so that this is wrong with them.
-fn altered(alloc: Global, logs: &[CallLog], fault: AuditFault) -> Result<Vec<CallLog>, Fail> {
+fn copies_of(alloc: Global, logs: &[CallLog]) -> Result<Vec<CallLog>, Fail> {
     let mut copies = Vec::new(alloc);
     for log in logs {
         copies.push(log_copy(alloc, log)?)?;
     }
-    let CallLog { caller, entries } = copies.pop().ok_or("no log")?;
-    let mut entries = entries.into_vec();
+    Ok(copies)
+}
+
+/// Alters entries so that this is wrong with their log.
+fn alter(entries: &mut Vec<LogEntry>, fault: AuditFault) -> Result<(), Fail> {
     let first = entries.first_mut().ok_or("an empty log")?;
     match fault {
         AuditFault::UnknownCall => first.ticket = u64::MAX,
@@ -65,15 +67,42 @@ fn altered(alloc: Global, logs: &[CallLog], fault: AuditFault) -> Result<Vec<Cal
             let again = copy_of(first)?;
             entries.push(again)?;
         }
-        AuditFault::Twice => {
-            if let Some(last) = logs.last() {
-                copies.push(log_copy(alloc, last)?)?;
-            }
-        }
-        _ => return Ok(copies),
+        _ => {}
     }
-    let entries = Sequence::from_vec(entries);
-    copies.push(CallLog { caller, entries })?;
+    Ok(())
+}
+
+/// Returns a log, altered so.
+fn altered_log(log: CallLog, fault: AuditFault) -> Result<CallLog, Fail> {
+    let CallLog { caller, entries } = log;
+    let mut entries = entries.into_vec();
+    alter(&mut entries, fault)?;
+    Ok(CallLog {
+        caller,
+        entries: Sequence::from_vec(entries),
+    })
+}
+
+/// Alters the last log, doubles it or leaves it out.
+///
+/// Then this is wrong with the logs.
+fn alter_last(alloc: Global, logs: &mut Vec<CallLog>, fault: AuditFault) -> Result<(), Fail> {
+    let last = logs.pop().ok_or("no log")?;
+    match fault {
+        AuditFault::CountsDiffer => {}
+        AuditFault::Twice => {
+            logs.push(log_copy(alloc, &last)?)?;
+            logs.push(last)?;
+        }
+        _ => logs.push(altered_log(last, fault)?)?,
+    }
+    Ok(())
+}
+
+/// Returns copies of logs, altered so that this is wrong with them.
+fn altered(alloc: Global, logs: &[CallLog], fault: AuditFault) -> Result<Vec<CallLog>, Fail> {
+    let mut copies = copies_of(alloc, logs)?;
+    alter_last(alloc, &mut copies, fault)?;
     Ok(copies)
 }
 
@@ -118,6 +147,20 @@ pub(crate) fn end_both<L: Ledger>(
     Ok(Ended { passes, logs })
 }
 
+/// Gives the lock up, and checks that the logs agree with its history.
+fn give_up<L: Ledger>(
+    rt: &impl Abort,
+    alloc: Global,
+    shared: Behind<L>,
+    passes: Vec<Pass<L>>,
+    logs: &[CallLog],
+) -> Result<(), Fail>
+    requires { L.parts ≡ 256 }
+{
+    let mut audited = shared.finish(passes)?;
+    agree(rt, alloc, &mut audited, logs)
+}
+
 /// The lock is given up: it took as many calls as the logs note, and they agree with its history.
 pub(crate) fn close<L: Ledger>(
     rt: &impl Abort,
@@ -128,6 +171,5 @@ pub(crate) fn close<L: Ledger>(
     requires { L.parts ≡ 256 }
 {
     let Ended { passes, logs } = given;
-    let mut audited = shared.finish(passes)?;
-    agree(rt, alloc, &mut audited, logs.as_slice())
+    give_up(rt, alloc, shared, passes, logs.as_slice())
 }

@@ -93,6 +93,14 @@ fn request_of(alloc: Global, draw: Draw, query: Query) -> Result<Request, Fail> 
     })
 }
 
+/// Returns the call of a caller that a draw stands for.
+fn call_of(alloc: Global, draw: Draw, query: Query) -> Result<Call, Fail> {
+    Ok(match change_of(alloc, draw)? {
+        Some(change) => Call::Change(change),
+        None => Call::Ask(request_of(alloc, draw, query)?),
+    })
+}
+
 /// So many calls of a caller: changes, and what it asks in between. They follow from its number alone.
 pub(crate) fn calls_of(
     alloc: Global,
@@ -109,10 +117,7 @@ pub(crate) fn calls_of(
             life: 1,
             number,
         };
-        calls.push(match change_of(alloc, draw)? {
-            Some(change) => Call::Change(change),
-            None => Call::Ask(request_of(alloc, draw, query)?),
-        })?;
+        calls.push(call_of(alloc, draw, query)?)?;
     }
     Ok(calls)
 }

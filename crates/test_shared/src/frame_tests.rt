@@ -2,7 +2,7 @@
 
 ghost use Rattle.std.specs.Prelude.{◌≡◌};
 
-use crate::audits::{Behind, close, end_both, opened};
+use crate::audits::{Behind, Ended, close, end_both, opened};
 use eden_ids::{GitNaming, Id};
 use eden_messages::{Query, Request};
 use eden_objects::Store;
@@ -20,41 +20,71 @@ use std::time::Duration;
 use test_kit::{PLACE_BYTES as P, QUERY_BYTES as Q, joined};
 
 /// A fetch of `a`.
-fn fetch(alloc: Global) -> Result<Vec<u8>, Fail> {
-    Ok(joined(alloc, &[&[0, 0, 0, 0x1d, 2, 3], &Q, &[0, 1, b'a']])?)
-}
+const FETCH: &[&[u8]] = &[&[0, 0, 0, 0x1d, 2, 3], &Q, &[0, 1, b'a']];
+
+/// The same with a byte more than its fields.
+const LONGER: &[&[u8]] = &[&[0, 0, 0, 0x1e, 2, 3], &Q, &[0, 1, b'a', 0]];
+
+/// The same with the longest patience that there is.
+const PATIENT: &[&[u8]] = &[
+    &[0, 0, 0, 0x23, 2, 5, 0xff, 0xff, 0xff, 0xff],
+    &[2, 3],
+    &Q,
+    &[0, 1, b'a'],
+];
+
+/// A flush, which a desk is not asked by frames.
+const FLUSH: &[&[u8]] = &[&[0, 0, 0, 0x1b, 2, 6], &Q, &[6]];
 
 /// The reply that nothing stands at `a`.
-fn absent(alloc: Global) -> Result<Vec<u8>, Fail> {
-    Ok(joined(
-        alloc,
-        &[&[0, 0, 0, 0x42, 2, 0x83], &Q, &P, &[0, 1, b'a', 0]],
-    )?)
-}
+const ABSENT: &[&[u8]] = &[&[0, 0, 0, 0x42, 2, 0x83], &Q, &P, &[0, 1, b'a', 0]];
 
-fn stops(number: u64, fault: FrameFault) -> Result<u64, ServeFault> {
-    Err(ServeFault::Frame { number, fault })
-}
+/// Frames, or other bytes, one after another.
+type Frames = &'static [&'static [&'static [u8]]];
 
 /// A stream, the replies to it, and how its serving ends.
-#[derive(Drop)]
-struct Case {
-    stream: Vec<u8>,
-    text: Vec<u8>,
-    end: Result<u64, ServeFault>,
+///
+/// It ends after this many frames, or at the frame of this number with a fault.
+type Case = (Frames, Frames, Result<u64, (u64, FrameFault)>);
+
+const CASES: &[Case] = &[
+    (&[], &[], Ok(0)),
+    (&[&[&[0, 0, 0, 0]]], &[], Err((1, FrameFault::CutShort))),
+    (&[&[&[1, 0, 0, 1]]], &[], Err((1, FrameFault::TooLarge))),
+    (&[&[&[0, 0, 0]]], &[], Err((1, FrameFault::CutShort))),
+    (
+        &[FETCH, LONGER, FETCH],
+        &[ABSENT],
+        Err((2, FrameFault::Trailing)),
+    ),
+    (
+        &[FETCH, FLUSH, FETCH],
+        &[ABSENT],
+        Err((2, FrameFault::BadTag)),
+    ),
+    (&[FETCH, FETCH], &[ABSENT, ABSENT], Ok(2)),
+    (&[PATIENT, FETCH], &[ABSENT, ABSENT], Ok(2)),
+    (
+        &[FETCH, FETCH, &[&[0]]],
+        &[ABSENT, ABSENT],
+        Err((3, FrameFault::CutShort)),
+    ),
+];
+
+fn text_of(alloc: Global, frames: &[&[&[u8]]]) -> Result<Vec<u8>, Fail> {
+    let mut text = Vec::new(alloc);
+    for parts in frames {
+        text.extend_from_slice(joined(alloc, parts)?.as_slice())?;
+    }
+    Ok(text)
 }
 
-fn made(
-    alloc: Global,
-    stream: &[&[u8]],
-    text: &[&[u8]],
-    end: Result<u64, ServeFault>,
-) -> Result<Case, Fail> {
-    Ok(Case {
-        stream: joined(alloc, stream)?,
-        text: joined(alloc, text)?,
-        end,
-    })
+/// Returns how the serving of a case ends.
+fn end_of(end: Result<u64, (u64, FrameFault)>) -> Result<u64, ServeFault> {
+    match end {
+        Ok(served) => Ok(served),
+        Err((number, fault)) => Err(ServeFault::Frame { number, fault }),
+    }
 }
 
 /// A gate that keeps the longest patience, in milliseconds.
@@ -70,39 +100,6 @@ impl Gate for Longest {
     }
 
     fn between(&self, _query: &Query) {}
-}
-
-/// A fetch of `a` with the longest patience that there is.
-fn patient(alloc: Global) -> Result<Vec<u8>, Fail> {
-    let patience: &[u8] = &[0, 0, 0, 0x23, 2, 5, 0xff, 0xff, 0xff, 0xff];
-    Ok(joined(alloc, &[patience, &[2, 3], &Q, &[0, 1, b'a']])?)
-}
-
-fn cases(alloc: Global) -> Result<[Case; 8], Fail> {
-    let (frame, reply) = (fetch(alloc)?, absent(alloc)?);
-    let (frame, reply) = (frame.as_slice(), reply.as_slice());
-    // A byte more than its fields.
-    let longer = joined(alloc, &[&[0, 0, 0, 0x1e, 2, 3], &Q, &[0, 1, b'a', 0]])?;
-    Ok([
-        made(alloc, &[], &[], Ok(0))?,
-        made(alloc, &[&[0, 0, 0, 0]], &[], stops(1, FrameFault::CutShort))?,
-        made(alloc, &[&[1, 0, 0, 1]], &[], stops(1, FrameFault::TooLarge))?,
-        made(alloc, &[&[0, 0, 0]], &[], stops(1, FrameFault::CutShort))?,
-        made(
-            alloc,
-            &[frame, &longer, frame],
-            &[reply],
-            stops(2, FrameFault::Trailing),
-        )?,
-        made(alloc, &[frame, frame], &[reply, reply], Ok(2))?,
-        made(alloc, &[&patient(alloc)?, frame], &[reply, reply], Ok(2))?,
-        made(
-            alloc,
-            &[frame, frame, &[0]],
-            &[reply, reply],
-            stops(3, FrameFault::CutShort),
-        )?,
-    ])
 }
 
 /// What is written to a stream, and how its serving ends.
@@ -121,6 +118,23 @@ fn served<L: Ledger>(
     (written, end)
 }
 
+/// Serves a case, and checks the replies and the end.
+fn serve_case<L: Ledger>(
+    rt: &(impl Wait + Abort),
+    alloc: Global,
+    shared: &Behind<L>,
+    desk: &mut Desk<L>,
+    gate: &Longest,
+    case: &Case,
+) -> Result<(), Fail> {
+    let (frames, replies, end) = case;
+    let (stream, text) = (text_of(alloc, frames)?, text_of(alloc, replies)?);
+    let (written, told) = served(rt, alloc, shared, desk, gate, stream.as_slice());
+    assert_eq!(rt; told, end_of(*end));
+    assert_eq!(rt; written, text);
+    Ok(())
+}
+
 /// A desk is asked by these streams, one after another.
 fn serve_all<L: Ledger>(
     rt: &(impl Wait + Abort),
@@ -131,14 +145,36 @@ fn serve_all<L: Ledger>(
     let gate = Longest {
         milliseconds: AtomicU64::new(0),
     };
-    for case in &cases(alloc)? {
-        let (written, end) = served(rt, alloc, shared, desk, &gate, case.stream.as_slice());
-        assert_eq!(rt; end, case.end);
-        assert_eq!(rt; written, case.text);
+    for case in CASES {
+        serve_case(rt, alloc, shared, desk, &gate, case)?;
     }
     // More than a minute counts as a minute.
     assert_eq!(rt; gate.milliseconds.load(Ordering::SeqCst), 60_000);
     Ok(())
+}
+
+/// Asks one desk by all streams, and a later one by none.
+fn serve_one_of_two<L: Ledger>(
+    rt: &(impl Wait + Abort),
+    alloc: Global,
+    shared: &Behind<L>,
+) -> Result<Ended<L>, Fail> {
+    let mut desk = Desk::new(alloc, shared.pass(rt)?);
+    serve_all(rt, alloc, shared, &mut desk)?;
+    let other = Desk::new(alloc, shared.pass(rt)?);
+    end_both(alloc, other, desk)
+}
+
+/// Serves the streams, and gives the lock up.
+fn serve_and_close<L: Ledger>(
+    rt: &(impl Wait + Abort),
+    alloc: Global,
+    shared: Behind<L>,
+) -> Result<(), Fail>
+    requires { L.parts ≡ 256 }
+{
+    let given = serve_one_of_two(rt, alloc, &shared)?;
+    close(rt, alloc, shared, given)
 }
 
 /// A desk is asked by frames, and notes each request that was answered.
@@ -148,11 +184,7 @@ fn serves<L: Ledger>(rt: &(impl Wait + Abort), alloc: Global, blank: Blank) -> R
     requires whole { blank.parts ≡ 256 }
 {
     let shared = opened::<L>(alloc, Store::new(alloc, GitNaming), Id::ZERO, blank)?;
-    let mut desk = Desk::new(alloc, shared.pass(rt)?);
-    serve_all(rt, alloc, &shared, &mut desk)?;
-    let other = Desk::new(alloc, shared.pass(rt)?);
-    let given = end_both(alloc, other, desk)?;
-    close(rt, alloc, shared, given)
+    serve_and_close(rt, alloc, shared)
 }
 
 #[test]

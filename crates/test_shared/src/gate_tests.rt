@@ -157,7 +157,29 @@ fn call_both<L: Ledger + Send + Sync, R: Threads + Wait + Clock + Sync>(
     )
 }
 
-/// Two callers, of whom one goes over to a commit first.
+/// Lets the second caller go over, and both do what is planned.
+fn play_both<L: Ledger + Send + Sync, R: Threads + Wait + Abort + Clock + Sync>(
+    rt: &R,
+    shared: &Behind<L>,
+    first: &mut Desk<L>,
+    second: &mut Desk<L>,
+    commit: Id,
+    plan: &Plan,
+) -> Result<(), Fail> {
+    let mode = Mode::Normal;
+    let _ = second.change(rt, shared, &Change::Checkout { commit, mode })?;
+    let flags = Flags {
+        held: AtomicBool::new(false),
+        changed: AtomicBool::new(false),
+        seen: AtomicBool::new(false),
+    };
+    let (reply, changed) = call_both(rt, shared, first, second, plan, &flags);
+    assert!(rt; changed && flags.seen.load(Ordering::SeqCst));
+    assert!(rt; reply.as_ref() == Some(&plan.reply));
+    Ok(())
+}
+
+/// Does so with two desks, and returns what they hand back.
 fn play<L: Ledger + Send + Sync, R: Threads + Wait + Abort + Clock + Sync>(
     rt: &R,
     alloc: Global,
@@ -167,16 +189,7 @@ fn play<L: Ledger + Send + Sync, R: Threads + Wait + Abort + Clock + Sync>(
 ) -> Result<Ended<L>, Fail> {
     let mut first = Desk::new(alloc, shared.pass(rt)?);
     let mut second = Desk::new(alloc, shared.pass(rt)?);
-    let mode = Mode::Normal;
-    let _ = second.change(rt, shared, &Change::Checkout { commit, mode })?;
-    let flags = Flags {
-        held: AtomicBool::new(false),
-        changed: AtomicBool::new(false),
-        seen: AtomicBool::new(false),
-    };
-    let (reply, changed) = call_both(rt, shared, &mut first, &mut second, plan, &flags);
-    assert!(rt; changed && flags.seen.load(Ordering::SeqCst));
-    assert!(rt; reply.as_ref() == Some(&plan.reply));
+    play_both(rt, shared, &mut first, &mut second, commit, plan)?;
     end_both(alloc, first, second)
 }
 
@@ -221,6 +234,25 @@ fn later(alloc: Global, objects: &mut Objects, imports: bool) -> Result<Vec<Chan
     Ok(vec![in alloc; import, Change::Checkout { commit, mode }]?)
 }
 
+/// Returns the reply of a world over these objects.
+///
+/// It has seen what the first caller is to see.
+fn right_reply(
+    alloc: Global,
+    objects: &mut Objects,
+    waits: Waits,
+    changes: &[Change],
+    request: &Request,
+) -> Result<Reply, Fail> {
+    let (root, commit) = (objects.id("c"), objects.id("e"));
+    let seen = match waits {
+        Waits::Before => changes,
+        Waits::Between => &[],
+    };
+    let store = objects.store.share()?;
+    reply_after(alloc, store, root, commit, seen, request)
+}
+
 /// The first caller asks what changed since the mount was at its first commit.
 fn planned(
     alloc: Global,
@@ -228,24 +260,18 @@ fn planned(
     waits: Waits,
     imports: bool,
 ) -> Result<Plan, Fail> {
-    let (root, commit) = (objects.id("c"), objects.id("e"));
+    let changes = later(alloc, objects, imports)?;
     let since = Position {
         generation: 7,
         sequence: 1,
-        root,
+        root: objects.id("c"),
     };
     let request = Request::Poll {
         query: QUERY,
         since,
         filter: Filter::all(alloc),
     };
-    let changes = later(alloc, objects, imports)?;
-    let store = objects.store.share()?;
-    let seen = match waits {
-        Waits::Before => changes.as_slice(),
-        Waits::Between => &[],
-    };
-    let reply = reply_after(alloc, store, root, commit, seen, &request)?;
+    let reply = right_reply(alloc, objects, waits, changes.as_slice(), &request)?;
     Ok(Plan {
         request,
         waits,
@@ -254,7 +280,52 @@ fn planned(
     })
 }
 
-/// While one caller waits, which asks about a change of the root, another caller changes the mount.
+/// Opens a mount of the first commit, as its objects are now.
+fn opened_now<L: Ledger>(
+    alloc: Global,
+    blank: Blank,
+    objects: &mut Objects,
+) -> Result<Behind<L>, Fail>
+    requires name { blank.name ≡ L.name }
+    requires parts { blank.parts ≡ L.parts }
+    requires whole { blank.parts ≡ 256 }
+{
+    let root = objects.id("c");
+    let store = objects.store.share()?;
+    opened::<L>(alloc, store, root, blank)
+}
+
+/// Lets one caller wait while another one changes the mount.
+///
+/// The first asks about a change of the root.
+fn overlap<L: Ledger + Send + Sync, R: Threads + Wait + Abort + Clock + Sync>(
+    rt: &R,
+    alloc: Global,
+    shared: &Behind<L>,
+    objects: &mut Objects,
+    waits: Waits,
+    imports: bool,
+) -> Result<Ended<L>, Fail> {
+    let plan = planned(alloc, objects, waits, imports)?;
+    play(rt, alloc, shared, objects.id("e"), &plan)
+}
+
+/// Does so, and gives the lock up.
+fn overlap_and_close<L: Ledger + Send + Sync, R: Threads + Wait + Abort + Clock + Sync>(
+    rt: &R,
+    alloc: Global,
+    shared: Behind<L>,
+    objects: &mut Objects,
+    waits: Waits,
+    imports: bool,
+) -> Result<(), Fail>
+    requires { L.parts ≡ 256 }
+{
+    let given = overlap(rt, alloc, &shared, objects, waits, imports)?;
+    close(rt, alloc, shared, given)
+}
+
+/// Does so at a mount of the first commit.
 fn overlapped<L: Ledger + Send + Sync, R: Threads + Wait + Abort + Clock + Sync>(
     rt: &R,
     alloc: Global,
@@ -267,11 +338,8 @@ fn overlapped<L: Ledger + Send + Sync, R: Threads + Wait + Abort + Clock + Sync>
     requires whole { blank.parts ≡ 256 }
 {
     let mut objects = Objects::of(alloc, BEFORE)?;
-    let store = objects.store.share()?;
-    let plan = planned(alloc, &mut objects, waits, imports)?;
-    let shared = opened::<L>(alloc, store, objects.id("c"), blank)?;
-    let given = play(rt, alloc, &shared, objects.id("e"), &plan)?;
-    close(rt, alloc, shared, given)
+    let shared = opened_now::<L>(alloc, blank, &mut objects)?;
+    overlap_and_close(rt, alloc, shared, &mut objects, waits, imports)
 }
 
 #[test]

@@ -8,6 +8,10 @@ mod audits;
 #[cfg(test)]
 mod calls;
 #[cfg(test)]
+mod change_frame_tests;
+#[cfg(test)]
+mod change_thread_tests;
+#[cfg(test)]
 mod desk_tests;
 #[cfg(test)]
 mod frame_tests;

@@ -5,7 +5,7 @@ ghost use Rattle.std.specs.Prelude.{◌≡◌};
 use crate::audits::{Behind, Ended, close, end_both, opened};
 use eden_ids::{GitNaming, Id};
 use eden_objects::Store;
-use eden_shared::{CallersSpent, Desk, PassMissing};
+use eden_shared::{Audited, CallLog, CallersSpent, Desk, Pass, PassMissing};
 use std::alloc::Global;
 use std::marker::Brand;
 use std::process::Abort;
@@ -27,19 +27,38 @@ fn write_each<L: Ledger>(
     Ok((one, two))
 }
 
-/// Two callers make a change each.
+/// Lets two callers make a change each.
+///
+/// Returns the first pass with both logs, and the second pass.
 fn call_each<L: Ledger>(
     rt: &(impl Wait + Abort),
     alloc: Global,
     shared: &Behind<L>,
-) -> Result<Ended<L>, Fail> {
+) -> Result<(Ended<L>, Pass<L>), Fail> {
     let mut first = Desk::new(alloc, shared.pass(rt)?);
     let mut second = Desk::new(alloc, shared.pass(rt)?);
     assert_eq!(rt;
         write_each(rt, alloc, shared, &mut first, &mut second)?,
         (1, 2)
     );
-    end_both(alloc, first, second)
+    let mut given = end_both(alloc, first, second)?;
+    let kept = given.passes.pop().ok_or("no pass")?;
+    Ok((given, kept))
+}
+
+/// Gives the lock up for the pass that was missing too.
+fn with_both<L: Ledger>(
+    rt: &impl Abort,
+    alloc: Global,
+    missing: PassMissing<GitNaming, Audited<GitNaming>, L>,
+    kept: Pass<L>,
+    logs: Vec<CallLog>,
+) -> Result<(), Fail>
+    requires { L.parts ≡ 256 }
+{
+    let PassMissing { shared, mut passes } = missing;
+    passes.push(kept)?;
+    close(rt, alloc, shared, Ended { passes, logs })
 }
 
 /// The lock is not given up for one pass of two: it is handed back, and then for both.
@@ -48,18 +67,14 @@ fn one_of_two<L: Ledger>(
     alloc: Global,
     shared: Behind<L>,
     given: Ended<L>,
+    kept: Pass<L>,
 ) -> Result<(), Fail>
     requires { L.parts ≡ 256 }
 {
-    let Ended { mut passes, logs } = given;
-    let kept = passes.pop().ok_or("no pass")?;
+    let Ended { passes, logs } = given;
     match shared.finish(passes) {
         Ok(_) => Err(Fail::new("one pass is enough")),
-        Err(missing) => {
-            let PassMissing { shared, mut passes } = missing;
-            passes.push(kept)?;
-            close(rt, alloc, shared, Ended { passes, logs })
-        }
+        Err(missing) => with_both(rt, alloc, missing, kept, logs),
     }
 }
 
@@ -70,8 +85,8 @@ fn two_callers<L: Ledger>(rt: &(impl Wait + Abort), alloc: Global, blank: Blank)
     requires whole { blank.parts ≡ 256 }
 {
     let shared = opened::<L>(alloc, Store::new(alloc, GitNaming), Id::ZERO, blank)?;
-    let given = call_each(rt, alloc, &shared)?;
-    one_of_two(rt, alloc, shared, given)
+    let (given, kept) = call_each(rt, alloc, &shared)?;
+    one_of_two(rt, alloc, shared, given, kept)
 }
 
 #[test]
@@ -79,13 +94,12 @@ fn audit_faults(rt: HostRuntime) -> Result<(), Fail> {
     two_callers::<Brand>(&rt, rt.alloc(), Blank::new(256))
 }
 
-/// The 256th pass is refused, and the numbers are 1 to 255.
-fn all_passes<L: Ledger>(rt: &(impl Wait + Abort), alloc: Global, blank: Blank) -> Result<(), Fail>
-    requires name { blank.name ≡ L.name }
-    requires parts { blank.parts ≡ L.parts }
-    requires whole { blank.parts ≡ 256 }
-{
-    let shared = opened::<L>(alloc, Store::new(alloc, GitNaming), Id::ZERO, blank)?;
+/// Takes all passes: their numbers are 1 to 255, and the 256th is refused.
+fn take_all<L: Ledger>(
+    rt: &(impl Wait + Abort),
+    alloc: Global,
+    shared: &Behind<L>,
+) -> Result<Vec<Pass<L>>, Fail> {
     let mut passes = Vec::new(alloc);
     for number in 1..=255_u64 {
         let pass = shared.pass(rt)?;
@@ -93,9 +107,31 @@ fn all_passes<L: Ledger>(rt: &(impl Wait + Abort), alloc: Global, blank: Blank) 
         passes.push(pass)?;
     }
     assert_eq!(rt; shared.pass(rt).err(), Some(CallersSpent));
+    Ok(passes)
+}
+
+/// Gives the lock up, and checks that it has no calls.
+fn has_no_calls<L: Ledger>(
+    rt: &impl Abort,
+    shared: Behind<L>,
+    passes: Vec<Pass<L>>,
+) -> Result<(), Fail>
+    requires { L.parts ≡ 256 }
+{
     let audited = shared.finish(passes)?;
     assert!(rt; audited.entries().is_empty());
     Ok(())
+}
+
+/// Takes all passes of a lock, and hands them in.
+fn all_passes<L: Ledger>(rt: &(impl Wait + Abort), alloc: Global, blank: Blank) -> Result<(), Fail>
+    requires name { blank.name ≡ L.name }
+    requires parts { blank.parts ≡ L.parts }
+    requires whole { blank.parts ≡ 256 }
+{
+    let shared = opened::<L>(alloc, Store::new(alloc, GitNaming), Id::ZERO, blank)?;
+    let passes = take_all(rt, alloc, &shared)?;
+    has_no_calls(rt, shared, passes)
 }
 
 #[test]

@@ -169,22 +169,33 @@ fn judge(
     Ok(())
 }
 
-/// Asks in one thread while another one acts, and then again.
-fn play<L: Origin + Send + Sync, R: Threads + Wait + Abort + Clock + Sync>(
+/// Writes these files.
+fn write_before<L: Origin, R: Wait + Abort + Clock>(
+    rt: &R,
+    alloc: Global,
+    unlogged: &Behind<L>,
+    pass: &mut Pass<L>,
+    paths: &[&str],
+) -> Result<(), Fail> {
+    let changes = writes(alloc, paths)?;
+    assert!(rt; act(rt, unlogged, pass, changes.as_slice(), false));
+    Ok(())
+}
+
+/// Asks in one thread while another one makes changes, and then again.
+fn play_at_once<L: Origin + Send + Sync, R: Threads + Wait + Abort + Clock + Sync>(
     rt: &R,
     alloc: Global,
     unlogged: &Behind<L>,
     pass: &mut Pass<L>,
     case: Case,
+    request: &Request,
+    meanwhile: &[Change],
 ) -> Result<(), Fail> {
-    let before = writes(alloc, case.before)?;
-    assert!(rt; act(rt, unlogged, pass, before.as_slice(), false));
-    let meanwhile = writes(alloc, case.meanwhile)?;
-    let request = poll_for(alloc, 1, "a")?;
     let (told, acted) = thread::join(
         rt,
-        || ask(rt, unlogged, &request, case.patience, &Present),
-        || act(rt, unlogged, pass, meanwhile.as_slice(), case.ends),
+        || ask(rt, unlogged, request, case.patience, &Present),
+        || act(rt, unlogged, pass, meanwhile, case.ends),
     );
     assert!(rt; acted);
     judge(rt, alloc, &case, told)?;
@@ -192,8 +203,79 @@ fn play<L: Origin + Send + Sync, R: Threads + Wait + Abort + Clock + Sync>(
         rt,
         alloc,
         &case,
-        ask(rt, unlogged, &request, case.patience, &Present),
+        ask(rt, unlogged, request, case.patience, &Present),
     )
+}
+
+/// Plays a case.
+fn play<L: Origin + Send + Sync, R: Threads + Wait + Abort + Clock + Sync>(
+    rt: &R,
+    alloc: Global,
+    unlogged: &Behind<L>,
+    pass: &mut Pass<L>,
+    case: Case,
+) -> Result<(), Fail> {
+    write_before(rt, alloc, unlogged, pass, case.before)?;
+    let meanwhile = writes(alloc, case.meanwhile)?;
+    let request = poll_for(alloc, 1, "a")?;
+    play_at_once(
+        rt,
+        alloc,
+        unlogged,
+        pass,
+        case,
+        &request,
+        meanwhile.as_slice(),
+    )
+}
+
+/// Asks with a long patience.
+fn ask_long<L: Origin, P: Peer, R: Wait + Clock>(
+    rt: &R,
+    unlogged: &Behind<L>,
+    request: &Request,
+    peer: &P,
+) -> Result<Reply, Fail> {
+    let patience = Duration::from_millis(LONG);
+    Ok(unlogged.ask_patiently(rt, request, patience, peer)?)
+}
+
+/// Returns whether the reply to a basis is that there is no file.
+fn answers_basis<L: Origin, R: Wait + Clock>(
+    rt: &R,
+    alloc: Global,
+    unlogged: &Behind<L>,
+) -> Result<bool, Fail> {
+    let told = ask_long(rt, unlogged, &basis(alloc), &Present)?;
+    Ok(told == files(alloc, 1, &[])?)
+}
+
+/// Returns whether a poll since a number to come is refused.
+fn refuses_ahead<L: Origin, R: Wait + Clock>(
+    rt: &R,
+    alloc: Global,
+    unlogged: &Behind<L>,
+) -> Result<bool, Fail> {
+    let request = poll_for(alloc, 9, "a")?;
+    let told = ask_long(rt, unlogged, &request, &Present)?;
+    Ok(matches!(
+        &told,
+        Reply::Refused {
+            cause: Cause::Ahead(1),
+            ..
+        }
+    ))
+}
+
+/// Returns whether a peer that is gone gets a reply of no change.
+fn answers_gone<L: Origin, R: Wait + Clock>(
+    rt: &R,
+    alloc: Global,
+    unlogged: &Behind<L>,
+) -> Result<bool, Fail> {
+    let request = poll_for(alloc, 1, "a")?;
+    let told = ask_long(rt, unlogged, &request, &Gone)?;
+    Ok(told == changes(alloc, 1, &[])?)
 }
 
 /// Asks what never waits: other requests than a poll, and a poll that is refused or of a peer that
@@ -204,21 +286,9 @@ fn ask_others<L: Origin, R: Wait + Abort + Clock>(
     unlogged: &Behind<L>,
 ) -> Result<(), Fail> {
     let start = Instant::now(rt)?;
-    let patience = Duration::from_millis(LONG);
-    let told = unlogged.ask_patiently(rt, &basis(alloc), patience, &Present)?;
-    assert!(rt; told == files(alloc, 1, &[])?);
-    let told = unlogged.ask_patiently(rt, &poll_for(alloc, 9, "a")?, patience, &Present)?;
-    assert!(rt;
-        matches!(
-            &told,
-            Reply::Refused {
-                cause: Cause::Ahead(1),
-                ..
-            }
-        )
-    );
-    let told = unlogged.ask_patiently(rt, &poll_for(alloc, 1, "a")?, patience, &Gone)?;
-    assert!(rt; told == changes(alloc, 1, &[])?);
+    assert!(rt; answers_basis(rt, alloc, unlogged)?);
+    assert!(rt; refuses_ahead(rt, alloc, unlogged)?);
+    assert!(rt; answers_gone(rt, alloc, unlogged)?);
     assert!(rt; start.elapsed(rt)?.as_millis() < u128::from(SOON));
     Ok(())
 }
@@ -234,7 +304,7 @@ fn play_behind<L: Origin + Send + Sync, R: Threads + Wait + Abort + Clock + Sync
     requires opens { (world : WorldState) → L.opens world → StandsFor mount world }
     requires name { blank.name ≡ L.name }
     requires parts { blank.parts ≡ L.parts }
-    requires whole { blank.parts ≡ 256 }
+    requires whole { blank.parts ≡ 2048 }
 {
     let (unlogged, mut passes) = Unlogged::<GitNaming, _, L>::new(mount, blank);
     let mut pass = passes.give()?;
@@ -250,7 +320,7 @@ fn play_alone<R: Threads + Wait + Abort + Clock + Sync>(
     alloc: Global,
     case: Option<Case>,
 ) -> Result<(), Fail> {
-    play_behind::<Brand, R>(rt, alloc, mounted(alloc)?, Blank::new(256), case)
+    play_behind::<Brand, R>(rt, alloc, mounted(alloc)?, Blank::new(2048), case)
 }
 
 #[test]

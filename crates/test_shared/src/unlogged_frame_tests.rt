@@ -9,10 +9,11 @@ use eden_accumulate::Mount;
 use eden_ids::GitNaming;
 use eden_messages::{Reply, Request};
 use eden_query::{FrameFault, ServeFault, encode_reply, encode_request, serve};
-use eden_shared::{Origin, Present, Unlogged, serve_unlogged};
+use eden_shared::{Origin, Passes, Present, Unlogged, serve_unlogged};
 use eden_stream::Counted;
 use std::alloc::Global;
 use std::marker::Brand;
+use std::process::Abort;
 use std::sync::Wait;
 use std::sync::ledger::{Blank, Ledger};
 use std::test::Fail;
@@ -22,61 +23,81 @@ use test_kit::{PLACE_BYTES as P, QUERY_BYTES as Q, joined, write};
 /// The bytes of ten seconds, as they come before a request.
 const TEN_SECONDS: &[u8] = &[2, 5, 0, 0, 0x27, 0x10];
 
-/// A stream, the replies to it, and how its serving ends.
+/// The frames of three requests once `a` was written, those of the right replies, and the last request's.
 #[derive(Drop)]
-struct Case {
-    stream: Vec<u8>,
-    text: Vec<u8>,
-    end: Result<u64, ServeFault>,
+struct Talk {
+    requests: Vec<u8>,
+    replies: Vec<u8>,
+    fetch: Vec<u8>,
+}
+
+impl Talk {
+    /// Adds the frames of a request and of its reply.
+    fn add(&mut self, alloc: Global, request: &Request, reply: &Reply) -> Result<(), Fail> {
+        self.fetch = encode_request(alloc, request)?;
+        self.requests.extend_from_slice(self.fetch.as_slice())?;
+        self.replies
+            .extend_from_slice(encode_reply(alloc, reply)?.as_slice())?;
+        Ok(())
+    }
 }
 
 /// Returns what is asked once `a` was written, and what is right.
-fn asked(alloc: Global) -> Result<[(Request, Reply); 3], Fail> {
-    Ok([
-        (poll(alloc), changes(alloc, 2, &["a"])?),
-        (basis(alloc), files(alloc, 2, &["a"])?),
-        (fetch(alloc, "a")?, file(alloc, 2, "a", "x")?),
-    ])
+fn three_requests(alloc: Global) -> Result<Talk, Fail> {
+    let mut talk = Talk {
+        requests: Vec::new(alloc),
+        replies: Vec::new(alloc),
+        fetch: Vec::new(alloc),
+    };
+    talk.add(alloc, &poll(alloc), &changes(alloc, 2, &["a"])?)?;
+    talk.add(alloc, &basis(alloc), &files(alloc, 2, &["a"])?)?;
+    talk.add(alloc, &fetch(alloc, "a")?, &file(alloc, 2, "a", "x")?)?;
+    Ok(talk)
 }
 
-/// Returns the frames of these requests with some bytes after them, the frames of the replies, and an end.
-fn made(
-    alloc: Global,
-    asked: &[(Request, Reply)],
-    behind: &[u8],
-    end: Result<u64, ServeFault>,
-) -> Result<Case, Fail> {
+/// How many bytes the frame of a fetch of `a` has.
+const WHOLE: usize = 33;
+
+/// A stream, and how its serving ends.
+///
+/// First come the three requests, or none; then these bytes, and the front of a fetch. It ends after this many frames, or at the frame of this
+/// number with a fault.
+type Case = (bool, &'static [u8], usize, Result<u64, (u64, FrameFault)>);
+
+const CASES: &[Case] = &[
+    (false, &[], 0, Ok(0)),
+    (true, &[], 0, Ok(3)),
+    (false, &[0, 0, 0, 0], 0, Err((1, FrameFault::CutShort))),
+    (true, &[0, 0, 0], 0, Err((4, FrameFault::CutShort))),
+    (true, &[], 9, Err((4, FrameFault::CutShort))),
+    (true, &[1, 0, 0, 1], WHOLE, Err((4, FrameFault::TooLarge))),
+    // A version that there is none of, and a frame after it.
+    (true, &[0, 0, 0, 1, 0], WHOLE, Err((4, FrameFault::Version))),
+];
+
+/// Returns the stream of a case.
+fn stream_of(alloc: Global, talk: &Talk, case: &Case) -> Result<Vec<u8>, Fail> {
+    let (asks, bytes, front, _) = case;
     let mut stream = Vec::new(alloc);
-    let mut text = Vec::new(alloc);
-    for (request, reply) in asked {
-        stream.extend_from_slice(encode_request(alloc, request)?.as_slice())?;
-        text.extend_from_slice(encode_reply(alloc, reply)?.as_slice())?;
+    if *asks {
+        stream.extend_from_slice(talk.requests.as_slice())?;
     }
-    stream.extend_from_slice(behind)?;
-    Ok(Case { stream, text, end })
+    stream.extend_from_slice(*bytes)?;
+    let front = talk.fetch.get(..*front).ok_or("a frame is too short")?;
+    stream.extend_from_slice(front)?;
+    Ok(stream)
 }
 
 fn stops(number: u64, fault: FrameFault) -> Result<u64, ServeFault> {
     Err(ServeFault::Frame { number, fault })
 }
 
-fn cases(alloc: Global) -> Result<[Case; 7], Fail> {
-    let asked = asked(alloc)?;
-    let frame = encode_request(alloc, &fetch(alloc, "a")?)?;
-    let longest = joined(alloc, &[&[1, 0, 0, 1], frame.as_slice()])?;
-    // A version that there is none of, and a frame behind it.
-    let other = joined(alloc, &[&[0, 0, 0, 1, 0], frame.as_slice()])?;
-    let part = frame.get(..9).ok_or("a frame is too short")?;
-    let all = asked.as_slice();
-    Ok([
-        made(alloc, &[], &[], Ok(0))?,
-        made(alloc, all, &[], Ok(3))?,
-        made(alloc, &[], &[0, 0, 0, 0], stops(1, FrameFault::CutShort))?,
-        made(alloc, all, &[0, 0, 0], stops(4, FrameFault::CutShort))?,
-        made(alloc, all, part, stops(4, FrameFault::CutShort))?,
-        made(alloc, all, &longest, stops(4, FrameFault::TooLarge))?,
-        made(alloc, all, &other, stops(4, FrameFault::Version))?,
-    ])
+/// Returns how the serving of a case ends.
+fn end_of(case: &Case) -> Result<u64, ServeFault> {
+    match case.3 {
+        Ok(served) => Ok(served),
+        Err((number, fault)) => stops(number, fault),
+    }
 }
 
 /// Returns a poll and a fetch with a patience, and one with two.
@@ -103,13 +124,24 @@ fn patient(alloc: Global) -> Result<Vec<u8>, Fail> {
     )?)
 }
 
-/// Returns the frames of replies.
-fn told(alloc: Global, replies: &[Reply]) -> Result<Vec<u8>, Fail> {
-    let mut text = Vec::new(alloc);
-    for reply in replies {
-        text.extend_from_slice(encode_reply(alloc, reply)?.as_slice())?;
-    }
-    Ok(text)
+/// Returns the frames of the replies to the poll and the fetch.
+fn told(alloc: Global) -> Result<Vec<u8>, Fail> {
+    let changed = encode_reply(alloc, &changes(alloc, 2, &["a"])?)?;
+    let held = encode_reply(alloc, &file(alloc, 2, "a", "x")?)?;
+    Ok(joined(alloc, &[changed.as_slice(), held.as_slice()])?)
+}
+
+/// Writes `a`, with a pass that is given for that.
+fn write_a<L: Origin>(
+    rt: &impl Wait,
+    alloc: Global,
+    unlogged: &Unlogged<GitNaming, Mount<GitNaming>, L>,
+    passes: &mut Passes<L>,
+) -> Result<(), Fail> {
+    let change = write(alloc, "a", "x")?;
+    let mut pass = passes.give()?;
+    let _position = unlogged.change(rt, &mut pass, &change)?;
+    Ok(())
 }
 
 /// Returns what the lock writes to a stream once `a` was written, and how that ends.
@@ -123,15 +155,22 @@ fn unlogged_end<L: Origin, R: Wait + Clock>(
     requires opens { (world : WorldState) → L.opens world → StandsFor mount world }
     requires name { blank.name ≡ L.name }
     requires parts { blank.parts ≡ L.parts }
-    requires whole { blank.parts ≡ 256 }
+    requires whole { blank.parts ≡ 2048 }
 {
     let (unlogged, mut passes) = Unlogged::<GitNaming, _, L>::new(mount, blank);
-    let mut pass = passes.give()?;
-    let _position = unlogged.change(rt, &mut pass, &write(alloc, "a", "x")?)?;
+    write_a(rt, alloc, &unlogged, &mut passes)?;
     let mut text = Vec::new(alloc);
     let mut reader = Counted::new(stream);
     let mut writer = Counted::new(&mut text);
-    let end = serve_unlogged(rt, alloc, &mut reader, &mut writer, &unlogged, &Present);
+    let end = serve_unlogged(
+        rt,
+        alloc,
+        &mut reader,
+        &mut writer,
+        &unlogged,
+        &mut None,
+        &Present,
+    );
     Ok((text, end))
 }
 
@@ -141,30 +180,59 @@ fn unlogged_text<R: Wait + Clock>(
     alloc: Global,
     stream: &[u8],
 ) -> Result<(Vec<u8>, Result<u64, ServeFault>), Fail> {
-    unlogged_end::<Brand, R>(rt, alloc, mounted(alloc)?, Blank::new(256), stream)
+    unlogged_end::<Brand, R>(rt, alloc, mounted(alloc)?, Blank::new(2048), stream)
 }
 
-/// Returns what a mount of one caller writes to it then, and how that ends.
-fn single_end(alloc: Global, stream: &[u8]) -> Result<(Vec<u8>, Result<u64, ServeFault>), Fail> {
-    let mut mount = mounted(alloc)?;
+/// Writes `a`, and serves a stream over a mount of one caller.
+///
+/// Returns what is written, and how that ends.
+fn write_and_serve(
+    alloc: Global,
+    mount: &mut Mount<GitNaming>,
+    stream: &[u8],
+) -> Result<(Vec<u8>, Result<u64, ServeFault>), Fail> {
     let _position = mount.apply(&write(alloc, "a", "x")?)?;
     let mut text = Vec::new(alloc);
     let mut reader = Counted::new(stream);
     let mut writer = Counted::new(&mut text);
-    let end = serve(alloc, &mut reader, &mut writer, &mut mount);
+    let end = serve(alloc, &mut reader, &mut writer, mount);
     Ok((text, end))
+}
+
+/// Returns the same, over a mount of its own.
+fn single_end(alloc: Global, stream: &[u8]) -> Result<(Vec<u8>, Result<u64, ServeFault>), Fail> {
+    let mut mount = mounted(alloc)?;
+    write_and_serve(alloc, &mut mount, stream)
+}
+
+/// Checks that both serve a case as it says.
+fn are_served<R: Wait + Clock + Abort>(
+    rt: &R,
+    alloc: Global,
+    talk: &Talk,
+    case: &Case,
+) -> Result<(), Fail> {
+    let stream = stream_of(alloc, talk, case)?;
+    let replies = if case.0 {
+        talk.replies.as_slice()
+    } else {
+        b"".as_slice()
+    };
+    let (text, end) = unlogged_text(rt, alloc, stream.as_slice())?;
+    assert_eq!(rt; end, end_of(case));
+    assert!(rt; text.as_slice() == replies);
+    let (text, end) = single_end(alloc, stream.as_slice())?;
+    assert_eq!(rt; end, end_of(case));
+    assert!(rt; text.as_slice() == replies);
+    Ok(())
 }
 
 #[test]
 fn frames_are_replied_as_to_one_caller(rt: HostRuntime) -> Result<(), Fail> {
     let alloc = rt.alloc();
-    for case in &cases(alloc)? {
-        let (text, end) = unlogged_text(&rt, alloc, case.stream.as_slice())?;
-        assert_eq!(rt; end, case.end);
-        assert_eq!(rt; text, case.text);
-        let (text, end) = single_end(alloc, case.stream.as_slice())?;
-        assert_eq!(rt; end, case.end);
-        assert_eq!(rt; text, case.text);
+    let talk = three_requests(alloc)?;
+    for case in CASES {
+        are_served(&rt, alloc, &talk, case)?;
     }
     Ok(())
 }
@@ -173,10 +241,9 @@ fn frames_are_replied_as_to_one_caller(rt: HostRuntime) -> Result<(), Fail> {
 fn a_patience_is_known_to_the_lock_alone(rt: HostRuntime) -> Result<(), Fail> {
     let alloc = rt.alloc();
     let stream = patient(alloc)?;
-    let replies = [changes(alloc, 2, &["a"])?, file(alloc, 2, "a", "x")?];
     let (text, end) = unlogged_text(&rt, alloc, stream.as_slice())?;
     assert_eq!(rt; end, stops(3, FrameFault::BadTag));
-    assert_eq!(rt; text, told(alloc, &replies)?);
+    assert_eq!(rt; text, told(alloc)?);
     let (text, end) = single_end(alloc, stream.as_slice())?;
     assert_eq!(rt; end, stops(1, FrameFault::BadTag));
     assert!(rt; text.is_empty());

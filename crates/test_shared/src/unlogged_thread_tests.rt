@@ -9,7 +9,7 @@ use eden_accumulate::Mount;
 use eden_history::{Answer, Change};
 use eden_ids::GitNaming;
 use eden_messages::{Reply, Request};
-use eden_shared::{Origin, Pass, Unlogged};
+use eden_shared::{Origin, Pass, Passes, Unlogged};
 use std::alloc::{AllocError, Global};
 use std::marker::Brand;
 use std::process::Abort;
@@ -34,13 +34,18 @@ struct Job<L: Origin> {
     fetch: Request,
 }
 
-fn job_at<L: Origin>(alloc: Global, pass: Pass<L>, at: &str) -> Result<Job<L>, Fail> {
+fn writes_at(alloc: Global, at: &str) -> Result<Vec<Change>, Fail> {
     let mut writes = Vec::new(alloc);
     for number in 0..WRITES {
         let text = format!(in alloc; "{at} {number}")?;
         writes.push(write(alloc, at, text.as_str())?)?;
     }
+    Ok(writes)
+}
+
+fn job_at<L: Origin>(alloc: Global, pass: Pass<L>, at: &str) -> Result<Job<L>, Fail> {
     let fetch = fetch(alloc, at)?;
+    let writes = writes_at(alloc, at)?;
     Ok(Job {
         pass,
         writes,
@@ -96,6 +101,60 @@ fn make_in_threads<L: Origin + Send + Sync, R: Threads + Wait + Sync>(
     Ok(thread::map_vec(rt, jobs, &|job| make_all(rt, unlogged, job))?)
 }
 
+/// The paths to which threads write, one each.
+const PATHS: &[&str] = &["a", "b", "c", "d"];
+
+fn jobs_of<L: Origin>(alloc: Global, passes: &mut Passes<L>) -> Result<Vec<Job<L>>, Fail> {
+    let mut jobs = Vec::new(alloc);
+    for path in PATHS {
+        jobs.push(job_at(alloc, passes.give()?, path)?)?;
+    }
+    Ok(jobs)
+}
+
+/// Lets threads write and ask, and takes their passes back.
+fn make_and_take_back<L: Origin + Send + Sync, R: Threads + Wait + Sync>(
+    rt: &R,
+    alloc: Global,
+    unlogged: &Behind<L>,
+    passes: &mut Passes<L>,
+) -> Result<(), Fail> {
+    let jobs = jobs_of(alloc, passes)?;
+    for pass in make_in_threads(rt, unlogged, jobs)? {
+        passes.take_back(pass.ok_or("a call went wrong")?);
+    }
+    Ok(())
+}
+
+/// Checks that the lock lists all files, after all writes.
+fn lists_all<L: Origin>(
+    rt: &(impl Wait + Abort),
+    alloc: Global,
+    unlogged: &Behind<L>,
+) -> Result<(), Fail> {
+    let told = unlogged.ask(rt, &basis(alloc))?;
+    assert!(rt; told == files(alloc, 2_001, PATHS)?);
+    Ok(())
+}
+
+/// Does so, and checks that the lock lists all files.
+fn make_and_list<L: Origin + Send + Sync, R: Threads + Wait + Abort + Sync>(
+    rt: &R,
+    alloc: Global,
+    unlogged: &Behind<L>,
+    passes: &mut Passes<L>,
+) -> Result<(), Fail> {
+    make_and_take_back(rt, alloc, unlogged, passes)?;
+    lists_all(rt, alloc, unlogged)
+}
+
+/// Finishes the lock, whose server has all changes.
+fn has_all<L: Origin>(rt: &impl Abort, unlogged: Behind<L>, passes: Passes<L>) -> Result<(), Fail> {
+    let mount = unlogged.finish(passes)?;
+    assert_eq!(rt; mount.position().sequence, 2_001);
+    Ok(())
+}
+
 /// Four threads write and ask, and the lock has all their changes at the end.
 fn four_threads<L: Origin + Send + Sync, R: Threads + Wait + Abort + Sync>(
     rt: &R,
@@ -106,26 +165,15 @@ fn four_threads<L: Origin + Send + Sync, R: Threads + Wait + Abort + Sync>(
     requires opens { (world : WorldState) → L.opens world → StandsFor mount world }
     requires name { blank.name ≡ L.name }
     requires parts { blank.parts ≡ L.parts }
-    requires whole { blank.parts ≡ 256 }
+    requires whole { blank.parts ≡ 2048 }
 {
     let (unlogged, mut passes) = Unlogged::<GitNaming, _, L>::new(mount, blank);
-    let paths = ["a", "b", "c", "d"];
-    let mut jobs = Vec::new(alloc);
-    for path in &paths {
-        jobs.push(job_at(alloc, passes.give()?, path)?)?;
-    }
-    for pass in make_in_threads(rt, &unlogged, jobs)? {
-        passes.take_back(pass.ok_or("a call went wrong")?);
-    }
-    let told = unlogged.ask(rt, &basis(alloc))?;
-    assert!(rt; told == files(alloc, 2_001, &paths)?);
-    let mount = unlogged.finish(passes)?;
-    assert_eq!(rt; mount.position().sequence, 2_001);
-    Ok(())
+    make_and_list(rt, alloc, &unlogged, &mut passes)?;
+    has_all(rt, unlogged, passes)
 }
 
 #[test]
 fn four_threads_change_and_ask(rt: HostRuntime) -> Result<(), Fail> {
     let alloc = rt.alloc();
-    four_threads::<Brand, HostRuntime>(&rt, alloc, mounted(alloc)?, Blank::new(256))
+    four_threads::<Brand, HostRuntime>(&rt, alloc, mounted(alloc)?, Blank::new(2048))
 }

@@ -156,6 +156,24 @@ fn shared_subtrees(rt: HostRuntime) -> Result<(), Fail> {
     check_wide(&rt, rt.alloc(), &objects)
 }
 
+/// Checks what is listed of these commits, and on what they differ, but for the directory `z`.
+fn check_excluded(rt: &impl Abort, alloc: Global, objects: &Objects) -> Result<(), Fail> {
+    let filter = Filter::all(alloc).except(&filter_of(alloc, "z/**")?)?;
+    let (first, second) = (objects.id("px"), objects.id("oy"));
+    let paths = diff_admitted(alloc, &objects.store, first, second, &filter)?;
+    assert!(rt; spaced(alloc, paths.as_slice())?.as_slice() == b"f ".as_slice());
+    let listed = objects.store.list(first, &filter)?;
+    assert!(rt; listed.len() == 1 && listed[0].0.as_bytes() == b"f".as_slice());
+    Ok(())
+}
+
+// Of 2 to the 40 files below an excluded directory none is looked at.
+#[test]
+fn excluded_subtrees(rt: HostRuntime) -> Result<(), Fail> {
+    let objects = wide_commits(rt.alloc())?;
+    check_excluded(&rt, rt.alloc(), &objects)
+}
+
 /// A file of a listing.
 type Row = (Path, Kind, Id);
 

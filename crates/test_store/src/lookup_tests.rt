@@ -120,6 +120,41 @@ fn a_commit_lists_its_files(rt: HostRuntime) -> Result<(), Fail> {
     check_lists(&rt, rt.alloc(), &objects)
 }
 
+/// Patterns, excluded patterns, and the files that are listed of the commit.
+const EXCLUDED: &[(&[&[u8]], &[&[u8]], &[Row])] = &[
+    (&[], &[b"d/**"], &[A_B, A_X, A0]),
+    (&[], &[b"**/f", b"a?b"], &[A_X, A0]),
+    (&[], &[b"d", b"d/e"], &[A_B, A_X, A0, F]),
+    (&[], &[b"d/*"], &[A_B, A_X, A0, F]),
+    (&[b"a*"], &[b"a0"], &[A_B]),
+    (&[b"a/*"], &[b"d/**"], &[A_X]),
+    (&[b"a/*"], &[b"**"], &[]),
+];
+
+/// The files of a commit that patterns admit and no others exclude.
+fn listed_but(
+    alloc: Global,
+    store: &Store<GitNaming>,
+    commit: Id,
+    patterns: &[&[u8]],
+    excluded: &[&[u8]],
+) -> Result<Listed, Fail> {
+    let filter = Filter::parse(alloc, patterns)?;
+    let filter = filter.except(&Filter::parse(alloc, excluded)?)?;
+    Ok(store.list(commit, &filter)?)
+}
+
+#[test]
+fn a_commit_lists_what_is_not_excluded(rt: HostRuntime) -> Result<(), Fail> {
+    let objects = Objects::of(rt.alloc(), FILES)?;
+    let (store, commit) = (&objects.store, objects.id("c"));
+    for (row, (patterns, excluded, files)) in EXCLUDED.iter().enumerate() {
+        let found = listed_but(rt.alloc(), store, commit, patterns, excluded)?;
+        assert!(rt; has_rows(found.as_slice(), files), "row {row}");
+    }
+    Ok(())
+}
+
 /// The file at a path of a commit, or none; and none where there is no commit.
 fn found(
     alloc: Global,

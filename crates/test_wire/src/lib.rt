@@ -1,4 +1,4 @@
-//! Tests of messages as bytes: each request and each reply as the format spells it, bodies that spell none, each change of one byte of a body,
+//! Tests of messages as bytes: each request, each reply, each change and its answer as the format spells it, bodies that spell none, each change of one byte of a body,
 //! and bodies that are drawn by lot, all of them read as a plain reader reads them.
 //!
 //! The messages and the plain reader are shared with the tests of what serves messages.
@@ -12,6 +12,12 @@ pub use crate::plain::{REPLY_TAGS, REQUEST_TAGS, plain_fault};
 
 #[cfg(test)]
 mod asking_tests;
+#[cfg(test)]
+mod doing_tests;
+#[cfg(test)]
+mod done_tests;
+#[cfg(test)]
+mod excluding_tests;
 #[cfg(test)]
 mod message_tests;
 mod messages;

@@ -137,14 +137,33 @@ impl<'a> Left<'a> {
         }
     }
 
-    /// A body with one of these tags.
-    fn body(&mut self, tags: &[u64]) -> Result<(), DecodeFault> {
+    /// The version, and one of these tags.
+    fn tag(&mut self, tags: &[u64]) -> Result<u64, DecodeFault> {
         if self.number(1)? != 2 {
             return Err(DecodeFault::Version);
         }
         let tag = self.number(1)?;
-        if !tags.contains(&tag) {
-            return Err(DecodeFault::BadTag);
+        if tags.contains(&tag) {
+            Ok(tag)
+        } else {
+            Err(DecodeFault::BadTag)
+        }
+    }
+
+    /// What is excluded, and the tag of the request after it.
+    fn exclusions(&mut self) -> Result<u64, DecodeFault> {
+        if self.bytes.first() == Some(&0) {
+            return Err(DecodeFault::BadField);
+        }
+        self.filter()?;
+        self.tag(&[1, 2, 4])
+    }
+
+    /// A body with one of these tags.
+    fn body(&mut self, tags: &[u64]) -> Result<(), DecodeFault> {
+        let mut tag = self.tag(tags)?;
+        if tag == 7 {
+            tag = self.exclusions()?;
         }
         for _ in 0..3 {
             let _ = self.number(8)?;
@@ -198,8 +217,8 @@ fn is_pattern(bytes: &[u8]) -> bool {
     !escaped && !empty
 }
 
-/// The tags of requests.
-pub const REQUEST_TAGS: [u64; 4] = [1, 2, 3, 4];
+/// The tags of requests, and of what is excluded before one.
+pub const REQUEST_TAGS: [u64; 5] = [1, 2, 3, 4, 7];
 
 /// The tags of replies.
 pub const REPLY_TAGS: [u64; 5] = [0x81, 0x82, 0x83, 0x84, 0x85];

@@ -80,11 +80,15 @@ fn first_wrong(
     Ok(None)
 }
 
-/// The parts of the bodies of a basis, a poll and a list with two patterns, since those of `REQUEST_BODIES` have none.
+/// The parts of the bodies of a basis, a poll and a list with two patterns, which are also excluded before each, since those of
+/// `REQUEST_BODIES` have none.
 const WITH_PATTERNS: &[&[&[u8]]] = &[
     &[&[2, 1], &[0; 24], &PATTERNS],
     &[&[2, 2], &[0; 24], &[7; 36], &PATTERNS],
     &[&[2, 4], &[0; 24], &[0, 1, b'd'], &PATTERNS],
+    &[&[2, 7], &PATTERNS, &[2, 1], &[0; 24], &PATTERNS],
+    &[&[2, 7], &PATTERNS, &[2, 2], &[0; 24], &[7; 36], &[0]],
+    &[&[2, 7], &PATTERNS, &[2, 4], &[0; 24], &[0, 1, b'd', 0]],
 ];
 
 const PATTERNS: [u8; 12] = [2, 0, 4, b'a', b'/', b'*', b'*', 0, 3, b'b', b'\\', b'['];

@@ -4,6 +4,7 @@ use eden_globs::Filter;
 use eden_history::{Mark, Marked, Position, SinceFault};
 use eden_ids::{Id, Sequence};
 use eden_messages::{Cause, Query, Reply, Request, admitted};
+use std::alloc::Global;
 use std::test::Fail;
 use test_kit::path;
 
@@ -24,33 +25,55 @@ fn known() -> (Query, Position) {
     (query, place)
 }
 
+/// A request for all paths.
+fn basis(alloc: Global) -> Request {
+    let (query, _) = known();
+    Request::Basis {
+        query,
+        filter: Filter::all(alloc),
+    }
+}
+
+/// A request for the changes to all paths.
+fn poll(alloc: Global) -> Request {
+    let (query, since) = known();
+    Request::Poll {
+        query,
+        since,
+        filter: Filter::all(alloc),
+    }
+}
+
+/// A request for a file.
+fn fetch(alloc: Global) -> Result<Request, Fail> {
+    let (query, _) = known();
+    let path = path(alloc, "a")?;
+    Ok(Request::Fetch { query, path })
+}
+
+/// A request for all paths below a directory.
+fn list(alloc: Global) -> Result<Request, Fail> {
+    let (query, _) = known();
+    Ok(Request::List {
+        query,
+        prefix: path(alloc, "d")?,
+        filter: Filter::all(alloc),
+    })
+}
+
+/// The length of the body of a request's copy.
+fn len_of_copy(request: Request) -> Result<u32, Fail> {
+    Ok(request.copy()?.body_len())
+}
+
 /// The lengths are those with which the known frames begin.
 #[test]
 fn requests_have_their_lengths(rt: HostRuntime) -> Result<(), Fail> {
     let alloc = rt.alloc();
-    let (query, since) = known();
-    let basis = Request::Basis {
-        query,
-        filter: Filter::all(alloc),
-    };
-    let poll = Request::Poll {
-        query,
-        since,
-        filter: Filter::all(alloc),
-    };
-    let fetch = Request::Fetch {
-        query,
-        path: path(alloc, "a")?,
-    };
-    assert_eq!(rt; basis.copy()?.body_len(), 0x1b);
-    assert_eq!(rt; poll.copy()?.body_len(), 0x3f);
-    let list = Request::List {
-        query,
-        prefix: path(alloc, "d")?,
-        filter: Filter::all(alloc),
-    };
-    assert_eq!(rt; fetch.copy()?.body_len(), 0x1d);
-    assert_eq!(rt; list.copy()?.body_len(), 0x1e);
+    assert_eq!(rt; len_of_copy(basis(alloc))?, 0x1b);
+    assert_eq!(rt; len_of_copy(poll(alloc))?, 0x3f);
+    assert_eq!(rt; len_of_copy(fetch(alloc)?)?, 0x1d);
+    assert_eq!(rt; len_of_copy(list(alloc)?)?, 0x1e);
     Ok(())
 }
 
