@@ -1,7 +1,7 @@
 # Completion for bash: subcommands, their options as `--help` has them, directories, and the files
 # of the mount.
 _railburnet() {
-	local word=${COMP_WORDS[COMP_CWORD]} at=1 name= words=
+	local word=${COMP_WORDS[COMP_CWORD]} at=1 name= words= mark=
 	COMPREPLY=()
 	while [ "$at" -lt "$COMP_CWORD" ]; do
 		case ${COMP_WORDS[at]} in
@@ -37,8 +37,14 @@ _railburnet() {
 		up | down | status | feed | objects | git-setup) mapfile -t COMPREPLY < <(compgen -d -- "$word") ;;
 		cat | list | since | follow | watch)
 			words=${word//[\*\?\[\{\\]/}
+			# A pattern that excludes names files as another does.
+			if [[ $name != cat && $words == !* ]]; then
+				mark='!'
+				words=${words#!}
+			fi
+			words=${words/#!/\\!}
 			mapfile -t COMPREPLY < <(railburnet list --null "$words*" "$words*/**" 2>/dev/null |
-				tr '\0' '\n' | head -n 200)
+				tr '\0' '\n' | sed "s/^/$mark/" | head -n 200)
 			;;
 		esac
 	fi

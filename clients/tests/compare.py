@@ -6,10 +6,10 @@ what `edend run` lists and reads.
 
 Of each seed 100 rounds of up to twelve lines go to `edend serve`: writes, removals, renames of
 files and of directories, checkouts, resets, flushes and remounts, some of which are refused.
-After each round a mirror of all files, one with patterns, and each seventh time one that has
-fallen behind, go on until they are placed at the position that `edend run` prints after the same
-lines, and have to hold just the files that its `list` and `read` print there. In the end `edend
-serve` has to print `audit ok`. Status 1 at the first difference.
+After each round a mirror of all files, one with patterns, one that excludes what these match, and
+each seventh time one that has fallen behind, go on until they are placed at the position that
+`edend run` prints after the same lines, and have to hold just the files that its `list` and `read`
+print there. In the end `edend serve` has to print `audit ok`. Status 1 at the first difference.
 """
 import argparse
 import os
@@ -174,7 +174,7 @@ def compare(edend, seed, count):
     told = list(expected(edend, head, rounds))
     port = free_port()
     server = subprocess.Popen(
-        [edend, "serve", "--port", str(port), "--connections", "3"],
+        [edend, "serve", "--port", str(port), "--connections", "4"],
         stdin=subprocess.PIPE,
         stdout=subprocess.PIPE,
     )
@@ -183,14 +183,16 @@ def compare(edend, seed, count):
     while server.stdout.readline() != b"listening %d\n" % port:
         if server.poll() is not None:
             raise Differs(f"{edend} serve ended with {server.returncode}")
-    clients = [railburnet.Client(port) for _ in range(3)]
-    mirrors = [railburnet.Mirror(), railburnet.Mirror(PATTERNS), railburnet.Mirror()]
+    clients = [railburnet.Client(port) for _ in range(4)]
+    excluding = railburnet.Mirror(b"!" + pattern for pattern in PATTERNS)
+    mirrors = [railburnet.Mirror(), railburnet.Mirror(PATTERNS), excluding, railburnet.Mirror()]
     made = files = 0
     for turn, (lines, (place, all_files, admitted)) in enumerate(zip(rounds, told), 1):
         server.stdin.write(b"".join(line + b"\n" for line in lines))
         server.stdin.flush()
-        for which, wanted in enumerate((all_files, admitted, all_files)):
-            if which == 2 and turn % 7 and turn != count:
+        others = {path: file for path, file in all_files.items() if path not in admitted}
+        for which, wanted in enumerate((all_files, admitted, others, all_files)):
+            if which == 3 and turn % 7 and turn != count:
                 continue
             made += go_on(clients[which], mirrors[which], place)
             files += len(wanted)

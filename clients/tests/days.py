@@ -2,13 +2,14 @@
 """Days of work in a checkout, beside feed and `edend serve`: generated steps, after each of which
 the mount has to equal the directory.
 
-    EDEND=PROGRAM clients/tests/days.py [--seeds N] [--first N] [--steps N]
+    EDEND=PROGRAM clients/tests/days.py [--seeds N] [--first N] [--steps N] [--socket]
 
 A step writes, saves by a rename, moves, swaps, links, removes, goes over to other commits, stashes,
 rebases, or kills feed or edend, also while something is written. After it a sync is asked; then the
 mount has just the directory's files, and its number is the one that was answered. A file that no
 line can hold may be missing, but not where it is as the mounted commit has it, and not without a
-reason in the status.
+reason in the status. With --socket feed changes the mount over its socket, and no file may be
+missing.
 
 A client follows all the while. Each state that it comes to has to be one between the directory
 as it was at the position's sync and as it is: so none is older than one that was seen, after
@@ -27,7 +28,7 @@ import tempfile
 import threading
 import time
 
-from kit import client, free_port
+from kit import client, free_port, writable_edend
 
 import railburnet
 from railburnet import control
@@ -288,13 +289,13 @@ class Follower(threading.Thread):
     """A client that follows all the while, and keeps each state that it came to with the number
     of steps that had begun by then."""
 
-    def __init__(self, port, day):
+    def __init__(self, place, day):
         super().__init__(daemon=True)
-        self._port, self._day = port, day
+        self._place, self._day = place, day
         self.states, self.over, self.fault = [], threading.Event(), None
 
     def run(self):
-        mount, mirror = railburnet.Client(self._port, connections=1), railburnet.Mirror()
+        mount, mirror = railburnet.Client(self._place, connections=1), railburnet.Mirror()
         try:
             while not self.over.is_set():
                 try:
@@ -317,9 +318,10 @@ class Follower(threading.Thread):
 class Day:
     """A checkout, its feed and its edend, and what happens there."""
 
-    def __init__(self, folder, seed):
+    def __init__(self, folder, seed, over_socket):
         self.seed, self.chance = seed, random.Random(seed)
-        self.folder, self.port = folder, free_port()
+        self.folder, self.over_socket = folder, over_socket
+        self.place = os.path.join(folder, "s") if over_socket else free_port()
         self.top = os.path.join(os.fsencode(folder), b"w")
         self.steps = Steps(self.top, self.chance)
         self.begun, self.kinds = 0, []
@@ -367,11 +369,11 @@ class Day:
             )
         self.known = {head, *(self.steps.git("rev-parse", name).decode().strip() for name in also)}
         self.mounted = {head}
-        program = (
-            [os.environ["EDEND"]]
-            if os.environ.get("EDEND")
-            else [sys.executable, os.path.join(HERE, "stand_in.py")]
-        )
+        named = writable_edend() if self.over_socket else os.environ.get("EDEND")
+        program = [named] if named else [sys.executable, os.path.join(HERE, "stand_in.py")]
+        where = ["--port", str(self.place)]
+        if self.over_socket:
+            where = ["--socket", self.place, "--writable"]
         words = [
             "--control",
             os.path.join(self.folder, "control"),
@@ -382,6 +384,8 @@ class Day:
         ]
         for name in also:
             words += ["--also", name]
+        if self.over_socket:
+            words += ["--socket", self.place]
         with open(os.path.join(self.folder, "errors"), "ab") as errors:
             feed = subprocess.Popen(
                 [*client("feed"), *words, self.top], stdout=subprocess.PIPE, stderr=errors
@@ -390,8 +394,7 @@ class Day:
                 [
                     *program,
                     "serve",
-                    "--port",
-                    str(self.port),
+                    *where,
                     "--connections",
                     "8",
                     "--stay",
@@ -408,7 +411,7 @@ class Day:
             line = edend.stdout.readline()
             if not line:
                 raise Differs(f"edend ended with {edend.wait()}: {self.errors()}")
-            if line == b"listening %d\n" % self.port:
+            if line.startswith(b"listening "):
                 break
         self.restarts += 1
 
@@ -444,7 +447,7 @@ class Day:
         self.begun = 0
         self.begin()
         self.births_of_now()
-        self.follower = Follower(self.port, self)
+        self.follower = Follower(self.place, self)
         self.follower.start()
         self.check()
         for _ in range(count):
@@ -514,7 +517,7 @@ class Day:
         """After a sync the mount is the directory, and its number is the one that was answered."""
         name = os.path.join(self.folder, "control")
         generation, number = control.sync(name)
-        mount, mirror = railburnet.Client(self.port), railburnet.Mirror()
+        mount, mirror = railburnet.Client(self.place), railburnet.Mirror()
         with contextlib.closing(mount):
             end = time.monotonic() + 30
             while mirror.position is None or mirror.position.sequence < number:
@@ -537,6 +540,7 @@ class Day:
             missing = path in there and there[path][1] >= LARGE and path not in held
             if (
                 missing
+                and not self.over_socket
                 and os.fsdecode(path) in left_out
                 and not self.is_the_commits(path, there[path])
             ):
@@ -585,13 +589,13 @@ class Day:
                 )
 
 
-def day(seed, steps):
+def day(seed, steps, over_socket=False):
     """One seed: how many states a client saw, and how often feed and edend were begun."""
     folder = tempfile.mkdtemp(prefix="railburnet-day-")
     state, os.environ["RAILBURNET_STATE"] = os.environ.get("RAILBURNET_STATE"), os.path.join(
         folder, "state"
     )
-    one = Day(folder, seed)
+    one = Day(folder, seed, over_socket)
     try:
         return one.run(steps), one.restarts
     finally:
@@ -609,11 +613,12 @@ def main():
     parser.add_argument("--seeds", type=int, default=10)
     parser.add_argument("--first", type=int, default=0)
     parser.add_argument("--steps", type=int, default=300)
+    parser.add_argument("--socket", action="store_true")
     options = parser.parse_args()
     for seed in range(options.first, options.first + options.seeds):
         begun = time.monotonic()
         try:
-            states, restarts = day(seed, options.steps)
+            states, restarts = day(seed, options.steps, options.socket)
         except Differs as difference:
             print(f"days.py: {difference}", file=sys.stderr)
             return 1

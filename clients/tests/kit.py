@@ -31,6 +31,21 @@ def client(*words):
     return [sys.executable, os.path.join(CLIENTS, "railburnet"), *words]
 
 
+def writable_edend():
+    """The edend that EDEND names, if its mounts can be changed over their sockets; else nothing."""
+    named = os.environ.get("EDEND")
+    if not named:
+        return None
+    done = subprocess.run(
+        [named, "serve", "--help"],
+        stdin=subprocess.DEVNULL,
+        stdout=subprocess.PIPE,
+        stderr=subprocess.STDOUT,
+        check=False,
+    )
+    return named if b"--writable" in done.stdout else None
+
+
 def wait_until(true, seconds=120.0):
     """Waits until something holds, and returns whether it does. A busy machine takes long."""
     end = time.monotonic() + seconds
@@ -130,11 +145,12 @@ class InFolder(unittest.TestCase):
 
     def tearDown(self):
         for process in self._started:
+            # A thread may read a stream, and closing that waits for the thread.
+            process.kill()
+            process.wait()
             for stream in (process.stdin, process.stdout):
                 if stream is not None:
                     stream.close()
-            process.kill()
-            process.wait()
         del os.environ["RAILBURNET_STATE"]
         if self._state is not None:
             os.environ["RAILBURNET_STATE"] = self._state
@@ -184,6 +200,22 @@ class InFolder(unittest.TestCase):
             self.assertTrue(line, self.text("stderr"))
             if line == b"listening %d\n" % port:
                 return port, server
+
+    def socket_server(self, *options, script=b"", source=None, program=None):
+        """A server at the socket `s` of the folder, which waits for connections once its script has
+        come: the edend that EDEND names if it is one that can be changed, or the stand-in."""
+        program = program or writable_edend() or os.path.join(HERE, "stand_in.py")
+        words = [program, "serve", "--socket", self.path("s"), "--connections", "8", "--stay"]
+        server = self.started(
+            [*words, *options], stdin=source or subprocess.PIPE, stdout=subprocess.PIPE
+        )
+        if source is None:
+            server.stdin.write(script + b"listen\n")
+            server.stdin.flush()
+        for line in server.stdout:
+            if line.startswith(b"listening "):
+                return server
+        raise AssertionError(self.text("stderr"))
 
     def lines(self, server, *lines):
         """Gives lines to a server."""

@@ -9,9 +9,9 @@ import sys
 import tempfile
 import unittest
 
-from kit import CLIENTS, InFolder, client, wait_until
+from kit import CLIENTS, InFolder, Relay, client, wait_until
 
-from railburnet import Client, ConnectionLost, Position, control
+from railburnet import Client, ConnectionLost, Position, control, frames
 from railburnet.cli import COMMANDS
 
 sys.path.insert(0, os.path.join(CLIENTS, "packaging"))
@@ -72,6 +72,39 @@ class Lines(InFolder):
             self.assertEqual((status, printed.split("\0")[:-1]), (0, files))
         self.assertEqual(self.run_it("--port", str(port), "cat", "./src/a")[:2], (0, "1"))
 
+    def test_patterns_that_exclude(self):
+        port, _ = self.server(SCRIPT + b"write !x plain 4\n")
+        for patterns, files in (
+            (["!src/**"], ["!x", "c"]),
+            (["!./src/**"], ["!x", "c"]),
+            (["src/**", "!src/d/**"], ["src/a"]),
+            (["!src/d/**", "src/**"], ["src/a"]),
+            (["!c", "!src/*"], ["!x", "src/d/b"]),
+            (["!."], []),
+            (["\\!x"], ["!x"]),
+            (["!\\!x", "!c"], ["src/a", "src/d/b"]),
+        ):
+            for words in (["list", "--null"], ["since", "--null", "7", "1"]):
+                status, printed, _ = self.run_it("--port", str(port), *words, *patterns)
+                self.assertEqual((status, printed.split("\0")[:-1]), (0, files), (words, patterns))
+        # What isn't a pattern keeps its `!`.
+        self.assertEqual(self.run_it("--port", str(port), "cat", "!x")[:2], (0, "4"))
+
+    def test_a_mount_that_knows_no_exclusions(self):
+        port, _ = self.server(SCRIPT)
+        with Relay(port, refused=[frames.EXCLUSIONS_TAG]) as relay:
+            self.assertEqual(
+                self.run_it("--port", str(relay.port), "list", "!c"),
+                (
+                    3,
+                    "",
+                    "railburnet: the mount ended the connection (the mount may be too old for "
+                    "patterns with `!`)\n",
+                ),
+            )
+            status, printed, _ = self.run_it("--port", str(relay.port), "list", "--null", "c")
+            self.assertEqual((status, printed), (0, "c\0"))
+
     def test_what_messages_name(self):
         port, _ = self.server(SCRIPT)
         at = ["--port", str(port)]
@@ -93,7 +126,10 @@ class Lines(InFolder):
             ([*at, "since", "7", "9"], 1, "refused: AHEAD 4\n"),
             ([*at, "list", "/src"], 2, "no pattern: /src\n"),
             ([*at, "list", ""], 2, "no pattern: an empty word\n"),
-            ([*at, "list", *"a" * 33], 2, "more than 32 patterns"),
+            ([*at, "list", *"a" * 33], 2, "more than 32 patterns\n"),
+            ([*at, "list", "a", "!"], 2, "no pattern: !\n"),
+            ([*at, "list", "!/src"], 2, "no pattern: !/src\n"),
+            ([*at, "list", *["!a"] * 33], 2, "more than 32 patterns with `!`\n"),
             ([*at, "cat", "../x"], 2, "no path of a mount, BadComponent: ../x\n"),
             ([*at, "cat", "x"], 1, "no file at x\n"),
             ([*at, "list", "-C", "."], 2, "--port and --root both name a mount"),
@@ -340,26 +376,39 @@ class Packaging(unittest.TestCase):
                 for option in action.option_strings:
                     self.assertIn(option.replace("-", "\\-"), pages[f"railburnet-{name}.1"])
 
-    @unittest.skipUnless(os.path.exists("/bin/bash"), "no bash here")
-    def test_completion(self):
+
+@unittest.skipUnless(os.path.exists("/bin/bash"), "no bash here")
+class Completion(InFolder):
+    def completed(self, *words, **variables):
+        """What the last of some words may become."""
         script = os.path.join(CLIENTS, "packaging", "railburnet.bash")
         program = (
             f'. {script}; PATH={CLIENTS}:$PATH; COMP_WORDS=("$@"); COMP_CWORD=$(($# - 1)); '
             '_railburnet; printf "%s\\n" "${COMPREPLY[@]}"'
         )
+        done = subprocess.run(
+            ["bash", "-c", program, "-", "railburnet", *words],
+            env={**os.environ, **variables},
+            stdout=subprocess.PIPE,
+            check=True,
+        )
+        return done.stdout.decode().split()
 
-        def completed(*words):
-            done = subprocess.run(
-                ["bash", "-c", program, "-", "railburnet", *words],
-                stdout=subprocess.PIPE,
-                check=True,
-            )
-            return done.stdout.decode().split()
+    def test_commands_and_options(self):
+        self.assertEqual(self.completed("s"), ["status", "sync", "since"])
+        self.assertEqual(self.completed("--port", "7", "fo"), ["follow"])
+        self.assertEqual(self.completed("follow", "--in"), ["--into"])
+        self.assertEqual(set(self.completed("")), set(COMMANDS))
 
-        self.assertEqual(completed("s"), ["status", "sync", "since"])
-        self.assertEqual(completed("--port", "7", "fo"), ["follow"])
-        self.assertEqual(completed("follow", "--in"), ["--into"])
-        self.assertEqual(set(completed("")), set(COMMANDS))
+    def test_files(self):
+        port, _ = self.server(SCRIPT + b"write !x plain 4\n")
+        for words, names in (
+            (("list", "sr"), ["src/a", "src/d/b"]),
+            (("list", "!sr"), ["!src/a", "!src/d/b"]),
+            (("list", "!"), ["!!x", "!c", "!src/a", "!src/d/b"]),
+            (("cat", "!"), ["!x"]),
+        ):
+            self.assertEqual(self.completed(*words, RAILBURNET_PORT=str(port)), names, words)
 
 
 if __name__ == "__main__":

@@ -14,6 +14,13 @@ class Days(unittest.TestCase):
                 self.assertGreater(states, 20)
                 self.assertGreater(restarts, 1)
 
+    def test_a_short_day_over_a_socket(self):
+        for seed in (2, 9):
+            with self.subTest(seed=seed):
+                states, restarts = day(seed, 40, over_socket=True)
+                self.assertGreater(states, 20)
+                self.assertGreater(restarts, 1)
+
 
 if __name__ == "__main__":
     unittest.main()

@@ -119,7 +119,7 @@ class Documents(InFolder):
     def test_clients(self) -> None:
         up, status, sync, listing, since, watch = (
             command_of("docs/clients.md", f"railburnet {it}")
-            for it in ("up", "status", "sync", "list", "since", "watch 'crates")
+            for it in ("up", "status", "sync", "list '*", "since", "watch 'crates")
         )
         self.assertRegex(self.shell(up), r"\Aup: \S+ at socket \S+, 5 files, \d+\.\d s\n\Z")
         at, head = rf"at (\d+ )(\d+)", self.git("rev-parse", "HEAD")
@@ -152,6 +152,28 @@ class Documents(InFolder):
         self.write("src/main.c", "saved\n")
         for made in (os.path.join(self.top, "made"), os.path.join(copy, "src/main.c")):
             self.assertTrue(wait_until(lambda made=made: text_of(made) == "saved\n"), made)
+
+    @unittest.skipUnless(shutil.which("make"), "no make here")
+    def test_exclusions(self) -> None:
+        """`make` runs on a save of a source, and not on what it makes, nor on what is excluded."""
+        up, listing, watch = (
+            command_of("docs/clients.md", f"railburnet {it}")
+            for it in ("up", "list '!", "watch --null '!")
+        )
+        self.write("Makefile", "all:\n\tmkdir -p dist && cp src/main.c dist/made\n")
+        self.shell(up)
+        listed = self.shell(listing).split("\n")[1:]
+        self.assertEqual(listed, ["files 2", "CHANGELOG.md", "CONTRIBUTING.md", ""])
+        self.runs(watch)
+        self.assertTrue(wait_until(lambda: b"watch: watching 6 paths" in self.text("stderr")))
+        made = os.path.join(self.top, "dist", "made")
+        for count, text in enumerate(("one\n", "two\n"), 1):
+            self.write("d/node_modules/x", text)
+            self.write("src/main.c", text)
+            self.assertTrue(wait_until(lambda text=text: text_of(made) == text))
+            ended = b"watch: ended with status 0"
+            self.assertTrue(wait_until(lambda count=count: self.text("stderr").count(ended) == count))
+        self.assertEqual(self.text("stderr").count(b"1 path changed: src/main.c;"), 2)
 
     def test_git(self) -> None:
         up = command_of("docs/clients.md", "railburnet up")
@@ -190,7 +212,8 @@ class Documents(InFolder):
 
     @unittest.skipUnless(os.path.exists(FOLLOW), "beside EDEND is no program follow")
     def test_two_terminals(self) -> None:
-        serve, first, second = (it for it in commands_of("docs/sessions.md") if "40711" in it)
+        sessions = (it for it in commands_of("docs/sessions.md") if "40711" in it)
+        serve, first, second, third = sessions
         how = {"env": self.environment, "stdin": subprocess.PIPE, "stdout": subprocess.PIPE}
         daemon = self.started(["bash", "-c", f"exec {serve}"], **how)
         self.lines(daemon, b"mount empty 7 1000", b"write a plain 1", b"listen")
@@ -201,6 +224,7 @@ class Documents(InFolder):
         self.lines(daemon, b"write b exec 22")
         placed = f"placed 7 3 {'0' * 40}\nfiles 1\nexec 2 b\n"
         self.assertTrue(wait_until(lambda: self.shell(second) == placed))
+        self.assertEqual(self.shell(third), f"placed 7 3 {'0' * 40}\nfiles 1\nplain 1 a\n")
         daemon.stdin.close()
         self.assertEqual(daemon.wait(120), 0)
 

@@ -210,6 +210,19 @@ class Following(Fed):
         os.rename(self.path("w", "t"), self.path("w", "b"))
         self.equal()
 
+    def test_a_file_and_a_directory_change_places(self):
+        """A path of the directory that is gone is looked at between the two."""
+        for name in (b"a/x", b"b"):
+            self.write(name, b"text of " + name)
+        self.feed("--empty", "--settle", "0.3")
+        self.settled()
+        shutil.rmtree(self.path("w", "a"))
+        os.unlink(self.path("w", "b"))
+        for name in (b"a", b"b/y"):
+            self.write(name, b"text of " + name)
+        self.equal()
+        self.assertEqual(set(self.world.files), {b"a", b"b/y"})
+
     def test_moved_directories(self):
         for name in (b"d/x", b"d/e/y", b"other/z", b"f"):
             self.write(name, b"text of " + name)

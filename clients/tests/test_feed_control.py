@@ -165,19 +165,27 @@ class Syncing(Mounted):
         """It is answered after that, though nothing else happens."""
         for n in range(40):
             os.mkdir(self.path("w", f"d{n}"))
-            for m in range(50):
-                self.write(f"d{n}/f{m}", f"{n} {m}\n" * 1000)
+            for m in range(75):
+                self.write(f"d{n}/f{m}", f"{n} {m}\n" * 200)
         feeder = self.started(
             [*client("feed"), "--empty", "--control", self.path("control"), self.path("w")],
             stdout=subprocess.PIPE,
         )
         self.assertTrue(wait_until(self.listens))
-        reader = threading.Thread(target=feeder.stdout.read)
+        answered = threading.Event()
+
+        def read():
+            # The look goes on no faster than this until the status has come.
+            while feeder.stdout.read1(1 << 16):
+                answered.wait(0.02)
+
+        reader = threading.Thread(target=read)
         early = self.peer()
         early.stream.sendall(b"status\nsync\n")
         reader.start()
         self.assertIs(json.loads(early.lines.readline())["following"], False)
-        self.assertEqual(int(early.lines.readline().split()[2]), 2001)
+        answered.set()
+        self.assertEqual(int(early.lines.readline().split()[2]), 3001)
         feeder.kill()
         reader.join()
 

@@ -487,6 +487,16 @@ class Following(InFolder):
         follow.send_signal(2)
         self.assertEqual(follow.wait(120), 130)
 
+    def test_a_copy_without_what_is_excluded(self):
+        port, _ = self.server(
+            b"mount empty 7 1000000\nwrite a plain 1\nwrite d/b.o plain 2\nwrite d/b plain 2\n"
+        )
+        words = ["--port", str(port), "follow", "--once", "--into", self.path("m"), "!**/*.o"]
+        done = subprocess.run(client(*words), stdout=subprocess.PIPE, check=True)
+        self.assertEqual(done.stdout.split(b"\n")[1], b"paths 2 unequal 0")
+        self.assertEqual(sorted(os.listdir(self.path("m"))), [".railburnet", "a", "d"])
+        self.assertEqual(os.listdir(self.path("m", "d")), ["b"])
+
 
 if __name__ == "__main__":
     unittest.main()

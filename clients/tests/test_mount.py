@@ -1,5 +1,6 @@
 """railburnet up, down, status and sync: mounts in the background, found by their directories."""
 import concurrent.futures
+import contextlib
 import json
 import os
 import re
@@ -7,11 +8,22 @@ import shutil
 import signal
 import stat
 import subprocess
+import threading
 import unittest
 
-from kit import HERE, InFolder, client, free_port, wait_until
+from kit import HERE, InFolder, client, free_port, wait_until, writable_edend
 
-from railburnet import Client, File, Kind, Mirror, state
+from railburnet import (
+    Client,
+    ConnectionLost,
+    File,
+    FrameFault,
+    Kind,
+    Mirror,
+    NotWritable,
+    Remove,
+    state,
+)
 from railburnet.control import Bell, ControlFault
 from railburnet.mount import stop
 
@@ -171,7 +183,7 @@ class Beginnings(Mounts):
         """Kills `up` while it waits for a shell script in place of edend; what is left of it."""
         self.environment["EDEND"] = self.path("edend")
         with open(self.path("edend"), "w", encoding="ascii") as file:
-            file.write(f"#!/bin/sh\n{edend}\n")
+            file.write(f'#!/bin/sh\n[ "$2" != --help ] || exit 2\n{edend}\n')
         os.chmod(self.path("edend"), 0o755)
         up = self.started(client("up", self.path("w")), env=self.environment)
         folder = state.folder_of(os.fsencode(self.path("w")))
@@ -291,13 +303,102 @@ class Checkouts(Mounts):
             (list(report["left_out"]), report["files"], report["fault"]), (["large"], 2, None)
         )
         # The copy isn't equal to the directory, and says so; where the file isn't wanted, it is.
-        self.assertIn(
-            "unequal 1\n", self.run_it("follow", "--once", "--into", self.path("m"), status=1)[0]
-        )
-        self.assertIn(
-            "unequal 0\n",
-            self.run_it("follow", "--once", "--into", self.path("n"), "a", "d/**", status=0)[0],
-        )
+        words = ("follow", "--once", "--into")
+        printed, said = self.run_it(*words, self.path("m"), status=1)
+        self.assertIn("unequal 1\n", printed)
+        self.assertRegex(said, r"\Arailburnet: large: 8,388,609 bytes are too many .*\n\Z")
+        printed, said = self.run_it(*words, self.path("n"), "a", "d/**", status=0)
+        self.assertIn("unequal 0\n", printed)
+        self.assertEqual(said, "")
+
+    def test_many_files_that_a_mount_cannot_hold(self):
+        """A copy names some of them, once."""
+        for n in range(12):
+            with open(self.path("w", f"large{n:02}"), "wb") as file:
+                file.truncate(9_000_000)
+        self.up()
+        follow = [*client("follow"), "--into", self.path("m"), "--every", "0.02"]
+        self.started(follow, cwd=self.path("w"), env=self.environment, stdout=subprocess.DEVNULL)
+        more = b"railburnet: and 2 more; `railburnet status --json` lists them\n"
+        self.assertTrue(wait_until(lambda: more in self.text("stderr")))
+        self.write("a", "more")
+        self.assertTrue(wait_until(lambda: self.text("m/a") == self.text("w/a")))
+        with open(self.path("w", "large03"), "ab") as file:
+            file.write(b"x")
+        self.assertTrue(wait_until(lambda: b"large03: 9,000,001 bytes" in self.text("stderr")))
+        self.assertEqual(len(self.text("stderr").splitlines()), 12)
+
+
+class LargeFiles(Mounts):
+    """Files that no line holds, in mounts that can be changed over their sockets or can't."""
+
+    def setUp(self):
+        super().setUp()
+        self.environment["EDEND"] = writable_edend() or os.path.join(HERE, "stand_in.py")
+        self.large = self.path("w", "large")
+        with open(self.large, "wb") as file:
+            file.write(b"x" * 1_000_000)
+
+    def reported(self):
+        return json.loads(self.run_it("status", "--json", status=0)[0])
+
+    def test_over_a_socket(self):
+        mount, printed, _ = self.up()
+        self.assertIn(", 3 files, ", printed)
+        with Client(mount.place) as asks:
+            for text in (b"y" * 1_000_000, b"z" * 8_388_608):
+                with open(self.large, "wb") as file:
+                    file.write(text)
+                asks.sync(mount.control)
+                self.assertEqual(asks.fetch(b"large").file.content, text)
+        self.assertEqual(self.reported()["left_out"], {})
+
+    def test_none_is_missing_while_a_mount_begins(self):
+        """Whoever connects to the socket, at whatever moment, finds all files."""
+        self.up()
+        over, found = threading.Event(), set()
+        place = os.path.join(state.folder_of(os.fsencode(self.path("w"))), "socket")
+
+        def look():
+            while not over.wait(0.005):
+                with contextlib.suppress(ConnectionLost, FrameFault):
+                    with Client(place, connections=1) as asks:
+                        basis = asks.basis()
+                        found.add((basis.position.generation, *basis.paths))
+
+        looker = threading.Thread(target=look)
+        looker.start()
+        try:
+            for _ in range(2):
+                self.run_it("down", status=0)
+                mount, _, _ = self.up()
+                known = (mount.generation, b"a", b"d/b", b"large")
+                self.assertTrue(wait_until(lambda known=known: known in found))
+        finally:
+            over.set()
+            looker.join()
+        self.assertEqual({it[1:] for it in found}, {(b"a", b"d/b", b"large")})
+
+    def test_at_a_port(self):
+        """Whoever can connect to a port must not change the mount, so lines alone do."""
+        self.up("--port", str(free_port()))
+        why = "1,000,000 bytes are too many for a line; the mount has no file there"
+        self.assertEqual(self.reported()["left_out"], {"large": why})
+        with Client(self.mount().place) as asks, self.assertRaises(NotWritable):
+            asks.do(Remove(b"a"))
+
+    def test_an_older_edend(self):
+        """One that doesn't know the option is fed by lines alone."""
+        program = self.environment["EDEND"]
+        self.environment["EDEND"] = self.path("edend")
+        with open(self.path("edend"), "w", encoding="ascii") as file:
+            file.write(f'#!/bin/sh\n[ "$2" != --help ] || exit 2\nexec {program} "$@"\n')
+        os.chmod(self.path("edend"), 0o755)
+        self.up()
+        self.assertEqual(list(self.reported()["left_out"]), ["large"])
+        self.assertEqual(self.listed(), ["a", "d/b"])
+        with Client(self.mount().place) as asks, self.assertRaises(NotWritable):
+            asks.do(Remove(b"a"))
 
 
 class Questions(Mounts):

@@ -9,7 +9,7 @@ import threading
 import time
 import unittest
 
-from kit import CLIENTS, InFolder, Relay
+from kit import CLIENTS, InFolder, Relay, wait_until
 
 import railburnet
 import slow_frames
@@ -57,6 +57,11 @@ def known_frames():
     return [(name, bytes.fromhex(digits)) for name, digits in frames]
 
 
+def kind_of(name):
+    """The kind of message of a frame's name, which may say first what comes before a request."""
+    return re.sub("^(Patient|Excluding)*", "", name).split()[0]
+
+
 class Frames(unittest.TestCase):
     def test_known_frames(self):
         first, second, third, fourth = (Position(7, number) for number in (1, 2, 3, 4))
@@ -65,6 +70,8 @@ class Frames(unittest.TestCase):
             BasisIs(ONE, first, []),
             Poll(ONE, first),
             Poll(ONE, first),
+            Poll(ONE, first, (b"!.git/**",)),
+            Poll(ONE, first, (b"!.git/**",)),
             ChangesAre(ONE, first, [], []),
             Fetch(ONE, b"a"),
             ContentIs(ONE, first, b"a", None),
@@ -81,18 +88,49 @@ class Frames(unittest.TestCase):
         ]
         frames = known_frames()
         names = [type(message).__name__.replace("Below", "List") for message in wanted]
-        self.assertEqual([name.replace("Patient", "").split()[0] for name, _ in frames], names)
+        self.assertEqual([kind_of(name) for name, _ in frames], names)
         for (name, frame), message in zip(frames, wanted):
             if isinstance(message, (Basis, Poll, Fetch, Below)):
-                patience = 10_000 if name == "PatientPoll" else 0
+                patience = 10_000 if "Patient" in name else 0
                 self.assertEqual(railburnet.encode_request(message, patience), frame)
             else:
                 self.assertEqual(struct.unpack(">I", frame[:4])[0], len(frame) - 4)
                 self.assertEqual(railburnet.decode_reply(frame[4:]), message)
 
+    def test_exclusions(self):
+        """By the text of docs/formats.md: the patterns that exclude, each without its `!`, and then
+        the request as it is without them. The order of both kinds among each other is gone."""
+        query, first = "000000000000000100000000000000010000000000000001", "07".rjust(16, "0")
+        first += "01".rjust(16, "0") + "00" * 20
+        of_objects = "0207 01 0006 2a2a2f2a2e6f"
+        for request, patience, spelled in (
+            (Basis(ONE, (b"!a",)), 0, f"00000021 0207 01 0001 61 0201 {query} 00"),
+            (
+                Poll(ONE, Position(7, 1), (b"src/**", b"!**/*.o")),
+                0,
+                f"00000052 {of_objects} 0202 {query} {first} 01 0006 7372632f2a2a",
+            ),
+            (
+                Poll(ONE, Position(7, 1), (b"!**/*.o", b"src/**")),
+                10_000,
+                f"00000058 0205 00002710 {of_objects} 0202 {query} {first} 01 0006 7372632f2a2a",
+            ),
+            (
+                Below(ONE, b"d", (b"!b", b"d/*", b"!a")),
+                0,
+                f"0000002c 0207 02 0001 62 0001 61 0204 {query} 0001 64 01 0003 642f2a",
+            ),
+            # Only the first `!` says that it excludes, and `\\!` never does.
+            (Basis(ONE, (b"!!a",)), 0, f"00000022 0207 01 0002 2161 0201 {query} 00"),
+            (Basis(ONE, (rb"\!a",)), 0, f"00000020 0201 {query} 01 0003 5c2161"),
+            (Basis(ONE, (b"a!",)), 0, f"0000001f 0201 {query} 01 0002 6121"),
+        ):
+            frame = railburnet.encode_request(request, patience)
+            self.assertEqual(frame.hex(), spelled.replace(" ", ""), request)
+
     def test_every_cut(self):
         for name, frame in known_frames():
-            if name.split()[0] in ("Basis", "Poll", "PatientPoll", "Fetch", "List"):
+            if kind_of(name) in ("Basis", "Poll", "Fetch", "List"):
                 continue
             for end in range(4, len(frame)):
                 with self.assertRaises(FrameFault) as raised:
@@ -277,6 +315,38 @@ class Frames(unittest.TestCase):
         )
         self.assertFalse(frames.admits([b"*a" * 100 + b"b"], b"a" * 255))
 
+    def test_what_patterns_exclude(self):
+        for patterns, path, wanted in (
+            ([b"!a"], b"a", False),
+            ([b"!a"], b"b", True),
+            ([b"!a"], b"a/b", True),
+            ([b"!a/**"], b"a/b", False),
+            ([b"!a/**"], b"a", False),
+            ([b"src/**", b"!**/*.o"], b"src/d/x.c", True),
+            ([b"src/**", b"!**/*.o"], b"src/d/x.o", False),
+            ([b"src/**", b"!**/*.o"], b"x.c", False),
+            # The order decides nothing.
+            ([b"!**/*.o", b"src/**"], b"src/d/x.o", False),
+            ([b"!**/*.o", b"src/x.o"], b"src/x.o", False),
+            ([b"a", b"!b", b"c"], b"c", True),
+            ([b"!a", b"!b"], b"b", False),
+            ([b"!**"], b"a", False),
+            ([b"**", b"!**"], b"a", False),
+            ([b"!*"], b"a/b", True),
+            ([b"!!a"], b"!a", False),
+            ([b"!!a"], b"a", True),
+            ([rb"!\!a"], b"!a", False),
+            ([rb"\!a"], b"!a", True),
+            ([rb"\!a"], b"a", False),
+            ([b"d/!a"], b"d/!a", True),
+        ):
+            self.assertEqual(frames.admits(patterns, path), wanted, (patterns, path))
+        for path in (b"!a", b"a!", b"!", b"*", b"a[b", rb"\!", b"\n?"):
+            pattern = railburnet.literal(path)
+            self.assertTrue(frames.admits([pattern], path), path)
+            self.assertFalse(frames.admits([b"!" + pattern], path), path)
+            self.assertFalse(frames.admits([pattern], b"x" + path[1:]), path)
+
     def test_streams(self):
         frames = b"".join(frame for _, frame in known_frames())
         bodies = [frame[4:] for _, frame in known_frames()]
@@ -337,6 +407,18 @@ class Frames(unittest.TestCase):
                     railburnet.encode_request(request)
         self.assertIsNone(railburnet.patterns_fault([b"a"] * 32))
         self.assertIsNotNone(railburnet.patterns_fault([b"a"] * 33))
+        # Each kind may have as many, and the `!` takes no byte of a pattern.
+        self.assertIsNone(railburnet.patterns_fault([b"a"] * 32 + [b"!" + b"a" * 256] * 32))
+        for patterns, fault in (
+            ([b"!a"] * 33, "more than 32 patterns with `!`"),
+            ([b"!"], "no pattern: !"),
+            ([b"a", b"!/a"], "no pattern: !/a"),
+            ([b"!a["], "no pattern: !a["),
+            ([b"!" + b"a" * 257], "a pattern of more than 256 bytes: !" + "a" * 257),
+        ):
+            self.assertEqual(railburnet.patterns_fault(patterns), fault)
+            with self.assertRaisesRegex(ValueError, re.escape(fault)):
+                railburnet.encode_request(Basis(ONE, tuple(patterns)))
 
     def test_words(self):
         self.assertEqual(railburnet.as_word(b"a b\\\n\r"), b"a\\sb\\\\\\n\r")
@@ -713,6 +795,92 @@ class Connections(InFolder):
                     changes = client.wait(Position(7, 1), patience=60)
                     self.assertEqual(changes.marked, [(Mark.CREATED, b"a")])
             self.assertEqual(relay.tags, [5, 2, 5, 2, 2, 2])
+
+    def test_exclusions(self):
+        """In each question, in a mirror, and below directories that were moved."""
+        port, server = self.server(b"mount empty 7 1000000\n")
+        paths = (b"d/a.c", b"d/a.o", b"!x", b"b")
+        self.lines(server, *(b"write %s plain 1" % path for path in paths))
+        objects, own = (b"!**/*.o",), (b"!\\!x", b"d/**", b"b", b"\\!*")
+        with railburnet.Client(port) as client:
+            self.assertTrue(wait_until(lambda: client.position().sequence == 5))
+            self.assertEqual(client.basis(objects).paths, [b"!x", b"b", b"d/a.c"])
+            self.assertEqual(client.basis(own).paths, [b"b", b"d/a.c", b"d/a.o"])
+            self.assertEqual(client.basis([b"\\!x"]).paths, [b"!x"])
+            self.assertEqual(client.basis([b"!**"]).paths, [])
+            self.assertEqual(client.below(b"d", objects).paths, [b"d/a.c"])
+            changes, mirror = railburnet.Changes(client, objects), Mirror(objects)
+            self.assertEqual(changes.next(), [(None, path) for path in (b"!x", b"b", b"d/a.c")])
+            self.assertIs(client.round(mirror), Outcome.PLACED)
+            self.assertEqual(sorted(mirror.files), [b"!x", b"b", b"d/a.c"])
+            self.lines(server, b"write d/b.o plain 2", b"write d/b.c plain 2", b"renamedir d e")
+            self.assertTrue(wait_until(lambda: client.position().sequence == 8))
+            marked = client.since(Position(7, 5), objects).marked
+            self.assertEqual(marked, [(Mark.CREATED, b"d/b.c")])
+            moved = [(None, b"d/a.c"), (Mark.CREATED, b"d/b.c"), (None, b"e/a.c"), (None, b"e/b.c")]
+            self.assertEqual(changes.next(), moved)
+            self.assertIs(client.round(mirror), Outcome.PLACED)
+            self.assertEqual(sorted(mirror.files), [b"!x", b"b", b"e/a.c", b"e/b.c"])
+
+    def test_waiting_for_what_is_not_excluded(self):
+        port, server = self.server(b"mount empty 7 1000000\n")
+        with railburnet.Client(port, connections=1) as client:
+            lines = (b"write a.o plain 1", b"write d/b.o plain 1", b"write c plain 1")
+            write = threading.Timer(0.2, self.lines, (server, *lines))
+            write.start()
+            changes = client.wait(Position(7, 1), [b"!**/*.o"], 60)
+            self.assertEqual(changes.marked, [(Mark.CREATED, b"c")])
+            self.assertEqual(changes.position.sequence, 4)
+            write.join()
+
+    def test_an_exchange_with_exclusions(self):
+        """A poll and its reply, byte by byte."""
+        came, root = [], "00" * 20
+
+        def serve(listener):
+            peer, _ = listener.accept()
+            with peer, peer.makefile("rb") as requests:
+                came.append(requests.read(0x49))
+                peer.sendall(
+                    bytes.fromhex(
+                        f"0000004a 0282 {came[0][12:36].hex()} 0000000000000007 0000000000000002 "
+                        f"{root} 00000001 01 0001 62 00000000"
+                    )
+                )
+
+        with socket.create_server(("127.0.0.1", 0)) as listener:
+            thread = threading.Thread(target=serve, args=(listener,))
+            thread.start()
+            with railburnet.Client(listener.getsockname()[1], connections=1) as client:
+                changes = client.since(Position(7, 1), [b"!a"])
+            thread.join()
+        query = changes.query
+        self.assertEqual(changes, ChangesAre(query, Position(7, 2), [(Mark.CREATED, b"b")], []))
+        spelled = struct.pack(">QQQ", query.mirror, query.life, query.number).hex()
+        self.assertEqual(
+            came[0].hex(),
+            f"00000045 0207 01 0001 61 0202 {spelled} 0000000000000007 0000000000000001 {root} 00"
+            .replace(" ", ""),
+        )
+
+    def test_a_mount_that_knows_no_exclusions(self):
+        """An older one ends the connection. Without exclusions it is asked as ever."""
+        port, _ = self.server(b"mount empty 7 1000000\nwrite a plain 1\n")
+        fault = re.escape(
+            "the mount ended the connection (the mount may be too old for patterns with `!`)"
+        )
+        with Relay(port, refused=[frames.EXCLUSIONS_TAG]) as relay:
+            with railburnet.Client(relay.port, connections=2) as client:
+                for ask in (
+                    lambda: client.basis([b"!b"]),
+                    lambda: client.since(Position(7, 1), [b"!b"]),
+                    lambda: client.below(b"d", [b"!b"]),
+                    lambda: client.round(Mirror([b"!b"])),
+                ):
+                    with self.assertRaisesRegex(railburnet.ConnectionLost, fault):
+                        ask()
+                self.assertEqual(client.basis([b"a"]).paths, [b"a"])
+            self.assertEqual(relay.tags, [7] * 8 + [1])
 
     def test_another_version(self):
         """A frame of version 1 ends the connection, and nothing is answered."""

@@ -153,6 +153,8 @@ class Services(InFolder):
         slow = self.connect()
         asked = encode_request(Basis(Query(1, 1, 1), ()))
         slow.sendall(asked * 32)
+        # Who waits for the place waits no longer than the limit, too.
+        time.sleep(0.5)
         begun = time.monotonic()
         self.assertEqual(self.asked(5001).marked, [])
         self.assertLess(time.monotonic() - begun, SECONDS)
@@ -216,6 +218,23 @@ class Services(InFolder):
         second.settimeout(SECONDS)
         first.close()
         self.assertEqual(reply_from(second).marked, [])
+
+    def test_no_place_within_the_limit(self):
+        """Its connection ends, and the next one is served once a place is free."""
+        self.serve("--connections", "1", "--limit", "1")
+        first = self.connect()
+        first.sendall(poll(1, 1))
+        reply_from(first)
+        second = self.connect()
+        second.sendall(poll(2, 1))
+        begun = time.monotonic()
+        with contextlib.suppress(ConnectionResetError):
+            self.assertEqual(second.recv(1), b"")
+        self.assertGreater(time.monotonic() - begun, 0.9)
+        third = self.connect()
+        third.sendall(poll(3, 1))
+        first.close()
+        self.assertEqual(reply_from(third).marked, [])
 
 
 if __name__ == "__main__":

@@ -85,6 +85,29 @@ class Watching(InFolder):
             self.assertEqual(self.runs(1)[0][2], [b"d/a"])
             self.assertLess(len(relay.tags), 10)
 
+    def test_what_is_excluded(self):
+        """It runs nothing, wherever it is, and the mount isn't asked again for it."""
+        port, server = self.server(b"mount empty 7 1000000\nwrite d/x.o plain 1\n")
+        with Relay(port) as relay:
+            self.watch(relay.port, "!**/*.o", "d/**")
+            self.assertIn(b"watching 0 paths", self.text("stderr"))
+            self.lines(server, *(b"write d/f%d.o plain 1" % n for n in range(100)))
+            time.sleep(1)
+            self.assertEqual(relay.tags[0], frames.EXCLUSIONS_TAG)
+            self.assertLessEqual(len(relay.tags), 2)
+            self.lines(server, b"write d/x.o plain 2", b"write d/a plain 1", b"write b plain 1")
+            self.assertEqual(self.runs(1)[0][2], [b"d/a"])
+
+    def test_a_mount_that_knows_no_exclusions(self):
+        port, _ = self.server(b"mount empty 7 1000000\n")
+        with Relay(port, refused=[frames.EXCLUSIONS_TAG]) as relay:
+            self.started([*client("watch"), "--port", str(relay.port), "!a", "--", "true"])
+            said = (
+                b"watch: the mount ended the connection "
+                b"(the mount may be too old for patterns with `!`); trying again\n"
+            )
+            self.assertTrue(wait_until(lambda: self.text("stderr") == said), self.text("stderr"))
+
     def test_a_mount_that_cannot_wait(self):
         port, server = self.server(b"mount empty 7 1000000\n")
         with Relay(port, refused=[frames.PATIENCE_TAG]) as relay:
@@ -197,6 +220,7 @@ class Watching(InFolder):
     def test_command_lines(self):
         for words, told, status in (
             (["--port", "1", "a[", "--", "true"], b"no pattern", 2),
+            (["--port", "1", "a", "!", "--", "true"], b"no pattern: !", 2),
             (["--port", "1", "a"], b"a command is needed", 2),
             (["a", "--", "true"], b"`railburnet up` begins one, and --port or --socket names another", 3),
             (["--port", "0", "a", "--", "true"], b"--port", 2),

@@ -279,6 +279,17 @@ class Queries(Served):
         ):
             self.assertEqual(self.names(peer, **query), names, query)
 
+    def test_names_that_look_like_patterns(self):
+        for name in ("!b.h", "!src/a.c", "[x]*/b.c"):
+            self.write(name)
+        peer = self.peer()
+        for name, below in (("!src", "a.c"), ("[x]*", "b.c")):
+            self.assertEqual(self.names(peer, relative_root=name), [below])
+            found = self.names(peer, expression=["dirname", name])
+            self.assertEqual(found, [f"{name}/{below}"])
+        found = self.names(peer, expression=["name", ["!b.h", "b.h"], "wholename"])
+        self.assertEqual(found, ["!b.h", "b.h"])
+
     def test_fields(self):
         peer = self.peer()
         status = os.lstat(self.path("w", "link"))

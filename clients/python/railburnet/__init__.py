@@ -2,7 +2,8 @@
 mirror.
 
 It speaks frames of version 2 (docs/formats.md) over TCP or a Unix socket, and needs Python 3.9 and
-nothing else. Paths, patterns and contents are bytes.
+nothing else. Paths, patterns and contents are bytes. A pattern that begins with `!` takes away
+what the rest of it matches, wherever it is in the list.
 
     client = Client(7777)
     basis = client.basis([b"src/**"])  # the files, and the position of that answer
@@ -13,6 +14,7 @@ nothing else. Paths, patterns and contents are bytes.
     while client.round(mirror) is not Outcome.PLACED:     # rounds until the mirror has a position
         pass
     files[b"src/main.c"].content
+    client.do(Write(b"notes", File(Kind.PLAIN, b"text")))  # where the mount may be changed
 
 The same is a program: `railburnet --help`, or `python3 -m railburnet --help`.
 """
@@ -23,6 +25,32 @@ from typing import TYPE_CHECKING, Any
 
 if TYPE_CHECKING:
     from .client import Changes, Client, Connection
+    from .doing import (
+        Answer,
+        Change,
+        ChangeFault,
+        ChangeRefused,
+        Checkout,
+        Do,
+        Done,
+        Flush,
+        Import,
+        Mode,
+        NotDone,
+        NotWritable,
+        Object,
+        ObjectFault,
+        ObjectType,
+        ReadOnly,
+        Remount,
+        Remove,
+        Rename,
+        RenameDir,
+        Reset,
+        Write,
+        decode_done,
+        encode_do,
+    )
     from .folder import Folder
     from .frames import (
         Basis,
@@ -51,6 +79,7 @@ if TYPE_CHECKING:
         decode_reply,
         encode_request,
         lies_below,
+        literal,
         path_fault,
         patterns_fault,
         shown,
@@ -61,6 +90,32 @@ __version__ = "0.1.0"
 
 _HOMES = {
     "client": ("Changes", "Client", "Connection"),
+    "doing": (
+        "Answer",
+        "Change",
+        "ChangeFault",
+        "ChangeRefused",
+        "Checkout",
+        "Do",
+        "Done",
+        "Flush",
+        "Import",
+        "Mode",
+        "NotDone",
+        "NotWritable",
+        "Object",
+        "ObjectFault",
+        "ObjectType",
+        "ReadOnly",
+        "Remount",
+        "Remove",
+        "Rename",
+        "RenameDir",
+        "Reset",
+        "Write",
+        "decode_done",
+        "encode_do",
+    ),
     "folder": ("Folder",),
     "frames": (
         "Basis",
@@ -89,6 +144,7 @@ _HOMES = {
         "decode_reply",
         "encode_request",
         "lies_below",
+        "literal",
         "path_fault",
         "patterns_fault",
         "shown",
@@ -99,40 +155,65 @@ _HOMES = {
 command begins fast."""
 
 __all__ = [
+    "Answer",
     "Basis",
     "BasisIs",
     "Below",
     "Cause",
+    "Change",
+    "ChangeFault",
+    "ChangeRefused",
     "Changes",
     "ChangesAre",
+    "Checkout",
     "Client",
     "Connection",
     "ConnectionLost",
     "ContentIs",
+    "Do",
+    "Done",
     "Fetch",
     "File",
     "FileMap",
     "Files",
+    "Flush",
     "Folder",
     "FrameFault",
     "FrameReader",
+    "Import",
     "Kind",
     "ListIs",
     "Mark",
     "Mirror",
+    "Mode",
+    "NotDone",
+    "NotWritable",
+    "Object",
+    "ObjectFault",
+    "ObjectType",
     "Outcome",
     "Poll",
     "Position",
     "PositionRefused",
     "Query",
+    "ReadOnly",
     "Refused",
+    "Remount",
+    "Remove",
+    "Rename",
+    "RenameDir",
     "Reply",
     "Request",
+    "Reset",
     "TooLarge",
+    "Write",
     "as_word",
+    "decode_done",
     "decode_reply",
+    "encode_do",
     "encode_request",
     "lies_below",
+    "literal",
     "path_fault",
     "patterns_fault",
     "shown",

@@ -7,7 +7,18 @@ import os
 import selectors
 import socket
 import time
-from typing import Callable, Dict, Iterable, Iterator, List, Optional, Tuple, Union
+from typing import (
+    TYPE_CHECKING,
+    Callable,
+    Dict,
+    Iterable,
+    Iterator,
+    List,
+    Optional,
+    Sequence,
+    Tuple,
+    Union,
+)
 
 from . import control as controls
 from .frames import (
@@ -36,16 +47,25 @@ from .frames import (
     drop_own,
     encode_request,
     lies_below,
+    parted,
 )
 from .mirror import Mirror, Outcome
 from .place import Place, text_of
+
+if TYPE_CHECKING:
+    # Few change a mount, and it takes a while.
+    from .doing import Answer, Change, Do, Done
 
 SILENT = 5.0
 """After how many seconds without an answer somebody is told."""
 MOST_PATIENCE = 60.0
 """For how many seconds a mount waits at most for a change."""
+ENDED = (errno.ECONNRESET, errno.EPIPE)
+"""The system's numbers for a connection that its peer ended."""
 MOST_CUT = 2
 """After how many connections in a row that end at a patient request no more are tried."""
+UNSURE = "the change may have been made, unless the mount is too old for changes"
+"""What a lost connection leaves open."""
 
 
 class Connection:
@@ -80,25 +100,53 @@ class Connection:
         """The replies to requests, in their order, as they come. The mount may wait with each for
         so many seconds, if it is a poll and nothing changed.
 
-        Requests are sent ahead while replies are read, so two full buffers can't wait for each
-        other. Who doesn't take all replies has to close the connection. ConnectionLost where it
-        ends or is silent for too long, FrameFault where a reply can't be read.
+        Who doesn't take all replies has to close the connection. ConnectionLost where it ends or
+        is silent for too long, FrameFault where a reply can't be read.
         """
-        source, unsent, waiting, more = iter(requests), bytearray(), 0, True
+        frames = (encode_request(request, math.ceil(patience * 1000)) for request in requests)
+        return map(decode_reply, self._bodies(frames, patience))
+
+    def do_all(self, changes: Iterable[Do]) -> Iterator[Answer]:
+        """The answers to changes, in their order, as they come: each is asked for once.
+
+        It raises what `ask_all` does. Of those that have no answer then, the first ones may have
+        been made; if the mount was silent, all may still be.
+        """
+        from . import doing
+
+        return map(doing.decode_done, self._bodies(map(doing.encode_do, changes)))
+
+    @property
+    def is_open(self) -> bool:
+        """Whether the mount has not ended it, as far as is known, while nothing is asked."""
+        try:
+            self._socket.recv(1, socket.MSG_PEEK)
+        except BlockingIOError:
+            return True
+        except OSError:
+            pass
+        return False
+
+    def _bodies(self, frames: Iterator[bytes], patience: float = 0.0) -> Iterator[bytes]:
+        """The bodies of the replies to frames.
+
+        Frames are sent ahead while replies are read, so two full buffers can't wait for each other.
+        """
+        unsent, waiting, more = bytearray(), 0, True
         while True:
             while more and len(unsent) < 65_536:
-                request = next(source, None)
-                if request is None:
+                frame = next(frames, None)
+                if frame is None:
                     more = False
                 else:
-                    unsent += encode_request(request, math.ceil(patience * 1000))
+                    unsent += frame
                     waiting += 1
             if waiting == 0:
                 return
             del unsent[: self._send(unsent)]
             for body in self._received(bool(unsent), patience):
                 waiting -= 1
-                yield decode_reply(body)
+                yield body
 
     def _send(self, data: bytearray) -> int:
         """Sends what can be sent at once."""
@@ -107,6 +155,9 @@ class Connection:
         except BlockingIOError:
             return 0
         except OSError as error:
+            if error.errno in ENDED:
+                # What the mount replied before the end is still read, and then the end.
+                return len(data)
             raise ConnectionLost(error.errno, f"the connection broke: {error.strerror}") from None
 
     def _received(self, unsent: bool, patience: float) -> Iterator[bytes]:
@@ -270,11 +321,39 @@ class Client:
         drop_own(reply.paths)
         return reply
 
+    def do(self, change: Change) -> Done:
+        """Makes a change to the mount, and returns the position after it.
+
+        ChangeRefused if the mount refuses it, and NotWritable if it can't be changed over this
+        connection. It is asked for once. So if ConnectionLost or FrameFault is raised, it may have
+        been made: ask what changed since the position before. ValueError if a part of it is
+        invalid, and then nothing is asked.
+        """
+        from . import doing
+
+        query = self._query()
+        connection = self._open()
+        try:
+            (answer,) = connection.do_all([doing.Do(query, change)])
+            if answer.query != query:
+                raise FrameFault("a reply to another question")
+            self._waiting = False
+        except (ConnectionLost, FrameFault) as fault:
+            self._lost(fault)
+            if isinstance(fault, ConnectionLost):
+                raise ConnectionLost(fault.errno, f"{fault.strerror}; {UNSURE}") from None
+            raise
+        if isinstance(answer, doing.ReadOnly):
+            raise doing.NotWritable("the mount can't be changed over this connection")
+        if isinstance(answer, doing.NotDone):
+            raise doing.ChangeRefused(answer)
+        return answer
+
     def round(self, mirror: Mirror) -> Outcome:
         """One round of a mirror. IGNORED where no reply counted any more, since the mount was
         begun anew meanwhile: begin another."""
         mirror.begin()
-        for _ in self._connections():
+        for _ in self._connections(mirror.patterns):
             outcome = self._deliveries(mirror)
             while outcome is Outcome.TAKEN:
                 outcome = self._deliveries(mirror)
@@ -297,7 +376,8 @@ class Client:
         return last
 
     def _ask(self, request: Request) -> Reply:
-        for _ in self._connections():
+        patterns = () if isinstance(request, Fetch) else request.patterns
+        for _ in self._connections(patterns):
             try:
                 return self._reply(request)
             except (ConnectionLost, FrameFault) as fault:
@@ -318,13 +398,34 @@ class Client:
         self._number += 1
         return Query(self._mirror, self._life, self._number)
 
-    def _connections(self) -> Iterator[int]:
-        """A turn for each connection that may be made; then the last fault is raised."""
+    def _connections(self, patterns: Sequence[bytes]) -> Iterator[int]:
+        """A turn for each connection that may be made; then the last fault is raised. If the mount
+        ended the connection soon and some patterns exclude, its message says that they may be why.
+        """
+        begun = 0.0
         for turn in range(self._most):
             if turn:
                 time.sleep(min(0.01 * turn, 0.1))
+            begun = time.monotonic()
             yield turn
-        raise self._fault
+        fault = self._fault
+        if isinstance(fault, ConnectionLost) and fault.errno in ENDED and parted(patterns)[1]:
+            # A mount that has no place for a connection ends it too, but later.
+            if time.monotonic() - begun < SILENT:
+                why = "the mount may be too old for patterns with `!`"
+                fault = ConnectionLost(fault.errno, f"{fault.strerror} ({why})")
+        raise fault
+
+    def _open(self) -> Connection:
+        """Returns a connection that the mount has not ended, before anything is sent over it."""
+        if self._connection is not None and not self._connection.is_open:
+            self.close()
+        for _ in self._connections(()):
+            try:
+                return self._connected()
+            except ConnectionLost as fault:
+                self._lost(fault)
+        raise AssertionError("connections end by an exception")
 
     def _connected(self) -> Connection:
         if self._connection is None:

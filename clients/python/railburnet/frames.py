@@ -8,13 +8,24 @@ from bisect import bisect_left
 from dataclasses import dataclass
 from itertools import islice
 from operator import lt
-from typing import Callable, Iterator, List, Optional, Sequence, Tuple, Union
+from typing import (
+    Callable,
+    Container,
+    Iterator,
+    List,
+    Optional,
+    Sequence,
+    Tuple,
+    TypeVar,
+    Union,
+)
 
 VERSION = 2
 MOST_BODY = 16_777_216
 MOST_CONTENT = 8_388_608
 MOST_NUMBER = 2**64 - 1
 PATIENCE_TAG = 5
+EXCLUSIONS_TAG = 7
 OWN_PATHS = b".git/.railburnet"
 """The directory of a mount in which feed keeps files of its own: no directory that it follows
 has it."""
@@ -164,6 +175,7 @@ class ListIs:
 
 Request = Union[Basis, Poll, Fetch, Below]
 Reply = Union[BasisIs, ChangesAre, ContentIs, Refused, ListIs]
+Message = TypeVar("Message")
 
 
 class FrameFault(Exception):
@@ -223,10 +235,24 @@ def lies_below(path: bytes, prefix: bytes) -> bool:
     return path.startswith(prefix + b"/")
 
 
+def parted(patterns: Sequence[bytes]) -> Tuple[List[bytes], List[bytes]]:
+    """The patterns that include paths, and those that exclude paths, without their `!`."""
+    return (
+        [pattern for pattern in patterns if not pattern.startswith(b"!")],
+        [pattern[1:] for pattern in patterns if pattern.startswith(b"!")],
+    )
+
+
 def admits(patterns: Sequence[bytes], path: bytes) -> bool:
-    """Whether patterns admit a path, by docs/formats.md; no patterns admit all."""
+    """Whether patterns admit a path: one that includes matches it, if any includes, and none that
+    excludes does. docs/formats.md says what a pattern matches."""
+    included, excluded = parted(patterns)
+    return (not included or _some_admits(included, path)) and not _some_admits(excluded, path)
+
+
+def _some_admits(patterns: Sequence[bytes], path: bytes) -> bool:
     parts = path.split(b"/")
-    return not patterns or any(_admits(pattern.split(b"/"), parts) for pattern in patterns)
+    return any(_admits(pattern.split(b"/"), parts) for pattern in patterns)
 
 
 def _admits(pattern: List[bytes], parts: List[bytes]) -> bool:
@@ -275,15 +301,24 @@ def drop_own(paths: List[bytes], beside: Optional[List[Tuple[Mark, bytes]]] = No
         del beside[first:last]
 
 
+def literal(path: bytes) -> bytes:
+    """Returns the pattern that admits a path alone."""
+    return re.sub(rb"\A!|[*?\[{\\]", rb"\\\g<0>", path)
+
+
 def patterns_fault(patterns: Sequence[bytes]) -> Optional[str]:
     """Why patterns are no filter, or None. A mount ends the connection at such a filter and
     answers nothing."""
-    if len(patterns) > 32:
+    included, excluded = parted(patterns)
+    if len(included) > 32:
         return "more than 32 patterns"
+    if len(excluded) > 32:
+        return "more than 32 patterns with `!`"
     for pattern in patterns:
-        if len(pattern) > 256:
+        bare = pattern[1:] if pattern.startswith(b"!") else pattern
+        if len(bare) > 256:
             return f"a pattern of more than 256 bytes: {shown(pattern)}"
-        if not _PATTERN.fullmatch(pattern):
+        if not _PATTERN.fullmatch(bare):
             return f"no pattern: {shown(pattern) if pattern else 'an empty word'}"
     return None
 
@@ -303,22 +338,28 @@ def as_word(data: bytes) -> bytes:
 
 # Frames.
 
-_U64 = struct.Struct(">Q")
-_QUERY = struct.Struct(">BBQQQ")
+QUERY = struct.Struct(">BBQQQ")
 _POSITION = struct.Struct(">QQ20s")
 
 
-def _checked_path(path: bytes) -> bytes:
+def spelled_path(path: bytes) -> bytes:
+    """Returns a path as a frame has it. ValueError if it is invalid."""
     fault = path_fault(path)
     if fault:
         raise ValueError(fault)
     return struct.pack(">H", len(path)) + path
 
 
-def _checked_patterns(patterns: Sequence[bytes]) -> bytes:
+def _checked_filter(patterns: Sequence[bytes]) -> Tuple[bytes, bytes]:
+    """What patterns that exclude put before the body of a request, and the filter in it."""
     fault = patterns_fault(patterns)
     if fault:
         raise ValueError(fault)
+    included, excluded = map(_spelled_patterns, parted(patterns))
+    return bytes([VERSION, EXCLUSIONS_TAG]) + excluded if excluded[0] else b"", included
+
+
+def _spelled_patterns(patterns: Sequence[bytes]) -> bytes:
     return bytes([len(patterns)]) + b"".join(struct.pack(">H", len(p)) + p for p in patterns)
 
 
@@ -329,26 +370,29 @@ def _spelled_position(position: Position) -> bytes:
 def encode_request(request: Request, patience: int = 0) -> bytes:
     """Returns the frame of a request, for whose reply the mount may wait so many milliseconds.
 
-    Without patience the request is alone in it, as any mount reads it. ValueError if a path, a
-    filter or the patience is invalid."""
+    Without patience and without patterns that exclude, the request is alone in it, as any mount
+    reads it. ValueError if a path, a filter or the patience is invalid."""
     if not 0 <= patience < 2**32:
         raise ValueError(f"{patience} is no number of milliseconds that a frame holds")
+    before = b""
     if isinstance(request, Fetch):
-        tag, fields = 3, _checked_path(request.path)
-    elif isinstance(request, Below):
-        tag, fields = 4, _checked_path(request.prefix) + _checked_patterns(request.patterns)
-    elif isinstance(request, Poll):
-        tag, fields = 2, _spelled_position(request.since) + _checked_patterns(request.patterns)
+        tag, fields = 3, spelled_path(request.path)
     else:
-        tag, fields = 1, _checked_patterns(request.patterns)
+        before, wanted = _checked_filter(request.patterns)
+        if isinstance(request, Below):
+            tag, fields = 4, spelled_path(request.prefix) + wanted
+        elif isinstance(request, Poll):
+            tag, fields = 2, _spelled_position(request.since) + wanted
+        else:
+            tag, fields = 1, wanted
     query = request.query
-    body = _QUERY.pack(VERSION, tag, query.mirror, query.life, query.number) + fields
+    body = before + QUERY.pack(VERSION, tag, query.mirror, query.life, query.number) + fields
     if patience:
         body = struct.pack(">BBI", VERSION, PATIENCE_TAG, patience) + body
     return struct.pack(">I", len(body)) + body
 
 
-class _Fields:
+class Fields:
     """The fields of a body, from the front."""
 
     def __init__(self, body: bytes) -> None:
@@ -475,13 +519,17 @@ class _Fields:
             raise FrameFault("BadField")
         return Refused(query, cause, value)
 
-    def reply(self) -> Reply:
+    def head(self, tags: Container[int]) -> Tuple[int, Query]:
+        """Reads the version, a tag that has to be one of some, and the query."""
         if self.number(1) != VERSION:
             raise FrameFault("Version")
         tag = self.number(1)
-        if not 0x81 <= tag <= 0x85:
+        if tag not in tags:
             raise FrameFault("BadTag")
-        query = Query(self.number(8), self.number(8), self.number(8))
+        return tag, Query(self.number(8), self.number(8), self.number(8))
+
+    def reply(self) -> Reply:
+        tag, query = self.head(range(0x81, 0x86))
         if tag == 0x84:
             return self.refused(query)
         position = self.position()
@@ -496,14 +544,19 @@ class _Fields:
 
 
 def decode_reply(body: bytes) -> Reply:
-    """Reads the body of a reply; FrameFault where it is none."""
+    """Reads the body of a reply. FrameFault if it is invalid."""
+    return read_whole(body, Fields.reply)
+
+
+def read_whole(body: bytes, read: Callable[[Fields], Message]) -> Message:
+    """Reads a body, of which nothing may be left."""
     if len(body) > MOST_BODY:
         raise FrameFault("TooLarge")
-    fields = _Fields(body)
-    reply = fields.reply()
+    fields = Fields(body)
+    message = read(fields)
     if fields.at != len(body):
         raise FrameFault("Trailing")
-    return reply
+    return message
 
 
 class FrameReader:

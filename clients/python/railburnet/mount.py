@@ -17,9 +17,12 @@ from .place import MOST_SOCKET, Place
 from .state import Mount, Process
 
 CONNECTIONS = 256
-"""How many connections a mount has at a time. A place that is free costs edend 8 KB."""
+"""How many connections a mount has at a time, beside that of its feed. A place that is free costs
+edend 8 KB."""
 NOTES = ("mount.json", state.BEGINNING)
 SOCKET = "socket"
+EARLY = "early"
+"""The socket's name until the mount has all that the directory holds. It isn't longer than SOCKET."""
 PACKAGES = os.path.dirname(os.path.dirname(os.path.realpath(__file__)))
 
 
@@ -89,7 +92,7 @@ def begin(
     It mounts HEAD, or the empty commit: with `empty` or `names`, and if the directory is not the
     top of a checkout with a commit. Unless a port is given, the mount is served at a socket that
     only this user can open. It returns when edend answers and the mount has all that the directory
-    holds.
+    holds. Nobody can connect to the socket before that.
     """
     root = os.path.realpath(root)
     if not os.path.isdir(root):
@@ -115,7 +118,8 @@ def stop(mount: Mount, timeout: float = 20.0) -> None:
             for it in noted:
                 _end(it, timeout)
             # What edend listened at is there if it was killed.
-            for name in (*NOTES, "control", "objects", "printed", SOCKET, f"{SOCKET}.lock"):
+            made = ("control", "objects", "printed", SOCKET, EARLY, f"{EARLY}.lock")
+            for name in (*NOTES, *made):
                 with contextlib.suppress(FileNotFoundError):
                     os.unlink(os.path.join(folder, name))
 
@@ -173,6 +177,7 @@ class _Beginning:
         self._end = time.monotonic() + timeout
         self._edend = edend_program()
         self._control = os.path.join(self._folder, "control")
+        self._early = os.path.join(self._folder, EARLY)
 
     def mount(self, names: bool, whole_renames: bool, empty: bool, port: Optional[int]) -> Mount:
         """Begins the mount, and returns it when it is followed."""
@@ -180,13 +185,15 @@ class _Beginning:
             if before is not None:
                 _end(before, 20.0)
         place = port or self._default_place()
+        writable = isinstance(place, str) and self._edend_knows("--writable")
         commit = None if empty or names else self._write_objects()
         words = ["--control", self._control, *self._feed]
         words += ["--names"] if names else []
         words += [] if whole_renames else ["--each-file"]
+        words += ["--socket", self._early] if writable else []
         words += ["--empty"] if commit is None else ["--commit", f"{commit.id}={commit.mounted}"]
         self._remove("control")
-        feed, edend = self._started(words, place, commit is not None)
+        feed, edend = self._started(words, self._serve(place, writable, commit is not None))
         try:
             mount = Mount(
                 self._root,
@@ -202,6 +209,8 @@ class _Beginning:
             )
             state.note(self._folder, mount, state.BEGINNING)
             self._wait(feed, edend, place)
+            if isinstance(place, str):
+                os.rename(self._early, place)
             mount = mount._replace(generation=int(control.status(self._control)["generation"]))
             state.note(self._folder, mount)
         except BaseException:
@@ -254,7 +263,7 @@ class _Beginning:
         return Commit(head, written.ids[head])
 
     def _started(
-        self, words: List[str], place: Place, objects: bool
+        self, words: List[str], serve: List[str]
     ) -> Tuple[subprocess.Popen[bytes], subprocess.Popen[bytes]]:
         """Starts the feed and edend, in sessions of their own, with their messages in the log."""
         # In the folder, which is this user's own, `-m` takes no module of anybody else.
@@ -275,7 +284,7 @@ class _Beginning:
             with feeding.stdout:
                 try:
                     serving = subprocess.Popen(
-                        self._serve(place, objects),
+                        serve,
                         cwd=self._folder,
                         start_new_session=True,
                         stdin=feeding.stdout,
@@ -288,11 +297,30 @@ class _Beginning:
                     raise MountFault(f"{self._edend}: {error.strerror}") from None
         return feeding, serving
 
-    def _serve(self, place: Place, objects: bool) -> List[str]:
+    def _serve(self, place: Place, writable: bool, objects: bool) -> List[str]:
         """Returns the command line of edend."""
-        words = [self._edend, "serve", "--connections", str(CONNECTIONS), "--stay", "--verbose"]
-        words += ["--port", str(place)] if isinstance(place, int) else ["--socket", place]
+        count = CONNECTIONS + 1 if writable else CONNECTIONS
+        words = [self._edend, "serve", "--connections", str(count), "--stay", "--verbose"]
+        words += ["--port", str(place)] if isinstance(place, int) else ["--socket", self._early]
+        words += ["--writable"] if writable else []
         return words + (["--objects", os.path.join(self._folder, "objects")] if objects else [])
+
+    def _edend_knows(self, option: str) -> bool:
+        """Whether edend has an option: an older one is fed by lines alone."""
+        try:
+            done = subprocess.run(
+                [self._edend, "serve", "--help"],
+                stdin=subprocess.DEVNULL,
+                stdout=subprocess.PIPE,
+                stderr=subprocess.STDOUT,
+                timeout=60.0,
+                check=False,
+            )
+        except OSError:
+            return False
+        except subprocess.TimeoutExpired:
+            raise MountFault(f"{self._edend} does not end `serve --help`") from None
+        return option.encode() in done.stdout
 
     def _file(self, name: str, how: int) -> IO[bytes]:
         return open(
@@ -308,7 +336,7 @@ class _Beginning:
         self, feed: subprocess.Popen[bytes], edend: subprocess.Popen[bytes], place: Place
     ) -> None:
         """Waits until edend listens and the feed has told all that there is."""
-        where = str(place) if isinstance(place, int) else f"unix {place}"
+        where = str(place) if isinstance(place, int) else f"unix {self._early}"
         listens = b"listening %s\n" % os.fsencode(where)
         while True:
             for name, process in (("edend", edend), ("feed", feed)):

@@ -44,11 +44,12 @@ def seconds_of(word: str) -> float:
 
 
 def pattern_of(word: str) -> bytes:
-    """Reads a pattern; `./src/**` is `src/**`, and `.` is all."""
-    pattern = os.fsencode(word)
+    """Reads a pattern, after a `!` if it excludes; `./src/**` is `src/**`, and `.` is all."""
+    begin = b"!" if word.startswith("!") else b""
+    pattern = os.fsencode(word)[len(begin) :]
     while pattern.startswith(b"./"):
         pattern = pattern[2:].lstrip(b"/")
-    return pattern if pattern not in (b".", b"") or word == "" else b"**"
+    return begin + (pattern if pattern not in (b".", b"") or word in ("", "!") else b"**")
 
 
 def add_mount(parser: argparse.ArgumentParser) -> None:
@@ -103,6 +104,12 @@ def add_null(parser: argparse.ArgumentParser) -> None:
     )
 
 
+_EXCLUSIONS = (
+    "; with ! before it, it leaves out what it matches, wherever it is in the list; "
+    "\\! is a name's own !"
+)
+
+
 def add_patterns(parser: argparse.ArgumentParser, needed: bool = False) -> None:
     """Adds the patterns of wanted paths."""
     if needed:
@@ -111,7 +118,7 @@ def add_patterns(parser: argparse.ArgumentParser, needed: bool = False) -> None:
             metavar="PATTERN",
             nargs="+",
             type=pattern_of,
-            help="a pattern of paths, from the mount's root on",
+            help="a pattern of paths, from the mount's root on" + _EXCLUSIONS,
         )
     else:
         parser.add_argument(
@@ -120,7 +127,8 @@ def add_patterns(parser: argparse.ArgumentParser, needed: bool = False) -> None:
             nargs="*",
             type=pattern_of,
             default=[],
-            help="a pattern of wanted paths, from the mount's root on; all paths by default",
+            help="a pattern of wanted paths, from the mount's root on; all paths by default"
+            + _EXCLUSIONS,
         )
 
 

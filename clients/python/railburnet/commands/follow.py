@@ -4,7 +4,7 @@ from __future__ import annotations
 import argparse
 import os
 import time
-from typing import Callable, Optional
+from typing import Callable, Dict, List, Optional, Tuple
 
 from .. import control
 from ..client import Changes, Client
@@ -23,6 +23,8 @@ below directories that were moved.
 
 With --into it keeps a directory equal to the mount instead, and prints the position, and how
 many paths came and how many aren't equal."""
+MOST_NAMED = 10
+"""How many files that a mount can't hold are named at a time."""
 
 
 def add_options(parser: argparse.ArgumentParser) -> None:
@@ -127,6 +129,7 @@ def _follow_into(
 ) -> Callable[[], Optional[int]]:
     """Returns a step that has one round, and makes the directory equal if the mirror was placed."""
     mirror = Mirror(options.patterns, files=folder)
+    left_out = _LeftOut(target, options.patterns)
     checks, told = 5, -1
 
     def check() -> None:
@@ -151,7 +154,7 @@ def _follow_into(
         unequal = folder.place()
         if folder.lacking:
             unequal = folder.retry(lambda path: client.fetch(path).file)
-        unequal += _left_out(target, options)
+        unequal += left_out.count()
         if mirror.position != before or unequal != told:
             print_words("at", str(mirror.position))
             print_words("paths", str(len(mirror.listed)), "unequal", str(unequal))
@@ -161,14 +164,28 @@ def _follow_into(
     return step
 
 
-def _left_out(target: Target, options: argparse.Namespace) -> int:
-    """Returns how many wanted files of the directory the mount can't hold, as far as that is
-    known."""
-    mount = target.mount()
-    if mount is None:
-        return 0
-    try:
-        left_out = control.status(mount.control, 5.0)["left_out"]
-    except ControlFault:
-        return 0
-    return sum(admits(options.patterns, os.fsencode(path)) for path in left_out)
+class _LeftOut:
+    """The wanted files of the directory that the mount can't hold, as far as that is known."""
+
+    def __init__(self, target: Target, patterns: List[bytes]) -> None:
+        self._target, self._patterns = target, patterns
+        self._reported: Dict[bytes, str] = {}
+
+    def count(self) -> int:
+        """Returns how many there are, and says which are new and why."""
+        there = {path: why for path, why in self._all() if admits(self._patterns, path)}
+        new = [path for path, why in there.items() if self._reported.get(path) != why]
+        for path in new[:MOST_NAMED]:
+            say(f"{shown(path)}: {there[path]}")
+        if len(new) > MOST_NAMED:
+            say(f"and {len(new) - MOST_NAMED:,} more; `railburnet status --json` lists them")
+        self._reported = there
+        return len(there)
+
+    def _all(self) -> List[Tuple[bytes, str]]:
+        mount = self._target.mount()
+        try:
+            known = {} if mount is None else control.status(mount.control, 5.0)["left_out"]
+        except ControlFault:
+            known = {}
+        return [(os.fsencode(path), why) for path, why in known.items()]

@@ -19,6 +19,7 @@ DESCRIPTION = """Runs a command on the paths that changed in a mount, each time 
 
     railburnet watch 'src/**' '*.toml' -- wc -c
     railburnet watch --null 'src/**' -- make
+    railburnet watch --null '!build/**' '!**/*.o' -- make
 
 The paths follow the command's words, as many as fit, and what doesn't fit comes in further runs; a
 path that begins with `-` has `./` before it. With --null they come on its standard input instead,

@@ -15,6 +15,10 @@ file, up to 8,388,608 bytes, is in the mount while its bytes and its kind are th
 mounted commit. Other large files, and those that can't be read, are not in the mount. Each change
 of one is still a change of its path there; standard error says why, and `status` lists them.
 
+With --socket PATH it prints lines up to `listen` alone, and then asks edend for each change over
+the socket at PATH, where it has to serve with its option --writable. So each file of up to
+8,388,608 bytes is in the mount.
+
 With --control SOCKET it answers lines of text at a Unix socket. `sync` is answered with `at
 GENERATION NUMBER`: at that number the mount has all that was on disk before. `bell` is answered
 with the same line, now and again each time something was told; `status` with one line of JSON.
@@ -58,7 +62,7 @@ class Heads:
         if head == self._root:
             return set()
         root, target = self._commits.files(self._root), self._commits.files(head)
-        look = self._feeder.go_over(self._commits.label(head), root, target)
+        look = self._feeder.go_over(self._commits.known_as(head), root, target)
         self._root = head
         return look
 
@@ -98,6 +102,16 @@ def lock_of(commits: Optional[Commits], top: bytes) -> Lock:
     return Lock(os.path.join(top, path))
 
 
+def lines_of(options: argparse.Namespace, top: bytes) -> Lines:
+    """Returns what tells edend of changes, by lines alone or over its socket too."""
+    if options.socket is None or options.once:
+        return Lines(generation_of(top, options.generation))
+    # Who feeds by lines alone needs no client.
+    from .served import Served
+
+    return Served(generation_of(top, options.generation), options.socket)
+
+
 def watches_of(options: argparse.Namespace) -> Optional[Inotify]:
     """Returns the kernel's notices, if they are wanted and there are any."""
     if options.scan or options.once:
@@ -117,7 +131,7 @@ def run(options: argparse.Namespace) -> None:
     commits = commits_of(options, top)
     root = commits.add(options.commit) if commits else ""
     also = [commits.add(name) for name in options.also] if commits else []
-    lines = Lines(generation_of(top, options.generation))
+    lines = lines_of(options, top)
     watches = watches_of(options)
     feeder = Feeder(top, {b".git", *map(os.fsencode, options.skip)}, watches, lines,
                     options.each_file, Texts(top) if options.names else None)
@@ -131,18 +145,18 @@ def run(options: argparse.Namespace) -> None:
                 "parked": list(map(os.fsdecode, feeder.parking.places())),
                 "left_out": {os.fsdecode(path): why
                              for path, why in feeder.sayings.left_out.items()}})
-        lines.begin(commits.label(root) if commits else b"empty", options.limit)
+        lines.begin(commits.known_as(root) if commits else "empty", options.limit)
         if options.names:
             lines.change(b"write", NAMES_MARK, b"plain", b"")
         if options.listen_first:
-            lines.listen()
+            loop.serve()
         feeder.mounted(commits.files(root) if commits else {})
         lines.flush()
         loop.look_first()
         if options.once:
             return
         if not options.listen_first:
-            lines.listen()
+            loop.serve()
         how = "" if watches else f", by looking at everything every {options.every:g} seconds"
         tell(f"following {shown(top)}{how}")
         loop.follow()
@@ -181,6 +195,9 @@ def parser() -> argparse.ArgumentParser:
         help="tell a moved directory file by file, so that each name that is gone is told")
     add("--control", metavar="SOCKET",
         help="answer `sync`, `bell` and `status` at this Unix socket, which is its owner's alone")
+    add("--socket", metavar="PATH",
+        help="change the mount over this Unix socket from `listen` on, where edend serves it with "
+        "its option --writable")
     add("--listen-first", action="store_true",
         help="print `listen` before what differs: the mount answers sooner, and holds the commit "
         "at first")

@@ -1,10 +1,13 @@
 """Commits of a repository, by git."""
 from __future__ import annotations
 
+import re
 import subprocess
 from typing import Dict
 
 from .model import GIT_KINDS, MOST_BYTES, SURE_TO_FIT, Failure, File
+
+_ID = re.compile("[0-9a-f]{40}")
 
 
 class Commits:
@@ -12,7 +15,7 @@ class Commits:
 
     def __init__(self, folder: str) -> None:
         self._git = ["git", "--no-replace-objects", "-C", folder]
-        self._labels: Dict[str, bytes] = {}
+        self._known_as: Dict[str, str] = {}
 
     def run(self, *words: str) -> bytes:
         try:
@@ -29,18 +32,20 @@ class Commits:
     def add(self, word: str) -> str:
         """A commit of the command line, COMMIT or COMMIT=ID: its id."""
         name, _, known_as = word.partition("=")
+        if known_as and not _ID.fullmatch(known_as):
+            raise Failure(f"{known_as!r} is not an id of 40 digits")
         try:
             found = self.run("rev-parse", "--verify", "--end-of-options", f"{name}^{{commit}}")
         except Failure:
             fault = f"{name} is no commit of the repository; --empty mounts the empty one"
             raise Failure(fault) from None
         id = found.decode().strip()
-        self._labels[id] = (known_as or id)[:32].encode()
+        self._known_as[id] = known_as or id
         return id
 
-    def label(self, id: str) -> bytes:
-        """The label of a commit of the command line."""
-        return self._labels[id]
+    def known_as(self, id: str) -> str:
+        """Returns the id under which the mount has a commit of the command line."""
+        return self._known_as[id]
 
     def head(self, before: str) -> str:
         """The commit that is checked out, where it is one of the command line; else the one
@@ -49,7 +54,7 @@ class Commits:
             now = self.run("rev-parse", "HEAD").decode().strip()
         except Failure:
             return before
-        return now if now in self._labels else before
+        return now if now in self._known_as else before
 
     def files(self, id: str) -> Dict[bytes, File]:
         """The files of a commit that a mount can hold."""

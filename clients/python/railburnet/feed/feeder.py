@@ -9,10 +9,10 @@ from typing import (Callable, Dict, Iterable, Iterator, List, Optional, Set, Tup
                     Union)
 
 from .inotify import Inotify
-from .lines import Lines, Parking, write_line
+from .lines import Lines, Parking
 from .links import Links, Node
-from .model import (NOT_THERE, YOUNG, Failure, File, Folder, Model, Seen, folders_of, is_short,
-                    joined, kind_of, shown)
+from .model import (MOST_BYTES, NOT_THERE, YOUNG, Failure, File, Folder, Model, Seen, folders_of,
+                    is_short, joined, kind_of, shown)
 from .names import Texts
 from .places import Places, entries
 from .sayings import Sayings
@@ -59,7 +59,8 @@ class Feeder:
         self._note_own(files)
 
     def _note_own(self, files: Dict[bytes, File]) -> None:
-        self._own = {path: (file.kind, file.id) for path, file in files.items() if file.large}
+        self._own = {path: (file.kind, file.id) for path, file in files.items()
+                     if self._is_parked(file)}
 
     def turn(self, paths: Optional[Iterable[bytes]]) -> None:
         """Looks at some paths, or at everything, and tells what differs from what was told."""
@@ -159,6 +160,8 @@ class Feeder:
                 path = joined(above, name)
             try:
                 if above != last:
+                    # If this one is gone, the next path asks for its own again.
+                    last = None
                     folder, left_out = self._told(above)
                     is_copy = isinstance(folder, Folder) and folder.is_copy
                     at = -1 if left_out or is_copy else self._places.at(above)
@@ -377,12 +380,17 @@ class Feeder:
 
     def _tell_gone(self, path: bytes, file: File) -> None:
         self.sayings.forget(path)
-        if file.told and file.large:
+        if self._is_parked(file):
             self.parking.park(path, file.kind, file.id)
         elif file.told:
             self._lines.change(b"remove", path)
         else:
             self._lines.name(path)
+
+    def _is_parked(self, file: File) -> bool:
+        """Whether a file is kept elsewhere in the mount when it goes, since nothing can write it
+        again."""
+        return file.told and file.large and not self._lines.writes_all
 
     def _keep(self, path: bytes, file: File) -> None:
         """Notes what was told of a path."""
@@ -417,7 +425,7 @@ class Feeder:
             id = before.id if before.seen == seen and not before.young else b""
         numbers = seen.numbers()
         _, _, _, modified, changed, mode, _ = numbers
-        self._lines.printed(texts.line(path, id, numbers))
+        self._lines.change(b"write", path, kind_of(mode), texts.text(id, numbers))
         self._links.note(path, seen)
         self.sayings.forget(path)
         return File(kind_of(mode), id, seen, True, _is_young(modified, changed, now))
@@ -426,6 +434,9 @@ class Feeder:
         """Tells a file of a directory by what it holds."""
         item = folder.items.get(name)
         file = item if isinstance(item, File) else None
+        if file is None and self._lines.defers(seen.size):
+            self.again.setdefault(path, time.monotonic())
+            return
         try:
             at = self._places.at(path[: -len(name) - 1])
             before, data, rested = self._places.read(at, name, seen)
@@ -450,23 +461,31 @@ class Feeder:
 
     def _tell_content(self, path: bytes, file: Optional[File], seen: Seen,
                       data: Optional[bytes]) -> Optional[File]:
-        """Tells what a file holds, and returns it as the mount has it; None if the mount can't."""
-        kind, id, line = seen.kind, b"", None
+        """Tells what a file holds, and returns it as the mount has it; None if the mount can't, or
+        can't yet."""
+        kind, id, text = seen.kind, b"", None
         if data is not None:
             id = hashlib.sha1(b"blob %d\0" % len(data) + data).digest()
-            line = write_line(path, kind, data)
+            text = data if self._lines.fits(path, kind, data) else None
         young = _is_young(seen.modified, seen.changed, time.time_ns())
-        new = File(kind, id, seen, True, young, line is None)
+        new = File(kind, id, seen, True, young, text is None)
         there = file if file is not None and file.told else None
         same = there is not None and data is not None and there.kind == kind and there.id == id
-        if line is not None:
+        if text is not None:
             before = file.seen if file is not None else None
             touched = before is not None and before.modified != seen.modified
             if not same:
                 self._make_way(path, file)
             if touched or not same:
-                self._lines.printed(line)
+                self._lines.change(b"write", path, kind, text)
         elif not same:
+            if data is not None and self._lines.writes_all:
+                # It is written once the mount is served, which shows nothing older until then.
+                self.again.setdefault(path, time.monotonic())
+                if there is not None:
+                    self._lines.change(b"remove", path)
+                    self._keep(path, new._replace(told=False))
+                return None
             if data is not None and self._own.get(path) == (kind, id):
                 self._take_back(kind, id)
             if not self.parking.has(kind, id):
@@ -479,7 +498,7 @@ class Feeder:
 
     def _make_way(self, path: bytes, file: Optional[File]) -> bool:
         """Parks a file of the mount that no line can write again, and says whether it was one."""
-        if file is None or not file.told or not file.large:
+        if file is None or not self._is_parked(file):
             return False
         self.parking.park(path, file.kind, file.id)
         return True
@@ -528,7 +547,7 @@ class Feeder:
         if self._elsewhere is None:
             self._elsewhere = {}
             for path, item in self.model.below(self.model.top, b""):
-                if isinstance(item, File) and item.told and item.large:
+                if isinstance(item, File) and self._is_parked(item):
                     key = item.kind, item.id
                     if self._own.get(path) != key:
                         self._elsewhere.setdefault(key, []).append(path)
@@ -536,10 +555,10 @@ class Feeder:
 
     # Another commit.
 
-    def go_over(self, label: bytes, root: Dict[bytes, File],
+    def go_over(self, commit: str, root: Dict[bytes, File],
                 target: Dict[bytes, File]) -> Set[bytes]:
         """Has the mount go over from one commit to another, and returns the paths to look at."""
-        self._lines.change(b"checkout", label, b"force")
+        self._lines.check_out(commit)
         above = {above for path in target for above in folders_of(path)}
         look = set()
         for path, file in self.model.files().items():
@@ -558,7 +577,8 @@ class Feeder:
 
 
 def _too_large(seen: Seen) -> str:
-    return f"{seen.size:,} bytes are too many for a line; the mount has no file there"
+    what = "mount" if seen.size > MOST_BYTES else "line"
+    return f"{seen.size:,} bytes are too many for a {what}; the mount has no file there"
 
 
 def _is_young(modified: int, changed: int, now: int) -> bool:

@@ -3,10 +3,10 @@ from __future__ import annotations
 
 import io
 import sys
-from typing import BinaryIO, Dict, List, Optional, Tuple
+from typing import BinaryIO, Callable, Dict, List, Tuple
 
 from ..frames import OWN_PATHS
-from .model import MOST_LINE, line_of, spelled
+from .model import MOST_LINE, SURE_TO_FIT, line_of
 
 
 class Lines:
@@ -20,16 +20,22 @@ class Lines:
     1,024 bytes and 64 names, so edend takes each of them.
     """
 
+    writes_all = False
+    """Whether each file of at most 8 MiB can be written, now or once the mount is served."""
+
     def __init__(self, generation: int) -> None:
         self.generation, self.number = generation, 1
+        self.meanwhile: Callable[[], None] = lambda: None
+        """What is done again and again while edend takes long."""
         out = sys.stdout.buffer
         # PYTHONUNBUFFERED would have each line be written by itself.
         self._out: BinaryIO = io.BufferedWriter(out) if isinstance(out, io.FileIO) else out
         self._mounted = False
 
-    def begin(self, label: bytes, limit: int) -> None:
+    def begin(self, commit: str, limit: int) -> None:
         """Prints the line that mounts a commit."""
-        self._out.write(line_of(b"mount", label, b"%d" % self.generation, b"%d" % limit))
+        words = _label_of(commit), b"%d" % self.generation, b"%d" % limit
+        self._out.write(line_of(b"mount", *words))
 
     def listen(self) -> None:
         """Prints the line from which on the mount can be asked."""
@@ -40,14 +46,25 @@ class Lines:
         """Gives edend all that was printed."""
         self._out.flush()
 
+    def defers(self, size: int) -> bool:
+        """Whether a file of a size can be written only once the mount is served."""
+        return False
+
+    def fits(self, path: bytes, kind: bytes, data: bytes) -> bool:
+        """Whether a file can be written now."""
+        if len(data) > MOST_LINE:
+            return False
+        line = b"" if len(data) <= SURE_TO_FIT else line_of(b"write", path, kind, data)
+        return len(line) <= MOST_LINE + 1
+
     def change(self, *words: bytes) -> None:
         """Prints a line that changes the mount."""
-        self.printed(line_of(*words))
-
-    def printed(self, line: bytes) -> None:
-        """Prints a line that changes the mount, with its words spelled already."""
-        self._out.write(line)
+        self._out.write(line_of(*words))
         self.number += 1
+
+    def check_out(self, commit: str) -> None:
+        """Has the mount go to a commit, and change all files that differ from it."""
+        self.change(b"checkout", _label_of(commit), b"force")
 
     def name(self, path: bytes) -> None:
         """Tells a change of a path at which the mount has no file, and leaves it so."""
@@ -55,14 +72,9 @@ class Lines:
         self.change(b"remove", path)
 
 
-def write_line(path: bytes, kind: bytes, data: bytes) -> Optional[bytes]:
-    """Returns the line that writes a file; None if it is too long for one."""
-    if len(data) > MOST_LINE:
-        return None
-    text = spelled(data)
-    end = b"\\e\n" if text.endswith(b"\r") else b"\n"
-    line = b"write %b %b %b%b" % (spelled(path), kind, text, end)
-    return line if len(line) <= MOST_LINE + 1 else None
+def _label_of(commit: str) -> bytes:
+    """Returns the label of a commit, which is named by its id or as `empty`."""
+    return commit[:32].encode()
 
 
 class Parking:

@@ -84,7 +84,7 @@ class Loop:
         self._poll.register(sys.stdout.fileno(), 0)
         if watches is not None:
             self._poll.register(watches.file, select.POLLIN)
-        feeder.meanwhile = self._serve_meanwhile
+        feeder.meanwhile = lines.meanwhile = self._serve_meanwhile
 
     def listen(self, path: str, status: Callable[[], "dict[str, object]"]) -> None:
         """Makes the control socket."""
@@ -100,6 +100,12 @@ class Loop:
     def look_first(self) -> None:
         """Tells what differs now."""
         self._look(None)
+
+    def serve(self) -> None:
+        """Has edend serve the mount, and tells it what could not be told before."""
+        self._lines.listen()
+        if self._feeder.again and self._lines.writes_all:
+            self._look(set(self._feeder.again))
 
     def follow(self) -> None:
         """Tells what happens, for good."""

@@ -7,7 +7,7 @@ import struct
 import subprocess
 from typing import Dict
 
-from .model import Numbers, Seen, kind_of, spelled
+from .model import Numbers, Seen
 
 _ENTRY = re.compile(
     rb"[0-7]+ ([0-9a-f]+) 0\t([^\0]*)\0"
@@ -32,13 +32,12 @@ class Texts:
         known = self._known.pop(path, b"") if self._known else b""
         return known[_STATUS.size :] if known.startswith(_status_of(seen)) else b""
 
-    def line(self, path: bytes, id: bytes, seen: Numbers) -> bytes:
-        """Returns the line that writes the text for a file with this id, or with none."""
-        _, inode, size, modified, _, mode, _ = seen
-        words = spelled(path), kind_of(mode)
+    def text(self, id: bytes, seen: Numbers) -> bytes:
+        """Returns the text for a file with this id, or with none."""
         if id:
-            return b"write %b %b blob\\s%b\n" % (*words, id.hex().encode())
-        return b"write %b %b stat\\s%d\\s%d\\s%d\n" % (*words, size, modified, inode)
+            return b"blob %b" % id.hex().encode()
+        _, inode, size, modified, _, _, _ = seen
+        return b"stat %d %d %d" % (size, modified, inode)
 
 
 def _status_of(seen: Seen) -> bytes:

@@ -11,7 +11,15 @@ from typing import Any, Callable, Dict, Iterator, List, NamedTuple, Optional, Tu
 
 from .. import control, mount, state
 from ..client import Client
-from ..frames import ConnectionLost, FrameFault, Mark, Position, PositionRefused, TooLarge
+from ..frames import (
+    ConnectionLost,
+    FrameFault,
+    Mark,
+    Position,
+    PositionRefused,
+    TooLarge,
+    literal,
+)
 from ..mount import MountFault
 from ..state import Mount, StateFault
 from .clocks import Place
@@ -275,7 +283,7 @@ class Mounted:
         assert self._client is not None
         above = folder + b"/" if folder else b""
         if not patterns:
-            yield from self._client.basis((_escaped(above) + b"*",)).paths
+            yield from self._client.basis((literal(above) + b"*",)).paths
         folders = []
         with contextlib.suppress(OSError), os.scandir(os.path.join(self.top, folder)) as entries:
             folders = [
@@ -307,11 +315,3 @@ def config_of(top: bytes) -> Dict[str, Any]:
     except ValueError as error:
         raise Fault(f"failed to parse json from {text(top)}/.watchmanconfig: {error}") from None
     return config if isinstance(config, dict) else {}
-
-
-def _escaped(path: bytes) -> bytes:
-    """Returns the pattern that matches a path alone."""
-    return b"".join(
-        b"\\" + path[at : at + 1] if path[at : at + 1] in b"*?[{\\" else path[at : at + 1]
-        for at in range(len(path))
-    )

@@ -4,7 +4,7 @@ from __future__ import annotations
 import re
 from typing import Any, Callable, Dict, List, NamedTuple, Optional, Tuple
 
-from ..frames import Mark
+from ..frames import Mark, literal
 from . import clocks, wildmatch
 from .clocks import Cursor, Place, Spec, Time
 from .expression import Compiler, Keep, by_suffixes, everything
@@ -110,7 +110,7 @@ class Query:
             whole = (top + path).strip(b"/")
             if not whole:
                 return ()
-            pattern = re.sub(rb"([*?\[{\\])", rb"\\\1", whole)
+            pattern = literal(whole)
             patterns += [pattern, pattern + b"/**"]
         fits = len(patterns) <= MOST_PATTERNS and all(
             len(pattern) <= MOST_PATTERN and not re.search(rb"//|\0", pattern)
