@@ -25,8 +25,8 @@ is listed as "the answer". What an implementation of a trait promises is said at
 
 ## In short
 
-- **A mirror that fell behind finds out.** `schedule_law`: `covered`, `told`, `at_head`,
-  `together`, `places`, `values` (docs/theorem.md).
+- **A mirror that fell behind finds out.** `schedule_law`, and `import_law` with imports:
+  `covered`, `told`, `at_head`, `together`, `places`, `values` (docs/theorem.md).
 - **A poll names each changed path and no other, each with its mark; or the position is
   refused**, for the first cause that holds. `Mount::range_since`, `expand`: `tells`,
   `comparable`, `commits`; `accepts`, `refuses`.

@@ -19,6 +19,7 @@ if len(sys.argv) > 1:
 # each promise: its crate, and the functions whose clauses say it
 PROMISES = [
     ("after every schedule (`schedule_law`)", "eden_headline", ["schedule_law"]),
+    ("after every schedule with imports (`import_law`)", "eden_headline", ["import_law"]),
     ("what changed since (`range_since`, `expand`)", "eden_accumulate eden_ranges", ["range_since", "expand"]),
     ("what a change does (`write` and its kin, `apply`)", "eden_accumulate", ["write", "remove", "rename", "reset", "flush", "remount", "apply"]),
     ("a checkout (`plan`, `checkout`)", "eden_checkout eden_accumulate", ["plan", "checkout"]),
