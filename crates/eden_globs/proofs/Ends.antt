@@ -10,9 +10,9 @@ use Rattle.eden_globs.specs.internal.Compiled.{AreParts, EndsIn, IsPartOf, is_an
 use Rattle.eden_globs.proofs.Splitting.{drop_none, here, later, no_slash}
 use Rattle.eden_globs.proofs.Tokens.{each_matches}
 
--- ---- the bytes behind the last slash
+-- ---- the bytes after the last slash
 
--- a name comes last, behind at least one other
+-- a name comes last, after at least one other
 abbrev EndsLater : List (List ℕ) → List ℕ → Type 0
 EndsLater names name = (first : List ℕ) × ((more : List (List ℕ)) × (names ≡ first ∷ (more ++ name ∷ [])))
 

@@ -33,7 +33,7 @@ parts_below (b ∷ top) rest = by (nat_eq b 47) refl (parts_below top rest)
         later b (top ++ 47 ∷ rest) e ∙ ap (onto_first b) more ∙ onto_some b some.0 some.1.0 (components top) (components rest) some.1.1
         ∙ sym (ap (λ ps. ps ++ components rest) (later b top e))
 
--- what lies below has a slash behind the directory
+-- what lies below has a slash after the directory
 below_parts : (path top : List ℕ) → starts_with nat_eq path (top ++ 47 ∷ []) ≡ true → (rest : List ℕ) × (path ≡ top ++ 47 ∷ rest)
 below_parts [] [] e = absurd (let bad : false ≡ true = e in cc)
 below_parts [] (a ∷ top) e = absurd (let bad : false ≡ true = e in cc)

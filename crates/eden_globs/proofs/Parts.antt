@@ -32,17 +32,17 @@ module _ {A B : Type 0} (R : A → B → Type 0) where
       let more = here xs ys are.1 i d (omega arith) in
       (more.0, (more.1.0 ∙ ap (λ zs. more.0 ∷ zs) (sym (drop_one y ys (suc i) ∙ ap (λ n. drop n ys) (sym (add-one i)))), more.1.1))
 
-  -- what stands beside an item, and those behind it
+  -- what is beside an item, and those after it
   pub beside : (xs : List A) (ys : List B) → AllZip R xs ys → (i : ℕ) (x : A) → i < length xs → x ≡ slice_index_or xs i x → (y : B) × ((drop i ys ≡ y ∷ drop (i + 1) ys) × R x y)
   beside xs ys are i x within is =
       let there = here xs ys are i x within in
       (there.0, (there.1.0, subst (λ z. R z there.0) (sym is) there.1.1))
 
-  -- nothing is left behind the last item
+  -- nothing is left after the last item
   pub over : (xs : List A) (ys : List B) → AllZip R xs ys → (i : ℕ) → length xs ≤ i → drop i ys ≡ []
   over xs ys are i high = drop_all i ys (omega (arith, high, AllZip-long R xs ys are))
 
--- the text of a part, and those behind it
+-- the text of a part, and those after it
 pub part_at : (parts : List Part) (texts : List (List ℕ)) → AreParts parts texts → (i : ℕ) (part : Part) → i < length parts → part ≡ slice_index_or parts i part
     → (text : List ℕ) × ((drop i texts ≡ text ∷ drop (i + 1) texts) × IsPartOf part text)
 part_at parts texts are i part within is = beside IsPartOf parts texts are i part within is
@@ -124,7 +124,7 @@ none_before n = grind arith
 before_both : (i n : ℕ) → nat_eq (suc i) (suc n) ≡ nat_eq i n
 before_both i n = grind arith
 
--- behind the last part nothing may be left
+-- after the last part nothing may be left
 pub none_there : (names : List (List ℕ)) (i : ℕ) → i ≤ length names → nat_eq i (length names) ≡ path_matches [] (drop i names)
 none_there [] zero within = refl
 none_there [] (suc i) within = absurd (omega (arith, within))
@@ -156,7 +156,7 @@ module _ (compiled : List (Vec Part)) (patterns : List (List ℕ)) (are : AreCom
   pub any_here : ((pattern : List ℕ) → PartsOf parts pattern → test pattern ≡ true) → list_any test (drop i patterns) ≡ true
   any_here pass = ap (list_any test) one.1.0 ∙ ap (λ b. b || list_any test (drop (i + 1) patterns)) (pass one.0 one.1.1)
 
-  -- where it does not, one behind it has to
+  -- if it does not, one after it has to
   pub any_later : ((pattern : List ℕ) → PartsOf parts pattern → test pattern ≡ false) → list_any test (drop (i + 1) patterns) ≡ list_any test (drop i patterns)
   any_later fails = sym (ap (λ b. b || list_any test (drop (i + 1) patterns)) (fails one.0 one.1.1)) ∙ ap (list_any test) (sym one.1.0)
 

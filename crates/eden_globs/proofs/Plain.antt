@@ -134,7 +134,7 @@ alone (b ∷ pattern) (c ∷ path) plain =
 pub itself_alone : (pattern path : List ℕ) → is_plain pattern ≡ true → admits (including (pattern ∷ [])) path ≡ same_bytes pattern path
 itself_alone pattern path plain = one_admits pattern path ∙ alone pattern path plain
 
--- ---- the pattern with `/**` behind it
+-- ---- the pattern with `/**` after it
 
 turned : (c : ℕ) → nat_eq c 47 ≡ true → nat_eq 47 c ≡ true
 turned c = grind arith

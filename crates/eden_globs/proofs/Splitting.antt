@@ -28,7 +28,7 @@ first_slash (b ∷ bytes) zero within none is = here b bytes is ∙ ap (λ bs. [
 first_slash (b ∷ bytes) (suc at) within none is =
     later b bytes (none 0 (omega arith)) ∙ ap (onto_first b) (first_slash bytes at (omega arith) (λ i low. none (suc i) (omega arith)) is)
 
--- the bytes behind the first slash
+-- the bytes after the first slash
 pub behind_slash : (bytes : List ℕ) (at : ℕ) → at < length bytes → ((i : ℕ) → i < at → nat_eq (slice_index_or bytes i 0) 47 ≡ false) → nat_eq (slice_index_or bytes at 0) 47 ≡ true
     → components bytes ≡ take at bytes ∷ components (take (length bytes - (at + 1)) (drop (at + 1) bytes))
 behind_slash bytes at within none is =

@@ -30,6 +30,6 @@ option_decides each None (Some b) = search rules
 option_decides each (Some a) None = search rules
 option_decides each (Some a) (Some b) = search (rules, each)
 
--- what stands at a path, or nothing
+-- what is at a path, or nothing
 pub found_decides : (a b : Option Content) → Decides (option_eq content.ghosts.eq a b) (a ≡ b)
 found_decides = option_decides content_decides

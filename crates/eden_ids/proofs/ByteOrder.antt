@@ -1,4 +1,4 @@
--- In byte order what lies below a path stands together: from the path with a slash behind it to the path with the next byte behind it.
+-- In byte order what lies below a path is together: from the path with a slash after it to the path with the next byte after it.
 use Rattle.std.proofs.Common.{◌≡◌, ℕ, suc, zero, ◌-◌, ◌<◌, ◌≤◌, Bool, true, false, cond, not, T, ◌&&◌, ◌||◌, nat_eq, nat_lt, List, [], ◌∷◌, ◌++◌, map, take, drop, length, refl, sym, ap, ◌∙◌, arith}
 use Rattle.std.proofs.lemmas.Bool.Decides.{nat_tests}
 use Rattle.std.specs.Prelude.{filter}

@@ -17,7 +17,7 @@ pub length-rows : (n : ℕ) (a b c d e : List ℕ) → length (rows n a b c d e)
 length-rows zero a b c d e = refl
 length-rows (suc n) a b c d e = let l = length-rows n a b c d e in length-append (rows n a b c d e) _ ∙ omega arith
 
--- more words behind change no id before them
+-- more words after them change no id before
 pub rows-append : (n : ℕ) (a b c d e : List ℕ) (v w x y z : ℕ) → n ≤ length a → n ≤ length b → n ≤ length c → n ≤ length d → n ≤ length e
     → rows n (a ++ v ∷ []) (b ++ w ∷ []) (c ++ x ∷ []) (d ++ y ∷ []) (e ++ z ∷ []) ≡ rows n a b c d e
 rows-append zero a b c d e v w x y z fa fb fc fd fe = refl

@@ -229,7 +229,7 @@ unlisted test (k ∷ ks) p none e =
       | false ↦ λ s. unlisted test ks p (or_parts _ _ none).1 (sym (ap (λ b. b || list_any (λ q. same_path p q) ks) s) ∙ e)
     ] refl
 
--- a path at which a file stands is one of the map's paths
+-- a path that has a file is one of the map's paths
 pub held : (m : FileMap) (p : List ℕ) → IsSome (file_at m p) → list_any (λ q. same_path p q) (paths m) ≡ true
 held m p h = sym (fin.contains_key-keys m p) ∙ h
 

@@ -16,7 +16,7 @@ pub grown_keeps : {X E : Type 0} (result : Result X E) (old new more : List ℕ)
 grown_keeps (Ok x) old new more ok err = grown old new more ok
 grown_keeps (Err e) old new more ok err = grown old new [] (err ∙ sym (append-nil old))
 
--- so what is left behind the front is what was added
+-- so what is left after the front is what was added
 pub kept : (old new : List ℕ) → KeepsFront old new → (extra : List ℕ) × (new ≡ old ++ extra)
 kept old new keeps =
     let begins = keeps old (take_all (length old) old (omega arith)) in

@@ -26,7 +26,7 @@ pub decodes : (text : List ℕ) → length text ≡ 40 → list_all is_lower_dig
 decodes text len h =
     decode_of-digits text (omega (arith, len)) (AllPass-from_list_all is_hex_digit text (all_hex text h))
 
--- no fault stands
+-- there is no fault
 pub no_fault : (text : List ℕ) → length text ≡ 40 → list_all is_lower_digit text ≡ true → hex_fault text ≡ None
 no_fault text len h = rw (len, h) refl
 

@@ -29,7 +29,7 @@ texts_remove files k texts p file at = by (same_path p k) (sym (file_at-remove f
     by true is = absurd (no_file file is)
     by false is = texts p file is
 
--- the paths at which files stand are paths
+-- the paths that have files are paths
 pub paths_texts : (files : FileMap) → AreTexts files → AllByRecursion IsPathText (paths files)
 paths_texts files texts = all_listed IsPathText (paths files) (λ p listed. by p (file_at files p) refl (fin.contains_key-keys files p ∙ listed))
   where

@@ -1,4 +1,4 @@
--- What is asked of a tree of files at a path: whether a file stands there, above it or below it.
+-- What is asked of a tree of files at a path: whether a file is there, above it or below it.
 use Rattle.std.proofs.Common.{◌≡◌, ℕ, suc, zero, ◌<◌, Bool, true, false, ◌&&◌, ◌||◌, nat_eq, List, [], ◌∷◌, take, length, Option, Some, None, is_some, refl, sym, ap, ◌∙◌, arith}
 use Rattle.std.proofs.lemmas.Bool.{and_parts}
 use Rattle.std.specs.Borrow.{Bor}
@@ -11,7 +11,7 @@ use Rattle.eden_ids.specs.FileMaps.{FileMap, clashes_any, file_at, has_file_abov
 use Rattle.eden_ids.proofs.FileMapLemmas.{held, same_path-is, same_path-refl}
 use Rattle.std.proofs.Math.Bool.{or-true}
 
--- a file is lent where one stands
+-- a file is lent if there is one
 pub some_lent : (seen : Option (Kind × Bor (List ℕ))) (file : Option Content) → lent seen ≡ file → is_some seen ≡ is_some file
 some_lent None file is = ap is_some is
 some_lent (Some x) file is = ap is_some is
@@ -90,7 +90,7 @@ none_above m path h =
       | false ↦ λ e. refl
     ] refl)
 
--- a slash stands at the place, and a file at what is before it
+-- a slash is at the place, and a file at what is before it
 abbrev pub stands : FileMap → List ℕ → ℕ → Bool
 stands m path i = nat_eq (slice_index_or path i 0) 47 && is_some (file_at m (take i path))
 
@@ -127,6 +127,6 @@ either p (k ∷ ks) = ap (λ b. clashes p k || b) (either p ks) ∙ mixed (lies_
     mixed false true false y = refl
     mixed false false x y = refl
 
--- a file stands above the path, or below it
+-- a file is above the path, or below it
 pub clashes_either : (m : FileMap) (p : List ℕ) → clashes_any m p ≡ (has_file_above m p || has_file_below m p)
 clashes_either m p = either p (paths m)

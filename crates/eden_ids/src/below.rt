@@ -16,7 +16,7 @@ pub trait AtPath {
     /// The path's bytes.
     ghost path: { Self → List ℕ };
 
-    /// The path.
+    /// Returns the path.
     fn path(&self) -> &Path
         ensures { result.now ≡ path self.now };
 }

@@ -3,7 +3,7 @@
 ghost use Rattle.std.specs.Prelude.{◌≡◌, IfOk};
 
 use crate::memory::NoMemory;
-use crate::sequence::Sequence;
+use bytes::Bytes;
 use std::alloc::Global;
 
 /// The kind of a file. Git's tree entries have one mode for each: 100644, 100755 and
@@ -19,12 +19,14 @@ pub enum Kind {
 }
 
 /// A file: its kind and its bytes.
+///
+/// Copies of a file share its bytes.
 #[derive(Clone, Debug, PartialEq, Drop)]
 pub struct Content {
     /// The file's kind.
     pub kind: Kind,
     /// The file's bytes; for a link, its target.
-    pub bytes: Sequence<u8>,
+    pub bytes: Bytes,
 }
 
 impl Content {
@@ -41,15 +43,15 @@ impl Content {
     pub fn from_bytes(alloc: Global, kind: Kind, bytes: &[u8]) -> Result<Content, NoMemory>
         ensures { IfOk result (λ content. content ≡ record { kind = kind; bytes = bytes.now }) }
     {
-        let bytes = Sequence::from_vec(bytes.to_vec(alloc)?);
+        let bytes = Bytes::copy_from_slice(alloc, bytes)?;
         Ok(Content { kind, bytes })
     }
 
-    /// Returns a copy of this file.
+    /// Returns a copy of this file, which shares its bytes. Does not allocate.
     ///
     /// # Errors
     ///
-    /// - `NoMemory` if an allocation fails.
+    /// - `NoMemory` if the count of those that share the bytes is full.
     pub fn copy(&self) -> Result<Content, NoMemory>
         ensures { IfOk result (λ content. content ≡ self.now) }
     {
@@ -58,9 +60,11 @@ impl Content {
 
     /// Returns a copy of a file, or `None` if there is none.
     ///
+    /// It shares the file's bytes. Does not allocate.
+    ///
     /// # Errors
     ///
-    /// - `NoMemory` if an allocation fails.
+    /// - `NoMemory` if the count of those that share the bytes is full.
     pub fn copy_of(content: &Option<Content>) -> Result<Option<Content>, NoMemory>
         ensures { IfOk result (λ copy. copy ≡ content.now) }
     {
@@ -70,16 +74,21 @@ impl Content {
         }
     }
 
-    /// Returns an owned copy of a borrowed file, if any.
+    /// Returns an owned file of a borrowed one, if any.
+    ///
+    /// It shares the borrowed file's bytes. Does not allocate.
     ///
     /// # Errors
     ///
-    /// - `NoMemory` if an allocation fails.
-    pub fn of_lent(alloc: Global, file: Option<(Kind, &[u8])>) -> Result<Option<Content>, NoMemory>
-        ensures { IfOk result (λ copy. copy ≡ lent file.entry) }
+    /// - `NoMemory` if the count of those that share the bytes is full.
+    pub fn of_lent(file: Option<(Kind, &Bytes)>) -> Result<Option<Content>, NoMemory>
+        ensures { IfOk result (λ content. content ≡ lent file.entry) }
     {
         match file {
-            Some((kind, bytes)) => Ok(Some(Content::from_bytes(alloc, kind, bytes)?)),
+            Some((kind, bytes)) => {
+                let bytes = bytes.clone()?;
+                Ok(Some(Content { kind, bytes }))
+            }
             None => Ok(None),
         }
     }

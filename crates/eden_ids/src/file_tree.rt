@@ -6,6 +6,7 @@ ghost use Rattle.eden_ids.specs.FileMaps.{clashes_any, file_at, has_file_above, 
 
 use crate::content::Kind;
 use crate::path::Path;
+use bytes::Bytes;
 
 /// A tree that can be asked for the file at each path.
 ///
@@ -18,7 +19,9 @@ pub trait FileTree {
     ghost files: { Self → FileMap };
 
     /// Returns the kind and the bytes of the file at a path.
-    fn file(&self, path: &[u8]) -> Option<(Kind, &[u8])>
+    ///
+    /// `Content::of_lent` makes an owned file of them without copying a byte.
+    fn file(&self, path: &[u8]) -> Option<(Kind, &Bytes)>
         ensures { lent result ≡ file_at (files self.now) path.now };
 
     /// Returns true if there are files below a path: it is a directory.
@@ -79,14 +82,14 @@ pub fn is_same_kind(kind: Kind, other: Kind) -> bool
 }
 
 /// Returns true if two optional files are equal: both absent, or same kind and bytes.
-pub fn is_same_file(file: Option<(Kind, &[u8])>, other: Option<(Kind, &[u8])>) -> bool
+pub fn is_same_file(file: Option<(Kind, &Bytes)>, other: Option<(Kind, &Bytes)>) -> bool
     ensures { result ≡ same_file (lent file.entry) (lent other.entry) }
 {
     match file {
         None => other.is_none(),
         Some(file) => match other {
             None => false,
-            Some(other) => is_same_kind(file.0, other.0) && file.1 == other.1,
+            Some(other) => is_same_kind(file.0, other.0) && file.1.as_slice() == other.1.as_slice(),
         },
     }
 }

@@ -11,6 +11,7 @@ use crate::file_tree::FileTree;
 use crate::memory::NoMemory;
 use crate::path::Path;
 use crate::path_table::PathTable;
+use bytes::Bytes;
 use std::alloc::Global;
 use std::collections::BTreeMap;
 use std::collections::btree_map::Keys;
@@ -140,11 +141,11 @@ impl FileTree for Files {
     ///
     /// The time grows with the number of files, since the bytes need not be a `Path`. If
     /// you have a `Path`, `get` is faster.
-    fn file(&self, path: &[u8]) -> Option<(Kind, &[u8])> {
+    fn file(&self, path: &[u8]) -> Option<(Kind, &Bytes)> {
         for at in self.paths() {
             if at.as_bytes() == path {
                 let content = self.get(at)?;
-                return Some((content.kind, content.bytes.as_slice()));
+                return Some((content.kind, &content.bytes));
             }
         }
         None

@@ -22,12 +22,14 @@ pub enum HexFault {
     BadDigit,
 }
 
+/// Returns true if a byte is a lower-case hex digit.
 fn is_lower_digit(byte: &u8) -> bool
     ensures { result ≡ is_lower_digit byte.now }
 {
     byte.is_ascii_digit() || (b'a' <= *byte && *byte <= b'f')
 }
 
+/// Returns true if each byte is a lower-case hex digit.
 fn has_lower_digits_alone(text: &[u8]) -> bool
     ensures { result ≡ list_all is_lower_digit text.now }
 {

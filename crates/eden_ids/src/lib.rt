@@ -3,7 +3,7 @@
 //! An `Id` names an object by twenty bytes, and a `Naming` gives the id of an object's
 //! type and payload; `GitNaming` does so as Git does. A `Path` holds the bytes of a path
 //! in a working copy, checked once when it is made. A `Content` is one file: its kind and
-//! its bytes.
+//! its bytes, which its copies share.
 //!
 //! `Files` maps paths to files: what a commit or a working copy holds. Whatever else can
 //! look up the file at a path implements `FileTree`, and the functions beside it
@@ -14,7 +14,8 @@
 //! Paths are ordered by their bytes everywhere.
 //!
 //! ```rust
-//! use eden_ids::{Content, Files, GitNaming, Kind, Naming, Path, Sequence};
+//! use bytes::Bytes;
+//! use eden_ids::{Content, Files, GitNaming, Kind, Naming, Path};
 //!
 //! let file = Path::parse(alloc, b"src/lib.rs".as_slice())?;
 //! let directory = Path::parse(alloc, b"src".as_slice())?;
@@ -28,7 +29,7 @@
 //! let mut files = Files::new(alloc);
 //! let content = Content {
 //!     kind: Kind::Plain,
-//!     bytes: Sequence::new(alloc),
+//!     bytes: Bytes::new(),
 //! };
 //! files.insert(file.copy()?, content)?;
 //! assert!(rt; files.get(&file).is_some());

@@ -95,18 +95,21 @@ pub fn is_component(name: &[u8]) -> bool
         && !name.contains(&0)
 }
 
+/// Returns true if each component may be a name.
 fn has_names_alone(bytes: &[u8]) -> bool
     ensures { result ≡ list_all is_component (components bytes.now) }
 {
     bytes.split(|b| *b == b'/').all(is_component)
 }
 
+/// Returns the number of components.
 fn names_in(bytes: &[u8]) -> usize
     ensures { result ≡ length (components bytes.now) }
 {
     bytes.split(|b| *b == b'/').count()
 }
 
+/// Returns why the bytes are not a path, if so.
 fn fault_of(bytes: &[u8]) -> Option<PathFault>
     ensures { result ≡ path_fault bytes.now }
 {

@@ -20,7 +20,7 @@ position_from-found p k (x ∷ xs) ys r is = by (p x) (λ e. position_from-found
     by true rest is = is
     by false rest is = rest is
 
--- where nothing was found, the elements behind are looked at
+-- if nothing was found, the elements after it are looked at
 position_from-behind : {A : Type 0} (p : A → Bool) (k : ℕ) (xs ys : List A) → position_from p k xs ≡ None
     → position_from p k (xs ++ ys) ≡ position_from p (k + length xs) ys
 position_from-behind p k [] ys none = let e : k ≡ k + 0 = omega arith in ap (λ n. position_from p n ys) e

@@ -68,7 +68,7 @@ eight_same n a b first second set =
     sym (among-more same_id n 8 a b (omega arith) (omega arith)
     ∙ rw (all_set n (chunk n 8 a) (chunk n 8 b) (omega arith) all) (append-nil (ids_among n a b)))
 
--- so many rows, from one on
+-- this many rows, from one on
 abbrev rows_from : ℕ → ℕ → List ℕ
 rows_from k zero = []
 rows_from k (suc n) = k ∷ rows_from (k + 1) n

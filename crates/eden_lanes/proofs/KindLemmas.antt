@@ -1,4 +1,4 @@
--- How the rows at which two columns of kinds differ grow with the columns, and what a comparison of thirty-two kinds tells.
+-- How the rows at which two columns of kinds differ grow with the columns, and what a comparison of thirty-two kinds gives.
 use Rattle.std.proofs.Common.{◌≡◌, ℕ, List, [], ◌∷◌, length, map, take, refl, ap, ◌∙◌, ◌+◌, ◌*◌, ◌≤◌, ◌%◌, ◌^◌, arith, Bool, true, false, cond, nat_eq, not, ◌&&◌, w8}
 use Rattle.std.specs.Simd.Lanes.{chunk, mask_l, top, zip2}
 use Rattle.std.specs.Cmp.Lexicographic.{pointwise}
@@ -28,7 +28,7 @@ twice_none m = grind (arith)
 one_more_some : (m : ℕ) → nat_eq (1 + 2 * m) 0 ≡ false
 one_more_some m = grind (arith)
 
--- no bit is set just where the lanes are the same
+-- no bit is set exactly if the lanes are the same
 mask_none : (xs ys : List ℕ) → length xs ≡ length ys → nat_eq (mask_l (zip2 apart xs ys)) 0 ≡ pointwise nat_eq xs ys
 mask_none [] [] long = refl
 mask_none [] (y ∷ ys) long = absurd (omega arith)

@@ -1,4 +1,4 @@
--- What the mask of a comparison of eight ids tells: a bit is set where they are the same.
+-- What the mask of a comparison of eight ids means: a bit is set where they are the same.
 use Rattle.std.proofs.Common.{bit_and, ◌≡◌, ℕ, sym, List, [], ◌∷◌, length, map, refl, ap, ◌∙◌, ◌+◌, ◌-◌, ◌*◌, ◌%◌, ◌^◌, arith, Bool, true, false, cond, not, nat_eq, ◌&&◌, ◌||◌, take, drop}
 use Rattle.std.specs.Prelude.{replicate}
 use Rattle.std.specs.List.{list_any}

@@ -74,7 +74,7 @@ module _ {V : Type 0} where
   pub pushed : (rows : List (Id × V)) (row : Id × V) → reverse (rows ++ row ∷ []) ≡ row ∷ reverse rows
   pushed rows row = reverse-append rows (row ∷ [])
 
-  -- a row's id is none of those in front of it
+  -- a row's id is not among those in front of it
   pub absent_earlier : (first rest : List (Id × V)) (row : Id × V) → AreDistinct (reverse (first ++ row ∷ rest)) → lookup (same_id row.0) first ≡ None
   absent_earlier first rest row distinct =
       let here : AreDistinct (row ∷ reverse first) =

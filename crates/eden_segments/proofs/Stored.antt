@@ -20,7 +20,7 @@ module _ {V Z : Type 0} where
   next_segment frozen place segment within is =
       rw add-one (drop-cons frozen place segment within ∙ ap (λ first. first ∷ drop (suc place) frozen) (sym is))
 
-  -- the segments from a place on stand behind those before it
+  -- the segments from a place on are after those before it
   pub split_at : (place : ℕ) (frozen : Frozen V Z) (newest : List (Id × V))
       → frozen_rows (take place frozen) ++ stored (drop place frozen) newest ≡ stored frozen newest
   split_at place frozen newest =
@@ -28,7 +28,7 @@ module _ {V Z : Type 0} where
       ∙ ap (λ rows. rows ++ newest) (sym (flat_map-append arc_value (take place frozen) (drop place frozen)))
       ∙ ap (λ segments. stored segments newest) (take-append-drop place frozen)
 
-  -- a segment is asked, and then those behind it
+  -- a segment is asked, and then those after it
   pub asked : (test : Id → Bool) (frozen : Frozen V Z) (place : ℕ) (segment : Arc (List (Id × V)) Z) → place < length frozen
       → segment ≡ get_or frozen place segment
       → option_or (lookup test (arc_value segment)) (lookup test (frozen_rows (drop (place + 1) frozen))) ≡ lookup test (frozen_rows (drop place frozen))
@@ -36,7 +36,7 @@ module _ {V Z : Type 0} where
       sym (lookup-append test (arc_value segment) (frozen_rows (drop (place + 1) frozen)))
       ∙ ap (λ segments. lookup test (frozen_rows segments)) (sym (next_segment frozen place segment within is))
 
-  -- a segment's rows are taken behind others, and leave those behind it
+  -- a segment's rows are taken after others, and leave those after it
   pub taken : (rows : List (Id × V)) (frozen : Frozen V Z) (newest : List (Id × V)) (place : ℕ) (segment : Arc (List (Id × V)) Z) → place < length frozen
       → segment ≡ get_or frozen place segment
       → (rows ++ arc_value segment) ++ stored (drop (place + 1) frozen) newest ≡ rows ++ stored (drop place frozen) newest

@@ -77,7 +77,7 @@ fn merged<V: Share + Drop>(
 }
 
 /// Merges the newest segment with those frozen ones that are too small to stay apart.
-fn settle<V: Share + Drop>(
+fn merge_small<V: Share + Drop>(
     frozen: &mut Vec<Arc<Segment<V>>>,
     newest: &mut Segment<V>,
 ) -> Result<(), NoMemory>
@@ -107,7 +107,7 @@ pub(crate) fn freeze<V: Share + Drop>(
     if newest.len() == 0 {
         return Ok(());
     }
-    settle(frozen, newest)?;
+    merge_small(frozen, newest)?;
     frozen.reserve(1)?;
     let alloc = newest.allocator();
     match Arc::new(alloc, mem::replace(newest, Segment::new(alloc))) {

@@ -54,6 +54,7 @@ fn is_path_byte(byte: &u8) -> bool
     *byte != 0 && *byte != b'\n'
 }
 
+/// Returns true if each byte may be in the path of a socket.
 fn has_path_bytes_alone(text: &[u8]) -> bool
     ensures { result ≡ list_all is_path_byte text.now }
 {

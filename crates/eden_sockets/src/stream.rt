@@ -118,12 +118,14 @@ impl Stream {
     }
 }
 
+/// Reads once from a reader that is held by value.
 fn read_from<R: Read + Drop>(mut reader: R, buf: &mut [u8]) -> io::Result<usize>
     ensures { ReadsAtMost result buf.new }
 {
     reader.read(buf)
 }
 
+/// Writes once to a writer that is held by value.
 fn write_to<W: Write + Drop>(mut writer: W, buf: &[u8]) -> io::Result<usize>
     ensures { WritesAtMost result buf.now }
 {

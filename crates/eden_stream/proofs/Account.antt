@@ -122,12 +122,12 @@ module _ {E : Type 0} {grammar : Grammar E} (law : IsGrammar grammar) where
     written = ran.written;
   }
 
--- the pumping can't go on after what was told
+-- the pumping can't go on after what was answered
 pub ran_halted : {E : Type 0} {grammar : Grammar E} (next : Story E) {r0 r1 w0 w1 : Option (List ℕ)} {ended : Bool} {count : ℕ} {held waiting : List ℕ}
     → Ran grammar (Tellings next) r0 r1 w0 w1 ended count held waiting → Ran grammar (Halts grammar next ended) r0 r1 w0 w1 ended count held waiting
 ran_halted next ran = ran_stays ran ran.cut (inl ran.says)
 
--- what is told of items that a fault ends is lost with them
+-- what is answered to items that a fault ends is lost with them
 faults_lose : {E : Type 0} {grammar : Grammar E} {next : Story E} → IsStory grammar next → (ended : Bool) (held : List ℕ) (fault : E) (stream : List ℕ) (items : List (List ℕ)) (text : List ℕ)
     → Faults grammar next ended held fault stream items text → next.lost items text
 faults_lose lawful ended held fault stream items text (inl f) = lawful.stops items text f.0

@@ -1,4 +1,4 @@
--- Where the first line of some bytes ends, told by the places in a longer list that they are the end of.
+-- Where the first line of some bytes ends, by the places in a longer list that they are the end of.
 use Rattle.std.proofs.Common.{◌≡◌, ◌≢◌, ℕ, ◌+◌, ◌-◌, ◌<◌, ◌≤◌, inl, inr, List, ◌∷◌, ◌++◌, length, get_or, take, drop, sym, ap, ◌∙◌, subst, suc, arith, add-one, length-drop, take-append-drop}
 use Rattle.std.proofs.Math.Seq.{drop-cons}
 use Rattle.std.proofs.lemmas.Bool.{cases_lt}

@@ -7,17 +7,17 @@ use Rattle.std.proofs.lemmas.List.{take_at, drop_at, take-append-drop, drop-drop
 use Rattle.std.proofs.lemmas.List.Concat.{flat_map-cons}
 use Rattle.std.proofs.lemmas.List.Elements.{All-tail}
 use Rattle.std.proofs.lemmas.Nat.{be_bytes_4, from_be_bytes-to_be_bytes_4}
-use Rattle.eden_stream.specs.Frames.{IsBody, body_limit, frame, told}
+use Rattle.eden_stream.specs.Frames.{IsBody, body_limit, frame, given_length}
 use Rattle.eden_stream.specs.FrameLaws.{HasNoFrame, IsCutOneWay, IsPrefixFree}
 use Rattle.eden_stream.specs.internal.Fronts.{HasFrame}
 
 length_bytes : (n : ℕ) → length (to_be_bytes w32 n) ≡ 4
 length_bytes n = refl
 
--- a frame's first four bytes tell the length of its body
-pub told-frame : (body more : List ℕ) → IsBody body → told (frame body ++ more) ≡ length body
-unfolding frame told
-told-frame body more within =
+-- a frame's first four bytes are the length of its body
+pub given_length-frame : (body more : List ℕ) → IsBody body → given_length (frame body ++ more) ≡ length body
+unfolding frame given_length
+given_length-frame body more within =
     let size = to_be_bytes w32 (length body) in
     ap (λ bytes. from_be_bytes w32 (take 4 bytes)) (append_assoc size body more)
     ∙ ap (from_be_bytes w32) (take_at size (body ++ more) 4 (length_bytes (length body)))
@@ -36,7 +36,7 @@ length-frame body = length-append (to_be_bytes w32 (length body)) body ∙ ap (�
 
 pub prefix_free : IsPrefixFree
 prefix_free body other more last within also e =
-    let same : length body ≡ length other = sym (told-frame body more within) ∙ ap told e ∙ told-frame other last also in
+    let same : length body ≡ length other = sym (given_length-frame body more within) ∙ ap given_length e ∙ given_length-frame other last also in
     let behind : body ++ more ≡ other ++ last = sym (behind-frame body more) ∙ ap (drop 4) e ∙ behind-frame other last in (
       sym (take_at body more (length body) refl) ∙ ap (take (length body)) behind ∙ take_at other last (length body) (sym same),
       sym (drop_at body more (length body) refl) ∙ ap (drop (length body)) behind ∙ drop_at other last (length body) (sym same),
@@ -46,8 +46,8 @@ prefix_free body other more last within also e =
 no_frame : (rest body more : List ℕ) → HasNoFrame rest → IsBody body → rest ≡ frame body ++ more → ⊥
 no_frame rest body more (inl (inl short)) within e = omega (arith, short, ap length e, length-append (frame body) more, length-frame body)
 no_frame rest body more (inl (inr short)) within e =
-    omega (arith, short.1, ap length e, ap told e, told-frame body more within, length-append (frame body) more, length-frame body)
-no_frame rest body more (inr long) within e = omega (arith, long.1, ap told e, told-frame body more within, within)
+    omega (arith, short.1, ap length e, ap given_length e, given_length-frame body more within, length-append (frame body) more, length-frame body)
+no_frame rest body more (inr long) within e = omega (arith, long.1, ap given_length e, given_length-frame body more within, within)
 
 cons-rest : (body : List ℕ) (bodies : List (List ℕ)) (rest : List ℕ) → flat_map frame (body ∷ bodies) ++ rest ≡ frame body ++ (flat_map frame bodies ++ rest)
 cons-rest body bodies rest = ap (λ bytes. bytes ++ rest) (flat_map-cons frame body bodies) ∙ append_assoc (frame body) (flat_map frame bodies) rest
@@ -71,7 +71,7 @@ same_cut (body ∷ bodies) (other ∷ others) rest last each all none done e =
 pub one_way : IsCutOneWay
 one_way stream bodies others rest last cut none again done = same_cut bodies others rest last cut.each again.each none done (sym cut.whole ∙ again.whole)
 
--- bytes that a frame's length tells are there
+-- the bytes that a frame's length announces are there
 first_bytes : (bytes : List ℕ) → ((i : ℕ) → get_or bytes i 0 < 256) → (i : ℕ) → get_or (take 4 bytes) i 0 < 256
 first_bytes bytes fits i =
     elim (cases_lt i 4) [
@@ -83,18 +83,18 @@ frame-parts : (body : List ℕ) (first : List ℕ) → to_be_bytes w32 (length b
 unfolding frame
 frame-parts body first e = ap (λ size. size ++ body) e
 
-told-is : (bytes : List ℕ) → told bytes ≡ from_be_bytes w32 (take 4 bytes)
-unfolding told
-told-is bytes = refl
+given_length-is : (bytes : List ℕ) → given_length bytes ≡ from_be_bytes w32 (take 4 bytes)
+unfolding given_length
+given_length-is bytes = refl
 
-pub has_frame : (bytes : List ℕ) (size : ℕ) → ((i : ℕ) → get_or bytes i 0 < 256) → size ≡ told bytes → size ≤ body_limit → 4 + size ≤ length bytes → HasFrame bytes size
+pub has_frame : (bytes : List ℕ) (size : ℕ) → ((i : ℕ) → get_or bytes i 0 < 256) → size ≡ given_length bytes → size ≤ body_limit → 4 + size ≤ length bytes → HasFrame bytes size
 has_frame bytes size fits tells within room =
     let behind = drop 4 bytes in
     let body = take size behind in
     let first = take 4 bytes in
     let len : length body ≡ size = omega (arith, length-take size behind, length-drop 4 bytes) in
     let four : length first ≡ 4 = omega (arith, length-take 4 bytes) in
-    let spelled : to_be_bytes w32 (length body) ≡ first = be_bytes_4 first (length body) four (first_bytes bytes fits) (len ∙ tells ∙ told-is bytes) in
+    let spelled : to_be_bytes w32 (length body) ≡ first = be_bytes_4 first (length body) four (first_bytes bytes fits) (len ∙ tells ∙ given_length-is bytes) in
     let after : drop size behind ≡ drop (4 + size) bytes = drop-drop size 4 bytes in
     record {
       within = within;

@@ -1,11 +1,11 @@
--- How a serving ends, by how the pumping of its frames does, and what a server tells of a body.
+-- How a serving ends, by how the pumping of its frames does, and what a server answers to a body.
 use Rattle.std.proofs.Common.{◌≡◌, Bool, true, false, ℕ, ◌⊎◌, inl, inr, List, [], ◌∷◌, ◌++◌, length, take, drop, Option, Result, Ok, Err, refl, sym, ap, ◌∙◌, subst, arith, append_assoc, append-nil}
 use Rattle.std.specs.Io.KnownBytes.{Appends, IsAtEnd}
 use Rattle.std.specs.List.{All, flat_map}
 use Rattle.std.proofs.lemmas.List.{drop_at, flat_map_more, nil_from_length, take_at}
 use Rattle.std.proofs.lemmas.List.Elements.{All-tail}
-use Rattle.eden_stream.specs.FrameAnswers.{HasReplied, RepliesAs, replies}
-use Rattle.eden_stream.specs.FrameEnds.{IsCutShort, IsFaulty, ReadsFrames, Serves, StopsBetween}
+use Rattle.eden_stream.specs.FrameAnswers.{Answering, HasReplied, RepliesAs, replies}
+use Rattle.eden_stream.specs.FrameEnds.{IsCutShort, IsFaulty, LeavesNext, ReadsFrames, Serves, StopsBetween}
 use Rattle.eden_stream.specs.FrameGrammar.{frame_grammar}
 use Rattle.eden_stream.specs.Frames.{IsBody, IsCut, frame}
 use Rattle.eden_stream.specs.Pumps as pumps
@@ -17,7 +17,7 @@ use Rattle.eden_stream.specs.declared.pump.Stop.TheVariants.{Item, Read, Write, 
 use Rattle.eden_stream.specs.declared.frame_fault.FrameFault.{FrameFault}
 use Rattle.eden_stream.specs.FrameTellings.{served_as}
 
--- a frame that is taken stands at the front of what was held
+-- a frame that is taken is at the front of what was held
 taken_frame : (stream : List ℕ) (bodies : List (List ℕ)) (body held left : List ℕ) → IsCut stream bodies held → IsCut stream (bodies ++ body ∷ []) left → held ≡ frame body ++ left
 taken_frame stream bodies body held left cut next =
     let front = flat_map frame bodies in
@@ -43,19 +43,34 @@ at_each_end P story r0 r1 w0 w1 told lost spent (Err NoMemory) e =
 at_each_end P story r0 r1 w0 w1 told lost spent (Err Write) e =
     elim e.4.says [ inl f ↦ lost e.4.items (e.4.sent ++ e.3) f | inr f ↦ spent e.4.items f.0 (e.4.sent ++ e.3) f.3 ]
 
-module _ (answers : List ℕ → Result (List ℕ) FrameFault) (story : Story FrameFault) (says : RepliesAs answers story) (r0 r1 w0 w1 : Option (List ℕ)) where
-  lost_replied : (ended : Bool) (stream : List ℕ) (bodies : List (List ℕ)) (text : List ℕ) → Losses frame_grammar story ended stream bodies text → HasReplied answers bodies text
-  lost_replied ended stream bodies text (inl lost) = says.lost bodies text lost
-  lost_replied ended stream bodies text (inr spent) = says.spent bodies spent.0 text spent.3
+module _ (answers : Answering) (left : List (List ℕ) → Type 0) (story : Story FrameFault) (says : RepliesAs answers left story) (r0 r1 w0 w1 : Option (List ℕ)) where
+  -- what was replied, and how the server is left where it may have been given the next body too
+  abbrev Early : List (List ℕ) → List ℕ → List ℕ → Type 0
+  Early bodies held text = HasReplied answers bodies text × (left bodies ⊎ LeavesNext left held bodies)
 
-  halted_replied : (ended : Bool) (stream : List ℕ) (bodies : List (List ℕ)) (text : List ℕ) → Halts frame_grammar story ended stream bodies text → HasReplied answers bodies text
-  halted_replied ended stream bodies text (inl told) = says.told bodies text told
-  halted_replied ended stream bodies text (inr spent) = says.spent bodies spent.0 text spent.3
+  spent_early : (stream : List ℕ) (bodies : List (List ℕ)) (held text body more : List ℕ) → IsCut stream bodies held → IsCut stream (bodies ++ body ∷ []) more
+      → story.spent bodies body text → Early bodies held text
+  spent_early stream bodies held text body more cut next spent =
+      let says = says.spent bodies body text spent in (
+        says.0,
+        elim says.1 [
+          | inl same ↦ inl same
+          | inr leaves ↦ inr (record { body = body; more = more; within = last_of bodies body next.each; cut = taken_frame stream bodies body held more cut next; leaves = leaves })
+        ],
+      )
 
-  faulty_replied : (ended : Bool) (held : List ℕ) (fault : FrameFault) (stream : List ℕ) (bodies : List (List ℕ)) (text : List ℕ)
-      → Faults frame_grammar story ended held fault stream bodies text → HasReplied answers bodies text
-  faulty_replied ended held fault stream bodies text (inl f) = says.told bodies text f.0
-  faulty_replied ended held fault stream bodies text (inr f) = says.lost bodies text f.0
+  lost_early : (ended : Bool) (stream : List ℕ) (bodies : List (List ℕ)) (held text : List ℕ) → IsCut stream bodies held → Losses frame_grammar story ended stream bodies text → Early bodies held text
+  lost_early ended stream bodies held text cut (inl lost) = let says = says.lost bodies text lost in (says.0, inl says.1)
+  lost_early ended stream bodies held text cut (inr spent) = spent_early stream bodies held text spent.0 spent.1 cut spent.2 spent.3
+
+  halted_early : (ended : Bool) (stream : List ℕ) (bodies : List (List ℕ)) (held text : List ℕ) → IsCut stream bodies held → Halts frame_grammar story ended stream bodies text → Early bodies held text
+  halted_early ended stream bodies held text cut (inl told) = let says = says.told bodies text told in (says.0, inl says.1)
+  halted_early ended stream bodies held text cut (inr spent) = spent_early stream bodies held text spent.0 spent.1 cut spent.2 spent.3
+
+  faulty_says : (ended : Bool) (held : List ℕ) (fault : FrameFault) (stream : List ℕ) (bodies : List (List ℕ)) (text : List ℕ)
+      → Faults frame_grammar story ended held fault stream bodies text → HasReplied answers bodies text × left bodies
+  faulty_says ended held fault stream bodies text (inl f) = says.told bodies text f.0
+  faulty_says ended held fault stream bodies text (inr f) = says.lost bodies text f.0
 
   front_of : (Says : List ℕ → List (List ℕ) → List ℕ → Type 0) (ended : Bool) (count : ℕ) (held waiting : List ℕ) → (ran : Ran frame_grammar Says r0 r1 w0 w1 ended count held waiting)
       → HasReplied answers ran.items (ran.sent ++ waiting) → ReadsFrames answers r0 r1 ran.items held
@@ -65,19 +80,20 @@ module _ (answers : List ℕ → Result (List ℕ) FrameFault) (story : Story Fr
   all_written bodies sent replied written = subst (Appends w0 w1) (sym (replied.text_is ∙ append-nil sent)) written
 
   between : (count : ℕ) (held : List ℕ) → frame_grammar.partial false held → (ran : Ran frame_grammar (Tellings story) r0 r1 w0 w1 false count held [])
-      → StopsBetween answers r0 r1 w0 w1
+      → StopsBetween answers left r0 r1 w0 w1
   between count held partial ran =
-      let replied = says.told ran.items (ran.sent ++ []) ran.says in
+      let says = says.told ran.items (ran.sent ++ []) ran.says in
       record {
         bodies = ran.items;
         rest = held;
-        front = front_of _ false count held [] ran replied;
+        front = front_of _ false count held [] ran says.0;
         partial = partial.0;
-        written = all_written ran.items ran.sent replied ran.written;
+        written = all_written ran.items ran.sent says.0 ran.written;
+        leaves = says.1;
       }
 
   is_faulty : (ended : Bool) (held : List ℕ) (fault : FrameFault) (stream : List ℕ) (bodies : List (List ℕ)) (text : List ℕ) → (ended ≡ true → IsAtEnd r1) → IsCut stream bodies held
-      → Faults frame_grammar story ended held fault stream bodies text → IsFaulty answers held fault ⊎ IsCutShort r1 held fault
+      → Faults frame_grammar story ended held fault stream bodies text → IsFaulty (answers bodies) held fault ⊎ IsCutShort r1 held fault
   is_faulty ended held fault stream bodies text at_end cut (inl (told, inl long)) = inl (inl long)
   is_faulty ended held fault stream bodies text at_end cut (inl (told, inr short)) = inr (at_end short.0, short.1, short.2, short.3)
   is_faulty ended held fault stream bodies text at_end cut (inr f) =
@@ -90,46 +106,55 @@ module _ (answers : List ℕ → Result (List ℕ) FrameFault) (story : Story Fr
         refused = says.refused bodies bad.0 fault bad.3;
       }))
 
-  pub serve_ends : (outcome : Result ℕ (Stop FrameFault)) → pumps.Ends frame_grammar story r0 r1 w0 w1 outcome → Serves answers r0 r1 w0 w1 (served_as outcome)
+  pub serve_ends : (outcome : Result ℕ (Stop FrameFault)) → pumps.Ends frame_grammar story r0 r1 w0 w1 outcome → Serves answers left r0 r1 w0 w1 (served_as outcome)
   serve_ends (Ok count) e =
       let ran = e.2 in
-      let replied = says.told ran.items (ran.sent ++ []) ran.says in
+      let says = says.told ran.items (ran.sent ++ []) ran.says in
       record {
         bodies = ran.items;
-        front = subst (ReadsFrames answers r0 r1 ran.items) (nil_from_length e.0 (e.1.1 refl)) (front_of _ true count e.0 [] ran replied);
+        front = subst (ReadsFrames answers r0 r1 ran.items) (nil_from_length e.0 (e.1.1 refl)) (front_of _ true count e.0 [] ran says.0);
         at_end = ran.at_end refl;
         count_is = ran.count_is;
-        written = all_written ran.items ran.sent replied ran.written;
+        written = all_written ran.items ran.sent says.0 ran.written;
+        leaves = says.1;
       }
   serve_ends (Err (Item number fault)) e =
       let ran = e.4 in
-      let replied = faulty_replied e.0 e.2 fault ran.stream ran.items (ran.sent ++ []) ran.says in
+      let says = faulty_says e.0 e.2 fault ran.stream ran.items (ran.sent ++ []) ran.says in
       record {
         bodies = ran.items;
         rest = e.2;
-        front = front_of _ e.0 e.1 e.2 [] ran replied;
+        front = front_of _ e.0 e.1 e.2 [] ran says.0;
         faulty = is_faulty e.0 e.2 fault ran.stream ran.items (ran.sent ++ []) ran.at_end ran.cut ran.says;
         number_is = omega (arith, e.3, ran.count_is);
-        written = all_written ran.items ran.sent replied ran.written;
+        written = all_written ran.items ran.sent says.0 ran.written;
+        leaves = says.1;
       }
   serve_ends (Err Read) e = between e.0 e.1 e.2 e.3
   serve_ends (Err TurnsSpent) e = between e.0 e.1 e.2 e.3
   serve_ends (Err NoMemory) e =
       let ran = e.3 in
-      let replied = halted_replied e.0 ran.stream ran.items (ran.sent ++ []) ran.says in
-      record { bodies = ran.items; rest = e.2; front = front_of _ e.0 e.1 e.2 [] ran replied; written = all_written ran.items ran.sent replied ran.written }
+      let says = halted_early e.0 ran.stream ran.items e.2 (ran.sent ++ []) ran.cut ran.says in
+      record {
+        bodies = ran.items;
+        rest = e.2;
+        front = front_of _ e.0 e.1 e.2 [] ran says.0;
+        written = all_written ran.items ran.sent says.0 ran.written;
+        leaves = says.1;
+      }
   serve_ends (Err Write) e =
       let ran = e.4 in
-      let replied = lost_replied e.0 ran.stream ran.items (ran.sent ++ e.3) ran.says in
+      let says = lost_early e.0 ran.stream ran.items e.2 (ran.sent ++ e.3) ran.cut ran.says in
       record {
         bodies = ran.items;
         rest = e.2;
         taken = length ran.sent;
-        front = front_of _ e.0 e.1 e.2 e.3 ran replied;
-        written = subst (Appends w0 w1) (sym (ap (take (length ran.sent)) replied.text_is ∙ take_at ran.sent e.3 (length ran.sent) refl)) ran.written;
+        front = front_of _ e.0 e.1 e.2 e.3 ran says.0;
+        written = subst (Appends w0 w1) (sym (ap (take (length ran.sent)) says.0.text_is ∙ take_at ran.sent e.3 (length ran.sent) refl)) ran.written;
+        leaves = says.1;
       }
 
--- each of these ends is told as itself
+-- each of these ends is reported as itself
 pub own_end : (outcome : Result ℕ (Stop FrameFault)) → record {
   read : served_as outcome ≡ Err faults.Read → outcome ≡ Err Read;
   write : served_as outcome ≡ Err faults.Write → outcome ≡ Err Write;

@@ -117,7 +117,7 @@ module _ (story : Story ⊤) (stops : (items : List (List ℕ)) (text : List ℕ
         written = subst (Appends w0 w1) (sym (take_at ran.sent waiting (length ran.sent) refl)) ran.written;
       }
 
--- each of these ends is told as itself
+-- each of these ends is reported as itself
 pub own_end : (outcome : Result ℕ (Stop ⊤)) → record {
   read : run_as outcome ≡ Err faults.Read → outcome ≡ Err Read;
   write : run_as outcome ≡ Err faults.Write → outcome ≡ Err Write;

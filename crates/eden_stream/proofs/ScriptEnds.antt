@@ -47,7 +47,7 @@ line_refused stands_for refused_by before was now lawful items line sent old new
 module _ {M : Type 0} (stands_for : M → (List (List ℕ) → Option (List ℕ)) → Type 0) (refused_by : M → (List (List ℕ) → Option (List ℕ)) → List ℕ → Type 0) (before now : M)
     (lawful : (next : List (List ℕ) → Option (List ℕ)) → stands_for now next → IsScript next)
     (script : List (List ℕ) → Option (List ℕ)) (s : stands_for before script) where
-  -- what is told of some lines they print
+  -- what is printed for some lines
   told_prints : (items : List (List ℕ)) (text : List ℕ) → (line_story stands_for refused_by before now).told items text → script items ≡ Some text
   told_prints items text told = (story_laws stands_for refused_by before now lawful).stops items text told script s
 

@@ -1,4 +1,4 @@
--- How the telling of frames ends, by the story of what was told: from a reader whose bytes go from
+-- How the answering of frames ends, by the story of what was answered: from a reader whose bytes go from
 -- r0 to r1, to a writer whose bytes go from w0 to w1.
 use Rattle.std.specs.Prelude.{◌≡◌, ℕ, List, Option, Result, Ok, Err}
 use Rattle.eden_stream.specs.Pumps.{Ends}
@@ -19,6 +19,6 @@ served_as (Err stops.Write) = Err Write
 served_as (Err stops.TurnsSpent) = Err TurnsSpent
 served_as (Err stops.NoMemory) = Err NoMemory
 
--- the frames were cut off, told of and answered as the pump does it
+-- the frames were cut off and answered as the pump does it
 abbrev pub EndsTelling : Story FrameFault → Option (List ℕ) → Option (List ℕ) → Option (List ℕ) → Option (List ℕ) → Result ℕ ServeFault → Type 0
 EndsTelling story r0 r1 w0 w1 result = (stopped : Result ℕ (Stop FrameFault)) × (result ≡ served_as stopped) × Ends frame_grammar story r0 r1 w0 w1 stopped

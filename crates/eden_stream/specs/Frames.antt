@@ -17,16 +17,16 @@ unfoldable pub frame : List ℕ → List ℕ
 frame body = to_be_bytes w32 (length body) ++ body
 
 -- the length of a body that the first four bytes give
-unfoldable pub told : List ℕ → ℕ
-told bytes = from_be_bytes w32 (take 4 bytes)
+unfoldable pub given_length : List ℕ → ℕ
+given_length bytes = from_be_bytes w32 (take 4 bytes)
 
 -- less than a frame: less than a length, or a length within the limit and less than its body
 abbrev pub IsPartial : List ℕ → Type 0
-IsPartial bytes = (length bytes < 4) ⊎ ((told bytes ≤ body_limit) × (length bytes < 4 + told bytes))
+IsPartial bytes = (length bytes < 4) ⊎ ((given_length bytes ≤ body_limit) × (length bytes < 4 + given_length bytes))
 
 -- a length above the limit
 abbrev pub IsTooLong : List ℕ → Type 0
-IsTooLong bytes = (4 ≤ length bytes) × (body_limit < told bytes)
+IsTooLong bytes = (4 ≤ length bytes) × (body_limit < given_length bytes)
 
 -- The stream is the frames of these bodies, and a rest.
 pub record IsCut (stream : List ℕ) (bodies : List (List ℕ)) (rest : List ℕ) : Type 0 where

@@ -1,4 +1,4 @@
--- What a server tells of the items that it was given, one after another.
+-- What a server says of the items that it was given, one after another.
 use Rattle.std.specs.Prelude.{ℕ, List, [], ◌∷◌, ◌++◌, length, take}
 use Rattle.eden_stream.specs.Grammars.{Grammar}
 use Rattle.eden_stream.specs.declared.teller.Step.{Step}

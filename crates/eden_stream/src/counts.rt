@@ -7,7 +7,7 @@ ghost use Rattle.eden_stream.specs.Counts.{CountsRead, CountsWrite, one_more};
 use std::io;
 use std::io::{Read, Write};
 
-/// What a device has counted since it was made.
+/// The counts of a device since it was made.
 ///
 /// A count stays at `u64::MAX` once it is there.
 pub trait Faults {
@@ -17,19 +17,22 @@ pub trait Faults {
     // The calls.
     ghost called: { Self → ℕ };
 
-    /// How many of the calls failed: those that gave an error, and the writes
-    /// of some bytes that took none.
+    /// Returns how many of the calls failed.
+    ///
+    /// A call failed if it returned an error, or was a write of some bytes that took none.
     fn faults(&self) -> u64
         ensures { result ≡ failed self.now };
 
-    /// How many reads, or writes and flushes, the device was asked for.
+    /// Returns how many reads, or writes and flushes, the device was asked for.
     fn calls(&self) -> u64
         ensures { result ≡ called self.now };
 }
 
 /// A reader whose every read is counted.
 pub trait CountedRead: Read + Faults {
-    /// One read, counted as a call, and as a fault where it gives an error.
+    /// Reads once, and counts the call.
+    ///
+    /// If it returns an error, a fault is counted too.
     fn read_counted(&mut self, buf: &mut [u8]) -> io::Result<usize>
         ensures bound { ReadsAtMost result buf.new }
         ensures bytes { ReadConsumes (Self.remaining self.old) (Self.remaining self.new) result buf.new }
@@ -39,8 +42,9 @@ pub trait CountedRead: Read + Faults {
 
 /// A writer whose every write is counted.
 pub trait CountedWrite: Write + Faults {
-    /// One write, counted as a call, and as a fault where it gives an error or
-    /// takes none of some bytes.
+    /// Writes once, and counts the call.
+    ///
+    /// If it returns an error or takes none of some bytes, a fault is counted too.
     fn write_counted(&mut self, buf: &[u8]) -> io::Result<usize>
         ensures bound { WritesAtMost result buf.now }
         ensures bytes { WriteAppends (Self.contents self.old) (Self.contents self.new) result buf.now }
@@ -57,7 +61,7 @@ pub struct Counted<D> {
 }
 
 impl<D> Counted<D> {
-    /// The device, with both counts at 0.
+    /// Returns the device, with both counts at 0.
     pub fn new(device: D) -> Self
         ensures device { result.device ≡ device }
         ensures none_failed { result.failed ≡ 0 }

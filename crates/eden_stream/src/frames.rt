@@ -5,7 +5,7 @@ ghost use Rattle.eden_stream.specs.FrameGrammar.{frame_grammar};
 ghost use Rattle.eden_stream.specs.FrameTellings.{EndsTelling, served_as};
 ghost use Rattle.eden_stream.specs.internal.FrameLaws.{frame_laws};
 
-use crate::cutting::{Front, measure_front};
+use crate::cutting::{FrameFront, measure_front};
 use crate::frame_fault::FrameFault;
 use crate::{Buffer, CountedRead, CountedWrite, Framing, Next, Stop, Teller, pump_items};
 use std::alloc::Global;
@@ -43,23 +43,23 @@ impl Framing<FrameFault> for Frames {
 
     fn next(held: &mut Buffer, ended: bool) -> Next<FrameFault> {
         match measure_front(held.as_slice()) {
-            Front::Whole(size) => Next::Item {
+            FrameFront::Whole(size) => Next::Item {
                 place: 4,
                 size,
                 whole: 4 + size,
             },
-            Front::TooLong => Next::Faulty(FrameFault::TooLarge),
-            Front::Partial if ended && !held.as_slice().is_empty() => {
+            FrameFront::TooLong => Next::Faulty(FrameFault::TooLarge),
+            FrameFront::Partial if ended && !held.as_slice().is_empty() => {
                 Next::Faulty(FrameFault::CutShort)
             }
-            Front::Partial => Next::Partial,
+            FrameFront::Partial => Next::Partial,
         }
     }
 
     ghost lawful = { frame_laws };
 }
 
-/// How a serving ended, by the pump.
+/// Returns how a serving ended, by how the pump did.
 fn serve_outcome(outcome: Result<u64, Stop<FrameFault>>) -> Result<u64, ServeFault>
     ensures { result ≡ served_as outcome }
 {
@@ -83,7 +83,7 @@ fn serve_outcome(outcome: Result<u64, Stop<FrameFault>>) -> Result<u64, ServeFau
 /// A read asks for 64 KiB. All whole frames that are there are answered, and
 /// the answers are written, before the next read; they are written earlier too,
 /// whenever there are 64 KiB of them. Memory grows with what was read, never by
-/// a length that was only told: it holds one frame and one read, and the answers
+/// a length whose bytes did not come: it holds one frame and one read, and the answers
 /// that wait, less than 64 KiB before the last one.
 ///
 /// # Errors

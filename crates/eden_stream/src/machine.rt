@@ -60,7 +60,7 @@ struct Scripted;
 impl<M: LineMachine> Teller<Lines, M, ()> for Scripted {
     ghost story = { λ _ before now. line_story M.stands_for M.refused before now };
 
-    fn tell(&self, machine: &mut M, line: &[u8], text: &mut Vec<u8>) -> Step<()> {
+    fn answer(&self, machine: &mut M, line: &[u8], text: &mut Vec<u8>) -> Step<()> {
         match machine.answer(line, text) {
             Answered::Done => Step::Told,
             Answered::BadLine => Step::Fault(()),

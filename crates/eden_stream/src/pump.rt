@@ -83,7 +83,7 @@ fn answer_first<F: Framing<E>, T, S: Teller<F, T, E>, E: Copy>(
     match F::next(held, ended) {
         Next::Item { place, size, whole } => {
             let before = text.len();
-            match teller.tell(server, item_of(held.as_slice(), place, size), text) {
+            match teller.answer(server, item_of(held.as_slice(), place, size), text) {
                 Step::Told => {
                     held.drop_first(whole);
                     Turn::Taken

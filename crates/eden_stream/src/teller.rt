@@ -24,7 +24,7 @@ pub trait Teller<F: Framing<E>, T, E: Copy> {
     ghost story: { Self → T → T → Story E };
 
     /// Answers one item, and appends what it prints to `text`.
-    fn tell(&self, server: &mut T, item: &[u8], text: &mut Vec<u8>) -> Step<E>
+    fn answer(&self, server: &mut T, item: &[u8], text: &mut Vec<u8>) -> Step<E>
         requires { F.grammar.item item.now }
         ensures { (before : T) (items : List (List ℕ)) (sent : List ℕ) → (story self.now before server.old).told items (sent ++ text.old.items)
             → Tells (story self.now before server.new) items sent item.now text.old.items text.new.items result };

@@ -1,4 +1,4 @@
--- That lines are cut as every grammar asks, and that what a machine tells of them is a story.
+-- That lines are cut as every grammar asks, and that what a machine says of them is a story.
 use Rattle.std.proofs.Common.{◌≡◌, true, false, inl, inr, List, [], ◌∷◌, ◌++◌, Option, Some, refl, sym, ap, ◌∙◌, append_assoc, append-nil}
 use Rattle.std.specs.Prelude.{ℕ}
 use Rattle.eden_stream.specs.Grammars.{IsGrammar}

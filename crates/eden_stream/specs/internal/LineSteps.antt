@@ -1,4 +1,4 @@
--- What a machine tells of the lines that it was given, and what the steps say that find lines.
+-- What a machine says of the lines that it was given, and what the steps say that find lines.
 use Rattle.std.specs.Prelude.{◌≡◌, Bool, true, ℕ, ◌<◌, ◌≤◌, ◌⊎◌, ⊤, List, [], ◌∷◌, ◌++◌, length, take, drop, Option, Some, Result, Ok, Err, slice_index}
 use Rattle.std.specs.Str.Lines.{strip_carriage_return}
 use Rattle.eden_stream.specs.Ends.{CantRead}
@@ -18,7 +18,7 @@ pub record HasRefused (refused_now : (List (List ℕ) → Option (List ℕ)) →
   pub reads : CantRead script items item text
   pub on : GoesOn (λ next. refused_now next item) script items text
 
--- What a machine tells of the lines that it was given.
+-- What a machine says of the lines that it was given.
 abbrev pub line_story : {M : Type 0} → (M → (List (List ℕ) → Option (List ℕ)) → Type 0) → (M → (List (List ℕ) → Option (List ℕ)) → List ℕ → Type 0) → M → M → Story ⊤
 line_story stands_for refused_by before now = record {
   told = λ items text. (script : List (List ℕ) → Option (List ℕ)) → stands_for before script → GoesOn (stands_for now) script items text;

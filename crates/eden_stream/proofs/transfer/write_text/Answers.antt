@@ -1,4 +1,4 @@
--- What this write took stands behind what is written.
+-- What this write took is after what is written.
 use Rattle.std.proofs.Common.{◌-◌, ◌<◌, length, take, drop, refl, sym, subst, arith, length-drop}
 use Rattle.std.proofs.KnownBytes.{Appends-trans}
 use Rattle.std.proofs.Math.Seq.{take-add}

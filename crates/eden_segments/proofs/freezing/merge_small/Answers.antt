@@ -4,7 +4,7 @@ use Rattle.eden_segments.specs.Tables.{AreDistinct}
 use Rattle.eden_segments.specs.internal.Segments.{frozen_rows, stored}
 use Rattle.eden_segments.proofs.Distinct.{distinct_later}
 use Rattle.eden_segments.proofs.Stored.{split_at}
-use Rattle.eden_segments.proofs.freezing.settle.Goals as goal
+use Rattle.eden_segments.proofs.freezing.merge_small.Goals as goal
 
 pub merged-requires : goal.merged-requires
 merged-requires g c =

@@ -1,6 +1,6 @@
 -- A line that the machine refuses.
 use Rattle.eden_stream.proofs.ScriptEnds.{line_refused}
-use Rattle.eden_stream.proofs.machine.ScriptedTellerLinesUnit.tell.Goals as goal
+use Rattle.eden_stream.proofs.machine.ScriptedTellerLinesUnit.answer.Goals as goal
 
 pub returns-in-BadLine : goal.returns-in-BadLine
 returns-in-BadLine g c = λ before items sent told.
