@@ -135,7 +135,7 @@ carried-elsewhere m old new p from to =
     file_at-carried m old new p
     ∙ (λ i. if to i then file_at m (carried new old p) else if from i then None else file_at m p)
 
--- each file below the old path stands at its place below the new one
+-- each file below the old path is at its place below the new one
 pub carried-arrives : (m : FileMap) (old new p : List ℕ) → lies_below p old ≡ true → file_at (carried_files m old new) (carried old new p) ≡ file_at m p
 carried-arrives m old new p below =
     file_at-carried m old new (carried old new p)
@@ -145,7 +145,7 @@ carried-arrives m old new p below =
 
 -- ---- no two paths clash
 
--- a path below the new one clashes with none that stays, where no file stood at the new path or above it
+-- a path below the new one clashes with none that stays, where no file was at the new path or above it
 stays_apart : (m : FileMap) (new p q : List ℕ) → file_at m new ≡ None → has_file_above m new ≡ false → lies_below p new ≡ true → lies_below q new ≡ false → IsSome (file_at m q)
     → clashes p q ≡ false
 stays_apart m new p q free above into apart there = or_from _ _ (under (lies_below p q) refl) (over (lies_below q p) refl)
@@ -166,7 +166,7 @@ stays_apart m new p q free above into apart there = or_from _ _ (under (lies_bel
     over false e = refl
     over true e = sym (below-trans q p new e into) ∙ apart
 
--- where no file stands at the new path or above it, the files are a file map
+-- if no file is at the new path or above it, the files are a file map
 pub carried_fits : (m : FileMap) (old new : List ℕ) → IsFileMap m → file_at m new ≡ None → has_file_above m new ≡ false → IsFileMap (carried_files m old new)
 carried_fits m old new fits free above p q hp hq =
     cases (lies_below p new) (lies_below q new) (lies_below p old) (lies_below q old) refl refl

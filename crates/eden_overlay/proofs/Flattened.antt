@@ -4,7 +4,7 @@ use Rattle.std.proofs.lemmas.List.{append-nil}
 use Rattle.std.specs.declared.cmp.Ordering.TheVariants.{Less, Equal, Greater}
 use Rattle.std.specs.Ordering.{is_lt, is_le, is_eq}
 use Rattle.std.specs.Global.{Vec}
-use Rattle.std.specs.List.{insert, remove, slice_index_or, slice_set}
+use Rattle.std.specs.List.{AllByRecursion, insert, remove, slice_index_or, slice_set}
 use Rattle.std.specs.List.Sorted.{IsPartitionPoint, IsPartitionedBy}
 use Rattle.std.specs.FinMap as fin
 use Rattle.std.specs.FinMap.{find, put, is_sorted}
@@ -19,7 +19,6 @@ use Rattle.eden_ids.proofs.Members.{all_joined}
 use Rattle.eden_overlay.specs.Layers.{Entry, by_bytes}
 use Rattle.eden_overlay.specs.Places.{place}
 use Rattle.eden_overlay.specs.internal.Blocks.{flat, AllFilled, begins_at_or_before, begun, block_for}
-use Rattle.eden_overlay.specs.internal.Seams.{AllBefore, IsBefore}
 use Rattle.eden_overlay.proofs.Placing.{is_less, turned, trans, below_later, none_above, without, without_none}
 
 abbrev pub Rising : List Entry → Type 0
@@ -28,7 +27,13 @@ Rising es = T (is_sorted by_bytes es)
 abbrev pub Above : List ℕ → List Entry → Type 0
 Above k es = T (below_all by_bytes k es)
 
--- ---- two lists in order, one behind the other
+abbrev IsBefore : List ℕ → Entry → Type 0
+IsBefore k e = T (is_lt (by_bytes e.0 k))
+
+abbrev AllBefore : List ℕ → List Entry → Type 0
+AllBefore k es = AllByRecursion (IsBefore k) es
+
+-- ---- two lists in order, one after the other
 
 above_front : (k : List ℕ) (xs ys : List Entry) → Above k (xs ++ ys) → Above k xs
 above_front k [] ys h = tt
@@ -68,7 +73,7 @@ back_after k e ys h t =
     ] refl t in
     both _ _ ahead (below_later k e.0 ys ahead (first _ _ h))
 
--- ---- the entries before the block of a path, and those behind it
+-- ---- the entries before the block of a path, and those after it
 
 pub record Around (k : List ℕ) (bs : List (Vec Entry)) (at : ℕ) : Type 0 where
   pub front : AllBefore k (flat (take at bs))
@@ -168,7 +173,7 @@ rising_block bs at d within h =
     rising_front (slice_index_or bs at d).items (flat (drop (suc at) bs))
     (rising_back (flat (take at bs)) _ (subst Rising (flat_parts bs at d within) h))
 
--- ---- a path that stands neither before nor behind a part of a list
+-- ---- a path that is neither before nor after a part of a list
 
 behind : (k : List ℕ) (e : Entry) → T (is_lt (by_bytes e.0 k)) → by_bytes k e.0 ≡ Greater
 behind k e h = turned e.0 k Less (less _ h)

@@ -3,7 +3,6 @@ pub mod CarriedLemmas
 pub mod Placing
 pub mod Members
 pub mod Flattened
-pub mod Seamed
 pub mod Shifted
 pub mod Overs
 pub mod Touched
@@ -13,7 +12,4 @@ pub mod Marked
 pub mod Turns
 pub mod WovenRows
 pub mod WovenBelow
-pub mod CarriedEntries
-pub mod CarriedBlocks
-pub mod Placings
 pub mod CarriedLayers

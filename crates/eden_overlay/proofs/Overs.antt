@@ -79,7 +79,7 @@ pub here_below : (base : FileMap) (layer : Layer) (p q : List ℕ) (f : Content)
 here_below base layer p q f is e =
     any_some (λ r. lies_below r p) (paths (over base layer)) q (listed (over base layer) q f (file_at-over base layer q ∙ ap (λ o. or_below o (file_at base q)) is)) e
 
--- the overlay has no file below a path: then one is seen there where the overlay says nothing of some file that stands there below it
+-- the overlay has no file below a path: then one is seen there if the overlay says nothing of some file that is below it
 pub left_below : (base : FileMap) (layer : Layer) (p : List ℕ) → ((q : List ℕ) (f : Content) → fin.get layer q ≡ Some (Some f) → lies_below q p ≡ false)
     → has_file_below (over base layer) p ≡ list_any (λ q. lies_below q p && not (is_some (fin.get layer q))) (paths base)
 left_below base layer p none = by_any (list_any (λ q. lies_below q p && not (is_some (fin.get layer q))) (paths base)) refl

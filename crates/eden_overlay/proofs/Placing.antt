@@ -1,4 +1,4 @@
--- Where an entry stands, or would stand, in a list in byte order of paths.
+-- Where an entry is, or would be, in a list in byte order of paths.
 use Rattle.std.proofs.Common.{◌≡◌, ◌≢◌, ℕ, suc, zero, ◌<◌, ◌≤◌, Bool, true, false, cond, not, T, List, [], ◌∷◌, take, length, nat_eq, Option, Some, None, Result, Ok, Err, OnErr, refl, sym, ap, subst, ◌∙◌, arith}
 use Rattle.std.specs.Prelude.{filter}
 use Rattle.std.specs.declared.cmp.Ordering.{Ordering}
@@ -33,11 +33,7 @@ pub not_itself : (k : List ℕ) (r : Ordering) → by_bytes k k ≡ r → r ≢ 
 not_itself k r e apart = apart (sym e ∙ tied_itself nat_list_cmp_total k)
 
 module _ {X : Type 0} where
-  -- the entry at a place has this path
-  abbrev pub HasPath : List ℕ → List (List ℕ × X) → ℕ → Type 0
-  HasPath k es i = (v : X) × (slice_get es i ≡ Some (k, v))
-
-  -- the place that a search tells is the one that counting tells
+  -- the place that a search gives is the one that counting gives
   pub place_is : (k : List ℕ) (es : List (List ℕ × X)) (i : ℕ) → i ≤ length es → IsPartitionPoint (λ e. is_lt (by_bytes e.0 k) ≡ true) (λ e. is_lt (by_bytes e.0 k) ≡ false) es i → i ≡ place k es
   place_is k [] i within point = omega arith
   place_is k (e ∷ es) zero within point = sym (ap (λ b. cond b (suc (place k es)) 0) (point.1 0 e (omega arith) (omega arith)))
@@ -66,7 +62,7 @@ module _ {X : Type 0} where
   below_later k q [] p h = tt
   below_later k q (e ∷ es) p h = both _ _ (trans k q e.0 p (first _ _ h)) (below_later k q es p (second _ _ h))
 
-  -- the entry that stands there is found
+  -- the entry that is there is found
   pub found_there : (k : List ℕ) (v : X) (es : List (List ℕ × X)) → slice_get es (place k es) ≡ Some (k, v) → find by_bytes k es ≡ Some v
   found_there k v [] h = absurd (cc)
   found_there k v (e ∷ es) h =
@@ -84,7 +80,7 @@ module _ {X : Type 0} where
             ∙ found_there k v es (subst (λ n. slice_get (e ∷ es) n ≡ Some (k, v)) (ap (λ r. cond (is_lt r) (suc (place k es)) 0) (turned k e.0 Greater p)) h)
       ] refl
 
-  -- where another entry stands there, or none, the path is not found
+  -- if another entry is there, or none, the path is not found
   pub missing_there : (k : List ℕ) (es : List (List ℕ × X)) → T (is_sorted by_bytes es) → ((v : X) → slice_get es (place k es) ≢ Some (k, v)) → find by_bytes k es ≡ None
   missing_there k [] h apart = refl
   missing_there k (e ∷ es) h apart =
@@ -114,7 +110,7 @@ module _ {X : Type 0} where
             ∙ ap (λ n. insert (e ∷ es) n (k, v)) (sym (ap (λ r. cond (is_lt r) (suc (place k es)) 0) (turned k e.0 Greater p)))
       ] refl
 
-  -- an entry that stands there is replaced
+  -- an entry that is there is replaced
   pub put_there : (k : List ℕ) (v w : X) (es : List (List ℕ × X)) → slice_get es (place k es) ≡ Some (k, w) → put by_bytes k v es ≡ slice_set es (place k es) (k, v)
   put_there k v w [] h = absurd (cc)
   put_there k v w (e ∷ es) h =

@@ -1,4 +1,4 @@
--- Two paths of which an overlay is told, one after the other.
+-- Two paths that are set in an overlay, one after the other.
 use Rattle.std.proofs.Common.{◌≡◌, ℕ, nat_eq, Bool, true, false, cond, List, Option, Some, None, Bor, refl, sym, ap, ◌∙◌}
 use Rattle.std.specs.Cmp.Lexicographic.{nat_list_cmp_total}
 use Rattle.std.specs.FinMap as fin
@@ -20,7 +20,7 @@ told_twice : (m : Layer) (k j : List ℕ) (v w : Option Content) (q : List ℕ)
     → fin.get (fin.insert (fin.insert m k v) j w) q ≡ cond (same_path q j) (Some w) (cond (same_path q k) (Some v) (fin.get m q))
 told_twice m k j v w q = told (fin.insert m k v) j w q ∙ ap (cond (same_path q j) (Some w)) (told m k v q)
 
--- what is told last of a path
+-- what is said last of a path
 pub set_again : (m : Layer) (k : List ℕ) (v w : Option Content) → fin.insert m k w ≡ fin.insert (fin.insert m k v) k w
 set_again m k v w = same_layer _ _ (λ q. told m k w q ∙ sym (told_twice m k k v w q ∙ once (same_path q k) (fin.get m q)))
   where
@@ -28,7 +28,7 @@ set_again m k v w = same_layer _ _ (λ q. told m k w q ∙ sym (told_twice m k k
     once true o = refl
     once false o = refl
 
--- two paths may be told in either order
+-- two paths may be set in either order
 pub set_either : (m : Layer) (k j : List ℕ) (v w : Option Content) → same_path j k ≡ false → fin.insert (fin.insert m j w) k v ≡ fin.insert (fin.insert m k v) j w
 set_either m k j v w other = same_layer _ _ (λ q. told_twice m j k w v q ∙ by q (same_path q k) (same_path q j) refl refl ∙ sym (told_twice m k j v w q))
   where
@@ -43,11 +43,11 @@ set_either m k j v w other = same_layer _ _ (λ q. told_twice m j k w v q ∙ by
         ap (λ a. cond a (Some v) (cond (same_path q j) (Some w) (fin.get m q))) x
         ∙ sym (ap (λ a. cond (same_path q j) (Some w) (cond a (Some v) (fin.get m q))) x)
 
--- of one path nothing is told by another
+-- nothing said of one path is about another
 pub still_told : (m : Layer) (k j : List ℕ) (w : Option Content) → same_path k j ≡ false → fin.get (fin.insert m j w) k ≡ fin.get m k
 still_told m k j w other = told m j w k ∙ ap (λ b. cond b (Some w) (fin.get m k)) other
 
--- what was told of a path of which nothing had been is taken back
+-- what was set at a path at which nothing had been is taken back
 pub taken_back : (m : Layer) (k : List ℕ) (v : Option Content) → fin.get m k ≡ None → fin.remove (fin.insert m k v) k ≡ m
 taken_back m k v none =
     same_layer _ _ (λ q. fin.get-remove nat_list_cmp_total (fin.insert m k v) k q ∙ ap (cond (same_path q k) None) (told m k v q) ∙ by q (same_path q k) refl)

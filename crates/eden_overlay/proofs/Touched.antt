@@ -1,4 +1,4 @@
--- The dirty paths are those entries of the overlay that differ from what stands below them.
+-- The dirty paths are those entries of the overlay that differ from what is below them.
 use Rattle.std.proofs.Common.{◌≡◌, ℕ, ◌+◌, ◌<◌, ◌≤◌, ◌++◌, suc, zero, Bool, true, false, cond, not, ◌&&◌, List, [], ◌∷◌, map, take, length, Option, Some, None, is_some, refl, sym, ap, ◌∙◌, arith, add-one}
 use Rattle.std.specs.Prelude.{filter}
 use Rattle.std.specs.List.{AllByRecursion, slice_index_or}

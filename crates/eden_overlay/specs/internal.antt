@@ -1,5 +1,5 @@
 -- What only this crate's functions speak of.
 pub mod Blocks
-pub mod Seams
+pub mod Carrying
 pub mod There
 pub mod Woven

@@ -8,7 +8,6 @@ ghost use Rattle.eden_ids.specs.FileMaps.{same_path};
 ghost use Rattle.eden_overlay.specs.Layers.{by_bytes};
 ghost use Rattle.eden_overlay.specs.Places.{place};
 ghost use Rattle.eden_overlay.specs.internal.Blocks.{flat, block_for, begins_at_or_before, AllFilled};
-ghost use Rattle.eden_overlay.specs.internal.Seams.{block_at, IsCutInTwo};
 
 use crate::ascending::{place_of, put, take_out, value_at};
 use crate::entries_walk::Walk;
@@ -88,25 +87,6 @@ fn lower_size(blocks: &[Block], at: usize) -> usize
     }
 }
 
-/// Cuts a block in two, of which the first keeps some entries.
-///
-/// `NoMemory` if an allocation fails; then nothing changes.
-pub(crate) fn cut_block(blocks: &mut Vec<Block>, at: usize, kept: usize) -> Result<(), NoMemory>
-    requires at { at < length blocks.old.items }
-    requires some { 0 < kept }
-    requires fewer { kept < length (block_at blocks.old.items at) }
-    ensures cut { OnOk result (IsCutInTwo at kept blocks.old.items blocks.new.items) }
-    ensures err { OnErr result (blocks.new.items ≡ blocks.old.items) }
-{
-    blocks.reserve(1)?;
-    let upper = blocks[at].split_off(kept)?;
-    let Ok(_) = blocks.insert(at + 1, upper) else {
-        // There is room.
-        unreachable!();
-    };
-    Ok(())
-}
-
 /// Splits a full block in two. If an allocation fails, it stays whole.
 fn split(blocks: &mut Vec<Block>, at: usize)
     requires at { at < length blocks.old.items }
@@ -117,9 +97,16 @@ fn split(blocks: &mut Vec<Block>, at: usize)
     if blocks[at].len() < FULL {
         return;
     }
-    let kept = lower_size(blocks, at);
-    let Ok(()) = cut_block(blocks, at, kept) else {
+    if blocks.reserve(1).is_err() {
         return;
+    }
+    let kept = lower_size(blocks, at);
+    let Ok(upper) = blocks[at].split_off(kept) else {
+        return;
+    };
+    let Ok(_) = blocks.insert(at + 1, upper) else {
+        // There is room.
+        unreachable!();
     };
 }
 

@@ -60,6 +60,16 @@ impl Overlay {
         }
     }
 
+    /// Returns whether it says anything of a path below a directory. Does not allocate.
+    pub(crate) fn has_entry_below(&self, top: &Path) -> bool
+        ensures { result ≡ list_any (λ e. lies_below e.0 top.now) (fin.entries self.now) }
+    {
+        let entries = self.entries_from(edge(top, b'/').as_slice());
+        entries
+            .first_before(edge(top, b'/' + 1).as_slice())
+            .is_some()
+    }
+
     /// Returns whether it has a file below a directory. Does not allocate.
     ///
     /// Only the entries below the directory are looked at, up to the first that has a file.

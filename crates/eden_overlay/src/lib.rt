@@ -1,9 +1,9 @@
 //! Changes that lie over files: for some paths the file there, or that the path is absent.
 //!
 //! [`Overlay`] keeps these entries in byte order of their paths, cut into blocks. So a change moves
-//! the entries of one block alone, and [`Overlay::carry`] moves a directory's entries to another
-//! directory as whole blocks. No call lists or copies the files below. [`woven`] lists the paths
-//! that are seen, from a list of those below and the touched ones.
+//! the entries of one block alone. [`Overlay::carry`] moves a directory's entries to another
+//! directory. No call lists or copies the files below. [`woven`] lists the paths that are seen, from
+//! a list of those below and the touched ones.
 //!
 //! [`place_of`], [`value_at`] and [`put_reserved`] are for any entries in byte order of their paths.
 //!
@@ -12,13 +12,14 @@
 //! `specs/Carried.antt` what it means to carry a directory; [`carried_path`] carries one path.
 //!
 //! ```rust
-//! use eden_ids::{Content, Kind, Path, Sequence};
+//! use bytes::Bytes;
+//! use eden_ids::{Content, Kind, Path};
 //! use eden_overlay::Overlay;
 //!
 //! let notes = Path::parse(alloc, b"notes".as_slice())?;
 //! let empty = Content {
 //!     kind: Kind::Plain,
-//!     bytes: Sequence::new(alloc),
+//!     bytes: Bytes::new(),
 //! };
 //! let mut overlay = Overlay::new(alloc);
 //! overlay.set(notes.copy()?, Some(empty))?;
@@ -52,5 +53,4 @@ mod laws;
 mod marks;
 mod overlay;
 mod overlay_carry;
-mod seams;
 mod weaving;
