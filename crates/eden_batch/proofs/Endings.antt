@@ -25,7 +25,7 @@ texts : (objects : List Held) → concat (map written objects) ≡ batch objects
 texts [] = refl
 texts (o ∷ os) = ap (λ l. written o ++ l) (texts os)
 
--- an item that is taken stands at the front of what was held
+-- an item that is taken is at the front of what was held
 taken : (items : List (List ℕ)) (item left held stream : List ℕ) → stream ≡ concat items ++ held → stream ≡ concat (items ++ item ∷ []) ++ left → held ≡ item ++ left
 taken items item left held stream cut next =
     let front = concat items in
@@ -45,7 +45,7 @@ module _ {I : Type 0} (name : List ℕ → List ℕ → Id) (has : I → List He
     put = have.put;
   }
 
-  -- a cause that stands at the front of the rest
+  -- a cause that is at the front of the rest
   unreadable : (fault : ObjectFault) (rest : List ℕ) (held : List Held) → IsFaulty rest fault → HasFault name r1 rest held held fault
   unreadable BadHeader rest held f = (f, refl)
   unreadable TooLarge rest held f = (f, refl)
@@ -53,7 +53,7 @@ module _ {I : Type 0} (name : List ℕ → List ℕ → Id) (has : I → List He
   unreadable (Refused cause) rest held f = absurd f
   unreadable OtherId rest held f = absurd f
 
-  -- a cause that stands in the way of an object
+  -- a cause that refuses an object
   unput : (fault : ObjectFault) (rest left : List ℕ) (object : Held) (held new : List Held) → IsObject object → rest ≡ written object ++ left
       → Fails name object held new fault → HasFault name r1 rest held new fault
   unput BadHeader rest left object held new is cut f = absurd f
@@ -190,7 +190,7 @@ module _ {I : Type 0} (name : List ℕ → List ℕ → Id) (has : I → List He
   ends ids noted none next next_is (Err NoMemory) result is e = rw is (early e.0 e.1 e.2 next none next_is e.3 e.3.says)
   ends ids noted none next next_is (Err Write) result is e = absurd is
 
--- each of these ends is told as itself
+-- each of these ends is reported as itself
 pub own_end : (next number : ℕ) (outcome : Result ℕ (Stop ObjectFault)) (result : Result (Unit {0}) ObjectsFault) → IsReadAs next outcome result → record {
   read : result ≡ Err (faults.Read number) → outcome ≡ Err Read;
   turns_spent : result ≡ Err (faults.TurnsSpent number) → outcome ≡ Err TurnsSpent;

@@ -5,8 +5,8 @@ use Rattle.std.proofs.lemmas.List.{append-nil, map-append, take_at}
 use Rattle.std.proofs.lemmas.List.Elements.{All-push}
 use Rattle.eden_ids.specs.declared.id.Id.{Id}
 use Rattle.eden_ids.specs.Sameness.{same_id}
-use Rattle.eden_git.specs.declared.word.Word.{Word}
-use Rattle.eden_objects.specs.Imports.{IsOver, put_word}
+use Rattle.eden_git.specs.declared.object_type.ObjectType.{ObjectType}
+use Rattle.eden_objects.specs.Imports.{IsOver, put_typed}
 use Rattle.eden_objects.specs.Objects.{Held}
 use Rattle.eden_objects.specs.Puts.{Outcome}
 use Rattle.eden_objects.specs.declared.fault.PutFault.{PutFault}
@@ -46,24 +46,24 @@ module _ (item : List ℕ) (printed : IsPrinted item) where
   never_lacks Partial part =
       let o = printed.0 in
       let behind = o.payload ++ 10 ∷ [] in
-      let both = header_split o.id part.0.id o.word part.0.word (length o.payload) part.0.size (behind ++ part.1) [] printed.1.id part.2.0 fits part.2.1
-      (sym (append_assoc (header o.id o.word (length o.payload)) behind part.1) ∙ ap (λ l. l ++ part.1) (sym printed.2) ∙ part.4 ∙ sym (append-nil (header_field part.0))) in
+      let both = header_split o.id part.0.id o.object_type part.0.object_type (length o.payload) part.0.size (behind ++ part.1) [] printed.1.id part.2.0 fits part.2.1
+      (sym (append_assoc (header o.id o.object_type (length o.payload)) behind part.1) ∙ ap (λ l. l ++ part.1) (sym printed.2) ∙ part.4 ∙ sym (append-nil (header_field part.0))) in
       omega (arith, ap length both.3, length-append behind part.1, length-append o.payload (10 ∷ []))
   never_lacks Bad bad =
       let o = printed.0 in
-      bad (record { id = o.id; word = o.word; size = length o.payload }) [] (o.payload ++ 10 ∷ []) (printed.1.id, fits) (append-nil item ∙ printed.2)
+      bad (record { id = o.id; object_type = o.object_type; size = length o.payload }) [] (o.payload ++ 10 ∷ []) (printed.1.id, fits) (append-nil item ∙ printed.2)
 
   module _ (h : Header) (behind : List ℕ) (is : IsHeader h) (cut : item ≡ header_field h ++ behind) where
-    parts : (h.id ≡ printed.0.id) × (h.word ≡ printed.0.word) × (h.size ≡ length printed.0.payload) × (behind ≡ printed.0.payload ++ 10 ∷ [])
+    parts : (h.id ≡ printed.0.id) × (h.object_type ≡ printed.0.object_type) × (h.size ≡ length printed.0.payload) × (behind ≡ printed.0.payload ++ 10 ∷ [])
     parts =
         let o = printed.0 in
-        header_split h.id o.id h.word o.word h.size (length o.payload) behind (o.payload ++ 10 ∷ []) is.0 printed.1.id is.1 fits (sym cut ∙ printed.2)
+        header_split h.id o.id h.object_type o.object_type h.size (length o.payload) behind (o.payload ++ 10 ∷ []) is.0 printed.1.id is.1 fits (sym cut ∙ printed.2)
 
     pub id_is : h.id ≡ printed.0.id
     id_is = parts.0
 
-    pub word_is : h.word ≡ printed.0.word
-    word_is = parts.1
+    pub type_is : h.object_type ≡ printed.0.object_type
+    type_is = parts.1
 
     pub there : h.size ≤ length behind
     there = omega (arith, parts.2, ap length parts.3, length-append printed.0.payload (10 ∷ []))
@@ -71,23 +71,23 @@ module _ (item : List ℕ) (printed : IsPrinted item) where
     pub payload_is : take h.size behind ≡ printed.0.payload
     payload_is = ap (take h.size) parts.3 ∙ take_at printed.0.payload (10 ∷ []) h.size (sym parts.2)
 
-    pub outcome_is : (name : List ℕ → List ℕ → Id) (held : List Held) (outcome : Outcome) → put_word name h.word (take h.size behind) held ≡ outcome
-        → put_word name printed.0.word printed.0.payload held ≡ outcome
+    pub outcome_is : (name : List ℕ → List ℕ → Id) (held : List Held) (outcome : Outcome) → put_typed name h.object_type (take h.size behind) held ≡ outcome
+        → put_typed name printed.0.object_type printed.0.payload held ≡ outcome
     outcome_is name held outcome e =
-        sym (ap (λ word. put_word name word (take h.size behind) held) word_is ∙ ap (λ payload. put_word name printed.0.word payload held) payload_is) ∙ e
+        sym (ap (λ object_type. put_typed name object_type (take h.size behind) held) type_is ∙ ap (λ payload. put_typed name printed.0.object_type payload held) payload_is) ∙ e
 
     -- an object that is put under the header's id is put under its own
-    pub put_own : (name : List ℕ → List ℕ → Id) (held new : List Held) (id : Id) → false ≡ not (same_id id h.id) → put_word name h.word (take h.size behind) held ≡ Ok (id, new)
+    pub put_own : (name : List ℕ → List ℕ → Id) (held new : List Held) (id : Id) → false ≡ not (same_id id h.id) → put_typed name h.object_type (take h.size behind) held ≡ Ok (id, new)
         → (id ≡ printed.0.id) × IsPut name printed.0 held new
     put_own name held new id same e =
         let own = equal_ids id h.id same ∙ id_is in
         (own, outcome_is name held (Ok (id, new)) e ∙ ap (λ i. Ok (i, new)) own)
 
-    pub puts_is : (result : Result Id PutFault) (name : List ℕ → List ℕ → Id) (held new : List Held) → Puts result name h.word (take h.size behind) held new
-        → Puts result name printed.0.word printed.0.payload held new
+    pub puts_is : (result : Result Id PutFault) (name : List ℕ → List ℕ → Id) (held new : List Held) → Puts result name h.object_type (take h.size behind) held new
+        → Puts result name printed.0.object_type printed.0.payload held new
     puts_is result name held new puts =
-        subst (λ payload. Puts result name printed.0.word payload held new) payload_is
-        (subst (λ word. Puts result name word (take h.size behind) held new) word_is puts)
+        subst (λ payload. Puts result name printed.0.object_type payload held new) payload_is
+        (subst (λ object_type. Puts result name object_type (take h.size behind) held new) type_is puts)
 
 put_more : (name : List ℕ → List ℕ → Id) (objects : List Held) (object : Held) (old held new : List Held) → ArePut name objects old held → IsPut name object held new
     → ArePut name (objects ++ object ∷ []) old new
@@ -127,10 +127,10 @@ module _ {name : List ℕ → List ℕ → Id} {old held : List Held} {noted ids
   }
 
 -- what a call that puts gives, case by case
-pub puts_of : (fault : PutFault) (name : List ℕ → List ℕ → Id) (word : Word) (payload : List ℕ) (held new : List Held) → new ≡ held
-    → (fault ≢ put.NoMemory → put_word name word payload held ≡ Err fault) → Puts (Err fault) name word payload held new
-puts_of put.NoMemory name word payload held new same refuses = same
-puts_of fault name word payload held new same refuses = (same, refuses (λ e. cc e))
+pub puts_of : (fault : PutFault) (name : List ℕ → List ℕ → Id) (object_type : ObjectType) (payload : List ℕ) (held new : List Held) → new ≡ held
+    → (fault ≢ put.NoMemory → put_typed name object_type payload held ≡ Err fault) → Puts (Err fault) name object_type payload held new
+puts_of put.NoMemory name object_type payload held new same refuses = same
+puts_of fault name object_type payload held new same refuses = (same, refuses (λ e. cc e))
 
 module _ {I : Type 0} (name : List ℕ → List ℕ → Id) (held : I → List Held) (over : I → List Held → I) (laws : IsOver held over) where
   -- what is filled further is the same still
@@ -146,10 +146,10 @@ module _ {I : Type 0} (name : List ℕ → List ℕ → Id) (held : I → List H
   same_at_first filling = record { into = refl; ids = refl; only = sym (laws.same filling.into.now) }
 
 module _ {I : Type 0} (name : List ℕ → List ℕ → Id) (has : I → List Held) (over : I → List Held → I) where
-  -- what is told of an object that is refused
+  -- what is said of an object that is refused
   pub tells_refused : (before now : Filling I) → AreSame name has over before now → (held : List Held) (items : List (List ℕ))
       → Fills name (has before.into.now) held before.ids.now.items now.ids.now.items items → (cause : PutFault) (sent item text : List ℕ) (printed : IsPrinted item)
-      → Puts (Err cause) name printed.0.word printed.0.payload held (has now.into.now)
+      → Puts (Err cause) name printed.0.object_type printed.0.payload held (has now.into.now)
       → Tells (put_story name has over before now) items sent item text text (refusal_of cause)
   tells_refused before now same held items fills put.NoMemory sent item text printed puts = (same, halts_at fills (has now.into.now) item (inl puts))
   tells_refused before now same held items fills cause sent item text printed puts =

@@ -1,4 +1,4 @@
--- What stands at the front of a stream of objects, by its header.
+-- What is at the front of a stream of objects, by its header.
 use Rattle.std.proofs.Common.{◌≡◌, ◌≢◌, ℕ, suc, ◌+◌, ◌-◌, ◌<◌, ◌≤◌, List, [], ◌∷◌, ◌++◌, length, get_or, take, drop, replicate, sym, ap, ◌∙◌, arith, append_assoc, length-append}
 use Rattle.std.specs.List.{concat}
 use Rattle.std.proofs.Math.Seq.{drop-cons}
@@ -12,17 +12,17 @@ use Rattle.eden_batch.specs.internal.Grammar.{IsPrinted, object_grammar}
 use Rattle.eden_batch.specs.declared.header.Header.{Header}
 
 pub part_of_header : (bytes : List ℕ) (h : Header) (more : List ℕ) → IsHeader h → 0 < length more → bytes ++ more ≡ header_field h → HasPartOfHeader bytes
-part_of_header bytes h more is some e = record { id = h.id; word = h.word; size = h.size; more = more; is_id = is.0; fits = is.1; some = some; cut = e }
+part_of_header bytes h more is some e = record { id = h.id; object_type = h.object_type; size = h.size; more = more; is_id = is.0; fits = is.1; some = some; cut = e }
 
 pub no_header : (bytes : List ℕ) → ((h : Header) (rest more : List ℕ) → IsHeader h → bytes ++ rest ≡ header_field h ++ more → ⊥) → HasNoHeader bytes
-no_header bytes bad id word size rest more is fits e = bad (record { id = id; word = word; size = size }) rest more (is, fits) e
+no_header bytes bad id object_type size rest more is fits e = bad (record { id = id; object_type = object_type; size = size }) rest more (is, fits) e
 
 -- the object of a header, where these are its bytes
 object_of : Header → List ℕ → Held
-object_of h payload = record { id = h.id; word = h.word; payload = payload }
+object_of h payload = record { id = h.id; object_type = h.object_type; payload = payload }
 
-sized : (h : Header) (payload : List ℕ) → length payload ≡ h.size → header_field h ≡ header h.id h.word (length payload)
-sized h payload e = ap (header h.id h.word) (sym e)
+sized : (h : Header) (payload : List ℕ) → length payload ≡ h.size → header_field h ≡ header h.id h.object_type (length payload)
+sized h payload e = ap (header h.id h.object_type) (sym e)
 
 module _ (bytes behind : List ℕ) (h : Header) (is : IsHeader h) (small : h.size ≤ 8388608) (cut : bytes ≡ header_field h ++ behind) where
   pub part_of_object : length behind ≤ h.size → HasPartOfObject bytes

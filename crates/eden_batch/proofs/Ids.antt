@@ -57,7 +57,7 @@ all_zeros : (n : ℕ) → list_all is_lower_digit (replicate n 48) ≡ true
 all_zeros zero = refl
 all_zeros (suc n) = all_zeros n
 
--- the digits that are there, and zeros behind them
+-- the digits that are there, and zeros after them
 abbrev pub IsPadded : List ℕ → List ℕ → Type 0
 IsPadded bytes text = text ≡ take 40 bytes ++ replicate (40 - length (take 40 bytes)) 48
 
@@ -91,7 +91,7 @@ module _ (bytes text : List ℕ) (padded : IsPadded bytes text) where
       ∙ ap (take (length front)) (sym (append_assoc front (drop 40 bytes) rest) ∙ ap (λ l. l ++ rest) (sym split) ∙ e)
       ∙ take-append-le (length front) whole more (omega (arith, long, short))
 
-  -- what is no id with zeros behind it begins none
+  -- what is no id with zeros after it begins no id
   pub no_id : TextIsReadBack → (fault : HexFault) → id_of_hex text ≡ Err fault
       → (id : Id) (rest more : List ℕ) → IsIdText id → bytes ++ rest ≡ id_field id ++ more → ⊥
   unfolding zeros
@@ -106,7 +106,7 @@ module _ (bytes text : List ℕ) (padded : IsPadded bytes text) where
       let read = read_all text long all in
       cc
 
-  -- what is an id with zeros behind it is a part of one
+  -- what is an id with zeros after it is a part of one
   pub part_of_id : TextIsTheOnlyOne → (id : Id) → id_of_hex text ≡ Ok id → IsIdText id → length bytes ≤ 40
       → (id : Id) × (more : List ℕ) × IsIdText id × (0 < length more) × (bytes ++ more ≡ id_field id)
   unfolding front
@@ -132,7 +132,7 @@ module _ (bytes text : List ℕ) (padded : IsPadded bytes text) where
         behind ∙ ap (λ b. front ++ b ∷ drop 41 bytes) space ∙ sym (append_assoc front (32 ∷ []) (drop 41 bytes))
         ∙ ap (λ l. (l ++ 32 ∷ []) ++ drop 41 bytes) (sym whole)
 
-    -- with another byte behind them they are none
+    -- with another byte after them they are not one
     pub no_space : get_or bytes 40 0 ≢ 32 → (id : Id) (rest more : List ℕ) → IsIdText id → bytes ++ rest ≡ id_field id ++ more → ⊥
     no_space other id rest more is e =
         let whole = encode_lower id.0 in

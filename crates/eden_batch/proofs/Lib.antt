@@ -1,7 +1,7 @@
 pub mod Ids
 pub mod Lines
 pub mod Sizes
-pub mod Words
+pub mod Types
 pub mod Headers
 pub mod Fronts
 pub mod Fillings

@@ -42,7 +42,7 @@ front_is bytes most n e =
       | inr g ↦ ap (λ k. take k bytes) (omega arith)
     ]
 
--- all that stands behind a place
+-- all that is after a place
 pub all_behind : (bytes : List ℕ) (n m : ℕ) → n ≡ m → take (length bytes - n) (drop n bytes) ≡ drop m bytes
 all_behind bytes n m e = take_all (length bytes - n) (drop n bytes) (omega (arith, length-drop n bytes)) ∙ ap (λ k. drop k bytes) e
 

@@ -5,22 +5,22 @@ use Rattle.std.specs.List.{flat_map}
 use Rattle.hex.specs.Hex.{encode_lower}
 use Rattle.eden_ids.specs.declared.id.Id.{Id}
 use Rattle.eden_ids.specs.Texts.{IsIdText}
-use Rattle.eden_git.specs.declared.word.Word.{Word}
-use Rattle.eden_git.specs.Words.{word_text}
+use Rattle.eden_git.specs.declared.object_type.ObjectType.{ObjectType}
+use Rattle.eden_git.specs.ObjectTypes.{type_text}
 use Rattle.eden_objects.specs.Objects.{Held}
 
 -- the most bytes of an object: 8 MiB
 abbrev pub object_limit : ℕ
 object_limit = 8388608
 
--- a header: an id, the word for a kind of object, and a number of bytes in decimal; after the first
+-- a header: an id, the type of an object, and a number of bytes in decimal; after the first
 -- two a space, and after the last a line feed
-unfoldable pub header : Id → Word → ℕ → List ℕ
-header id word size = (encode_lower id.0 ++ 32 ∷ []) ++ ((word_text word ++ 32 ∷ []) ++ (decimal size ++ 10 ∷ []))
+unfoldable pub header : Id → ObjectType → ℕ → List ℕ
+header id object_type size = (encode_lower id.0 ++ 32 ∷ []) ++ ((type_text object_type ++ 32 ∷ []) ++ (decimal size ++ 10 ∷ []))
 
 -- an object: its header, its bytes and a line feed
 abbrev pub written : Held → List ℕ
-written object = header object.id object.word (length object.payload) ++ (object.payload ++ 10 ∷ [])
+written object = header object.id object.object_type (length object.payload) ++ (object.payload ++ 10 ∷ [])
 
 -- objects, one after another
 abbrev pub batch : List Held → List ℕ
@@ -33,8 +33,8 @@ pub record IsObject (object : Held) : Type 0 where
 
 -- whatever bytes follow, they do not begin with a header. A size in a header is below 2 ^ 64
 abbrev pub HasNoHeader : List ℕ → Type 0
-HasNoHeader bytes = (id : Id) (word : Word) (size : ℕ) (rest more : List ℕ) → IsIdText id → size < 2 ^ 64
-    → bytes ++ rest ≡ header id word size ++ more → ⊥
+HasNoHeader bytes = (id : Id) (object_type : ObjectType) (size : ℕ) (rest more : List ℕ) → IsIdText id → size < 2 ^ 64
+    → bytes ++ rest ≡ header id object_type size ++ more → ⊥
 
 -- the header of an object within the limit, its bytes, and after them another byte than a line feed
 pub record LacksLineFeed (bytes : List ℕ) : Type 0 where
@@ -43,29 +43,29 @@ pub record LacksLineFeed (bytes : List ℕ) : Type 0 where
   pub more : List ℕ
   pub is_object : IsObject object
   pub other : byte ≢ 10
-  pub cut : bytes ≡ header object.id object.word (length object.payload) ++ (object.payload ++ byte ∷ more)
+  pub cut : bytes ≡ header object.id object.object_type (length object.payload) ++ (object.payload ++ byte ∷ more)
 
 -- a header whose size is above the limit, and below 2 ^ 64 as in any header
 pub record HasLargeHeader (bytes : List ℕ) : Type 0 where
   pub id : Id
-  pub word : Word
+  pub object_type : ObjectType
   pub size : ℕ
   pub more : List ℕ
   pub is_id : IsIdText id
   pub fits : size < 2 ^ 64
   pub large : object_limit < size
-  pub cut : bytes ≡ header id word size ++ more
+  pub cut : bytes ≡ header id object_type size ++ more
 
 -- the beginning of a header, and not all of it
 pub record HasPartOfHeader (bytes : List ℕ) : Type 0 where
   pub id : Id
-  pub word : Word
+  pub object_type : ObjectType
   pub size : ℕ
   pub more : List ℕ
   pub is_id : IsIdText id
   pub fits : size < 2 ^ 64
   pub some : 0 < length more
-  pub cut : bytes ++ more ≡ header id word size
+  pub cut : bytes ++ more ≡ header id object_type size
 
 -- the beginning of an object within the limit, and not all of it
 pub record HasPartOfObject (bytes : List ℕ) : Type 0 where

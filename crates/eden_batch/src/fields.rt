@@ -1,12 +1,12 @@
 //! Reads the fields of a header from the bytes that have come so far.
 ghost use Rattle.std.specs.Prelude.{◌≡◌, ◌-◌, ◌≤◌, ◌++◌, length, replicate, slice_index};
-ghost use Rattle.eden_git.specs.declared.word.Word.{Word};
-ghost use Rattle.eden_git.specs.Words.{word_text};
+ghost use Rattle.eden_git.specs.declared.object_type.ObjectType.{ObjectType};
+ghost use Rattle.eden_git.specs.ObjectTypes.{type_text};
 ghost use Rattle.eden_ids.specs.Texts.{IsIdText};
-ghost use Rattle.eden_batch.specs.internal.Fields.{IsAnyWord, IsSize, Reads, id_field, size_field, word_field};
+ghost use Rattle.eden_batch.specs.internal.Fields.{IsAnyType, IsSize, Reads, id_field, size_field, type_field};
 
 use bstr::ByteSlice;
-use eden_git::{Word, number};
+use eden_git::{ObjectType, number};
 use eden_ids::{Id, hex_law, hex_text_law, id_law};
 
 /// The number of bytes of an id's text.
@@ -57,42 +57,42 @@ pub(crate) fn read_id(bytes: &[u8]) -> Result<(Id, &[u8]), Lack>
     }
 }
 
-/// Returns the word for a kind of object, and a space.
-fn word_field(word: Word) -> &'static [u8]
-    ensures { result.now ≡ word_field word }
+/// Returns the name of a type, and a space.
+fn type_field(object_type: ObjectType) -> &'static [u8]
+    ensures { result.now ≡ type_field object_type }
 {
-    match word {
-        Word::Blob => b"blob ".as_slice(),
-        Word::Tree => b"tree ".as_slice(),
-        Word::Commit => b"commit ".as_slice(),
+    match object_type {
+        ObjectType::Blob => b"blob ".as_slice(),
+        ObjectType::Tree => b"tree ".as_slice(),
+        ObjectType::Commit => b"commit ".as_slice(),
     }
 }
 
-/// Returns the only word that can begin with a byte.
-fn word_of(first: u8) -> Option<Word>
-    ensures { (word : Word) → slice_index (word_text word) 0 ≡ first → result ≡ Some word }
+/// Returns the only type whose name can begin with a byte.
+fn type_of(first: u8) -> Option<ObjectType>
+    ensures { (object_type : ObjectType) → slice_index (type_text object_type) 0 ≡ first → result ≡ Some object_type }
 {
     match first {
-        b'b' => Some(Word::Blob),
-        b't' => Some(Word::Tree),
-        b'c' => Some(Word::Commit),
+        b'b' => Some(ObjectType::Blob),
+        b't' => Some(ObjectType::Tree),
+        b'c' => Some(ObjectType::Commit),
         _ => None,
     }
 }
 
-/// Reads the word for a kind of object and a space, and returns the bytes after them.
-pub(crate) fn read_word(bytes: &[u8]) -> Result<(Word, &[u8]), Lack>
-    ensures { Reads IsAnyWord word_field bytes.now result }
+/// Reads the name of a type and a space, and returns the bytes after them.
+pub(crate) fn read_type(bytes: &[u8]) -> Result<(ObjectType, &[u8]), Lack>
+    ensures { Reads IsAnyType type_field bytes.now result }
 {
     let [first, ..] = bytes else {
         return Err(Lack::Partial);
     };
-    let Some(word) = word_of(*first) else {
+    let Some(object_type) = type_of(*first) else {
         return Err(Lack::Bad);
     };
-    let field = word_field(word);
+    let field = type_field(object_type);
     if let Some(behind) = bytes.strip_prefix(field) {
-        return Ok((word, behind));
+        return Ok((object_type, behind));
     }
     if field.starts_with(bytes) {
         Err(Lack::Partial)

@@ -14,7 +14,7 @@ const OBJECT_LIMIT: u64 = 8_388_608;
 
 /// What bytes begin with.
 #[derive(Clone, Copy)]
-enum Front {
+enum ObjectFront {
     /// An object that has this number of bytes, with its header and its line feed.
     Whole(usize),
 
@@ -28,22 +28,22 @@ enum Front {
 /// Returns what bytes begin with.
 ///
 /// It looks only at the header and at the byte after the object.
-fn measure_front(bytes: &[u8]) -> Front
+fn measure_front(bytes: &[u8]) -> ObjectFront
     ensures { Begins bytes.now result }
 {
     let (header, behind) = match read_header(bytes) {
         Ok(read) => read,
-        Err(Lack::Partial) => return Front::Partial,
-        Err(Lack::Bad) => return Front::Faulty(ObjectFault::BadHeader),
+        Err(Lack::Partial) => return ObjectFront::Partial,
+        Err(Lack::Bad) => return ObjectFront::Faulty(ObjectFault::BadHeader),
     };
     if header.size > OBJECT_LIMIT {
-        return Front::Faulty(ObjectFault::TooLarge);
+        return ObjectFront::Faulty(ObjectFault::TooLarge);
     }
     let size = header.size as usize;
     match behind.get(size) {
-        None => Front::Partial,
-        Some(b'\n') => Front::Whole(bytes.len() - behind.len() + size + 1),
-        Some(_) => Front::Faulty(ObjectFault::BadHeader),
+        None => ObjectFront::Partial,
+        Some(b'\n') => ObjectFront::Whole(bytes.len() - behind.len() + size + 1),
+        Some(_) => ObjectFront::Faulty(ObjectFault::BadHeader),
     }
 }
 
@@ -55,16 +55,16 @@ impl Framing<ObjectFault> for Printed {
 
     fn next(held: &mut Buffer, ended: bool) -> Next<ObjectFault> {
         match measure_front(held.as_slice()) {
-            Front::Whole(whole) => Next::Item {
+            ObjectFront::Whole(whole) => Next::Item {
                 place: 0,
                 size: whole,
                 whole,
             },
-            Front::Faulty(fault) => Next::Faulty(fault),
-            Front::Partial if ended && !held.as_slice().is_empty() => {
+            ObjectFront::Faulty(fault) => Next::Faulty(fault),
+            ObjectFront::Partial if ended && !held.as_slice().is_empty() => {
                 Next::Faulty(ObjectFault::CutShort)
             }
-            Front::Partial => Next::Partial,
+            ObjectFront::Partial => Next::Partial,
         }
     }
 

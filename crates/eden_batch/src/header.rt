@@ -2,15 +2,15 @@
 ghost use Rattle.std.specs.Prelude.{◌≡◌};
 ghost use Rattle.eden_batch.specs.internal.Fields.{IsHeader, Reads, header_field};
 
-use crate::fields::{Lack, read_id, read_size, read_word};
-use eden_git::Word;
+use crate::fields::{Lack, read_id, read_size, read_type};
+use eden_git::ObjectType;
 use eden_ids::Id;
 
 /// What a header says of its object.
 #[derive(Clone, Copy)]
 pub(crate) struct Header {
     pub(crate) id: Id,
-    pub(crate) word: Word,
+    pub(crate) object_type: ObjectType,
     pub(crate) size: u64,
 }
 
@@ -21,7 +21,14 @@ pub(crate) fn read_header(bytes: &[u8]) -> Result<(Header, &[u8]), Lack>
     ensures { Reads IsHeader header_field bytes.now result }
 {
     let (id, behind) = read_id(bytes)?;
-    let (word, behind) = read_word(behind)?;
+    let (object_type, behind) = read_type(behind)?;
     let (size, behind) = read_size(behind)?;
-    Ok((Header { id, word, size }, behind))
+    Ok((
+        Header {
+            id,
+            object_type,
+            size,
+        },
+        behind,
+    ))
 }

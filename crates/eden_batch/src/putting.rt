@@ -32,7 +32,7 @@ pub(crate) struct Putting;
 impl<'a, I: Importer> Teller<Printed, Filling<'a, I>, ObjectFault> for Putting {
     ghost story = { λ _ before now. put_story I.name I.held I.over before now };
 
-    fn tell(
+    fn answer(
         &self,
         filling: &mut Filling<'a, I>,
         item: &[u8],
@@ -43,7 +43,7 @@ impl<'a, I: Importer> Teller<Printed, Filling<'a, I>, ObjectFault> for Putting {
             unreachable!();
         };
         let payload = &behind[..header.size as usize];
-        match filling.into.put_object(header.word, payload) {
+        match filling.into.put_object(header.object_type, payload) {
             Ok(id) if id != header.id => Step::Fault(ObjectFault::OtherId),
             Ok(id) => match filling.ids.push(id) {
                 Ok(()) => Step::Told,

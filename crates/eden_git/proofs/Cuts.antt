@@ -3,7 +3,7 @@ use Rattle.std.proofs.Common.{◌≡◌, refl, ap, ℕ, zero, suc, ◌+◌, ◌-
 use Rattle.std.proofs.lemmas.List.{take_rest}
 use Rattle.eden_git.specs.Trees.{cut, before_more}
 
--- a byte stands at none of the first places
+-- a byte is at none of the first places
 abbrev Misses : ℕ → List ℕ → ℕ → Type 0
 Misses byte bytes end = (k : ℕ) → 0 ≤ k → k < end → ¬ (nat_eq (slice_index bytes k) byte ≡ true)
 

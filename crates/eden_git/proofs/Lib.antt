@@ -3,7 +3,7 @@ pub mod Reading
 pub mod Fuel
 pub mod Slashes
 mod Keys
-mod Noting
+pub mod Noting
 mod Searching
 mod Naming
 mod Placing

@@ -1,66 +1,61 @@
 -- The columns of a payload's entries, filled entry by entry.
-use Rattle.std.proofs.Common.{◌≡◌, ◌≤◌, ◌∙◌, sym, ap, ℕ, ◌-◌, ◌+◌, List, [], ◌∷◌, ◌++◌, map, length, Ok, Err, arith, append_assoc}
-use Rattle.std.proofs.lemmas.List.{append-nil}
-use Rattle.eden_git.specs.declared.fault.EntryFault.{EntryFault}
+use Rattle.std.proofs.Common.{◌≡◌, ◌∙◌, sym, refl, ap, ℕ, ◌+◌, List, [], ◌∷◌, ◌++◌, length, Ok, arith, append_assoc}
+use Rattle.std.proofs.lemmas.List.{append-nil, map-append}
+use Rattle.std.proofs.lemmas.List.Concat.{flat_map-append}
+use Rattle.eden_ids.specs.declared.id.Id.{Id}
+use Rattle.eden_git.specs.declared.columns.Columns.{Columns}
 use Rattle.eden_git.specs.Trees.{Entry, entries_of, read_entry}
-use Rattle.eden_git.specs.Starts.{AreStarts, breadth, places}
-use Rattle.eden_git.specs.Columns.{text_of}
-use Rattle.eden_git.proofs.Fuel.{after_read, none_left}
+use Rattle.eden_git.specs.Starts.{breadth, extent, places}
+use Rattle.eden_git.specs.Columns.{AreColumns, AreColumnsOf, ids_of, kind_byte, kinds_of, text_of}
+use Rattle.eden_git.proofs.Fuel.{after_read}
 use Rattle.eden_git.proofs.Reading.{read_breadth}
 
--- so far the places of the entries before the rest are noted
-abbrev pub Noting : List ℕ → List ℕ → List ℕ → Type 0
-Noting payload starts rest = (length rest ≤ length payload) × (places 0 (entries_of payload) ≡ starts ++ places (length payload - length rest) (entries_of rest))
+pub extent-more : (es : List Entry) (e : Entry) → extent (es ++ e ∷ []) ≡ extent es + breadth e
+extent-more [] e = omega arith
+extent-more (f ∷ es) e = let more = extent-more es e in omega (arith, more)
 
-pub begins : (payload : List ℕ) → Noting payload [] payload
-begins payload =
-    let none : length payload - length payload ≡ 0 = omega arith in
-    (omega arith, sym (ap (λ start. places start (entries_of payload)) none))
+places-more : (start : ℕ) (es : List Entry) (e : Entry) → places start (es ++ e ∷ []) ≡ places start es ++ (start + (extent es + breadth e)) ∷ []
+places-more start [] e = let next : start + breadth e ≡ start + (0 + breadth e) = omega arith in ap (λ (end : ℕ). start ∷ end ∷ []) next
+places-more start (f ∷ es) e =
+    let next : start + breadth f + (extent es + breadth e) ≡ start + (breadth f + extent es + breadth e) = omega arith in
+    ap (λ (ends : List ℕ). start ∷ ends) (places-more (start + breadth f) es e ∙ ap (λ end. places (start + breadth f) es ++ end ∷ []) next)
 
-pub goes_on : (payload starts rest : List ℕ) (e : Entry) (behind : List ℕ) → Noting payload starts rest → read_entry rest ≡ Ok (e, behind)
-    → Noting payload (starts ++ (length payload - length rest) ∷ []) behind
-goes_on payload starts rest e behind noting read =
-    let start : ℕ = length payload - length rest in
-    let fits : length rest ≤ length payload = noting.0 in
-    let long : length rest ≡ breadth e + length behind = read_breadth rest (e, behind) read in
-    let next : length payload - length rest + breadth e ≡ length payload - length behind = omega (arith, fits, long) in (
-      omega (arith, fits, long),
-      noting.1
-          ∙ ap (λ es. starts ++ places start es) (after_read rest e behind read)
-          ∙ ap (λ place. starts ++ start ∷ places place (entries_of behind)) next
-          ∙ sym (append_assoc starts (start ∷ []) (places (length payload - length behind) (entries_of behind))),
+-- an entry that is added to each column
+pub one_more : (old : Columns) (e : Entry) (end : ℕ) (starts : List ℕ) (ids : List Id) (kinds names : List ℕ)
+    → starts ≡ old.starts.items ++ end ∷ [] → ids ≡ old.ids ++ e.id ∷ [] → kinds ≡ old.kinds.items ++ kind_byte e.kind ∷ []
+    → names ≡ old.names.items ++ (e.name ++ 47 ∷ []) → (es : List Entry) → AreColumnsOf es old → end ≡ extent es + breadth e
+    → (starts ≡ places 0 (es ++ e ∷ [])) × (ids ≡ ids_of (es ++ e ∷ [])) × (kinds ≡ kinds_of (es ++ e ∷ [])) × (names ≡ text_of (es ++ e ∷ []))
+one_more old e end starts ids kinds names at one kind name es so_far is =
+    let from : end ≡ 0 + (extent es + breadth e) = omega (arith, is) in (
+      at ∙ ap (λ s. s ++ end ∷ []) so_far.0 ∙ ap (λ n. places 0 es ++ n ∷ []) from ∙ sym (places-more 0 es e),
+      one ∙ ap (λ s. s ++ e.id ∷ []) so_far.1 ∙ sym (map-append (λ (e : Entry). e.id) es (e ∷ [])),
+      kind ∙ ap (λ s. s ++ kind_byte e.kind ∷ []) so_far.2 ∙ sym (map-append (λ (e : Entry). kind_byte e.kind) es (e ∷ [])),
+      name ∙ ap (λ s. s ++ (e.name ++ 47 ∷ [])) so_far.3 ∙ ap (λ t. text_of es ++ t) (sym (append-nil (e.name ++ 47 ∷ [])))
+          ∙ sym (flat_map-append (λ (e : Entry). e.name ++ 47 ∷ []) es (e ∷ [])),
     )
 
-pub ends : (payload starts rest : List ℕ) (fault : EntryFault) → Noting payload starts rest → read_entry rest ≡ Err fault
-    → AreStarts payload (starts ++ (length payload - length rest) ∷ [])
-ends payload starts rest fault noting read =
-    sym (noting.1 ∙ ap (λ es. starts ++ places (length payload - length rest) es) (none_left rest fault read))
+-- the entries before the rest are these, and the columns are theirs
+abbrev pub AreNoted : List ℕ → Columns → List ℕ → Type 0
+AreNoted payload columns rest = (es : List Entry) × (entries_of payload ≡ es ++ entries_of rest) × (length payload ≡ extent es + length rest) × AreColumnsOf es columns
 
--- a column that has what the entries before the rest give
+pub begins : (payload : List ℕ) (columns : Columns) → AreColumnsOf [] columns → AreNoted payload columns payload
+begins payload columns none = ([], refl, omega arith, none)
 
-pub filled : {A : Type 0} (f : Entry → A) (payload : List ℕ) (rest : List ℕ) (e : Entry) (behind : List ℕ) (done new : List A)
-    → map f (entries_of payload) ≡ done ++ map f (entries_of rest) → read_entry rest ≡ Ok (e, behind) → new ≡ done ++ f e ∷ []
-    → map f (entries_of payload) ≡ new ++ map f (entries_of behind)
-filled f payload rest e behind done new so_far read now =
-    so_far ∙ ap (λ es. done ++ map f es) (after_read rest e behind read) ∙ sym (append_assoc done (f e ∷ []) (map f (entries_of behind)))
-    ∙ ap (λ xs. xs ++ map f (entries_of behind)) (sym now)
+pub goes_on : (payload : List ℕ) (old new : Columns) (rest : List ℕ) (e : Entry) (after : List ℕ) (end : ℕ) → AreNoted payload old rest → read_entry rest ≡ Ok (e, after)
+    → end + length after ≡ length payload
+    → ((es : List Entry) → AreColumnsOf es old → end ≡ extent es + breadth e → AreColumnsOf (es ++ e ∷ []) new)
+    → AreNoted payload new after
+goes_on payload old new rest e after end noted read at more =
+    let long : length rest ≡ breadth e + length after = read_breadth rest (e, after) read in
+    let whole : length payload ≡ extent noted.0 + length rest = noted.2 in
+    let wider : extent (noted.0 ++ e ∷ []) ≡ extent noted.0 + breadth e = extent-more noted.0 e in (
+      noted.0 ++ e ∷ [],
+      noted.1 ∙ ap (λ es. noted.0 ++ es) (after_read rest e after read) ∙ sym (append_assoc noted.0 (e ∷ []) (entries_of after)),
+      omega (arith, long, whole, wider),
+      more noted.0 noted.3 (omega (arith, long, whole, at)),
+    )
 
-pub all_filled : {A : Type 0} (f : Entry → A) (payload rest : List ℕ) (fault : EntryFault) (done : List A)
-    → map f (entries_of payload) ≡ done ++ map f (entries_of rest) → read_entry rest ≡ Err fault → done ≡ map f (entries_of payload)
-all_filled f payload rest fault done so_far read =
-    sym (so_far ∙ ap (λ es. done ++ map f es) (none_left rest fault read) ∙ append-nil done)
-
-pub text_filled : (payload rest : List ℕ) (e : Entry) (behind : List ℕ) (done new : List ℕ)
-    → text_of (entries_of payload) ≡ done ++ text_of (entries_of rest) → read_entry rest ≡ Ok (e, behind) → new ≡ done ++ e.name ++ 47 ∷ []
-    → text_of (entries_of payload) ≡ new ++ text_of (entries_of behind)
-text_filled payload rest e behind done new so_far read now =
-    let more : List ℕ = text_of (entries_of behind) in
-    let one : text_of (entries_of rest) ≡ (e.name ++ 47 ∷ []) ++ more = ap text_of (after_read rest e behind read) in
-    let whole : done ++ ((e.name ++ 47 ∷ []) ++ more) ≡ (done ++ e.name ++ 47 ∷ []) ++ more =
-    sym (ap (λ bytes. bytes ++ more) (append_assoc done e.name (47 ∷ [])) ∙ append_assoc done (e.name ++ 47 ∷ []) more) in
-    so_far ∙ ap (λ bytes. done ++ bytes) one ∙ whole ∙ ap (λ bytes. bytes ++ more) (sym now)
-
-pub all_text_filled : (payload rest : List ℕ) (fault : EntryFault) (done : List ℕ)
-    → text_of (entries_of payload) ≡ done ++ text_of (entries_of rest) → read_entry rest ≡ Err fault → done ≡ text_of (entries_of payload)
-all_text_filled payload rest fault done so_far read =
-    sym (so_far ∙ ap (λ es. done ++ text_of es) (none_left rest fault read) ∙ append-nil done)
+pub ends : (payload : List ℕ) (columns : Columns) (rest : List ℕ) → AreNoted payload columns rest → entries_of rest ≡ [] → AreColumns payload columns
+ends payload columns rest noted none =
+    let all : noted.0 ≡ entries_of payload = sym (noted.1 ∙ ap (λ es. noted.0 ++ es) none ∙ append-nil noted.0) in
+    rw (← all) noted.3

@@ -1,4 +1,4 @@
--- A word is a number just where it is a decimal text.
+-- A word is a number exactly if it is a decimal text.
 use Rattle.std.proofs.Common.{◌≡◌, ℕ, List, Bool, true, false, refl, sym, ◌∙◌, ap, arith, ◌<◌, ◌^◌, cond, subst, ◌&&◌}
 use Rattle.std.specs.Prelude.{Option, Some, None, decimal, nat_eq, nat_lt}
 use Rattle.std.specs.Cmp.Lexicographic.{pointwise, bytes_decides, same_text, other_text}

@@ -1,4 +1,4 @@
--- An entry of a payload stands between two places that are kept.
+-- An entry of a payload is between two places that are kept.
 use Rattle.std.proofs.Common.{◌≡◌, ◌∙◌, sym, refl, ap, subst, ℕ, zero, suc, ◌+◌, ◌-◌, ◌<◌, ◌≤◌, List, [], ◌∷◌, ◌++◌, take, drop, length, Some, None, Result, Ok, Err, arith, append_assoc, length-append}
 use Rattle.std.proofs.Math.Seq.{drop-append_seam, take-append_seam}
 use Rattle.std.proofs.lemmas.List.{length-map}
@@ -6,11 +6,11 @@ use Rattle.std.proofs.lemmas.Option.{get_or_from_slice_get, same_Some, slice_get
 use Rattle.std.specs.List.{slice_get, slice_index_or}
 use Rattle.eden_git.specs.declared.fault.EntryFault.{EntryFault}
 use Rattle.eden_git.specs.Columns.{kind_byte, kinds_of}
-use Rattle.eden_git.specs.Starts.{AreStarts, breadth, mode_of, places, written}
+use Rattle.eden_git.specs.Starts.{breadth, mode_of, places, written}
 use Rattle.eden_git.specs.Trees.{Entry, entries, entries_after, entries_of, read_entry}
 use Rattle.eden_git.proofs.Reading.{is_read, length-written}
 
--- the bytes of an entry stand from the place at a row to the next one
+-- the bytes of an entry are from the place at a row to the next one
 abbrev pub Stands : List ℕ → List ℕ → ℕ → Entry → Type 0
 Stands payload starts row e = (front : List ℕ) × (behind : List ℕ) × (payload ≡ front ++ (written e ++ behind)) × (slice_get starts row ≡ Some (length front))
     × (slice_get starts (suc row) ≡ Some (length front + breadth e)) × (length e.id.0 ≡ 20)
@@ -45,7 +45,7 @@ stands_in zero payload front bytes row e parts at = cc at
 stands_in (suc n) payload front bytes row e parts at =
     stands_after n payload front bytes row e (read_entry bytes) refl parts at (λ front rest row parts at. stands_in n payload front rest row e parts at)
 
-pub stands : (payload starts : List ℕ) (row : ℕ) (e : Entry) → AreStarts payload starts → slice_get (entries_of payload) row ≡ Some e → Stands payload starts row e
+pub stands : (payload starts : List ℕ) (row : ℕ) (e : Entry) → starts ≡ places 0 (entries_of payload) → slice_get (entries_of payload) row ≡ Some e → Stands payload starts row e
 stands payload starts row e are at =
     subst (λ starts. Stands payload starts row e) (sym are) (stands_in (length payload) payload [] payload row e refl at)
 
@@ -71,7 +71,7 @@ bytes_here payload front behind e parts long =
           ∙ ap (take (length (written e))) (drop-append_seam front (written e ++ behind)) ∙ take-append_seam (written e) behind,
     )
 
-pub row_has : (payload starts kinds : List ℕ) (row : ℕ) → AreStarts payload starts → kinds ≡ kinds_of (entries_of payload) → row < length kinds
+pub row_has : (payload starts kinds : List ℕ) (row : ℕ) → starts ≡ places 0 (entries_of payload) → kinds ≡ kinds_of (entries_of payload) → row < length kinds
     → (row + 1 < length starts) × Has payload row (slice_index_or kinds row 0) (slice_index_or starts row 0) (slice_index_or starts (row + 1) 0)
 row_has payload starts kinds row are is low =
     let there = entry_there (entries_of payload) row (subst (λ kinds. row < length kinds) is low) in
@@ -122,7 +122,7 @@ id_written e long =
     ap (λ n. drop n (written e)) (sym (length-front e long)) ∙ ap (drop (length (mode_of e.kind ++ 32 ∷ (e.name ++ 0 ∷ [])))) (front_of_written e)
     ∙ drop-append_seam (mode_of e.kind ++ 32 ∷ (e.name ++ 0 ∷ [])) e.id.0
 
--- the name stands between a mode and its space and NUL
+-- the name is between a mode and its space and NUL
 pub name_between : (mode name front : List ℕ) (start end : ℕ) → front ≡ mode ++ 32 ∷ (name ++ 0 ∷ []) → start ≡ length mode + 1 → end ≡ length front - 1
     → take (end - start) (drop start front) ≡ name
 name_between mode name front start end is from to =

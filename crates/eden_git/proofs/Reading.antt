@@ -1,4 +1,4 @@
--- An entry that was read stands at the front of the bytes, so that fewer are left.
+-- An entry that was read is at the front of the bytes, so that fewer are left.
 use Rattle.std.proofs.Common.{◌≡◌, ◌∙◌, sym, refl, ap, subst, ℕ, ◌+◌, ◌<◌, ◌≤◌, Bool, true, false, cond, not, List, [], ◌∷◌, take, drop, length, Option, Some, None, Result, Ok, Err, nat_eq, nat_lt, IfOk, ◌&&◌, if◌then◌else◌, codes, drop_of_length-le, arith, ◌++◌, append_assoc, length-append}
 use Rattle.std.proofs.lemmas.Bool.{ltb-false}
 use Rattle.std.proofs.lemmas.List.{length-take-le, take-append-drop}
@@ -36,7 +36,7 @@ mode_is mode kind h =
       by false false false true first second third fourth is = fourth refl ∙ ap mode_of (same_Some (Some Link) kind is)
       by false false false false first second third fourth is = cc is
 
--- an entry that was read stands before what is left, and its id is whole
+-- an entry that was read is before what is left, and its id is whole
 
 abbrev pub IsRead : List ℕ → Entry × List ℕ → Type 0
 IsRead bytes read = (bytes ≡ written read.0 ++ read.1) × (length read.0.id.0 ≡ 20)

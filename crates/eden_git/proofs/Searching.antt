@@ -24,7 +24,7 @@ not_less Greater h = refl
 irreflexive : (k : List ℕ) → is_lt (slice_cmp nat_cmp k k) ≡ false
 irreflexive k = not_less (slice_cmp nat_cmp k k) (nat_list_cmp_total.antisymm k k)
 
--- the entries before one that stands before a key do so too
+-- the entries before one that is before a key do so too
 
 before_too : (w k : List ℕ) (e : Entry) → slice_cmp nat_cmp k (key e) ≡ Less → is_before w (Some e) ≡ true → is_lt (slice_cmp nat_cmp k w) ≡ true
 before_too w k e lower before = ap is_lt (nat_list_cmp_total.trans k (key e) w lower (is_less (slice_cmp nat_cmp (key e) w) before))
@@ -53,7 +53,7 @@ pub none_at_end : (w : List ℕ) (es : List Entry) → slice_get es (length es) 
 none_at_end w [] = refl
 none_at_end w (e ∷ es) = none_at_end w es
 
--- only the first entry that doesn't stand before a key may have it
+-- only the first entry that is not before a key may have it
 
 module _ {A : Type 0} (here : Entry → Option A) (w : List ℕ) (apart : (e : Entry) → (key e ≡ w → true ≡ false) → here e ≡ None) where
   abbrev pub any_here : List Entry → Option A

@@ -90,14 +90,14 @@ same_under (n ∷ name) [] q r free none = ap (λ b. b && same_bytes (name ++ 47
 same_under (n ∷ name) (x ∷ c) q r free none =
     ap (λ b. nat_eq n x && b) (same_under name c q r (or_parts _ _ free).1 (or_parts _ _ none).1) ∙ sym (and_assoc (nat_eq n x) (same_bytes name c) (same_bytes q r))
 
--- a name does not stand below anything
+-- a name is not below anything
 pub name_not_below : (name top : List ℕ) → has_slash name ≡ false → lies_below name top ≡ false
 name_not_below [] [] free = refl
 name_not_below [] (t ∷ top) free = refl
 name_not_below (n ∷ name) [] free = ap (λ b. b && true) (turned 47 n ∙ (or_parts _ _ free).0)
 name_not_below (n ∷ name) (t ∷ top) free = ap (λ b. nat_eq t n && b) (name_not_below name top (or_parts _ _ free).1) ∙ and-false (nat_eq t n)
 
--- what stands below a name
+-- what is below a name
 pub below_name : (name top q : List ℕ) → has_slash name ≡ false → has_slash top ≡ false → lies_below (name ++ 47 ∷ q) top ≡ same_bytes name top
 below_name [] [] q free none = refl
 below_name [] (t ∷ top) q free none = ap (λ b. b && lies_below q top) ((or_parts _ _ none).0)
@@ -105,7 +105,7 @@ below_name (n ∷ name) [] q free none = ap (λ b. b && true) (turned 47 n ∙ (
 below_name (n ∷ name) (t ∷ top) q free none =
     ap (λ b. nat_eq t n && b) (below_name name top q (or_parts _ _ free).1 (or_parts _ _ none).1) ∙ ap (λ b. b && same_bytes name top) (turned t n)
 
--- what stands below a path with a slash
+-- what is below a path with a slash
 pub below_under : (name c q r : List ℕ) → has_slash name ≡ false → has_slash c ≡ false → lies_below (name ++ 47 ∷ q) (c ++ 47 ∷ r) ≡ (same_bytes name c && lies_below q r)
 below_under [] [] q r free none = refl
 below_under [] (x ∷ c) q r free none = ap (λ b. b && lies_below q (c ++ 47 ∷ r)) (or_parts _ _ none).0

@@ -7,7 +7,7 @@ use Rattle.eden_ids.specs.declared.content.Kind.{Kind}
 use Rattle.eden_ids.specs.declared.content.Kind.TheVariants.{Plain, Exec, Link}
 use Rattle.eden_git.specs.declared.columns.Columns.{Columns}
 use Rattle.eden_git.specs.Trees.{Entry, entries_of}
-use Rattle.eden_git.specs.Starts.{AreStarts}
+use Rattle.eden_git.specs.Starts.{places}
 
 abbrev pub ids_of : List Entry → List Id
 ids_of es = map (λ e. e.id) es
@@ -29,9 +29,13 @@ names_of es = map (λ e. e.name) es
 abbrev pub text_of : List Entry → List ℕ
 text_of es = flat_map (λ e. e.name ++ 47 ∷ []) es
 
+-- these are the columns of entries
+abbrev pub AreColumnsOf : List Entry → Columns → Type 0
+AreColumnsOf es columns = (columns.starts.items ≡ places 0 es)
+    × (columns.ids ≡ ids_of es)
+    × (columns.kinds.items ≡ kinds_of es)
+    × (columns.names.items ≡ text_of es)
+
 -- these are the columns of a payload's entries
 abbrev pub AreColumns : List ℕ → Columns → Type 0
-AreColumns payload columns = AreStarts payload columns.starts.items
-    × (columns.ids ≡ ids_of (entries_of payload))
-    × (columns.kinds.items ≡ kinds_of (entries_of payload))
-    × (columns.names.items ≡ text_of (entries_of payload))
+AreColumns payload columns = AreColumnsOf (entries_of payload) columns

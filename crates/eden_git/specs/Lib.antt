@@ -1,4 +1,4 @@
-pub mod Words
+pub mod ObjectTypes
 pub mod Trees
 pub mod Entries
 pub mod Starts

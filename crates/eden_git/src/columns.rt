@@ -1,7 +1,10 @@
 //! The entries of a tree as columns, so that two trees are compared column by column.
-ghost use Rattle.std.specs.Prelude.{◌≡◌, ◌≤◌, ◌++◌, ◌∷◌, [], length, IfOk, OnOk, Option};
+ghost use Rattle.std.specs.Prelude.{◌≡◌, ◌≤◌, ◌+◌, ◌++◌, ◌∷◌, [], length, List, IfOk, OnOk, Option};
 ghost use Rattle.eden_ids.specs.declared.content.Kind.{Kind};
-ghost use Rattle.eden_git.specs.Columns.{AreColumns, kind_byte};
+ghost use Rattle.eden_git.specs.Columns.{AreColumns, AreColumnsOf, kind_byte};
+ghost use Rattle.eden_git.specs.Entries.{plain};
+ghost use Rattle.eden_git.specs.Starts.{breadth, extent};
+ghost use Rattle.eden_git.specs.Trees.{Entry};
 
 use crate::entry::{RawEntry, read_entry};
 use eden_ids::{IdColumn, Kind, NoMemory};
@@ -48,28 +51,34 @@ pub(crate) fn kind_of(byte: u8) -> Option<Kind>
 }
 
 impl Columns {
-    fn new(alloc: Global) -> Columns
-        ensures starts { result.starts.items ≡ [] }
-        ensures ids { result.ids ≡ [] }
-        ensures kinds { result.kinds.items ≡ [] }
-        ensures names { result.names.items ≡ [] }
+    /// Returns the columns of no entries.
+    ///
+    /// # Errors
+    ///
+    /// - `NoMemory` if an allocation fails.
+    pub fn new(alloc: Global) -> Result<Columns, NoMemory>
+        ensures { IfOk result (AreColumnsOf []) }
     {
-        Columns {
-            starts: Vec::new(alloc),
+        let mut starts = Vec::new(alloc);
+        starts.push(0)?;
+        Ok(Columns {
+            starts,
             ids: IdColumn::new(alloc),
             kinds: Vec::new(alloc),
             names: Vec::new(alloc),
-        }
+        })
     }
 
-    /// Appends an entry to the columns.
-    fn push(&mut self, start: u32, entry: &RawEntry<'_>) -> Result<(), NoMemory>
-        ensures starts { OnOk result (self.new.starts.items ≡ self.old.starts.items ++ start ∷ []) }
-        ensures ids { OnOk result (self.new.ids ≡ self.old.ids ++ entry.now.id ∷ []) }
-        ensures kinds { OnOk result (self.new.kinds.items ≡ self.old.kinds.items ++ kind_byte entry.now.kind ∷ []) }
-        ensures names { OnOk result (self.new.names.items ≡ self.old.names.items ++ entry.now.name.now ++ 47 ∷ []) }
+    /// Adds the next entry, which ends at this place of the payload.
+    ///
+    /// # Errors
+    ///
+    /// - `NoMemory` if an allocation fails. The columns are then of no use.
+    pub fn push(&mut self, entry: &RawEntry<'_>, end: u32) -> Result<(), NoMemory>
+        ensures { OnOk result ((es : List Entry) → AreColumnsOf es self.old → end ≡ extent es + breadth (plain entry.now)
+            → AreColumnsOf (es ++ plain entry.now ∷ []) self.new) }
     {
-        self.starts.push(start)?;
+        self.starts.push(end)?;
         self.ids.push(entry.id)?;
         self.kinds.push(kind_byte(entry.kind))?;
         self.names.extend_from_slice(entry.name)?;
@@ -79,20 +88,19 @@ impl Columns {
 
     /// Reads a payload once and returns the columns of its entries.
     ///
-    /// `NoMemory` if an allocation fails.
+    /// # Errors
+    ///
+    /// - `NoMemory` if an allocation fails.
     pub fn of(alloc: Global, payload: &[u8]) -> Result<Columns, NoMemory>
         requires { length payload.now ≤ 8388608 }
         ensures { IfOk result (λ columns. AreColumns payload.now columns) }
     {
-        let mut columns = Columns::new(alloc);
+        let mut columns = Columns::new(alloc)?;
         let mut rest = payload;
-        'entries: while let Ok((entry, behind)) = read_entry(rest) {
-            let start = (payload.len() - rest.len()) as u32;
-            columns.push(start, &entry)?;
-            rest = behind;
+        'entries: while let Ok((entry, after)) = read_entry(rest) {
+            columns.push(&entry, (payload.len() - after.len()) as u32)?;
+            rest = after;
         }
-        let end = (payload.len() - rest.len()) as u32;
-        columns.starts.push(end)?;
         Ok(columns)
     }
 }

@@ -1,4 +1,4 @@
-//! Git's format: the words for objects, the entries of trees and their order, and the tree of a
+//! Git's format: the types of objects, the entries of trees and their order, and the tree of a
 //! commit.
 //!
 //! ```rust
@@ -18,9 +18,9 @@ pub use crate::decimal::number;
 pub use crate::directory::next_entry;
 pub use crate::entry::{RawEntry, cut, read_entry};
 pub use crate::fault::EntryFault;
+pub use crate::object_type::{ObjectType, same_type};
 pub use crate::order::key_order;
 pub use crate::rows::{Entries, Rows};
-pub use crate::word::{Word, same_word};
 
 mod columns;
 mod commit;
@@ -28,7 +28,7 @@ mod decimal;
 mod directory;
 mod entry;
 mod fault;
+mod object_type;
 mod order;
 mod rows;
 mod search;
-mod word;

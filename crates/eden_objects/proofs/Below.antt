@@ -101,7 +101,7 @@ all_kept : (rows : List Row) → filter (λ row. true) rows ≡ rows
 all_kept [] = refl
 all_kept (row ∷ rows) = ap (λ (more : List Row). row ∷ more) (all_kept rows)
 
--- below a name stand the files of its directory
+-- below a name are the files of its directory
 below_here : (held : List Held) (id : Id) (p : List ℕ) → IsClosed held → HasTree held id → None ≡ cut 47 p
     → rows_below held id p ≡ map (behind (p ++ 47 ∷ [])) (then_rows (tree_rows held) (dir_named p (entries_in held id)))
 below_here held id p closed has none =
@@ -112,7 +112,7 @@ below_here held id p closed has none =
     (λ n q slashless. below_name n p q slashless free ∙ sym (and_comm (same_bytes n p) true)) (entries_in held id) is.2 is.5
     ∙ ap (map (behind (p ++ 47 ∷ []))) (all_kept (then_rows (tree_rows held) (dir_named p (entries_in held id))))
 
--- below a path with a slash stand the files that stand below what follows it in the directory that it begins with
+-- below a path with a slash are the files that are below what follows it in the directory that it begins with
 below_there : (held : List Held) (id : Id) (p c r : List ℕ) → IsClosed held → HasTree held id → Some (c, r) ≡ cut 47 p
     → rows_below held id p ≡ map (behind (c ++ 47 ∷ [])) (filter (λ row. lies_below row.0 r) (then_rows (tree_rows held) (dir_named c (entries_in held id))))
 below_there held id p c r closed has some =

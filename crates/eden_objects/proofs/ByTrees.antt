@@ -11,7 +11,7 @@ use Rattle.eden_ids.specs.Sameness.{same_id}
 use Rattle.eden_git.specs.Trees.{Entry, entries_of, is_name, key}
 use Rattle.eden_objects.specs.Trees.{entries_depth, entries_reach, tree_depth, tree_reach}
 use Rattle.eden_objects.specs.Commits.{Row, entries_rows, tree_rows}
-use Rattle.eden_objects.specs.Puts.{word_wanted}
+use Rattle.eden_objects.specs.Puts.{type_wanted}
 use Rattle.eden_objects.specs.Closed.{IsHeld, HasTree, IsTree, IsSound, IsClosed, NamesDiffer}
 use Rattle.eden_objects.proofs.Closed.{find-here, find-there, fold-here, fold-there}
 
@@ -51,10 +51,10 @@ abbrev pub Of : (List Row → ℕ → ℕ → Type 0) → Totals → Type 0
 Of P t = P t.0 t.1 t.2
 
 each_dir : (P : List Row → ℕ → ℕ → Type 0) (earlier : List Held) → ((id : Id) → HasTree earlier id → P (tree_rows earlier id) (tree_depth earlier id) (tree_reach earlier id))
-    → (es : List Entry) → AllByRecursion (λ e. IsHeld earlier (word_wanted e.kind) e.id) es
+    → (es : List Entry) → AllByRecursion (λ e. IsHeld earlier (type_wanted e.kind) e.id) es
     → AllByRecursion (λ e. e.kind ≡ None → P (tree_rows earlier e.id) (tree_depth earlier e.id) (tree_reach earlier e.id)) es
 each_dir P earlier h [] all = tt
-each_dir P earlier h (e ∷ es) all = (λ dir. h e.id (subst (λ k. IsHeld earlier (word_wanted k) e.id) dir all.0), each_dir P earlier h es all.1)
+each_dir P earlier h (e ∷ es) all = (λ dir. h e.id (subst (λ k. IsHeld earlier (type_wanted k) e.id) dir all.0), each_dir P earlier h es all.1)
 
 pub by_trees : (P : List Row → ℕ → ℕ → Type 0) → IsStep P → (held : List Held) → IsClosed held → (id : Id) → HasTree held id
     → P (tree_rows held id) (tree_depth held id) (tree_reach held id)
@@ -64,7 +64,7 @@ by_trees P step (top ∷ earlier) closed id has = elim (cases_Bool (same_id id t
   | inl t ↦
       let e : Some top ≡ Some has.0 = sym (find-here id top earlier t) ∙ has.1 in
       let same : top ≡ has.0 = cc in
-      let is : IsTree earlier (entries_of top.payload) = subst (λ w. IsSound w top.payload earlier) (ap (λ o. o.word) same ∙ has.2) closed.1 in
+      let is : IsTree earlier (entries_of top.payload) = subst (λ w. IsSound w top.payload earlier) (ap (λ o. o.object_type) same ∙ has.2) closed.1 in
       let dirs = each_dir P earlier (by_trees P step earlier closed.2) (entries_of top.payload) is.0 in
       subst (Of P) (sym (totals-here id top earlier t))
       (step (tree_rows earlier) (tree_depth earlier) (tree_reach earlier) (entries_of top.payload) dirs is.1 is.2 is.5)

@@ -5,15 +5,15 @@ use Rattle.std.proofs.lemmas.Slice.Eq.{bytes_eq-Decides}
 use Rattle.std.specs.List.{AllByRecursion}
 use Rattle.eden_ids.specs.declared.id.Id.{Id}
 use Rattle.eden_ids.specs.declared.content.Kind.{Kind}
-use Rattle.eden_git.specs.declared.word.Word.{Word}
-use Rattle.eden_git.specs.declared.word.Word.TheVariants.{Blob, Tree, Commit}
+use Rattle.eden_git.specs.declared.object_type.ObjectType.{ObjectType}
+use Rattle.eden_git.specs.declared.object_type.ObjectType.TheVariants.{Blob, Tree, Commit}
 use Rattle.eden_objects.specs.Objects.{Held, find}
 use Rattle.eden_ids.specs.Sameness.{same_id}
 use Rattle.eden_git.specs.Trees.{Entry, entries_of}
 use Rattle.eden_objects.specs.Trees.{tree_fold, greater, depth_of, reach_of, entries_depth, entries_reach, tree_depth, tree_reach}
 use Rattle.eden_objects.specs.Commits.{Row, rows_of_kind, entry_rows, entries_rows, tree_rows}
 use Rattle.eden_git.specs.Commits.{tree_named}
-use Rattle.eden_objects.specs.Puts.{word_wanted}
+use Rattle.eden_objects.specs.Puts.{type_wanted}
 use Rattle.eden_objects.specs.Closed.{IsHeld, HasTree, IsTree, IsSound, IsClosed}
 use Rattle.eden_segments.proofs.Distinct.{same_id-is}
 
@@ -38,8 +38,8 @@ find_stays id top earlier h new found = elim (cases_Bool (same_id id top.id)) [
   | inr f ↦ (f, find-there id top earlier f ∙ found)
 ]
 
-pub held_stays : (top : Held) (earlier : List Held) (word : Word) (id : Id) → find top.id earlier ≡ None → IsHeld earlier word id → IsHeld (top ∷ earlier) word id
-held_stays top earlier word id new held = (held.0, (find_stays id top earlier held.0 new held.1).1, held.2)
+pub held_stays : (top : Held) (earlier : List Held) (object_type : ObjectType) (id : Id) → find top.id earlier ≡ None → IsHeld earlier object_type id → IsHeld (top ∷ earlier) object_type id
+held_stays top earlier object_type id new held = (held.0, (find_stays id top earlier held.0 new held.1).1, held.2)
 
 -- what a tree comes to depends on what its directories come to
 abbrev pub AgreeOn : {A : Type 0} → (Id → A) → (Id → A) → List Entry → Type 0
@@ -91,16 +91,16 @@ module _ {A : Type 0} (none : A) (step : (Id → A) → List Entry → A) where
   unfolding tree_fold
   fold-there id top earlier t = ap (λ b. cond b (step (tree_fold none step earlier) (entries_of top.payload)) (tree_fold none step earlier id)) t
 
-  pub fold_stays : (top : Held) (earlier : List Held) → find top.id earlier ≡ None → (es : List Entry) → AllByRecursion (λ e. IsHeld earlier (word_wanted e.kind) e.id) es
+  pub fold_stays : (top : Held) (earlier : List Held) → find top.id earlier ≡ None → (es : List Entry) → AllByRecursion (λ e. IsHeld earlier (type_wanted e.kind) e.id) es
       → AgreeOn (tree_fold none step earlier) (tree_fold none step (top ∷ earlier)) es
   fold_stays top earlier new [] all = tt
   fold_stays top earlier new (e ∷ es) all =
       (λ k. sym (fold-there e.id top earlier (find_stays e.id top earlier all.0.0 new all.0.1).0), fold_stays top earlier new es all.1)
 
-all_stay : (top : Held) (earlier : List Held) → find top.id earlier ≡ None → (es : List Entry) → AllByRecursion (λ e. IsHeld earlier (word_wanted e.kind) e.id) es
-    → AllByRecursion (λ e. IsHeld (top ∷ earlier) (word_wanted e.kind) e.id) es
+all_stay : (top : Held) (earlier : List Held) → find top.id earlier ≡ None → (es : List Entry) → AllByRecursion (λ e. IsHeld earlier (type_wanted e.kind) e.id) es
+    → AllByRecursion (λ e. IsHeld (top ∷ earlier) (type_wanted e.kind) e.id) es
 all_stay top earlier new [] all = tt
-all_stay top earlier new (e ∷ es) all = (held_stays top earlier (word_wanted e.kind) e.id new all.0, all_stay top earlier new es all.1)
+all_stay top earlier new (e ∷ es) all = (held_stays top earlier (type_wanted e.kind) e.id new all.0, all_stay top earlier new es all.1)
 
 pub tree_stays : (top : Held) (earlier : List Held) (es : List Entry) → find top.id earlier ≡ None → IsTree earlier es → IsTree (top ∷ earlier) es
 tree_stays top earlier es new is =
@@ -108,50 +108,50 @@ tree_stays top earlier es new is =
     let reach : entries_reach (tree_reach earlier) es ≡ entries_reach (tree_reach (top ∷ earlier)) es = reach_local _ _ es (fold_stays 0 entries_reach top earlier new es is.0) in
     (all_stay top earlier new es is.0, is.1, is.2, subst (λ n. n ≤ 64) depth is.3, subst (λ n. n ≤ 1024) reach is.4, is.5)
 
-pub sound_stays : (top : Held) (earlier : List Held) (word : Word) (payload : List ℕ) → find top.id earlier ≡ None → IsSound word payload earlier → IsSound word payload (top ∷ earlier)
+pub sound_stays : (top : Held) (earlier : List Held) (object_type : ObjectType) (payload : List ℕ) → find top.id earlier ≡ None → IsSound object_type payload earlier → IsSound object_type payload (top ∷ earlier)
 sound_stays top earlier Blob payload new is = tt
 sound_stays top earlier Tree payload new is = tree_stays top earlier (entries_of payload) new is
 sound_stays top earlier Commit payload new is = (is.0, is.1, held_stays top earlier Tree is.0 new is.2)
 
 -- each object of a closed store is sound in the whole store
-pub sound_in : (held : List Held) → IsClosed held → (id : Id) (h : Held) → find id held ≡ Some h → IsSound h.word h.payload held
+pub sound_in : (held : List Held) → IsClosed held → (id : Id) (h : Held) → find id held ≡ Some h → IsSound h.object_type h.payload held
 sound_in [] closed id h found = absurd (cc)
 sound_in (top ∷ earlier) closed id h found = elim (cases_Bool (same_id id top.id)) [
   | inl t ↦
       let e : Some top ≡ Some h = sym (find-here id top earlier t) ∙ found in
       let same : top ≡ h = cc in
-      subst (λ o. IsSound o.word o.payload (top ∷ earlier)) same (sound_stays top earlier top.word top.payload closed.0 closed.1)
-  | inr f ↦ sound_stays top earlier h.word h.payload closed.0 (sound_in earlier closed.2 id h (sym (find-there id top earlier f) ∙ found))
+      subst (λ o. IsSound o.object_type o.payload (top ∷ earlier)) same (sound_stays top earlier top.object_type top.payload closed.0 closed.1)
+  | inr f ↦ sound_stays top earlier h.object_type h.payload closed.0 (sound_in earlier closed.2 id h (sym (find-there id top earlier f) ∙ found))
 ]
 
-pub tree_in : (held : List Held) → IsClosed held → (id : Id) (h : Held) → find id held ≡ Some h → h.word ≡ Tree → IsTree held (entries_of h.payload)
-tree_in held closed id h found word = subst (λ w. IsSound w h.payload held) word (sound_in held closed id h found)
+pub tree_in : (held : List Held) → IsClosed held → (id : Id) (h : Held) → find id held ≡ Some h → h.object_type ≡ Tree → IsTree held (entries_of h.payload)
+tree_in held closed id h found object_type = subst (λ w. IsSound w h.payload held) object_type (sound_in held closed id h found)
 
-pub commit_in : (held : List Held) → IsClosed held → (id : Id) (h : Held) → find id held ≡ Some h → h.word ≡ Commit
+pub commit_in : (held : List Held) → IsClosed held → (id : Id) (h : Held) → find id held ≡ Some h → h.object_type ≡ Commit
     → (tree : Id) × (tree_named h.payload ≡ Some tree) × HasTree held tree
-commit_in held closed id h found word = subst (λ w. IsSound w h.payload held) word (sound_in held closed id h found)
+commit_in held closed id h found object_type = subst (λ w. IsSound w h.payload held) object_type (sound_in held closed id h found)
 
 -- what a tree comes to, by what its entries come to in the whole store
-pub fold_of_tree : {A : Type 0} (none : A) (step : (Id → A) → List Entry → A) → IsLocal step → (held : List Held) → IsClosed held → (id : Id) (h : Held) → find id held ≡ Some h → h.word ≡ Tree
+pub fold_of_tree : {A : Type 0} (none : A) (step : (Id → A) → List Entry → A) → IsLocal step → (held : List Held) → IsClosed held → (id : Id) (h : Held) → find id held ≡ Some h → h.object_type ≡ Tree
     → tree_fold none step held id ≡ step (tree_fold none step held) (entries_of h.payload)
-fold_of_tree none step local [] closed id h found word = absurd (cc)
-fold_of_tree none step local (top ∷ earlier) closed id h found word = elim (cases_Bool (same_id id top.id)) [
+fold_of_tree none step local [] closed id h found object_type = absurd (cc)
+fold_of_tree none step local (top ∷ earlier) closed id h found object_type = elim (cases_Bool (same_id id top.id)) [
   | inl t ↦
       let e : Some top ≡ Some h = sym (find-here id top earlier t) ∙ found in
       let same : top ≡ h = cc in
-      let is : IsTree earlier (entries_of top.payload) = subst (λ w. IsSound w top.payload earlier) (ap (λ o. o.word) same ∙ word) closed.1 in
+      let is : IsTree earlier (entries_of top.payload) = subst (λ w. IsSound w top.payload earlier) (ap (λ o. o.object_type) same ∙ object_type) closed.1 in
       fold-here none step id top earlier t
       ∙ local _ _ (entries_of top.payload) (fold_stays none step top earlier closed.0 (entries_of top.payload) is.0)
       ∙ ap (λ o. step (tree_fold none step (top ∷ earlier)) (entries_of o.payload)) same
   | inr f ↦
       let before : find id earlier ≡ Some h = sym (find-there id top earlier f) ∙ found in
-      let is : IsTree earlier (entries_of h.payload) = tree_in earlier closed.2 id h before word in
+      let is : IsTree earlier (entries_of h.payload) = tree_in earlier closed.2 id h before object_type in
       fold-there none step id top earlier f
-      ∙ fold_of_tree none step local earlier closed.2 id h before word
+      ∙ fold_of_tree none step local earlier closed.2 id h before object_type
       ∙ local _ _ (entries_of h.payload) (fold_stays none step top earlier closed.0 (entries_of h.payload) is.0)
 ]
 
-pub rows_of_tree : (held : List Held) → IsClosed held → (id : Id) (h : Held) → find id held ≡ Some h → h.word ≡ Tree → tree_rows held id ≡ entries_rows (tree_rows held) (entries_of h.payload)
+pub rows_of_tree : (held : List Held) → IsClosed held → (id : Id) (h : Held) → find id held ≡ Some h → h.object_type ≡ Tree → tree_rows held id ≡ entries_rows (tree_rows held) (entries_of h.payload)
 rows_of_tree = fold_of_tree [] entries_rows rows_local
 
 -- neither of two numbers is above the greater one

@@ -8,9 +8,9 @@ use Rattle.std.specs.List.Sorted.{IsStrictlySortedBy}
 use Rattle.eden_ids.specs.declared.id.Id.{Id}
 use Rattle.eden_ids.specs.FileMaps.{FileMap, file_at, paths, IsFileMap}
 use Rattle.eden_ids.specs.Paths.{path_fault}
-use Rattle.eden_git.specs.declared.word.Word.TheVariants.{Blob, Commit}
+use Rattle.eden_git.specs.declared.object_type.ObjectType.TheVariants.{Blob, Commit}
 use Rattle.eden_objects.specs.Objects.{Held, find, zero_id}
-use Rattle.eden_git.specs.Words.{same_word}
+use Rattle.eden_git.specs.ObjectTypes.{same_type}
 use Rattle.eden_ids.specs.Sameness.{same_id}
 use Rattle.eden_objects.specs.Commits.{Row, tree_rows, rows_named, rows_held, commit_rows, map_of_rows, commit_map}
 use Rattle.eden_git.specs.Commits.{tree_named}
@@ -22,14 +22,14 @@ use Rattle.eden_objects.proofs.Fitting.{fitting_law}
 use Rattle.eden_objects.proofs.Clashes.{NoneClash, none_clash}
 use Rattle.eden_objects.proofs.Blobs.{all_blobs}
 use Rattle.eden_objects.proofs.Maps.{map_of, file_at-map_of, paths-map_of, IsFileMap-map_of}
-use Rattle.eden_objects.proofs.Refusals.{same_word-is}
+use Rattle.eden_objects.proofs.Refusals.{same_type-is}
 
 -- a commit that is held has a tree
 pub commit-tree : (held : List Held) → IsClosed held → (commit : Id) (h : Held) (rows : List Row) → find commit held ≡ Some h → rows_held held (Some h) ≡ Some rows
     → (tree : Id) × (tree_named h.payload ≡ Some tree) × HasTree held tree × (tree_rows held tree ≡ rows)
-commit-tree held closed commit h rows found is = elim (cases_Bool (same_word h.word Commit)) [
+commit-tree held closed commit h rows found is = elim (cases_Bool (same_type h.object_type Commit)) [
   | inl t ↦
-      let named = commit_in held closed commit h found (same_word-is h.word Commit t) in
+      let named = commit_in held closed commit h found (same_type-is h.object_type Commit t) in
       let e : rows_held held (Some h) ≡ Some (tree_rows held named.0) =
       ap (λ b. cond b (rows_named held (tree_named h.payload)) None) t ∙ ap (rows_named held) named.1 in
       let same : Some (tree_rows held named.0) ≡ Some rows = sym e ∙ is in

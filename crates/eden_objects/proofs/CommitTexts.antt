@@ -37,7 +37,7 @@ IsByte b = b < 256
 abbrev AreNamed : List Entry → Type 0
 AreNamed es = AllByRecursion (λ e. AreBytes e.name) es
 
--- an entry that was read stands before what is left
+-- an entry that was read is before what is left
 read_bytes : (bytes : List ℕ) (read : Entry × List ℕ) → read_entry bytes ≡ Ok read → AreBytes bytes → AreBytes read.0.name × AreBytes read.1
 read_bytes bytes read is all =
     let whole : AreBytes (written read.0 ++ read.1) = subst AreBytes (is_read bytes read is).0 all in

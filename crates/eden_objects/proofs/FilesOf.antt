@@ -33,7 +33,7 @@ as_many test (row ∷ rows) =
       | false ↦ rest
     ]
 
--- below a path stand as many files as rows
+-- below a path are as many files as rows
 pub counted : (held : List Held) (tree : Option Id) (top : List ℕ) → IsClosed held → IsTreeIn held tree
     → capped (length (filter (λ p. lies_below p top) (paths (files_at held tree)))) ≡ capped (length (filter (λ row. lies_below row.0 top) (rows_at held tree)))
 counted held tree top closed has =
@@ -57,7 +57,7 @@ count_there held at files top closed has view =
 pub enough : (n count : ℕ) → count < 2 ^ 64 → nat_le count (capped n) ≡ nat_le count n
 enough n count small = grind (arith, small)
 
--- there is one just where there is any
+-- there is one exactly if there is any
 pub any_counted : (test : List ℕ → Bool) (ks : List (List ℕ)) → nat_le 1 (length (filter test ks)) ≡ list_any test ks
 any_counted test [] = refl
 any_counted test (k ∷ ks) = elim (test k) as (λ b. nat_le 1 (length (cond b (k ∷ filter test ks) (filter test ks))) ≡ (b || list_any test ks)) [

@@ -14,7 +14,7 @@ use Rattle.eden_objects.specs.Passing.{is_shown}
 use Rattle.eden_objects.specs.internal.Below.{behind, rows_behind}
 use Rattle.eden_objects.specs.internal.Passed.{rows_but}
 
--- what stands behind a directory's name and a slash lies below it
+-- what is after a directory's name and a slash lies below it
 
 pub inside : (top rest : List ℕ) → lies_below (top ++ 47 ∷ rest) top ≡ true
 inside [] [] = refl
@@ -35,7 +35,7 @@ none_wanted test dir [] outside below = refl
 none_wanted test dir (row ∷ rows) outside below =
     ap (λ b. cond b (row ∷ filter (λ r. test r.0) rows) (filter (λ r. test r.0) rows)) (outside row.0 below.0) ∙ none_wanted test dir rows outside below.1
 
--- what stands behind a directory's path and a slash lies below it
+-- what is after a directory's path and a slash lies below it
 pub behind_below : (dir : List ℕ) (rows : List Row) → AllByRecursion (λ row. lies_below row.0 dir ≡ true) (map (behind (dir ++ 47 ∷ [])) rows)
 behind_below dir [] = tt
 behind_below dir (row ∷ rows) = (ap (λ p. lies_below p dir) (append_assoc dir (47 ∷ []) row.0) ∙ inside dir row.0, behind_below dir rows)

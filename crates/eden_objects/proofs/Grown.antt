@@ -6,13 +6,13 @@ use Rattle.std.specs.List.{AllByRecursion}
 use Rattle.eden_ids.specs.declared.id.Id.{Id}
 use Rattle.eden_ids.specs.FileMaps.{FileMap}
 use Rattle.eden_ids.specs.Sameness.{same_id}
-use Rattle.eden_git.specs.declared.word.Word.TheVariants.{Blob, Tree, Commit}
+use Rattle.eden_git.specs.declared.object_type.ObjectType.TheVariants.{Blob, Tree, Commit}
 use Rattle.eden_objects.specs.Objects.{Held, find, payload_of, zero_id}
-use Rattle.eden_git.specs.Words.{same_word}
+use Rattle.eden_git.specs.ObjectTypes.{same_type}
 use Rattle.eden_git.specs.Trees.{Entry, entries_of}
 use Rattle.eden_objects.specs.Commits.{Row, commit_map, commit_rows, entries_rows, map_of_rows, rows_held, rows_named, tree_rows}
 use Rattle.eden_git.specs.Commits.{tree_named}
-use Rattle.eden_objects.specs.Puts.{word_wanted}
+use Rattle.eden_objects.specs.Puts.{type_wanted}
 use Rattle.eden_objects.specs.Closed.{HasTree, IsClosed, IsHeld, IsSound, IsTree}
 use Rattle.eden_objects.specs.Laws.{HasAll, TreesStay, CommitRowsStay, CommitMapsStay}
 use Rattle.eden_objects.proofs.Closed.{AgreeOn, find-here, find-there, find_stays, fold-here, fold-there, rows_local, rows_of_tree}
@@ -24,9 +24,9 @@ earlier_too : (top : Held) (earlier other : List Held) → IsClosed (top ∷ ear
 earlier_too top earlier other closed all id h found = all id h (find_stays id top earlier h closed.0 found).1
 
 agree : (earlier other : List Held) → ((id : Id) → HasTree earlier id → tree_rows other id ≡ tree_rows earlier id) → (es : List Entry)
-    → AllByRecursion (λ e. IsHeld earlier (word_wanted e.kind) e.id) es → AgreeOn (tree_rows other) (tree_rows earlier) es
+    → AllByRecursion (λ e. IsHeld earlier (type_wanted e.kind) e.id) es → AgreeOn (tree_rows other) (tree_rows earlier) es
 agree earlier other same [] all = tt
-agree earlier other same (e ∷ es) all = ((λ dir. same e.id (subst (λ k. IsHeld earlier (word_wanted k) e.id) dir all.0)), agree earlier other same es all.1)
+agree earlier other same (e ∷ es) all = ((λ dir. same e.id (subst (λ k. IsHeld earlier (type_wanted k) e.id) dir all.0)), agree earlier other same es all.1)
 
 pub trees_stay : TreesStay
 trees_stay [] other closed other_closed all id has = let e : None ≡ Some has.0 = has.1 in absurd (cc)
@@ -35,9 +35,9 @@ trees_stay (top ∷ earlier) other closed other_closed all id has = elim (cases_
       let here : find id (top ∷ earlier) ≡ Some top = find-here id top earlier t in
       let both : Some top ≡ Some has.0 = sym here ∙ has.1 in
       let same : has.0 ≡ top = cc in
-      let word : top.word ≡ Tree = ap (λ o. o.word) (sym same) ∙ has.2 in
-      let is : IsTree earlier (entries_of top.payload) = subst (λ w. IsSound w top.payload earlier) word closed.1 in
-      rows_of_tree other other_closed id top (all id top here) word
+      let object_type : top.object_type ≡ Tree = ap (λ o. o.object_type) (sym same) ∙ has.2 in
+      let is : IsTree earlier (entries_of top.payload) = subst (λ w. IsSound w top.payload earlier) object_type closed.1 in
+      rows_of_tree other other_closed id top (all id top here) object_type
       ∙ rows_local (tree_rows other) (tree_rows earlier) (entries_of top.payload)
       (agree earlier other (λ child child_has. trees_stay earlier other closed.2 other_closed (earlier_too top earlier other closed all) child child_has) (entries_of top.payload) is.0)
       ∙ sym (fold-here [] entries_rows id top earlier t)
@@ -55,7 +55,7 @@ found_row held other closed other_closed all commit (Some h) rows found is =
     let there : rows_held other (find commit other) ≡ rows_held other (Some h) = ap (rows_held other) (all commit h found) in
     let named : rows_named other (tree_named h.payload) ≡ rows_named held (tree_named h.payload) =
     ap (rows_named other) tree.1 ∙ ap Some (trees_stay held other closed other_closed all tree.0 tree.2) ∙ sym (ap (rows_named held) tree.1) in
-    there ∙ ap (λ found_rows. cond (same_word h.word Commit) found_rows None) named ∙ is
+    there ∙ ap (λ found_rows. cond (same_type h.object_type Commit) found_rows None) named ∙ is
 
 pub rows_stay : CommitRowsStay
 rows_stay held other closed other_closed all commit rows is = elim (cases_Bool (same_id commit zero_id)) [

@@ -5,10 +5,10 @@ use Rattle.std.specs.List.{AllByRecursion}
 use Rattle.eden_ids.specs.declared.id.Id.{Id}
 use Rattle.eden_ids.specs.Sameness.{same_bytes, same_id}
 use Rattle.eden_ids.specs.Texts.{AreBytes}
-use Rattle.eden_git.specs.declared.word.Word.{Word}
-use Rattle.eden_git.specs.declared.word.Word.TheVariants.{Blob, Tree, Commit}
+use Rattle.eden_git.specs.declared.object_type.ObjectType.{ObjectType}
+use Rattle.eden_git.specs.declared.object_type.ObjectType.TheVariants.{Blob, Tree, Commit}
 use Rattle.eden_git.specs.Trees.{entries_of}
-use Rattle.eden_git.specs.Words.{same_word}
+use Rattle.eden_git.specs.ObjectTypes.{same_type}
 use Rattle.eden_objects.specs.declared.fault.PutFault.{PutFault}
 use Rattle.eden_objects.specs.declared.fault.PutFault.TheVariants as puts
 use Rattle.eden_objects.specs.declared.fault.PutFault.TheVariants.{IdTaken, ZeroId, TooDeep, PathTooLong}
@@ -19,14 +19,14 @@ use Rattle.eden_objects.specs.Trees.{entries_depth, entries_reach, tree_depth, t
 use Rattle.eden_objects.specs.Puts.{Outcome, commit_fault, entries_fault, first_fault, if_so, kept_or_added, named, put_outcome, size_fault, too_large, tree_fault, unless}
 use Rattle.eden_objects.specs.Closed.{AllNamed, IsClosed, IsSound, IsTree}
 use Rattle.eden_objects.specs.Small.{AreSmall}
-use Rattle.eden_objects.specs.Imports.{GrowsOnto, Imported, and_then, import_from, put_of, put_word}
+use Rattle.eden_objects.specs.Imports.{GrowsOnto, Imported, and_then, import_from, put_of, put_typed}
 use Rattle.eden_objects.specs.internal.Placed.{fault_at}
 use Rattle.eden_objects.specs.Laws.{HasAll, ImportsKeep, ImportsStaySmall, PutsKeep}
 use Rattle.eden_objects.proofs.Closed.{find_stays}
 use Rattle.eden_objects.proofs.Judged.{first_none, not_so, tree_sound}
 use Rattle.eden_objects.proofs.Refusals.{commit_sound, few_bytes}
 
--- an outcome that is put is that behind no fault
+-- an outcome that is put is that of no fault
 
 passes : (fault : Option PutFault) (outcome : Outcome) (put : Id × List Held) → unless fault outcome ≡ Ok put
     → (fault ≡ None) × (outcome ≡ Ok put)
@@ -45,12 +45,12 @@ sound_tree payload held is =
     tree_sound payload held depth reach judged.0 refl refl (within 64 depth TooDeep sizes.0) (within 1024 reach PathTooLong sizes.1)
 
 -- what is put by its kind's call is sound and small
-abbrev IsPut : (List ℕ → List ℕ → Id) → Word → List ℕ → List Held → Id × List Held → Type 0
-IsPut name word payload held put =
-    IsSound word payload held × (length payload ≤ 8388608) × (put_outcome (named name word payload) held ≡ Ok put)
+abbrev IsPut : (List ℕ → List ℕ → Id) → ObjectType → List ℕ → List Held → Id × List Held → Type 0
+IsPut name object_type payload held put =
+    IsSound object_type payload held × (length payload ≤ 8388608) × (put_outcome (named name object_type payload) held ≡ Ok put)
 
-is_put : (name : List ℕ → List ℕ → Id) (word : Word) (payload : List ℕ) (held : List Held) (put : Id × List Held)
-    → put_word name word payload held ≡ Ok put → IsPut name word payload held put
+is_put : (name : List ℕ → List ℕ → Id) (object_type : ObjectType) (payload : List ℕ) (held : List Held) (put : Id × List Held)
+    → put_typed name object_type payload held ≡ Ok put → IsPut name object_type payload held put
 is_put name Blob payload held put is =
     let passed = passes (too_large payload) (put_outcome (named name Blob payload) held) put is in
     (tt, few_bytes payload None (ap (λ fault. first_fault fault None) passed.0), passed.1)
@@ -72,7 +72,7 @@ by_more Holds new held put is here more = by_zero (same_id new.id zero_id) is wh
 
   by_found : (found : Option Held) → find new.id held ≡ found → kept_or_added new held found ≡ Ok put → Holds put.1
   by_found None absent is = let both : (new.id, new ∷ held) ≡ put = cc in subst Holds (ap (λ p. p.1) both) (more absent)
-  by_found (Some h) there is = by_same (same_word h.word new.word && same_bytes h.payload new.payload) is
+  by_found (Some h) there is = by_same (same_type h.object_type new.object_type && same_bytes h.payload new.payload) is
 
   by_zero : (t : Bool) → cond t (Err ZeroId) (kept_or_added new held (find new.id held)) ≡ Ok put → Holds put.1
   by_zero true is = cc is
@@ -94,10 +94,10 @@ keeps_further name held next new first second = (
   λ id h found. second.3 id h (first.3 id h found),
 )
 
-keeps_put : (name : List ℕ → List ℕ → Id) (word : Word) (payload : List ℕ) (held : List Held) (put : Id × List Held) → IsClosed held
-    → AllNamed name held → IsPut name word payload held put → Keeps name held put.1
-keeps_put name word payload held put closed called is =
-    let new : Held = named name word payload in
+keeps_put : (name : List ℕ → List ℕ → Id) (object_type : ObjectType) (payload : List ℕ) (held : List Held) (put : Id × List Held) → IsClosed held
+    → AllNamed name held → IsPut name object_type payload held put → Keeps name held put.1
+keeps_put name object_type payload held put closed called is =
+    let new : Held = named name object_type payload in
     by_more (Keeps name held) new held put is.2 (keeps_here name held closed called)
     (λ absent. ((absent, is.0, closed), (refl, called), (new ∷ [], refl), λ id h found. (find_stays id new held h absent found).1))
 
@@ -114,12 +114,12 @@ keeps_all name place [] held new closed called is =
 keeps_all name place (object ∷ objects) held new closed called is =
     let first = first_put place (put_of name object held) (import_from name (place + 1) objects) new is in
     let kept : Keeps name held first.0.1 =
-    keeps_put name object.word object.payload held first.0 closed called (is_put name object.word object.payload held first.0 first.1) in
+    keeps_put name object.object_type object.payload held first.0 closed called (is_put name object.object_type object.payload held first.0 first.1) in
     keeps_further name held first.0.1 new kept (keeps_all name (place + 1) objects first.0.1 new kept.0 kept.1 first.2)
 
 pub puts_keep : PutsKeep
 puts_keep name object held new id closed called is =
-    keeps_put name object.word object.payload held (id, new) closed called (is_put name object.word object.payload held (id, new) is)
+    keeps_put name object.object_type object.payload held (id, new) closed called (is_put name object.object_type object.payload held (id, new) is)
 
 pub imports_keep : ImportsKeep
 imports_keep name objects held new closed called is = keeps_all name 0 objects held new closed called is
@@ -129,9 +129,9 @@ small_all : (name : List ℕ → List ℕ → Id) (place : ℕ) (objects : List 
 small_all name place [] held new small bytes is = let same : held ≡ new = cc in subst AreSmall same small
 small_all name place (object ∷ objects) held new small bytes is =
     let first = first_put place (put_of name object held) (import_from name (place + 1) objects) new is in
-    let put = is_put name object.word object.payload held first.0 first.1 in
+    let put = is_put name object.object_type object.payload held first.0 first.1 in
     small_all name (place + 1) objects first.0.1 new
-    (by_more AreSmall (named name object.word object.payload) held first.0 put.2 small (λ absent. (record { few = put.1; bytes = bytes.0 }, small)))
+    (by_more AreSmall (named name object.object_type object.payload) held first.0 put.2 small (λ absent. (record { few = put.1; bytes = bytes.0 }, small)))
     bytes.1 first.2
 
 pub imports_small : ImportsStaySmall
@@ -143,7 +143,7 @@ pub first_refused : (place : ℕ) (fault : PutFault) (outcome : Outcome) (others
 first_refused place puts.NoMemory outcome others is other = absurd (other refl)
 first_refused place fault outcome others is other = ap (λ o. and_then place o others) (is (λ e. cc e))
 
--- an object and those behind it
+-- an object and those after it
 pub next_object : (name : List ℕ → List ℕ → Id) (objects : List Object) (place : ℕ) (object : Object) (held : List Held) → place < length objects
     → object ≡ get_or objects place object
     → import_from name place (drop place objects) held ≡ and_then place (put_of name object held) (import_from name (place + 1) (drop (place + 1) objects))

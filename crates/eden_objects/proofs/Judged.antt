@@ -12,7 +12,7 @@ use Rattle.eden_objects.specs.Objects.{Held}
 use Rattle.eden_ids.specs.Sameness.{same_bytes}
 use Rattle.eden_git.specs.Trees.{Entry, read_entry, is_name, key, entries, entries_after, entries_of}
 use Rattle.eden_objects.specs.Trees.{entries_depth, entries_reach, tree_depth, tree_reach}
-use Rattle.eden_objects.specs.Puts.{entries_fault, entry_fault, fault_after, first_fault, if_so, is_above, word_wanted}
+use Rattle.eden_objects.specs.Puts.{entries_fault, entry_fault, fault_after, first_fault, if_so, is_above, type_wanted}
 use Rattle.eden_objects.specs.Closed.{IsHeld, IsTree, NamesDiffer}
 use Rattle.eden_objects.proofs.Refusals.{entry_held}
 use Rattle.eden_git.proofs.Reading.{name_read, read_shorter}
@@ -48,7 +48,7 @@ abbrev NewNames : List Entry → List Entry → Type 0
 NewNames earlier es = AllByRecursion (λ e. list_any (λ f. same_bytes f.name e.name) earlier ≡ false) es
 
 abbrev Sound : List Held → List Entry → List Entry → Type 0
-Sound held earlier es = AllByRecursion (λ e. IsHeld held (word_wanted e.kind) e.id) es
+Sound held earlier es = AllByRecursion (λ e. IsHeld held (type_wanted e.kind) e.id) es
     × IsStrictlySortedBy (slice_cmp nat_cmp) (map key es)
     × AllByRecursion (λ e. is_name e.name ≡ true) es
     × NamesDiffer es × AreAbove earlier es × NewNames earlier es

@@ -14,7 +14,7 @@ use Rattle.eden_objects.specs.internal.Below.{IsBelow, behind}
 use Rattle.eden_objects.specs.internal.Passed.{AreAllowedBut}
 use Rattle.eden_objects.proofs.Fitting.{fitting_law}
 
--- what holds of each path of some rows, behind the bytes that stand before it
+-- what holds of each path of some rows, after the bytes that are before it
 module _ (P : List ℕ → Type 0) where
   abbrev pub AreAll : List ℕ → List Row → Type 0
   AreAll front rows = AllByRecursion (λ row. P (front ++ row.0)) rows
@@ -48,7 +48,7 @@ module _ (P : List ℕ → Type 0) where
   pub later_paths : (front : List ℕ) (rows : Id → List Row) (e : Entry) (es all : List Entry) → all ≡ e ∷ es → AreAll front (entries_rows rows all) → AreAll front (entries_rows rows es)
   later_paths front rows e es all is h = (first_and_later front rows e es all is h).1
 
--- from the top, where no bytes stand before a name
+-- from the top, where no bytes are before a name
 pub top_paths : (held : List Held) (tree : Id) (front : List ℕ) → IsClosed held → HasTree held tree → front ≡ [] → ArePaths front (tree_rows held tree)
 top_paths held tree front closed has none = subst (λ p. ArePaths p (tree_rows held tree)) (sym none) (fitting_law held closed tree has)
 
@@ -63,7 +63,7 @@ behind_paths : (front : List ℕ) (rows : List Row) → ArePaths [] (map (behind
 behind_paths front [] h = tt
 behind_paths front (row ∷ rows) h = (h.0, behind_paths front rows h.1)
 
--- below a path, behind it and a slash
+-- below a path, after it and a slash
 pub below_paths : (held : List Held) (tree : Id) (path : List ℕ) (dir : Id) → IsClosed held → HasTree held tree → IsBelow held tree path (Some dir)
     → ArePaths (path ++ 47 ∷ []) (tree_rows held dir)
 below_paths held tree path dir closed has below =

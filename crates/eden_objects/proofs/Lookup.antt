@@ -33,7 +33,7 @@ find_row-append p [] ys = refl
 find_row-append p (row ∷ xs) ys =
     ap (cond (same_bytes row.0 p) (Some (row.1, row.2))) (find_row-append p xs ys) ∙ or_assoc (same_bytes row.0 p) (row.1, row.2) (find_row p xs) (find_row p ys)
 
--- no path without a slash stands under a name
+-- no path without a slash is under a name
 find_under_none : (name p : List ℕ) (rows : List Row) → has_slash p ≡ false → find_row p (map (under name) rows) ≡ None
 find_under_none name p [] free = refl
 find_under_none name p (row ∷ rows) free =

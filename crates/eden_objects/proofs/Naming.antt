@@ -4,7 +4,7 @@ use Rattle.std.proofs.lemmas.Bool.{cases_Bool}
 use Rattle.eden_ids.specs.declared.id.Id.{Id}
 use Rattle.eden_ids.specs.declared.content.Content.{Content}
 use Rattle.eden_objects.specs.Objects.{Held, find, payload_of}
-use Rattle.eden_git.specs.Words.{word_text}
+use Rattle.eden_git.specs.ObjectTypes.{type_text}
 use Rattle.eden_ids.specs.Sameness.{same_id}
 use Rattle.eden_objects.specs.Closed.{AllNamed}
 use Rattle.eden_objects.specs.Laws.{EqualObjectsAreOne, EqualFilesHaveOneBlob}
@@ -23,20 +23,20 @@ found_id (top ∷ earlier) id h found = elim (cases_Bool (same_id id top.id)) [
 ]
 
 -- it is the one that its kind and its payload are given
-pub named_id : (name : List ℕ → List ℕ → Id) (held : List Held) → AllNamed name held → (id : Id) (h : Held) → find id held ≡ Some h → name (word_text h.word) h.payload ≡ h.id
+pub named_id : (name : List ℕ → List ℕ → Id) (held : List Held) → AllNamed name held → (id : Id) (h : Held) → find id held ≡ Some h → name (type_text h.object_type) h.payload ≡ h.id
 named_id name [] named id h found = absurd (cc)
 named_id name (top ∷ earlier) named id h found = elim (cases_Bool (same_id id top.id)) [
   | inl t ↦
       let e : Some top ≡ Some h = sym (find-here id top earlier t) ∙ found in
       let same : top ≡ h = cc in
-      subst (λ o. name (word_text o.word) o.payload ≡ o.id) same named.0
+      subst (λ o. name (type_text o.object_type) o.payload ≡ o.id) same named.0
   | inr f ↦ named_id name earlier named.1 id h (sym (find-there id top earlier f) ∙ found)
 ]
 
 pub one_object : EqualObjectsAreOne
-one_object name held named i j h k first second word payload =
+one_object name held named i j h k first second object_type payload =
     found_id held i h first ∙ sym (named_id name held named i h first)
-    ∙ (λ at. name (word_text (word at)) (payload at))
+    ∙ (λ at. name (type_text (object_type at)) (payload at))
     ∙ named_id name held named j k second ∙ sym (found_id held j k second)
 
 bytes_found : Option Content → List ℕ

@@ -20,10 +20,10 @@ no_memory new held id is zero absent =
 
 pub standing : (new : Held) (held : List Held) (id : Id) (object : Stored) → new.id ≡ id → same_id id zero_id ≡ false
     → find id held ≡ Some (held_of id object)
-    → PutGives (standing_answer object id new.word new.payload) held held (put_outcome new held)
+    → PutGives (standing_answer object id new.object_type new.payload) held held (put_outcome new held)
 standing new held id object is zero found =
     rw (ap (λ i. same_id i zero_id) is ∙ zero, ap (λ i. find i held) is ∙ found)
-    (by (is_object object new.word new.payload)) where
+    (by (is_object object new.object_type new.payload)) where
       by : (t : Bool) → PutGives (cond t (Ok id) (Err IdTaken)) held held (cond t (Ok (new.id, held)) (Err IdTaken))
       by true = ap (λ i. Ok (i, held)) is
       by false = (refl, refl)

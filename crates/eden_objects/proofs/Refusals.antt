@@ -1,45 +1,45 @@
--- Refusals of a put call, and what is known where none stands.
+-- Refusals of a put call, and what is known if there is none.
 use Rattle.std.proofs.Common.{◌≡◌, ◌≢◌, ◌≤◌, ◌∙◌, sym, refl, ap, ℕ, Bool, true, false, not, List, length, Option, Some, None, Err, nat_lt}
 use Rattle.std.proofs.lemmas.Bool.{ltb-false}
 use Rattle.eden_ids.specs.declared.id.Id.{Id}
 use Rattle.eden_objects.specs.declared.fault.PutFault.{PutFault}
 use Rattle.eden_objects.specs.declared.fault.PutFault.TheVariants.{TooLarge, OutOfOrder, Duplicate, WrongChildKind, CutShort, NoMemory}
-use Rattle.eden_git.specs.declared.word.Word.{Word}
-use Rattle.eden_git.specs.declared.word.Word.TheVariants.{Blob, Tree, Commit}
+use Rattle.eden_git.specs.declared.object_type.ObjectType.{ObjectType}
+use Rattle.eden_git.specs.declared.object_type.ObjectType.TheVariants.{Blob, Tree, Commit}
 use Rattle.std.specs.List.{list_any}
 use Rattle.eden_objects.specs.Objects.{Held, find}
-use Rattle.eden_git.specs.Words.{same_word}
+use Rattle.eden_git.specs.ObjectTypes.{same_type}
 use Rattle.eden_ids.specs.Sameness.{same_bytes}
 use Rattle.eden_git.specs.Trees.{Entry}
 use Rattle.eden_git.specs.Commits.{tree_named}
-use Rattle.eden_objects.specs.Puts.{PutGives, first_fault, if_so, child_fault, named_fault, commit_fault, commit_outcome, entry_fault, is_above, word_wanted}
+use Rattle.eden_objects.specs.Puts.{PutGives, first_fault, if_so, child_fault, named_fault, commit_fault, commit_outcome, entry_fault, is_above, type_wanted}
 use Rattle.eden_objects.specs.Closed.{IsHeld, IsSound}
 
--- every fault but want of memory is told as the outcome
+-- every fault but out of memory is reported as the outcome
 pub refused : (fault : PutFault) (held : List Held) → fault ≢ NoMemory → PutGives (Err fault) held held (Err fault)
 refused NoMemory held other = absurd (other refl)
 refused fault held other = (refl, refl)
 
-pub same_word-is : (a b : Word) → same_word a b ≡ true → a ≡ b
-same_word-is Blob Blob h = refl
-same_word-is Tree Tree h = refl
-same_word-is Commit Commit h = refl
-same_word-is a b h = cc h
+pub same_type-is : (a b : ObjectType) → same_type a b ≡ true → a ≡ b
+same_type-is Blob Blob h = refl
+same_type-is Tree Tree h = refl
+same_type-is Commit Commit h = refl
+same_type-is a b h = cc h
 
 -- an id that may be named is that of an object of the kind
-pub child_held : (held : List Held) (word : Word) (id : Id) → child_fault word (find id held) ≡ None → IsHeld held word id
-child_held held word id h = by (find id held) refl h where
-  by_word : (x : Held) → (t : Bool) → same_word x.word word ≡ t → if_so (not t) WrongChildKind ≡ None → x.word ≡ word
-  by_word x true is h = same_word-is x.word word is
-  by_word x false is h = cc h
+pub child_held : (held : List Held) (object_type : ObjectType) (id : Id) → child_fault object_type (find id held) ≡ None → IsHeld held object_type id
+child_held held object_type id h = by (find id held) refl h where
+  by_type : (x : Held) → (t : Bool) → same_type x.object_type object_type ≡ t → if_so (not t) WrongChildKind ≡ None → x.object_type ≡ object_type
+  by_type x true is h = same_type-is x.object_type object_type is
+  by_type x false is h = cc h
 
-  by : (found : Option Held) → find id held ≡ found → child_fault word found ≡ None → IsHeld held word id
+  by : (found : Option Held) → find id held ≡ found → child_fault object_type found ≡ None → IsHeld held object_type id
   by None is h = cc h
-  by (Some x) is h = (x, is, by_word x (same_word x.word word) refl h)
+  by (Some x) is h = (x, is, by_type x (same_type x.object_type object_type) refl h)
 
-child_not_memory : (word : Word) (found : Option Held) → child_fault word found ≢ Some NoMemory
-child_not_memory word None h = cc h
-child_not_memory word (Some x) h = by (same_word x.word word) h where
+child_not_memory : (object_type : ObjectType) (found : Option Held) → child_fault object_type found ≢ Some NoMemory
+child_not_memory object_type None h = cc h
+child_not_memory object_type (Some x) h = by (same_type x.object_type object_type) h where
   by : (t : Bool) → if_so (not t) WrongChildKind ≢ Some NoMemory
   by true h = cc h
   by false h = cc h
@@ -87,8 +87,8 @@ few_bytes payload more h = ltb-false 8388608 (length payload) (by (nat_lt 838860
 
 -- an entry that may follow names an object of its kind
 pub entry_held : (held : List Held) (earlier : List Entry) (e : Entry) → None ≡ entry_fault held earlier e
-    → IsHeld held (word_wanted e.kind) e.id
+    → IsHeld held (type_wanted e.kind) e.id
 entry_held held earlier e h =
-    child_held held (word_wanted e.kind) e.id
+    child_held held (type_wanted e.kind) e.id
     (if_so_first (not (is_above e earlier)) OutOfOrder _
     (if_so_first (list_any (λ f. same_bytes f.name e.name) earlier) Duplicate _ (sym h)))

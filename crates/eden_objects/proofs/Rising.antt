@@ -1,4 +1,4 @@
--- The files of a tree stand in byte order of their paths, since its entries stand in the order of their keys.
+-- The files of a tree are in byte order of their paths, since its entries are in the order of their keys.
 use Rattle.std.proofs.Common.{◌≡◌, ℕ, ◌++◌, true, false, nat_eq, List, [], ◌∷◌, map, Option, Some, None, refl, sym, ap, ◌∙◌, append_assoc}
 use Rattle.std.proofs.lemmas.Bool.{or_parts, eq-eqb}
 use Rattle.std.specs.declared.cmp.Ordering.{Ordering}
@@ -21,7 +21,7 @@ use Rattle.eden_objects.proofs.ByTrees.{IsStep, by_trees}
 abbrev pub order : List ℕ → List ℕ → Ordering
 order = slice_cmp nat_cmp
 
--- the paths stand in byte order
+-- the paths are in byte order
 abbrev pub Rises : List Row → Type 0
 Rises rows = IsStrictlySortedBy (slice_cmp nat_cmp) (map (λ row. row.0) rows)
 
@@ -65,7 +65,7 @@ dir_dir (a ∷ n) [] q r none free h = decided (nat_cmp a 47) (order (n ++ 47 �
 dir_dir (a ∷ n) (x ∷ m) q r none free h =
     then_less (nat_cmp a x) (order (n ++ 47 ∷ []) (m ++ 47 ∷ [])) (order (n ++ 47 ∷ q) (m ++ 47 ∷ r)) (dir_dir n m q r (or_parts _ _ none).1 (or_parts _ _ free).1) h
 
--- paths below one directory stand as what follows it
+-- paths below one directory are ordered as what follows it
 pub prefix : (n q r : List ℕ) → order (n ++ q) (n ++ r) ≡ order q r
 prefix [] q r = refl
 prefix (a ∷ n) q r = ap (λ o. ordering_then o (order (n ++ q) (n ++ r))) (tied_itself nat_cmp_total a) ∙ prefix n q r

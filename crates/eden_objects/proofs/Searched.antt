@@ -1,4 +1,4 @@
--- A search for a file that is not passed over, entry by entry, and files that are told as though their directory stood at another place.
+-- A search for a file that is not passed over, entry by entry, and files that are shown as though their directory were at another place.
 use Rattle.std.proofs.Common.{◌≡◌, ℕ, ◌++◌, Bool, true, false, not, ◌&&◌, ◌||◌, cond, List, [], ◌∷◌, drop, map, length, Option, Some, None, Result, Ok, Err, is_some, refl, sym, ap, subst, ◌∙◌, arith, append_assoc, append-nil}
 use Rattle.std.proofs.Math.Seq.{drop-append_seam}
 use Rattle.std.proofs.lemmas.Slice.Eq.{bytes_eq-Decides}
@@ -56,7 +56,7 @@ pub all_allowed : (passes : List ℕ → Bool) (front : List ℕ) (rows : List R
 all_allowed passes front [] = tt
 all_allowed passes front (row ∷ rows) = (λ shown. tt, all_allowed passes front rows)
 
--- Below a directory that is told at another place.
+-- Below a directory that is shown at another place.
 
 told_behind : (top seen rest : List ℕ) → told top seen ((top ++ 47 ∷ []) ++ rest) ≡ (seen ++ 47 ∷ []) ++ rest
 told_behind top seen rest =
@@ -106,7 +106,7 @@ pub shown_below : (shows : List ℕ → Bool) (held : List Held) (tree : Id) (to
 shown_below shows held tree top seen dir below =
     ap (rows_shown shows top seen) below.1 ∙ ap (filter (λ row. shows row.0)) (retold_behind top seen (tree_rows held dir))
 
--- What is not passed over is told by paths.
+-- What is not passed over is given by paths.
 module _ (P : List ℕ → Type 0) where
   kept_one : (top : List ℕ) (b : Bool) (row : Row) (rest : List Row) → (b ≡ true → P row.0) → AllByRecursion (λ r. P r.0) rest → AllByRecursion (λ r. P r.0) (cond b (row ∷ rest) rest)
   kept_one top true row rest here later = (here refl, later)

@@ -7,7 +7,7 @@ use Rattle.eden_objects.specs.declared.stored.Body.TheVariants.{Blob, Tree, Comm
 use Rattle.eden_objects.specs.declared.stored.Stored.{Stored}
 use Rattle.eden_segments.proofs.Distinct.{same_id-is}
 use Rattle.eden_objects.specs.Objects.{Held, find}
-use Rattle.eden_git.specs.Words.{word_text}
+use Rattle.eden_git.specs.ObjectTypes.{type_text}
 use Rattle.eden_ids.specs.Sameness.{same_id}
 use Rattle.eden_objects.specs.Commits.{entries_rows}
 use Rattle.eden_objects.specs.Counts.{capped}
@@ -15,7 +15,7 @@ use Rattle.eden_git.specs.Trees.{Entry, entries_of}
 use Rattle.eden_objects.specs.Trees.{tree_fold, entries_depth, entries_reach}
 use Rattle.eden_objects.specs.Closed.{IsClosed, IsSound, AllNamed}
 use Rattle.eden_objects.specs.Small.{AreSmall, IsSmall}
-use Rattle.eden_objects.specs.Contents.{held_of, helds, word_of}
+use Rattle.eden_objects.specs.Contents.{held_of, helds, type_of}
 use Rattle.eden_objects.specs.internal.Kept.{option_held, IfTree, Measures, AreMeasured, OutlineFits, TellsKept, TellsTree}
 
 -- what is found in the table is found among the objects
@@ -63,12 +63,12 @@ kept_further : (h : Held) (earlier : List Held) (id : Id) (object : Option Store
 kept_further h earlier id None past tells = tells
 kept_further h earlier id (Some object) past tells = (tells.0, tree_further h earlier id object.body past tells.1)
 
-tree_here : (key : Id) (payload : List ℕ) (body : Body) (earlier : List Held) (id : Id) → same_id id key ≡ true → IsSound (word_of body) payload earlier
-    → IfTree body (OutlineFits earlier payload) → IfTree body (TellsTree (record { id = key; word = word_of body; payload = payload } ∷ earlier) id)
+tree_here : (key : Id) (payload : List ℕ) (body : Body) (earlier : List Held) (id : Id) → same_id id key ≡ true → IsSound (type_of body) payload earlier
+    → IfTree body (OutlineFits earlier payload) → IfTree body (TellsTree (record { id = key; object_type = type_of body; payload = payload } ∷ earlier) id)
 tree_here key payload Blob earlier id is sound fits = tt
 tree_here key payload (Commit tree) earlier id is sound fits = tt
 tree_here key payload (Tree outline) earlier id is sound fits =
-    let h : Held = record { id = key; word = word_of (Tree outline); payload = payload } in (
+    let h : Held = record { id = key; object_type = type_of (Tree outline); payload = payload } in (
       fits.0.0 ∙ sym (fold_here 0 entries_depth h earlier id is),
       fits.0.1 ∙ sym (fold_here 0 entries_reach h earlier id is),
       rw fits.0.0 sound.3,
@@ -94,6 +94,6 @@ abbrev pub IsKept : (List ℕ → List ℕ → Id) → List (Id × Stored) → T
 IsKept name table = IsClosed (helds table) × AllNamed name (helds table) × AreMeasured table × AreSmall (helds table)
 
 pub kept : (name : List ℕ → List ℕ → Id) (table : List (Id × Stored)) (id : Id) (object : Stored) → IsKept name table
-    → find id (helds table) ≡ None → IsSound (word_of object.body) object.payload (helds table) → name (word_text (word_of object.body)) object.payload ≡ id
+    → find id (helds table) ≡ None → IsSound (type_of object.body) object.payload (helds table) → name (type_text (type_of object.body)) object.payload ≡ id
     → Measures (helds table) object → IsSmall (held_of id object) → IsKept name ((id, object) ∷ table)
 kept name table id object old fresh sound called measured small = ((fresh, sound, old.0), (called, old.1), (measured, old.2), (small, old.3))

@@ -10,7 +10,7 @@ use Rattle.eden_ids.specs.Paths.{lies_below}
 use Rattle.eden_git.specs.Trees.{Entry}
 use Rattle.eden_objects.specs.Objects.{Held}
 use Rattle.eden_objects.specs.Closed.{IsHeld, HasTree, IsClosed}
-use Rattle.eden_objects.specs.Puts.{word_wanted}
+use Rattle.eden_objects.specs.Puts.{type_wanted}
 use Rattle.eden_objects.specs.Trees.{depth_of, reach_of, entries_depth, entries_reach, tree_depth, tree_reach}
 use Rattle.eden_objects.specs.Counts.{capped}
 use Rattle.eden_objects.specs.Commits.{Row, under, rows_of_kind, entry_rows, entries_rows, tree_rows}
@@ -25,13 +25,13 @@ use Rattle.eden_objects.proofs.WalkSteps.{depth_here, entries_in, reach_here, ro
 -- ---- an entry that a walk comes to
 
 pub record IsAhead (allows : List ℕ → Type 0) (passes : List ℕ → Bool) (front : List ℕ) (held : List Held) (tree : Id) (e : Entry) : Type 0 where
-  pub is_held : IsHeld held (word_wanted e.kind) e.id
+  pub is_held : IsHeld held (type_wanted e.kind) e.id
   pub below : depth_of e.kind (tree_depth held e.id) ≤ tree_depth held tree
   pub room : length front + reach_of e.name e.kind (tree_reach held e.id) ≤ 2049
   pub paths : AreAllowedBut allows passes front (entry_rows (tree_rows held) e)
 
 module _ (allows : List ℕ → Type 0) (passes : List ℕ → Bool) (front : List ℕ) where
-  each_ahead : (held : List Held) (tree : Id) (es : List Entry) → AllByRecursion (λ e. IsHeld held (word_wanted e.kind) e.id) es
+  each_ahead : (held : List Held) (tree : Id) (es : List Entry) → AllByRecursion (λ e. IsHeld held (type_wanted e.kind) e.id) es
       → entries_depth (tree_depth held) es ≤ tree_depth held tree → length front + entries_reach (tree_reach held) es ≤ 2049
       → AreAllowedBut allows passes front (entries_rows (tree_rows held) es) → AllByRecursion (IsAhead allows passes front held tree) es
   each_ahead held tree [] are_held below room paths = tt
@@ -135,7 +135,7 @@ module _ (allows : List ℕ → Type 0) (passes : List ℕ → Bool) (front inne
       let far : length front + reach_of e.name None (tree_reach held e.id) ≤ 2049 = subst (λ k. length front + reach_of e.name k (tree_reach held e.id) ≤ 2049) dir ahead.room in
       let long : length inner ≡ length (front ++ e.name) + 1 = ap length entered ∙ length-append (front ++ e.name) (47 ∷ []) in
       let longer : length (front ++ e.name) ≡ length front + length e.name = length-append front e.name in (
-        subst (λ k. IsHeld held (word_wanted k) e.id) dir ahead.is_held,
+        subst (λ k. IsHeld held (type_wanted k) e.id) dir ahead.is_held,
         omega (arith, deep),
         omega (arith, far, long, longer),
         subst (λ p. AreAllowedBut allows passes p (tree_rows held e.id)) (sym entered)

@@ -8,7 +8,7 @@ use Rattle.eden_ids.specs.Sameness.{same_bytes}
 use Rattle.eden_git.specs.Trees.{Entry, cut, entries_of}
 use Rattle.eden_objects.specs.Trees.{entries_depth, entries_reach, tree_depth, tree_fold, tree_reach}
 use Rattle.eden_objects.specs.Commits.{find_row, tree_rows, entries_rows}
-use Rattle.eden_objects.specs.Puts.{word_wanted}
+use Rattle.eden_objects.specs.Puts.{type_wanted}
 use Rattle.eden_git.specs.Starts.{AreInOrder}
 use Rattle.eden_objects.specs.Closed.{IsHeld, HasTree, IsTree, IsClosed}
 use Rattle.eden_git.specs.Directories.{or_later, file_named, dir_if, dir_named}
@@ -57,19 +57,19 @@ rest_shorter p c r some =
     let parts : length (c ++ 47 ∷ r) ≡ length c + length (47 ∷ r) = length-append c (47 ∷ r) in
     omega (arith, whole, parts)
 
-held_if : (held : List Held) (kind : Option Kind) (id child : Id) (t : Bool) (later : Option Id) → IsHeld held (word_wanted kind) id → (Some child ≡ later → HasTree held child)
+held_if : (held : List Held) (kind : Option Kind) (id child : Id) (t : Bool) (later : Option Id) → IsHeld held (type_wanted kind) id → (Some child ≡ later → HasTree held child)
     → Some child ≡ or_later (dir_if kind id t) later → HasTree held child
 held_if held None id child true later is more found = let same : id ≡ child = cc in subst (HasTree held) same is
 held_if held None id child false later is more found = more found
 held_if held (Some kind) id child t later is more found = more found
 
-dir_held : (held : List Held) (c : List ℕ) (child : Id) (es : List Entry) → AllByRecursion (λ e. IsHeld held (word_wanted e.kind) e.id) es → Some child ≡ dir_named c es → HasTree held child
+dir_held : (held : List Held) (c : List ℕ) (child : Id) (es : List Entry) → AllByRecursion (λ e. IsHeld held (type_wanted e.kind) e.id) es → Some child ≡ dir_named c es → HasTree held child
 dir_held held c child [] all found = absurd (cc)
 dir_held held c child (e ∷ es) all found = held_if held e.kind e.id child (same_bytes e.name c) (dir_named c es) all.0 (dir_held held c child es all.1) found
 
 pub child_here : (held : List Held) (id : Id) (c : List ℕ) (child : Id) → IsClosed held → HasTree held id → Some child ≡ dir_named c (entries_in held id) → HasTree held child
 child_here held id c child closed has found = dir_held held c child (entries_in held id) (tree_here held closed id has).0 found
 
--- the entries of a tree that is held stand in order
+-- the entries of a tree that is held are in order
 pub order_here : (held : List Held) (id : Id) (es : List Entry) → IsClosed held → HasTree held id → es ≡ entries_in held id → AreInOrder es
 order_here held id es closed has is = subst AreInOrder (sym is) (tree_here held closed id has).1

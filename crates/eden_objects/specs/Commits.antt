@@ -8,9 +8,9 @@ use Rattle.eden_ids.specs.declared.id.Id.{Id}
 use Rattle.eden_ids.specs.declared.content.Kind.{Kind}
 use Rattle.eden_ids.specs.declared.content.Content.{Content}
 use Rattle.eden_ids.specs.FileMaps.{FileMap}
-use Rattle.eden_git.specs.declared.word.Word.TheVariants.{Commit}
+use Rattle.eden_git.specs.declared.object_type.ObjectType.TheVariants.{Commit}
 use Rattle.eden_objects.specs.Objects.{Held, find, payload_of, zero_id}
-use Rattle.eden_git.specs.Words.{same_word}
+use Rattle.eden_git.specs.ObjectTypes.{same_type}
 use Rattle.eden_ids.specs.Sameness.{same_bytes, same_id}
 use Rattle.eden_git.specs.Trees.{Entry}
 use Rattle.eden_git.specs.Commits.{tree_named}
@@ -44,7 +44,7 @@ rows_named held (Some tree) = Some (tree_rows held tree)
 
 abbrev pub rows_held : List Held → Option Held → Option (List Row)
 rows_held held None = None
-rows_held held (Some h) = if same_word h.word Commit then rows_named held (tree_named h.payload) else None
+rows_held held (Some h) = if same_type h.object_type Commit then rows_named held (tree_named h.payload) else None
 
 -- the files of a commit, in byte order of their paths; `None` if the id is not that of a
 -- commit

@@ -3,21 +3,21 @@
 -- import is refused at the first that is refused, and then the store does not change.
 use Rattle.std.specs.Prelude.{◌≡◌, ℕ, ◌+◌, List, [], ◌∷◌, ◌++◌, Result, Ok, Err}
 use Rattle.eden_ids.specs.declared.id.Id.{Id}
-use Rattle.eden_git.specs.declared.word.Word.{Word}
-use Rattle.eden_git.specs.declared.word.Word.TheVariants.{Blob, Tree, Commit}
+use Rattle.eden_git.specs.declared.object_type.ObjectType.{ObjectType}
+use Rattle.eden_git.specs.declared.object_type.ObjectType.TheVariants.{Blob, Tree, Commit}
 use Rattle.eden_objects.specs.declared.import.Object.{Object}
 use Rattle.eden_objects.specs.declared.import.ImportFault.{ImportFault}
 use Rattle.eden_objects.specs.declared.import.ImportFault.TheVariants.{BadObject}
 use Rattle.eden_objects.specs.Objects.{Held}
 use Rattle.eden_objects.specs.Puts.{Outcome, blob_outcome, tree_outcome, commit_outcome}
 
-abbrev pub put_word : (List ℕ → List ℕ → Id) → Word → List ℕ → List Held → Outcome
-put_word name Blob payload held = blob_outcome name payload held
-put_word name Tree payload held = tree_outcome name payload held
-put_word name Commit payload held = commit_outcome name payload held
+abbrev pub put_typed : (List ℕ → List ℕ → Id) → ObjectType → List ℕ → List Held → Outcome
+put_typed name Blob payload held = blob_outcome name payload held
+put_typed name Tree payload held = tree_outcome name payload held
+put_typed name Commit payload held = commit_outcome name payload held
 
 abbrev pub put_of : (List ℕ → List ℕ → Id) → Object → List Held → Outcome
-put_of name object held = put_word name object.word object.payload held
+put_of name object held = put_typed name object.object_type object.payload held
 
 abbrev pub Imported : Type 0
 Imported = Result (List Held) ImportFault

@@ -9,7 +9,7 @@ use Rattle.eden_ids.specs.declared.content.Kind.{Kind}
 use Rattle.eden_ids.specs.FileMaps.{FileMap, file_at, paths, IsFileMap}
 use Rattle.eden_ids.specs.Paths.{path_fault}
 use Rattle.eden_ids.specs.Texts.{AreBytes, AreTexts}
-use Rattle.eden_git.specs.declared.word.Word.TheVariants.{Blob, Tree}
+use Rattle.eden_git.specs.declared.object_type.ObjectType.TheVariants.{Blob, Tree}
 use Rattle.eden_objects.specs.declared.import.Object.{Object}
 use Rattle.eden_objects.specs.Objects.{Held, find}
 use Rattle.eden_objects.specs.Imports.{GrowsOnto, import_outcome, put_of}
@@ -22,7 +22,7 @@ use Rattle.eden_objects.specs.Small.{AreSmall}
 
 -- the files of a tree are those of its entries
 abbrev pub TreesUnfold : Type 0
-TreesUnfold = (held : List Held) → IsClosed held → (id : Id) (h : Held) → find id held ≡ Some h → h.word ≡ Tree
+TreesUnfold = (held : List Held) → IsClosed held → (id : Id) (h : Held) → find id held ≡ Some h → h.object_type ≡ Tree
     → tree_rows held id ≡ entries_rows (tree_rows held) (entries_of h.payload)
 
 -- a path with no slash is that of a file among the entries
@@ -82,7 +82,7 @@ CommitsHoldTexts = (held : List Held) → IsClosed held → AreSmall held → (c
 
 abbrev pub EqualObjectsAreOne : Type 0
 EqualObjectsAreOne = (name : List ℕ → List ℕ → Id) (held : List Held) → AllNamed name held → (i j : Id) (h k : Held) → find i held ≡ Some h → find j held ≡ Some k
-    → h.word ≡ k.word → h.payload ≡ k.payload → i ≡ j
+    → h.object_type ≡ k.object_type → h.payload ≡ k.payload → i ≡ j
 
 -- two files of one kind hold the same bytes exactly if they have the same blob
 abbrev pub EqualFilesHaveOneBlob : Type 0

@@ -6,14 +6,14 @@ use Rattle.std.specs.Cmp.Lexicographic.{slice_cmp}
 use Rattle.std.specs.List.{list_any}
 use Rattle.eden_ids.specs.declared.id.Id.{Id}
 use Rattle.eden_ids.specs.declared.content.Kind.{Kind}
-use Rattle.eden_git.specs.declared.word.Word.{Word}
-use Rattle.eden_git.specs.declared.word.Word.TheVariants.{Blob, Tree, Commit}
+use Rattle.eden_git.specs.declared.object_type.ObjectType.{ObjectType}
+use Rattle.eden_git.specs.declared.object_type.ObjectType.TheVariants.{Blob, Tree, Commit}
 use Rattle.eden_git.specs.declared.fault.EntryFault.{EntryFault}
 use Rattle.eden_git.specs.declared.fault.EntryFault.TheVariants as entry
 use Rattle.eden_objects.specs.declared.fault.PutFault.{PutFault}
 use Rattle.eden_objects.specs.declared.fault.PutFault.TheVariants.{TooLarge, IdTaken, ZeroId, BadMode, BadName, OutOfOrder, Duplicate, MissingChild, WrongChildKind, TooDeep, PathTooLong, CutShort, BadCommit, NoMemory}
 use Rattle.eden_objects.specs.Objects.{Held, find, zero_id}
-use Rattle.eden_git.specs.Words.{same_word, word_text}
+use Rattle.eden_git.specs.ObjectTypes.{same_type, type_text}
 use Rattle.eden_ids.specs.Sameness.{same_bytes, same_id}
 use Rattle.eden_git.specs.Trees.{Entry, key, read_entry, entries_of}
 use Rattle.eden_objects.specs.Trees.{entries_depth, entries_reach, tree_depth, tree_reach}
@@ -38,7 +38,7 @@ too_large payload = if_so (nat_lt 8388608 (length payload)) TooLarge
 abbrev pub kept_or_added : Held → List Held → Option Held → Outcome
 kept_or_added new held None = Ok (new.id, new ∷ held)
 kept_or_added new held (Some h) =
-    if same_word h.word new.word && same_bytes h.payload new.payload then Ok (new.id, held) else Err IdTaken
+    if same_type h.object_type new.object_type && same_bytes h.payload new.payload then Ok (new.id, held) else Err IdTaken
 
 abbrev pub put_outcome : Held → List Held → Outcome
 put_outcome new held = if same_id new.id zero_id then Err ZeroId else kept_or_added new held (find new.id held)
@@ -48,20 +48,20 @@ unless (Some fault) outcome = Err fault
 unless None outcome = outcome
 
 -- the object with its id
-abbrev pub named : (List ℕ → List ℕ → Id) → Word → List ℕ → Held
-named name word payload = record { id = name (word_text word) payload; word = word; payload = payload }
+abbrev pub named : (List ℕ → List ℕ → Id) → ObjectType → List ℕ → Held
+named name object_type payload = record { id = name (type_text object_type) payload; object_type = object_type; payload = payload }
 
 abbrev pub blob_outcome : (List ℕ → List ℕ → Id) → List ℕ → List Held → Outcome
 blob_outcome name payload held = unless (too_large payload) (put_outcome (named name Blob payload) held)
 
 -- the type that an id must refer to: a tree for a directory, a blob for a file
-abbrev pub word_wanted : Option Kind → Word
-word_wanted None = Tree
-word_wanted (Some kind) = Blob
+abbrev pub type_wanted : Option Kind → ObjectType
+type_wanted None = Tree
+type_wanted (Some kind) = Blob
 
-abbrev pub child_fault : Word → Option Held → Option PutFault
-child_fault word None = Some MissingChild
-child_fault word (Some h) = if_so (not (same_word h.word word)) WrongChildKind
+abbrev pub child_fault : ObjectType → Option Held → Option PutFault
+child_fault object_type None = Some MissingChild
+child_fault object_type (Some h) = if_so (not (same_type h.object_type object_type)) WrongChildKind
 
 -- the key is above that of the entry before, which is the first of the earlier ones
 abbrev pub is_above : Entry → List Entry → Bool
@@ -72,7 +72,7 @@ is_above e (before ∷ earlier) = is_lt (slice_cmp nat_cmp (key before) (key e))
 abbrev pub entry_fault : List Held → List Entry → Entry → Option PutFault
 entry_fault held earlier e =
     first_fault (if_so (list_any (λ f. same_bytes f.name e.name) earlier) Duplicate)
-    (first_fault (if_so (not (is_above e earlier)) OutOfOrder) (child_fault (word_wanted e.kind) (find e.id held)))
+    (first_fault (if_so (not (is_above e earlier)) OutOfOrder) (child_fault (type_wanted e.kind) (find e.id held)))
 
 -- an entry that cannot be read is refused for the same cause
 abbrev pub unread : EntryFault → PutFault

@@ -4,10 +4,10 @@ use Rattle.eden_ids.specs.declared.id.Id.{Id}
 use Rattle.eden_ids.specs.declared.content.Kind.{Kind}
 use Rattle.eden_ids.specs.declared.content.Content.{Content}
 use Rattle.eden_objects.specs.Objects.{Held, find, payload_of}
-use Rattle.eden_git.specs.Words.{same_word}
+use Rattle.eden_git.specs.ObjectTypes.{same_type}
 use Rattle.eden_objects.specs.Commits.{Row, find_row}
 use Rattle.eden_git.specs.Commits.{tree_named}
-use Rattle.eden_git.specs.declared.word.Word.TheVariants.{Commit}
+use Rattle.eden_git.specs.declared.object_type.ObjectType.TheVariants.{Commit}
 
 -- a look-up of the rest, if there is a directory
 abbrev pub then_find : (Id → List Row) → List ℕ → Option Id → Option (Kind × Id)
@@ -22,4 +22,4 @@ content_found held (Some found) = Some (record { kind = found.0; bytes = payload
 -- the tree that an object names, if it is a commit
 abbrev pub tree_seen : Option Held → Option Id
 tree_seen None = None
-tree_seen (Some h) = if same_word h.word Commit then tree_named h.payload else None
+tree_seen (Some h) = if same_type h.object_type Commit then tree_named h.payload else None

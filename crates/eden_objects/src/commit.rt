@@ -12,6 +12,7 @@ ghost use Rattle.eden_objects.specs.Passing.{TellsPaths, is_shown, told};
 use crate::fault::NoCommit;
 use crate::passing::Passes;
 use crate::store::Store;
+use bytes::Bytes;
 use eden_globs::Filter;
 use eden_ids::{FileTree, Id, Kind, Naming, NoMemory, Path};
 use std::alloc::Global;
@@ -59,12 +60,13 @@ impl<'a, N: Naming + Drop> Commit<'a, N> {
     /// Returns the kind and the bytes of the file at a path.
     ///
     /// It searches one directory for each component of the path. Does not allocate.
-    pub fn file(&self, path: &[u8]) -> Option<(Kind, &'a [u8])>
+    pub fn file(&self, path: &[u8]) -> Option<(Kind, &'a Bytes)>
         ensures { lent result ≡ file_at self.now path.now }
     {
+        self.store.closed_law();
         match self.tree {
             Some(tree) => match self.store.find_below(tree, path) {
-                Some((kind, blob)) => Some((kind, self.store.payload(blob))),
+                Some((kind, blob)) => Some((kind, self.store.blob_payload(blob))),
                 None => None,
             },
             None => None,
@@ -176,7 +178,7 @@ impl<'a, N: Naming + Drop> Commit<'a, N> {
 impl<'a, N: Naming + Drop> FileTree for Commit<'a, N> {
     ghost files = { λ c. c };
 
-    fn file(&self, path: &[u8]) -> Option<(Kind, &[u8])> {
+    fn file(&self, path: &[u8]) -> Option<(Kind, &Bytes)> {
         Commit::file(self, path)
     }
 

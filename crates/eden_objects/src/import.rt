@@ -7,7 +7,7 @@ ghost use Rattle.eden_objects.specs.declared.import.ImportFault.TheVariants as f
 use crate::fault::PutFault;
 use crate::importer::Importer;
 use crate::store::Store;
-use eden_git::Word;
+use eden_git::ObjectType;
 use eden_ids::{Id, Naming, NoMemory, Sequence};
 use thiserror::Error;
 
@@ -17,7 +17,7 @@ use thiserror::Error;
 #[derive(Clone, Debug, PartialEq, Drop)]
 pub struct Object {
     /// The object's type: blob, tree or commit.
-    pub word: Word,
+    pub object_type: ObjectType,
     /// Its payload, as the put call of its type takes it.
     pub payload: Sequence<u8>,
 }
@@ -67,11 +67,11 @@ impl<N: Naming + Drop> Importer for Store<N> {
 
     ghost laws = { record { same = λ store. refl; again = λ store held more. refl } };
 
-    fn put_object(&mut self, word: Word, payload: &[u8]) -> Result<Id, PutFault> {
-        match word {
-            Word::Blob => self.put_blob(payload),
-            Word::Tree => self.put_tree(payload),
-            Word::Commit => self.put_commit(payload),
+    fn put_object(&mut self, object_type: ObjectType, payload: &[u8]) -> Result<Id, PutFault> {
+        match object_type {
+            ObjectType::Blob => self.put_blob(payload),
+            ObjectType::Tree => self.put_tree(payload),
+            ObjectType::Commit => self.put_commit(payload),
         }
     }
 }
@@ -84,7 +84,7 @@ impl<N: Naming + Drop> Store<N> {
     {
         'objects: for place in 0..objects.len() {
             let object = &objects[place];
-            if let Err(fault) = self.put_object(object.word, object.payload.as_slice()) {
+            if let Err(fault) = self.put_object(object.object_type, object.payload.as_slice()) {
                 return Err(refused(place as u64, fault));
             }
         }

@@ -1,7 +1,7 @@
 //! The interface of everything that takes objects.
 
 use crate::fault::PutFault;
-use eden_git::Word;
+use eden_git::ObjectType;
 use eden_ids::Id;
 
 /// Something that takes objects of each type, one after another.
@@ -11,7 +11,7 @@ pub trait Importer {
     ghost use Rattle.std.specs.Prelude.{◌≡◌, ◌≢◌, ℕ, List, Ok, Err, IfOk, IfErr, OnErr};
     ghost use Rattle.eden_ids.specs.declared.id.Id.{Id};
     ghost use Rattle.eden_objects.specs.Objects.{Held};
-    ghost use Rattle.eden_objects.specs.Imports.{IsOver, put_word};
+    ghost use Rattle.eden_objects.specs.Imports.{IsOver, put_typed};
 
     /// The rule that gives each object its id.
     ghost name: { List ℕ → List ℕ → Id };
@@ -33,9 +33,9 @@ pub trait Importer {
     ///
     /// As of these calls. `NoMemory` may be returned instead of any other answer. Nothing
     /// changes.
-    fn put_object(&mut self, word: Word, payload: &[u8]) -> Result<Id, PutFault>
-        ensures ok { IfOk result (λ id. put_word name word payload.now (held self.old) ≡ Ok (id, held self.new)) }
+    fn put_object(&mut self, object_type: ObjectType, payload: &[u8]) -> Result<Id, PutFault>
+        ensures ok { IfOk result (λ id. put_typed name object_type payload.now (held self.old) ≡ Ok (id, held self.new)) }
         ensures err { OnErr result (held self.new ≡ held self.old) }
-        ensures refuses { IfErr result (λ fault. fault ≢ PutFault.NoMemory → put_word name word payload.now (held self.old) ≡ Err fault) }
+        ensures refuses { IfErr result (λ fault. fault ≢ PutFault.NoMemory → put_typed name object_type payload.now (held self.old) ≡ Err fault) }
         ensures only { self.new ≡ over self.old (held self.new) };
 }

@@ -13,7 +13,7 @@
 //!
 //! ```rust
 //! use eden_ids::{GitNaming, Naming, Path, Sequence};
-//! use eden_objects::{Object, Store, Word};
+//! use eden_objects::{Object, Store, ObjectType};
 //!
 //! let mut store = Store::new(alloc, GitNaming);
 //! let file = store.put_blob(b"hello\n".as_slice())?;
@@ -35,7 +35,7 @@
 //! for bytes in [b"more\n".as_slice(), b"and more\n".as_slice()] {
 //!     let payload = Sequence::from_vec(bytes.to_vec(alloc)?);
 //!     objects.push(Object {
-//!         word: Word::Blob,
+//!         object_type: ObjectType::Blob,
 //!         payload,
 //!     })?;
 //! }
@@ -54,7 +54,7 @@ pub use crate::laws::{commit_map_law, grown_law, same_object_law, tree_law};
 pub use crate::passing::{Nothing, Passes};
 pub use crate::size::Size;
 pub use crate::store::Store;
-pub use eden_git::{RawEntry, Rows, Word, key_order, next_entry};
+pub use eden_git::{ObjectType, RawEntry, Rows, key_order, next_entry};
 
 mod commit;
 mod counts;

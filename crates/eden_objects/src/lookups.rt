@@ -5,13 +5,15 @@ ghost use Rattle.eden_ids.specs.FileMaps.{file_at, lent};
 ghost use Rattle.eden_objects.specs.Objects.{blob_of, find, payload_of};
 ghost use Rattle.eden_objects.specs.Files.{commit_files};
 ghost use Rattle.eden_objects.specs.Commits.{commit_rows, find_row, row_in, tree_rows};
-ghost use Rattle.eden_objects.specs.Closed.{HasTree};
+ghost use Rattle.eden_objects.specs.Closed.{HasTree, IsHeld};
 ghost use Rattle.eden_git.specs.Trees.{entries_of};
+ghost use Rattle.eden_git.specs.declared.object_type.ObjectType.{ObjectType};
 ghost use Rattle.eden_objects.specs.internal.Roots.{IsTreeOf, rows_of_tree};
 ghost use Rattle.eden_git.specs.Directories.{dir_named, file_named};
 
 use crate::fault::NoCommit;
 use crate::store::Store;
+use bytes::Bytes;
 use eden_git::cut;
 use eden_ids::{Id, Kind, Naming, Path};
 
@@ -61,21 +63,21 @@ impl<N: Naming + Drop> Store<N> {
     ///
     /// It is `None` if there is no file at the path, or the id is not that of a commit. It
     /// searches one directory for each component of the path. Does not allocate.
-    pub fn file(&self, commit: Id, path: &[u8]) -> Option<(Kind, &[u8])>
+    pub fn file(&self, commit: Id, path: &[u8]) -> Option<(Kind, &Bytes)>
         ensures { lent result ≡ file_at (commit_files self.now commit) path.now }
     {
         self.commit_files(commit).file(path)
     }
 
-    /// Returns the payload of the object with an id.
-    ///
-    /// If there is no such object, it is empty.
-    pub(crate) fn payload(&self, id: Id) -> &[u8]
+    /// Returns the payload of a blob that is in the store.
+    pub(crate) fn blob_payload(&self, id: Id) -> &Bytes
+        requires { IsHeld self.now ObjectType.Blob id }
         ensures { result.now ≡ payload_of (find id self.now) }
     {
         match self.object(id) {
-            Some(object) => object.payload.as_slice(),
-            None => b"".as_slice(),
+            Some(object) => &object.payload,
+            // The blob is there.
+            None => unreachable!(),
         }
     }
 

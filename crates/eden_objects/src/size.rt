@@ -30,6 +30,7 @@ impl Size {
     }
 }
 
+/// Returns the greater of two numbers.
 fn greater(first: usize, second: usize) -> usize
     ensures { result ≡ greater first second }
 {

@@ -1,11 +1,11 @@
 //! The store: its objects, its put calls, and its copies.
 ghost use Rattle.std.specs.Prelude.{◌≡◌, ◌≤◌, ◌∷◌, [], None, IfOk, OnOk, OnErr, length, option_copied};
 ghost use Rattle.eden_objects.specs.Objects.{find};
-ghost use Rattle.eden_git.specs.Words.{word_text};
+ghost use Rattle.eden_git.specs.ObjectTypes.{type_text};
 ghost use Rattle.eden_objects.specs.Puts.{PutGives, TreeGives, put_outcome, blob_outcome, commit_outcome, named, tree_outcome};
 ghost use Rattle.eden_objects.specs.Closed.{IsClosed, IsSound, AllNamed};
 ghost use Rattle.eden_objects.specs.Small.{AreSmall, IsSmall};
-ghost use Rattle.eden_objects.specs.Contents.{held_of, word_of};
+ghost use Rattle.eden_objects.specs.Contents.{held_of, type_of};
 ghost use Rattle.eden_objects.specs.internal.Kept.{option_held, IfTree, IsReadFrom, Measures, OutlineFits, TellsKept};
 
 use crate::fault::PutFault;
@@ -205,8 +205,8 @@ impl<N: Naming + Drop> Store<N> {
 
     fn add(&mut self, id: Id, object: Stored) -> Result<(), NoMemory>
         requires fresh { find id self.old ≡ None }
-        requires sound { IsSound (word_of object.body) object.payload self.old }
-        requires named { N.id (word_text (word_of object.body)) object.payload ≡ id }
+        requires sound { IsSound (type_of object.body) object.payload self.old }
+        requires named { N.id (type_text (type_of object.body)) object.payload ≡ id }
         requires measured { Measures self.old object }
         requires small { IsSmall (held_of id object) }
         ensures ok { OnOk result (self.new ≡ held_of id object ∷ self.old) }
@@ -217,19 +217,19 @@ impl<N: Naming + Drop> Store<N> {
 
     /// Puts a new object, or finds it there.
     fn put(&mut self, payload: &[u8], body: Body) -> Result<Id, PutFault>
-        requires sound { IsSound (word_of body) payload.now self.old }
+        requires sound { IsSound (type_of body) payload.now self.old }
         requires read { IsReadFrom payload.now body }
         requires fits { IfTree body (OutlineFits self.old payload.now) }
         requires small { length payload.now ≤ 8388608 }
-        ensures { PutGives result self.old self.new (put_outcome (named N.id (word_of body) payload.now) self.old) }
+        ensures { PutGives result self.old self.new (put_outcome (named N.id (type_of body) payload.now) self.old) }
     {
-        let word = body.word();
-        let id = self.naming.id_of(word.text(), payload);
+        let object_type = body.object_type();
+        let id = self.naming.id_of(object_type.text(), payload);
         if id == Id::ZERO {
             return Err(PutFault::ZeroId);
         }
         if let Some(held) = self.object(id) {
-            return held.id_or_taken(id, word, payload);
+            return held.id_or_taken(id, object_type, payload);
         }
         let payload = Bytes::copy_from_slice(self.allocator(), payload)?;
         self.add(id, Stored { payload, body })?;

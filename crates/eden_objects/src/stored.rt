@@ -2,23 +2,23 @@
 ghost use Rattle.std.specs.Prelude.{◌≡◌, Some, None, if◌then◌else◌, option_copied};
 ghost use Rattle.eden_git.specs.Commits.{tree_named};
 ghost use Rattle.eden_git.specs.Trees.{entries_of};
-ghost use Rattle.eden_git.specs.Words.{same_word};
-ghost use Rattle.eden_objects.specs.Contents.{word_of};
+ghost use Rattle.eden_git.specs.ObjectTypes.{same_type};
+ghost use Rattle.eden_objects.specs.Contents.{type_of};
 ghost use Rattle.eden_objects.specs.internal.Kept.{IsReadFrom, standing_answer};
 
 use crate::fault::PutFault;
 use crate::outline::Outline;
 use bytes::Bytes;
-use eden_git::{Rows, Word, same_word};
+use eden_git::{ObjectType, Rows, same_type};
 use eden_ids::{Id, NoMemory};
-use eden_segments::{Share, Shared};
+use eden_segments::{Counted, Share};
 
 /// An object's type, and what is kept of it besides its payload.
 #[derive(Drop)]
 pub(crate) enum Body {
     Blob,
     /// The size of the tree, and its entries in columns.
-    Tree(Shared<Outline>),
+    Tree(Counted<Outline>),
     Commit {
         /// The tree that the payload names.
         tree: Id,
@@ -27,13 +27,13 @@ pub(crate) enum Body {
 
 impl Body {
     /// Returns the object's type.
-    pub(crate) fn word(&self) -> Word
-        ensures { result ≡ word_of self.now }
+    pub(crate) fn object_type(&self) -> ObjectType
+        ensures { result ≡ type_of self.now }
     {
         match self {
-            Body::Blob => Word::Blob,
-            Body::Tree(_) => Word::Tree,
-            Body::Commit { .. } => Word::Commit,
+            Body::Blob => ObjectType::Blob,
+            Body::Tree(_) => ObjectType::Tree,
+            Body::Commit { .. } => ObjectType::Commit,
         }
     }
 }
@@ -57,10 +57,15 @@ pub(crate) struct Stored {
 
 impl Stored {
     /// Returns the answer for a new object with this object's id.
-    pub(crate) fn id_or_taken(&self, id: Id, word: Word, payload: &[u8]) -> Result<Id, PutFault>
-        ensures { result ≡ standing_answer self.now id word payload.now }
+    pub(crate) fn id_or_taken(
+        &self,
+        id: Id,
+        object_type: ObjectType,
+        payload: &[u8],
+    ) -> Result<Id, PutFault>
+        ensures { result ≡ standing_answer self.now id object_type payload.now }
     {
-        if same_word(self.body.word(), word) && self.payload.as_slice() == payload {
+        if same_type(self.body.object_type(), object_type) && self.payload.as_slice() == payload {
             Ok(id)
         } else {
             Err(PutFault::IdTaken)
@@ -69,7 +74,7 @@ impl Stored {
 
     /// Returns the payload, if the object is a blob.
     pub(crate) fn blob(&self) -> Option<&[u8]>
-        ensures { option_copied result ≡ (if same_word (word_of self.now.body) Word.Blob then Some self.now.payload else None) }
+        ensures { option_copied result ≡ (if same_type (type_of self.now.body) ObjectType.Blob then Some self.now.payload else None) }
     {
         match &self.body {
             Body::Blob => Some(self.payload.as_slice()),
@@ -79,7 +84,7 @@ impl Stored {
 
     /// Returns the payload, if the object is a tree.
     pub(crate) fn entries(&self) -> Option<&[u8]>
-        ensures { option_copied result ≡ (if same_word (word_of self.now.body) Word.Tree then Some self.now.payload else None) }
+        ensures { option_copied result ≡ (if same_type (type_of self.now.body) ObjectType.Tree then Some self.now.payload else None) }
     {
         match &self.body {
             Body::Tree(_) => Some(self.payload.as_slice()),
@@ -90,7 +95,7 @@ impl Stored {
     /// Returns the entries with their columns, if the object is a tree.
     pub(crate) fn rows(&self) -> Option<Rows<'_>>
         requires { IsReadFrom self.now.payload self.now.body }
-        ensures { result ≡ (if same_word (word_of self.now.body) Word.Tree then Some (entries_of self.now.payload) else None) }
+        ensures { result ≡ (if same_type (type_of self.now.body) ObjectType.Tree then Some (entries_of self.now.payload) else None) }
     {
         match &self.body {
             Body::Tree(outline) => Some(Rows::new(self.payload.as_slice(), &outline.columns)),
@@ -101,7 +106,7 @@ impl Stored {
     /// Returns the tree that the object names, if it is a commit.
     pub(crate) fn tree(&self) -> Option<Id>
         requires { IsReadFrom self.now.payload self.now.body }
-        ensures { result ≡ (if same_word (word_of self.now.body) Word.Commit then tree_named self.now.payload else None) }
+        ensures { result ≡ (if same_type (type_of self.now.body) ObjectType.Commit then tree_named self.now.payload else None) }
     {
         match &self.body {
             Body::Commit { tree } => Some(*tree),

@@ -13,7 +13,7 @@ use Rattle.eden_treediff.specs.Merges.{merge_row, merge_rows, paths_of, same_row
 abbrev pub order : List ℕ → List ℕ → Ordering
 order = slice_cmp nat_cmp
 
--- each row of the first list stands below all of the second
+-- each row of the first list is below all of the second
 abbrev pub AllBelow : List Row → List Row → Type 0
 AllBelow xs ys = AllByRecursion (λ x. IsBelow x.0 ys) xs
 
@@ -29,7 +29,7 @@ cond_parts : (t : Bool) (a b d e more : List (List ℕ)) → a ≡ d ++ more →
 cond_parts true a b d e more h g = h
 cond_parts false a b d e more h g = g
 
--- a row that stands below all of the second list comes first
+-- a row that is below all of the second list comes first
 row_first : (x : Row) (rest : List Row → List (List ℕ)) (ds : List Row) → IsBelow x.0 ds → merge_row x rest ds ≡ x.0 ∷ rest ds
 row_first x rest [] h = refl
 row_first x rest (d ∷ ds) h =
@@ -53,7 +53,7 @@ left_step x xs cs ds h rest (y ∷ ys) g =
     (cond_parts (same_row x y) _ _ (merge_rows xs ys) (x.0 ∷ merge_rows xs ys) (merge_rows cs ds) more (ap (λ (ps : List (List ℕ)). x.0 ∷ ps) more))
     (ap (λ (ps : List (List ℕ)). y.0 ∷ ps) (left_step x xs cs ds h rest ys g.1))
 
--- where the blocks of one list stand below the later ones of the other, they are merged one after another
+-- if the blocks of one list are below the later ones of the other, they are merged one after another
 pub merge_blocks : (xs ys cs ds : List Row) → AllBelow xs ds → AllBelow ys cs → merge_rows (xs ++ cs) (ys ++ ds) ≡ merge_rows xs ys ++ merge_rows cs ds
 merge_blocks [] ys cs ds h g = right_first ys cs ds g
 merge_blocks (x ∷ xs) ys cs ds h g = left_step x xs cs ds h.0 (λ zs k. merge_blocks xs zs cs ds h.1 k) ys g

@@ -14,7 +14,7 @@ use Rattle.eden_treediff.specs.internal.Walks.{IsSide, side_entries, side_rows}
 use Rattle.eden_treediff.proofs.Pairs.{IsNext, IsRest, Meet, OfEntry, also_dir, dir_inside, entry_named, listed, one_name}
 use Rattle.eden_treediff.proofs.Steps.{side_whole}
 
--- the files of these entries have paths behind the bytes
+-- the files of these entries have paths after the bytes
 abbrev pub AreLegal : List Held → List ℕ → List Entry → Type 0
 AreLegal held front es = ArePaths front (entries_rows (tree_rows held) es)
 

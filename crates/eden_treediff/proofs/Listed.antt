@@ -15,9 +15,9 @@ use Rattle.eden_ids.specs.declared.id.Id.{Id}
 use Rattle.eden_ids.specs.declared.content.Kind.{Kind}
 use Rattle.eden_ids.specs.FileMaps.{differ, file_at, listing, path_set, same_file, same_kind}
 use Rattle.eden_ids.proofs.FileMapLemmas.{has-differ, has-path_set, same_path_set}
-use Rattle.eden_git.specs.declared.word.Word.TheVariants.{Blob}
+use Rattle.eden_git.specs.declared.object_type.ObjectType.TheVariants.{Blob}
 use Rattle.eden_objects.specs.Objects.{Held, find, payload_of}
-use Rattle.eden_git.specs.Words.{word_text}
+use Rattle.eden_git.specs.ObjectTypes.{type_text}
 use Rattle.eden_ids.specs.Sameness.{same_bytes, same_id}
 use Rattle.eden_objects.specs.Commits.{Row, commit_map, find_row, map_of_rows}
 use Rattle.eden_objects.specs.Closed.{IsHeld, AllNamed}
@@ -32,13 +32,13 @@ use Rattle.eden_treediff.proofs.Ascending.{ascending_law}
 use Rattle.eden_segments.proofs.Distinct.{same_id-is}
 
 -- an object's id is its name
-name_of : (name : List ℕ → List ℕ → Id) (held : List Held) → AllNamed name held → (id : Id) (h : Held) → find id held ≡ Some h → name (word_text h.word) h.payload ≡ id
+name_of : (name : List ℕ → List ℕ → Id) (held : List Held) → AllNamed name held → (id : Id) (h : Held) → find id held ≡ Some h → name (type_text h.object_type) h.payload ≡ id
 name_of name [] named id h found = absurd (cc)
 name_of name (top ∷ earlier) named id h found = elim (cases_Bool (same_id id top.id)) [
   | inl t ↦
       let e : Some top ≡ Some h = sym (find-here id top earlier t) ∙ found in
       let same : top ≡ h = cc in
-      subst (λ o. name (word_text o.word) o.payload ≡ id) same (named.0 ∙ sym (same_id-is id top.id t))
+      subst (λ o. name (type_text o.object_type) o.payload ≡ id) same (named.0 ∙ sym (same_id-is id top.id t))
   | inr f ↦ name_of name earlier named.1 id h (sym (find-there id top earlier f) ∙ found)
 ]
 
@@ -50,8 +50,8 @@ same_blob name held named i j x y = both_ways _ _ there back
     there : same_bytes x.0.payload y.0.payload ≡ true → same_id i j ≡ true
     there t =
         let bytes : x.0.payload ≡ y.0.payload = (bytes_eq-Decides x.0.payload y.0.payload).0 t in
-        let words : x.0.word ≡ y.0.word = x.2 ∙ sym y.2 in
-        let one : i ≡ j = sym (name_of name held named i x.0 x.1) ∙ (λ k. name (word_text (words k)) (bytes k)) ∙ name_of name held named j y.0 y.1 in
+        let types : x.0.object_type ≡ y.0.object_type = x.2 ∙ sym y.2 in
+        let one : i ≡ j = sym (name_of name held named i x.0 x.1) ∙ (λ k. name (type_text (types k)) (bytes k)) ∙ name_of name held named j y.0 y.1 in
         (bytes_eq-Decides i.0 j.0).1 (ap (λ k. k.0) one)
 
     back : same_id i j ≡ true → same_bytes x.0.payload y.0.payload ≡ true

@@ -12,14 +12,14 @@ use Rattle.eden_treediff.specs.internal.Columns.{AreChanges, AreTold, IsAhead, e
 use Rattle.eden_treediff.specs.internal.Pairs.{first_of}
 use Rattle.eden_treediff.proofs.Rows.{jump, passed_row}
 
--- the first of what is left stands at the row
+-- the first of what is left is at the row
 pub first_left : (es : List Entry) (row : ℕ) → slice_get es row ≡ first_of (drop row es)
 first_left [] zero = refl
 first_left [] (suc row) = refl
 first_left (e ∷ es) zero = refl
 first_left (e ∷ es) (suc row) = first_left es row
 
--- behind the first
+-- after the first
 
 row_passed : (side : Side) (t : Bool) → nat_lt side.row side.end ≡ t → IsAhead side
     → (rest_of (passed side) ≡ drop 1 (rest_of side)) × IsAhead (passed side)
@@ -83,7 +83,7 @@ all_skipped left right changed to ahead beside told is =
           (subst (λ r. AreChanges r changed.ids changed.kinds jumped.1 jumped.2) (sym is) jumped.6)),
     )
 
--- behind one row
+-- after one row
 
 same_length : (es fs : List Entry) → names_of es ≡ names_of fs → length es ≡ length fs
 same_length es fs same = sym (length-map es (λ e. e.name)) ∙ ap length same ∙ length-map fs (λ e. e.name)

@@ -16,7 +16,7 @@ use Rattle.eden_ids.specs.Sameness.{same_id}
 use Rattle.eden_git.specs.Trees.{Entry, is_name, key, key_of}
 use Rattle.eden_objects.specs.Trees.{entries_depth, tree_depth}
 use Rattle.eden_objects.specs.Commits.{Row, under, rows_of_kind, entry_rows, entries_rows, tree_rows}
-use Rattle.eden_objects.specs.Puts.{word_wanted}
+use Rattle.eden_objects.specs.Puts.{type_wanted}
 use Rattle.eden_objects.specs.Closed.{IsHeld, HasTree}
 use Rattle.eden_objects.proofs.Closed.{child_below, later_below}
 use Rattle.eden_objects.proofs.Rising.{file_entries, all_dir}
@@ -33,7 +33,7 @@ use Rattle.std.proofs.lemmas.Bool.{not-true}
 
 -- what is left of a tree's entries
 abbrev pub IsRest : List Held → List Entry → Type 0
-IsRest held es = AllByRecursion (λ e. IsHeld held (word_wanted e.kind) e.id) es
+IsRest held es = AllByRecursion (λ e. IsHeld held (type_wanted e.kind) e.id) es
     × IsStrictlySortedBy (slice_cmp nat_cmp) (map key es) × AllByRecursion (λ e. is_name e.name ≡ true) es
 
 abbrev pub listed : Option Entry → List Entry
@@ -98,10 +98,10 @@ sorted_after (Some e) es h = h.1
 pub rest_after : (held : List Held) (all : List Entry) (o : Option Entry) (es : List Entry) → all ≡ listed o ++ es → IsRest held all → IsRest held es
 rest_after held all o es is h =
     let rest = subst (IsRest held) is h in
-    ((split (λ e. IsHeld held (word_wanted e.kind) e.id) o es rest.0).1, sorted_after o es rest.1, (split (λ e. is_name e.name ≡ true) o es rest.2).1)
+    ((split (λ e. IsHeld held (type_wanted e.kind) e.id) o es rest.0).1, sorted_after o es rest.1, (split (λ e. is_name e.name ≡ true) o es rest.2).1)
 
-pub entry_held : (held : List Held) (all : List Entry) (o : Option Entry) (es : List Entry) → all ≡ listed o ++ es → IsRest held all → OfEntry (λ e. IsHeld held (word_wanted e.kind) e.id) o
-entry_held held all o es is h = (split (λ e. IsHeld held (word_wanted e.kind) e.id) o es (subst (IsRest held) is h).0).0
+pub entry_held : (held : List Held) (all : List Entry) (o : Option Entry) (es : List Entry) → all ≡ listed o ++ es → IsRest held all → OfEntry (λ e. IsHeld held (type_wanted e.kind) e.id) o
+entry_held held all o es is h = (split (λ e. IsHeld held (type_wanted e.kind) e.id) o es (subst (IsRest held) is h).0).0
 
 pub entry_named : (held : List Held) (all : List Entry) (o : Option Entry) (es : List Entry) → all ≡ listed o ++ es → IsRest held all → OfEntry (λ e. is_name e.name ≡ true) o
 entry_named held all o es is h = (split (λ e. is_name e.name ≡ true) o es (subst (IsRest held) is h).2).0
@@ -116,11 +116,6 @@ depth_after depth all o es n is h =
     let less = later_depth depth o es in
     omega (arith, same, less, h)
 
--- the directory of an entry is less deep
-child_depth : (depth : Id → ℕ) (o : Option Entry) (es : List Entry) → OfEntry (λ e. e.kind ≡ None → depth e.id < entries_depth depth (listed o ++ es)) o
-child_depth depth None es = tt
-child_depth depth (Some e) es = λ dir. child_below depth e es dir
-
 pub entry_depth : (depth : Id → ℕ) (all : List Entry) (o : Option Entry) (es : List Entry) (n : ℕ) → all ≡ listed o ++ es → entries_depth depth all ≤ n → OfEntry (λ e. e.kind ≡ None → depth e.id < n) o
 entry_depth depth all None es n is h = tt
 entry_depth depth all (Some e) es n is h = λ dir.
@@ -128,7 +123,7 @@ entry_depth depth all (Some e) es n is h = λ dir.
     let less = child_below depth e es dir in
     omega (arith, same, less, h)
 
--- the files of the next entry stand before those that are left
+-- the files of the next entry are before those that are left
 
 abbrev pub rows_of_entry : (Id → List Row) → Option Entry → List Row
 rows_of_entry rows None = []
@@ -177,20 +172,16 @@ one_name n m (Some k) None name names is = absurd (not_slashed n m name is)
 mode_is : (k l : Option Kind) → same_mode k l ≡ true → k ≡ l
 mode_is None None h = refl
 mode_is (Some k) (Some l) h = ap Some (same_kind-is k l h)
-mode_is None (Some l) h = absurd (cc)
-mode_is (Some k) None h = absurd (cc)
+mode_is k l h = absurd (cc)
 
 both_parts : (a b : Bool) → not (a && b) ≡ false → (a ≡ true) × (b ≡ true)
 both_parts true true h = (refl, refl)
-both_parts true false h = absurd (cc)
-both_parts false b h = absurd (cc)
+both_parts a b h = absurd (cc)
 
 -- what is the same has no difference
 pub nothing_changed : (rows : Id → List Row) (o p : Option Entry) → Meet o p → OfEntry (λ e. is_name e.name ≡ true) o → OfEntry (λ e. is_name e.name ≡ true) p → is_changed o p ≡ false
     → merge_rows (rows_of_entry rows o) (rows_of_entry rows p) ≡ []
 nothing_changed rows None None meet name names h = absurd meet
-nothing_changed rows None (Some f) meet name names h = absurd (cc)
-nothing_changed rows (Some e) None meet name names h = absurd (cc)
 nothing_changed rows (Some e) (Some f) meet name names h =
     let parts = both_parts (same_mode e.kind f.kind) (same_id e.id f.id) h in
     let kinds = mode_is e.kind f.kind parts.0 in
@@ -198,6 +189,7 @@ nothing_changed rows (Some e) (Some f) meet name names h =
     let one = one_name e.name f.name e.kind f.kind name names meet in
     let same : entry_rows rows f ≡ entry_rows rows e = sym (λ i. rows_of_kind (one i) (kinds i) (ids i) (rows (ids i))) in
     ap (merge_rows (entry_rows rows e)) same ∙ same_law (entry_rows rows e)
+nothing_changed rows o p meet name names h = absurd (cc)
 
 -- a file that is changed
 file_alone : (n : List ℕ) (k : Option Kind) (i : Id) (below : List Row) (a b : Option Id) → directory_of n k a b ≡ None → (merge_rows (rows_of_kind n k i below) [] ≡ n ∷ []) × (merge_rows [] (rows_of_kind n k i below) ≡ n ∷ [])
@@ -238,14 +230,14 @@ pub also_dir : (n m : List ℕ) (l : Option Kind) → is_name m ≡ true → key
 also_dir n m None name is = refl
 also_dir n m (Some l) name is = absurd (not_slashed m n name (sym is))
 
-tree_of : (held : List Held) (k : Option Kind) (i : Id) → k ≡ None → IsHeld held (word_wanted k) i → HasTree held i
-tree_of held k i dir h = subst (λ l. IsHeld held (word_wanted l) i) dir h
+tree_of : (held : List Held) (k : Option Kind) (i : Id) → k ≡ None → IsHeld held (type_wanted k) i → HasTree held i
+tree_of held k i dir h = subst (λ l. IsHeld held (type_wanted l) i) dir h
 
 dir_rows : (n : List ℕ) (k : Option Kind) (i : Id) (inner : List Row) → k ≡ None → rows_of_kind n k i inner ≡ map (under n) inner
 dir_rows n k i inner dir = ap (λ l. rows_of_kind n l i inner) dir
 
 pub directory_met : (held : List Held) (m n : ℕ) (o p : Option Entry) (d : Directory) → Meet o p → OfEntry (λ e. is_name e.name ≡ true) o → OfEntry (λ e. is_name e.name ≡ true) p
-    → OfEntry (λ e. IsHeld held (word_wanted e.kind) e.id) o → OfEntry (λ e. IsHeld held (word_wanted e.kind) e.id) p
+    → OfEntry (λ e. IsHeld held (type_wanted e.kind) e.id) o → OfEntry (λ e. IsHeld held (type_wanted e.kind) e.id) p
     → OfEntry (λ e. e.kind ≡ None → tree_depth held e.id < m) o → OfEntry (λ e. e.kind ≡ None → tree_depth held e.id < n) p
     → directory o p ≡ Some d → IsDirectory held m n (rows_of_entry (tree_rows held) o) (rows_of_entry (tree_rows held) p) d
 directory_met held m n None None d meet name names h g deep depths is = absurd meet

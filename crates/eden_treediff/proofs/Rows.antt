@@ -1,4 +1,4 @@
--- The rows at which two directories of the same names differ, and what stands between them.
+-- The rows at which two directories of the same names differ, and what is between them.
 use Rattle.std.proofs.Common.{◌≡◌, ℕ, ◌+◌, ◌<◌, ◌≤◌, ◌++◌, inl, inr, Bool, true, false, cond, nat_eq, min, List, [], ◌∷◌, length, Option, Some, None, refl, sym, ap, subst, ◌∙◌, arith}
 use Rattle.std.proofs.lemmas.Bool.{cases_Bool, eqb-true}
 use Rattle.eden_ids.specs.declared.content.Kind.{Kind}
@@ -19,7 +19,7 @@ module _ {A : Type 0} (same : A → A → Bool) where
   unlike : (k : ℕ) (x y : A) (xs ys : List A) → same x y ≡ false → differ_from same k (x ∷ xs) (y ∷ ys) ≡ k ∷ differ_from same (k + 1) xs ys
   unlike k x y xs ys f = ap (λ b. cond b [] (k ∷ []) ++ differ_from same (k + 1) xs ys) f
 
-  -- none stands before the row from which they are counted
+  -- none is before the row from which they are counted
   not_before : (k j end : ℕ) (xs ys : List A) → k ≤ j → k ≤ end → k ≤ first_row (differ_from same j xs ys) end
   not_before k j end [] ys low fits = fits
   not_before k j end (x ∷ xs) [] low fits = fits
@@ -55,7 +55,7 @@ module _ {A : Type 0} (same : A → A → Bool) where
         ap (rows_after k) (is ∙ unlike k x y xs ys f) ∙ ap (λ b. cond b more (k ∷ more)) here
   ]
 
--- a kind is told by its byte
+-- a kind is determined by its byte
 kind_told : (k l : Option Kind) → kind_byte k ≡ kind_byte l → k ≡ l
 kind_told None None is = refl
 kind_told None (Some Plain) is = absurd (omega (arith, is))
@@ -74,21 +74,11 @@ kind_told (Some Link) (Some Plain) is = absurd (omega (arith, is))
 kind_told (Some Link) (Some Exec) is = absurd (omega (arith, is))
 kind_told (Some Link) (Some Link) is = refl
 
-head_of : List ℕ → List (List ℕ) → List ℕ
-head_of other [] = other
-head_of other (name ∷ names) = name
-
-tail_of : List (List ℕ) → List (List ℕ)
-tail_of [] = []
-tail_of (name ∷ names) = names
-
 first_name : (n m : List ℕ) (ns ms : List (List ℕ)) → n ∷ ns ≡ m ∷ ms → n ≡ m
-unfolding head_of
-first_name n m ns ms is = ap (head_of n) is
+first_name n m ns ms is = cc
 
 other_names : (n m : List ℕ) (ns ms : List (List ℕ)) → n ∷ ns ≡ m ∷ ms → ns ≡ ms
-unfolding tail_of
-other_names n m ns ms is = ap tail_of is
+other_names n m ns ms is = cc
 
 -- up to the first row that differs the entries are the same
 abbrev pub Jumps : ℕ → ℕ → List ℕ → List ℕ → List Entry → List Entry → Type 0
@@ -146,7 +136,7 @@ jump row end ids kinds (e ∷ es) (f ∷ fs) fits told = by (same_id e.id f.id) 
         let is : first_row kinds end ≡ row = ap (λ ns. first_row ns end) (told.2 ∙ unlike nat_eq row (kind_byte e.kind) (kind_byte f.kind) (kinds_of es) (kinds_of fs) t) in
         stays row to ids kinds (e ∷ es) (f ∷ fs) told (omega (arith, is, low_id))
 
--- behind a row
+-- after a row
 
 pub passed_row : (row : ℕ) (ids kinds : List ℕ) (e f : Entry) (es fs : List Entry) → AreChanges row ids kinds (e ∷ es) (f ∷ fs)
     → AreChanges (row + 1) (rows_after row ids) (rows_after row kinds) es fs

@@ -11,7 +11,7 @@ use Rattle.std.specs.Cmp.{Equal-is}
 use Rattle.eden_ids.specs.declared.id.Id.{Id}
 use Rattle.eden_objects.specs.Objects.{Held}
 use Rattle.eden_git.specs.Trees.{Entry}
-use Rattle.eden_treediff.specs.declared.known_pairs.Settled.{Settled}
+use Rattle.eden_treediff.specs.declared.known_pairs.KnownPairs.{KnownPairs}
 use Rattle.eden_treediff.specs.Merges.{merge_rows}
 use Rattle.eden_treediff.specs.internal.Pairs.{next_pair}
 use Rattle.eden_treediff.specs.internal.Settled.{AreSettled, HoldSame, is_known, is_settled, side_cmp, sides_cmp}
@@ -27,7 +27,7 @@ side_is None (Some b) h = absurd (cc)
 side_is (Some a) None h = absurd (cc)
 
 -- a tree does not differ from itself, nor does a pair that is remembered
-pub known_same : (held : List Held) (settled : Settled) (first second : Option Id) → AreSettled held settled → is_known settled first second ≡ true → HoldSame held first second
+pub known_same : (held : List Held) (settled : KnownPairs) (first second : Option Id) → AreSettled held settled → is_known settled first second ≡ true → HoldSame held first second
 known_same held settled first second all known = by (is_one_tree first second) refl known
   where
     by : (b : Bool) → is_one_tree first second ≡ b → (b || is_settled settled first second) ≡ true → HoldSame held first second
@@ -35,7 +35,7 @@ known_same held settled first second all known = by (is_one_tree first second) r
     by false same h = all first second h
 
 -- it adds no path
-pub known_sides : (held : List Held) (settled : Settled) (first second : Option Id) (test : List ℕ → Bool) (front : List ℕ) (done : List (List ℕ)) → AreSettled held settled → is_known settled first second ≡ true
+pub known_sides : (held : List Held) (settled : KnownPairs) (first second : Option Id) (test : List ℕ → Bool) (front : List ℕ) (done : List (List ℕ)) → AreSettled held settled → is_known settled first second ≡ true
     → done ≡ done ++ wanted_behind test front (merge_rows (side_rows held first) (side_rows held second))
 known_sides held settled first second test front done all is =
     sym (ap (λ ps. done ++ wanted_behind test front ps) (known_same held settled first second all is) ∙ append-nil done)
@@ -53,7 +53,7 @@ exact_sides : CmpEqualImpliesEq sides_cmp
 exact_sides = exact_pairs side_cmp side_cmp exact_side exact_side
 
 -- one more pair
-pub settled_more : (held : List Held) (old new : Settled) (first second : Option Id) → AreSettled held old → HoldSame held first second → Updates sides_cmp old.pairs new.pairs (first, second) true
+pub settled_more : (held : List Held) (old new : KnownPairs) (first second : Option Id) → AreSettled held old → HoldSame held first second → Updates sides_cmp old.pairs new.pairs (first, second) true
     → AreSettled held new
 settled_more held old new first second all same updates a b is = elim (cases_Bool (is_at (sides_cmp (first, second)) (a, b))) [
   | inl t ↦

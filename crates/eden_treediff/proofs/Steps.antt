@@ -70,7 +70,7 @@ module _ {held : List Held} {m n : ℕ} {es fs : List Entry} {next : Next} (step
     depth_after (tree_depth held) fs next.1 next.3 n is_next.1 step.way.3,
   )
 
-  -- its paths stand before those of what is left behind it
+  -- its paths are before those of what is left after it
   pub one_more : merge_entries held es fs ≡ here held next ++ merge_entries held next.2 next.3
   one_more = merge_next held (tree_rows held) es fs next step.way.0 step.way.1 is_next
 

@@ -1,4 +1,4 @@
--- One turn of the walk: what it knows of the next pair, and what is known behind it.
+-- One turn of the walk: what it knows of the next pair, and what is known after it.
 use Rattle.std.proofs.Common.{◌≡◌, ℕ, ◌++◌, Bool, true, false, List, [], ◌∷◌, Some, None, refl, sym, ap, ◌∙◌, append_assoc}
 use Rattle.std.proofs.lemmas.List.{append-nil}
 use Rattle.std.specs.Prelude.{filter}
@@ -31,7 +31,7 @@ module _ {held : List Held} {m n : ℕ} {test : List ℕ → Bool} {front : List
   pub step : Step held m n turn.rests.0 turn.rests.1 next
   step = record { way = turn.stands.way; is = turn.is }
 
-  -- behind the pair, whose wanted paths were found
+  -- after the pair, whose wanted paths were found
   pub goes_on : {new : List (List ℕ)} {now : Bool} → new ≡ done ++ wanted_behind test front (here held next) → (now ≡ true → (same ≡ true) × (here held next ≡ []))
       → Stands held m n test front target new whole now (next.2, next.3)
   goes_on {new} more alike =

@@ -24,6 +24,7 @@ impl Model for Ahead {
 }
 
 impl Ahead {
+    /// Returns rows of which none is passed yet.
     fn new(rows: Vec<usize>) -> Ahead
         ensures { result ≡ rows.items }
     {

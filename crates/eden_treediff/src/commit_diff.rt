@@ -7,7 +7,7 @@ ghost use Rattle.eden_treediff.specs.Merges.{admitted, admitted_differences, dif
 ghost use Rattle.eden_treediff.specs.internal.Walks.{IsSide, IsSideOf, side_rows};
 
 use crate::difference::{Found, walk};
-use crate::known_pairs::Settled;
+use crate::known_pairs::KnownPairs;
 use eden_globs::{Filter, Front};
 use eden_ids::{Id, Naming, NoMemory, Path};
 use eden_objects::{CommitFault, NoCommit, Store};
@@ -45,7 +45,7 @@ fn paths_between<N: Naming + Drop>(
         front: Front::new(alloc),
         paths: Vec::new(alloc),
     };
-    let mut settled = Settled::new(alloc);
+    let mut settled = KnownPairs::new(alloc);
     walk(
         alloc,
         store,

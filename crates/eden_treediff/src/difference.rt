@@ -10,7 +10,7 @@ ghost use Rattle.eden_treediff.specs.internal.Settled.{AreSettled, HoldSame, Kee
 ghost use Rattle.eden_treediff.specs.internal.Columns.{entries_lent};
 ghost use Rattle.eden_treediff.specs.internal.Walks.{IsSide, is_one_tree, side_entries, side_rows, wanted_behind};
 
-use crate::known_pairs::Settled;
+use crate::known_pairs::KnownPairs;
 use crate::merge::Merge;
 use eden_globs::{Filter, Front};
 use eden_ids::{Id, Naming, NoMemory, Path};
@@ -80,7 +80,7 @@ pub(crate) fn walk<N: Naming + Drop>(
     second: Option<Id>,
     filter: &Filter,
     found: &mut Found,
-    settled: &mut Settled,
+    settled: &mut KnownPairs,
 ) -> Result<bool, NoMemory>
     requires first { IsSide store.now first }
     requires second { IsSide store.now second }

@@ -12,16 +12,16 @@ use std::collections::BTreeSet;
 /// A missing tree holds no file. The pairs are kept in order, so that a client cannot
 /// slow look-ups down by its choice of ids.
 #[derive(Drop)]
-pub(crate) struct Settled {
+pub(crate) struct KnownPairs {
     pairs: BTreeSet<(Option<Id>, Option<Id>)>,
 }
 
-impl Settled {
+impl KnownPairs {
     /// Returns an empty set of pairs.
-    pub(crate) fn new(alloc: Global) -> Settled
+    pub(crate) fn new(alloc: Global) -> KnownPairs
         ensures { NoneSettled result }
     {
-        Settled {
+        KnownPairs {
             pairs: BTreeSet::new(alloc),
         }
     }

@@ -5,8 +5,8 @@ use Rattle.std.specs.Borrow.{Bor}
 use Rattle.hex.specs.Hex.{encode_lower}
 use Rattle.eden_ids.specs.declared.id.Id.{Id}
 use Rattle.eden_ids.specs.Texts.{IsIdText}
-use Rattle.eden_git.specs.declared.word.Word.{Word}
-use Rattle.eden_git.specs.Words.{word_text}
+use Rattle.eden_git.specs.declared.object_type.ObjectType.{ObjectType}
+use Rattle.eden_git.specs.ObjectTypes.{type_text}
 use Rattle.eden_batch.specs.Batches.{header}
 use Rattle.eden_batch.specs.declared.fields.Lack.{Lack}
 use Rattle.eden_batch.specs.declared.fields.Lack.TheVariants as lack
@@ -24,12 +24,12 @@ Reads {V} IsValue text bytes (Err lack.Bad) =
 abbrev pub id_field : Id → List ℕ
 id_field id = encode_lower id.0 ++ 32 ∷ []
 
--- a kind's word and a space
-abbrev pub word_field : Word → List ℕ
-word_field word = word_text word ++ 32 ∷ []
+-- a type's name and a space
+abbrev pub type_field : ObjectType → List ℕ
+type_field object_type = type_text object_type ++ 32 ∷ []
 
-abbrev pub IsAnyWord : Word → Type 0
-IsAnyWord word = Unit {0}
+abbrev pub IsAnyType : ObjectType → Type 0
+IsAnyType object_type = Unit {0}
 
 -- a number in decimal and a line feed
 abbrev pub size_field : ℕ → List ℕ
@@ -39,7 +39,7 @@ abbrev pub IsSize : ℕ → Type 0
 IsSize size = size < 2 ^ 64
 
 abbrev pub header_field : Header → List ℕ
-header_field h = header h.id h.word h.size
+header_field h = header h.id h.object_type h.size
 
 abbrev pub IsHeader : Header → Type 0
 IsHeader h = IsIdText h.id × IsSize h.size

@@ -1,9 +1,9 @@
--- What is told of what is being filled with objects.
+-- What is known of what is being filled with objects.
 use Rattle.std.proofs.Common.{◌≡◌, List, ℕ, ◌++◌, map, ◌⊎◌, Result, Ok, Err}
 use Rattle.std.specs.List.{All}
 use Rattle.eden_ids.specs.declared.id.Id.{Id}
-use Rattle.eden_git.specs.declared.word.Word.{Word}
-use Rattle.eden_objects.specs.Imports.{put_word}
+use Rattle.eden_git.specs.declared.object_type.ObjectType.{ObjectType}
+use Rattle.eden_objects.specs.Imports.{put_typed}
 use Rattle.eden_objects.specs.Objects.{Held}
 use Rattle.eden_objects.specs.declared.fault.PutFault.{PutFault}
 use Rattle.eden_objects.specs.declared.fault.PutFault.TheVariants as put
@@ -22,10 +22,10 @@ use Rattle.eden_batch.specs.declared.fault.ObjectsFault.TheVariants as faults
 use Rattle.eden_batch.specs.declared.putting.Filling.{Filling}
 
 -- a put call gave its outcome, or a growth was refused
-abbrev pub Puts : Result Id PutFault → (List ℕ → List ℕ → Id) → Word → List ℕ → List Held → List Held → Type 0
-Puts (Ok id) name word payload old new = put_word name word payload old ≡ Ok (id, new)
-Puts (Err put.NoMemory) name word payload old new = new ≡ old
-Puts (Err fault) name word payload old new = (new ≡ old) × (put_word name word payload old ≡ Err fault)
+abbrev pub Puts : Result Id PutFault → (List ℕ → List ℕ → Id) → ObjectType → List ℕ → List Held → List Held → Type 0
+Puts (Ok id) name object_type payload old new = put_typed name object_type payload old ≡ Ok (id, new)
+Puts (Err put.NoMemory) name object_type payload old new = new ≡ old
+Puts (Err fault) name object_type payload old new = (new ≡ old) × (put_typed name object_type payload old ≡ Err fault)
 
 -- what is answered to a refusal
 abbrev pub refusal_of : PutFault → Step ObjectFault

@@ -2,11 +2,11 @@
 use Rattle.std.specs.Prelude.{◌≡◌, ℕ, ◌≤◌, Bool, ◌&&◌, List, [], ◌∷◌, length, Option, Some, None, Result, Ok, Err, if◌then◌else◌}
 use Rattle.eden_ids.specs.declared.id.Id.{Id}
 use Rattle.eden_ids.specs.Sameness.{same_bytes}
-use Rattle.eden_git.specs.declared.word.Word.{Word}
+use Rattle.eden_git.specs.declared.object_type.ObjectType.{ObjectType}
 use Rattle.eden_git.specs.Columns.{AreColumns}
 use Rattle.eden_git.specs.Commits.{tree_named}
 use Rattle.eden_git.specs.Trees.{Entry, entries_of}
-use Rattle.eden_git.specs.Words.{same_word}
+use Rattle.eden_git.specs.ObjectTypes.{same_type}
 use Rattle.eden_objects.specs.declared.size.Size.{Size}
 use Rattle.eden_objects.specs.declared.outline.Outline.{Outline}
 use Rattle.eden_objects.specs.declared.stored.Body.{Body}
@@ -15,7 +15,7 @@ use Rattle.eden_objects.specs.declared.stored.Stored.{Stored}
 use Rattle.eden_objects.specs.declared.fault.PutFault.{PutFault}
 use Rattle.eden_objects.specs.declared.fault.PutFault.TheVariants.{IdTaken}
 use Rattle.eden_objects.specs.Commits.{entries_rows, tree_rows}
-use Rattle.eden_objects.specs.Contents.{held_of, helds, word_of}
+use Rattle.eden_objects.specs.Contents.{held_of, helds, type_of}
 use Rattle.eden_objects.specs.Counts.{capped}
 use Rattle.eden_objects.specs.Objects.{Held}
 use Rattle.eden_objects.specs.Trees.{entries_depth, entries_reach, tree_depth, tree_reach}
@@ -24,11 +24,11 @@ abbrev pub option_held : Id → Option Stored → Option Held
 option_held id None = None
 option_held id (Some object) = Some (held_of id object)
 
-abbrev pub is_object : Stored → Word → List ℕ → Bool
-is_object object word payload = same_word (word_of object.body) word && same_bytes object.payload payload
+abbrev pub is_object : Stored → ObjectType → List ℕ → Bool
+is_object object object_type payload = same_type (type_of object.body) object_type && same_bytes object.payload payload
 
-abbrev pub standing_answer : Stored → Id → Word → List ℕ → Result Id PutFault
-standing_answer object id word payload = if is_object object word payload then Ok id else Err IdTaken
+abbrev pub standing_answer : Stored → Id → ObjectType → List ℕ → Result Id PutFault
+standing_answer object id object_type payload = if is_object object object_type payload then Ok id else Err IdTaken
 
 -- the files of a tree with these entries, over the objects before it
 abbrev pub files_of_entries : List Held → List Entry → ℕ

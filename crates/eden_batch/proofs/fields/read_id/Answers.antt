@@ -1,4 +1,4 @@
--- The digits that are there are read with zeros behind them.
+-- The digits that are there are read with zeros after them.
 use Rattle.std.proofs.Common.{◌∙◌, ◌++◌, ◌-◌, sym, ap, refl, length, replicate}
 use Rattle.eden_batch.specs.internal.Fields.{id_field}
 use Rattle.eden_batch.proofs.Ids.{no_id, no_space, part_of_id, whole_id}

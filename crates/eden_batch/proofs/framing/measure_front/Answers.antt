@@ -1,4 +1,4 @@
--- What stands at the front, by its header and the byte behind the object.
+-- What is at the front, by its header and the byte after the object.
 use Rattle.std.proofs.Common.{◌∙◌, inl, inr, refl, sym}
 use Rattle.eden_batch.proofs.Fronts.{lacks_line_feed, no_header, part_of_header, part_of_object, whole_object}
 use Rattle.eden_batch.proofs.framing.measure_front.Goals as goal

@@ -1,4 +1,4 @@
--- What stands before a turn of the walk stands behind it, whatever the pair is.
+-- What holds before a turn of the walk holds after it, whatever the pair is.
 use Rattle.std.proofs.Common.{rules, ◌≡◌, ◌++◌, ◌∷◌, [], ℕ, true, false, length, map, take, ◌||◌, List, sym, ap, subst, ◌∙◌}
 use Rattle.std.specs.Prelude.{IsSome}
 use Rattle.eden_globs.specs.Filters.{admits}
@@ -81,7 +81,7 @@ add-requires g t c =
     rw (c.pairs.invariant.front, c.name.ensures)
     (found_is_path (turn_of c.in-Some.ensures c.pairs.invariant.stands) (sym c.directory.ensures ∙ ap directory_read c.in_default-directory.is))
 
--- behind it, the directory that is read is the one from before
+-- after it, the directory that is read is the one from before
 back : {front inner walked new : List ℕ} {long : ℕ} (name : List ℕ) → (inner ≡ front ++ name ++ 47 ∷ []) × (long ≡ length front) → walked ≡ inner → new ≡ take long walked → new ≡ front
 back {front} {walked = walked} name there same is = is ∙ ap (λ n. take n walked) there.1 ∙ left front walked name (same ∙ there.0)
 

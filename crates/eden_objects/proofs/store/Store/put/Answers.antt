@@ -3,16 +3,16 @@ use Rattle.eden_ids.proofs.Texts.{bytes_are}
 use Rattle.eden_objects.specs.Objects.{find, zero_id}
 use Rattle.eden_ids.specs.Sameness.{same_id}
 use Rattle.eden_objects.specs.Puts.{named}
-use Rattle.eden_objects.specs.Contents.{held_of, word_of}
+use Rattle.eden_objects.specs.Contents.{held_of, type_of}
 use Rattle.eden_objects.proofs.Putting.{standing}
 use Rattle.eden_objects.proofs.store.Store.put.Goals as goal
 
 pub returns-in-Some : goal.returns-in-Some
 returns-in-Some g c =
-    let called : (named g.N.Naming.id (word_of c.args.body) c.args.payload.now).id ≡ c.id_of-id.result = search rules in
+    let called : (named g.N.Naming.id (type_of c.args.body) c.args.payload.now).id ≡ c.id_of-id.result = search rules in
     let zero : same_id c.id_of-id.result zero_id ≡ false = search rules in
     let found : find c.id_of-id.result c.args.self.now ≡ Some (held_of c.id_of-id.result c.in-Some.held.now) = search rules in
-    rw (c.id_or_taken.ensures, c.word-word.ensures) (standing (named g.N.Naming.id (word_of c.args.body) c.args.payload.now) c.args.self.now c.id_of-id.result c.in-Some.held.now called zero found)
+    rw (c.id_or_taken.ensures, c.object_type-object_type.ensures) (standing (named g.N.Naming.id (type_of c.args.body) c.args.payload.now) c.args.self.now c.id_of-id.result c.in-Some.held.now called zero found)
 
 pub add-requires-clause-small : goal.add-requires-clause-small
 add-requires-clause-small g c =

@@ -4,7 +4,7 @@ use Rattle.std.proofs.lemmas.List.{length-take}
 use Rattle.eden_batch.specs.declared.fault.ObjectFault.TheVariants.{OtherId}
 use Rattle.eden_batch.specs.internal.Loads.{Fills, HaltsAt}
 use Rattle.eden_batch.proofs.Fillings.{fails_at, fills_more, halts_at, id_is, never_lacks, other_id, outcome_is, put_own, puts_is, puts_of, same_still, tells_refused, there}
-use Rattle.eden_batch.proofs.putting.PuttingTellerPrintedFillingObjectFault.tell.Goals as goal
+use Rattle.eden_batch.proofs.putting.PuttingTellerPrintedFillingObjectFault.answer.Goals as goal
 
 pub unreachable-requires : goal.unreachable-requires
 unreachable-requires g c = never_lacks c.args.item.now c.requires c.in_default.field-0 c.in_default.ensures
@@ -71,5 +71,5 @@ returns-in-Err g c = λ before items sent told.
     let same = same_still taker.name taker.held taker.over taker.laws before c.args.filling.now _ told.0 refl refl c.put_object.ensures.only in
     let puts =
     puts_is item c.requires h behind read.0 read.1 (Err cause) taker.name held new
-    (puts_of cause taker.name h.word (take h.size behind) held new c.in-Err.ensures.err c.in-Err.ensures.refuses) in
+    (puts_of cause taker.name h.object_type (take h.size behind) held new c.in-Err.ensures.err c.in-Err.ensures.refuses) in
     rw c.refusal.ensures (tells_refused taker.name taker.held taker.over before _ same held items told.1 cause sent item c.args._text.now.items c.requires puts)
