@@ -1,4 +1,4 @@
--- Rows in order: those of one ticket or of one question stand together.
+-- Rows in order: those of one ticket or of one question are together.
 use Rattle.std.proofs.Common.{◌≡◌, ◌<◌, ◌≤◌, ◌⊎◌, inl, inr, ℕ, ◌+◌, ◌-◌, Bool, true, false, nat_le, nat_lt, List, [], ◌∷◌, length, map, get_or, refl, sym, ap, subst, ◌∙◌, arith}
 use Rattle.std.specs.Prelude.{All, Contains}
 use Rattle.std.proofs.Math.ListN.{get_or-map}
@@ -17,8 +17,8 @@ use Rattle.std.proofs.lemmas.List.Edits.{get_or-between, length-between}
 use Rattle.std.proofs.lemmas.List.Sorted.{searchable_from_sorted}
 use Rattle.eden_messages.specs.declared.message.Request.{Request}
 use Rattle.eden_messages.specs.Mirrors.{query_of}
-use Rattle.eden_follow.specs.declared.rows.Asked.{Asked}
-use Rattle.eden_follow.specs.declared.rows.Told.{Told}
+use Rattle.eden_follow.specs.declared.rows.RequestRow.{RequestRow}
+use Rattle.eden_follow.specs.declared.rows.ReplyRow.{ReplyRow}
 use Rattle.eden_follow.specs.internal.Orders.{AreInOrder, IsGroup, path_in, question_cmp}
 use Rattle.eden_follow.specs.internal.Rows.{asked}
 
@@ -79,11 +79,11 @@ part_of xs start end x bound (k, h, e) =
 
 -- ---- by ticket
 
-pub under : (rows : List Told) (ticket start end : ℕ) → IsPartitionPoint (λ (row : Told). nat_lt row.ticket ticket ≡ true) (λ (row : Told). nat_lt row.ticket ticket ≡ false) rows start
-    → IsPartitionPoint (λ (row : Told). nat_le row.ticket ticket ≡ true) (λ (row : Told). nat_le row.ticket ticket ≡ false) rows end → start ≤ length rows → end ≤ length rows
-    → IsGroup (λ (row : Told). row.ticket ≡ ticket) rows start end
+pub under : (rows : List ReplyRow) (ticket start end : ℕ) → IsPartitionPoint (λ (row : ReplyRow). nat_lt row.ticket ticket ≡ true) (λ (row : ReplyRow). nat_lt row.ticket ticket ≡ false) rows start
+    → IsPartitionPoint (λ (row : ReplyRow). nat_le row.ticket ticket ≡ true) (λ (row : ReplyRow). nat_le row.ticket ticket ≡ false) rows end → start ≤ length rows → end ≤ length rows
+    → IsGroup (λ (row : ReplyRow). row.ticket ≡ ticket) rows start end
 under rows ticket start end =
-    grouped (λ (row : Told). row.ticket ≡ ticket) (λ row. nat_lt row.ticket ticket) (λ row. nat_le row.ticket ticket)
+    grouped (λ (row : ReplyRow). row.ticket ≡ ticket) (λ row. nat_lt row.ticket ticket) (λ row. nat_le row.ticket ticket)
     (λ row h e. below row.ticket h e) (λ row h e. above row.ticket (leb_tells row.ticket ticket) h e) (λ row h. within row.ticket h) rows start end
   where
     below : (n : ℕ) → nat_lt n ticket ≡ true → n ≡ ticket → ⊥
@@ -132,30 +132,30 @@ less_within Less e = refl
 less_within Equal e = refl
 less_within Greater e = absurd (cc e)
 
-search_by : (rows : List Asked) (request : Request) → AreInOrder rows → IsNonDecreasingBy (λ (row : Asked). ordering_index (question_cmp row.request.now request)) rows
-search_by rows request sorted = searchable_from_sorted question_total (λ (row : Asked). row.request.now) rows request sorted
+search_by : (rows : List RequestRow) (request : Request) → AreInOrder rows → IsNonDecreasingBy (λ (row : RequestRow). ordering_index (question_cmp row.request.now request)) rows
+search_by rows request sorted = searchable_from_sorted question_total (λ (row : RequestRow). row.request.now) rows request sorted
 
 low_enough : (a b n : ℕ) → a ≤ b → b ≤ n → a ≤ n
 low_enough a b n h k = omega arith
 
-pub before_parted : (rows : List Asked) (request : Request) → AreInOrder rows → IsPartitionedBy (λ (row : Asked). is_lt (question_cmp row.request.now request)) rows
+pub before_parted : (rows : List RequestRow) (request : Request) → AreInOrder rows → IsPartitionedBy (λ (row : RequestRow). is_lt (question_cmp row.request.now request)) rows
 before_parted rows request sorted i j d h lt e =
     low_less (question_cmp (get_or rows i d).request.now request)
     (low_enough (ordering_index (question_cmp (get_or rows i d).request.now request)) (ordering_index (question_cmp (get_or rows j d).request.now request)) 0
     (search_by rows request sorted i j d h lt) (less_low (question_cmp (get_or rows j d).request.now request) e))
 
-pub upto_parted : (rows : List Asked) (request : Request) → AreInOrder rows → IsPartitionedBy (λ (row : Asked). is_le (question_cmp row.request.now request)) rows
+pub upto_parted : (rows : List RequestRow) (request : Request) → AreInOrder rows → IsPartitionedBy (λ (row : RequestRow). is_le (question_cmp row.request.now request)) rows
 upto_parted rows request sorted i j d h lt e =
     low_within (question_cmp (get_or rows i d).request.now request)
     (low_enough (ordering_index (question_cmp (get_or rows i d).request.now request)) (ordering_index (question_cmp (get_or rows j d).request.now request)) 1
     (search_by rows request sorted i j d h lt) (within_low (question_cmp (get_or rows j d).request.now request) e))
 
-pub questioned : (rows : List Asked) (request : Request) (start end : ℕ)
-    → IsPartitionPoint (λ (row : Asked). is_lt (question_cmp row.request.now request) ≡ true) (λ (row : Asked). is_lt (question_cmp row.request.now request) ≡ false) rows start
-    → IsPartitionPoint (λ (row : Asked). is_le (question_cmp row.request.now request) ≡ true) (λ (row : Asked). is_le (question_cmp row.request.now request) ≡ false) rows end
-    → start ≤ length rows → end ≤ length rows → IsGroup (λ (row : Asked). row.request.now ≡ request) rows start end
+pub questioned : (rows : List RequestRow) (request : Request) (start end : ℕ)
+    → IsPartitionPoint (λ (row : RequestRow). is_lt (question_cmp row.request.now request) ≡ true) (λ (row : RequestRow). is_lt (question_cmp row.request.now request) ≡ false) rows start
+    → IsPartitionPoint (λ (row : RequestRow). is_le (question_cmp row.request.now request) ≡ true) (λ (row : RequestRow). is_le (question_cmp row.request.now request) ≡ false) rows end
+    → start ≤ length rows → end ≤ length rows → IsGroup (λ (row : RequestRow). row.request.now ≡ request) rows start end
 questioned rows request start end =
-    grouped (λ (row : Asked). row.request.now ≡ request) (λ row. is_lt (question_cmp row.request.now request)) (λ row. is_le (question_cmp row.request.now request))
+    grouped (λ (row : RequestRow). row.request.now ≡ request) (λ row. is_lt (question_cmp row.request.now request)) (λ row. is_le (question_cmp row.request.now request))
     (λ row h e. not_less row.request.now h e) (λ row h e. not_more row.request.now h e) (λ row h. less_within (question_cmp row.request.now request) h) rows start end
   where
     tied : (r : Request) → r ≡ request → question_cmp r request ≡ Equal
@@ -168,7 +168,7 @@ questioned rows request start end =
     not_more r h e = let bad : true ≡ false = sym (ap is_le (tied r e)) ∙ h in cc bad
 
 -- marking leaves rows in order
-pub still_in_order : (before after : List Asked) → map asked after ≡ map asked before → AreInOrder before → AreInOrder after
+pub still_in_order : (before after : List RequestRow) → map asked after ≡ map asked before → AreInOrder before → AreInOrder after
 still_in_order before after same sorted k d low h =
     subst (λ (r : Request). is_lt (question_cmp r (get_or after k d).request.now) ≡ false) (sym (at (k + 1)))
     (subst (λ (r : Request). is_lt (question_cmp (get_or before (k + 1) d).request.now r) ≡ false) (sym (at k)) (sorted k d low (many h)))

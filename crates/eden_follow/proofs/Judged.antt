@@ -1,12 +1,12 @@
 -- A note is judged, and all notes.
 use Rattle.std.proofs.Common.{◌≡◌, ◌≢◌, ◌<◌, ◌≤◌, ◌⊎◌, inl, inr, ℕ, ◌+◌, true, false, nat_le, List, [], ◌∷◌, ◌++◌, length, map, take, drop, get_or, Option, Some, None, refl, sym, ap, subst, ◌∙◌, append-nil, arith}
-use Rattle.std.specs.Prelude.{All, Contains}
+use Rattle.std.specs.Prelude.{All, Contains, flat_map}
 use Rattle.std.proofs.lemmas.Bool.Decides.{leb_tells}
 use Rattle.std.specs.List.Sorted.{IsPermutation}
 use Rattle.std.proofs.lemmas.List.Sorted.{Contains-permutation, IsPermutation-map, IsPermutation-sym}
 use Rattle.std.proofs.lemmas.List.Elements.{All-contains, All-weaker, Contains-append_cases, Contains-append_left, Contains-append_right, Contains-push, Contains-push_cases}
-use Rattle.eden_logs.specs.declared.call.Answer.{Answer}
-use Rattle.eden_logs.specs.declared.call.Answer.TheVariants as answer
+use Rattle.eden_logs.specs.declared.call.CallAnswer.{CallAnswer}
+use Rattle.eden_logs.specs.declared.call.CallAnswer.TheVariants as answer
 use Rattle.eden_logs.specs.declared.call.Call.{Call}
 use Rattle.eden_logs.specs.declared.call.Call.TheVariants as call
 use Rattle.eden_messages.specs.declared.message.Reply.{Reply}
@@ -15,7 +15,7 @@ use Rattle.eden_messages.specs.Mirrors.{MirrorState}
 use Rattle.eden_logs.specs.declared.log.CallLog.{CallLog}
 use Rattle.eden_logs.specs.declared.log.LogEntry.{LogEntry}
 use Rattle.eden_logs.specs.Logs.{entries_in}
-use Rattle.eden_logs.proofs.Covered.{cons_cases, here, left_at, nowhere, taken_at, there}
+use Rattle.eden_logs.proofs.Covered.{cons_cases, here, left_at, nowhere, there}
 use Rattle.eden_headline.specs.declared.note.Note.{Note}
 use Rattle.eden_headline.specs.declared.note.Note.TheVariants.{Began, Sent, Came}
 use Rattle.eden_headline.specs.Notes.{came_in, sent_in}
@@ -23,8 +23,8 @@ use Rattle.eden_headline.specs.Vouched.{AllSent, AreVouched, IsAnswered, IsAsked
 use Rattle.eden_headline.proofs.Vouching.{came_more, sent_more}
 use Rattle.eden_follow.specs.declared.fault.VouchFault.{VouchFault}
 use Rattle.eden_follow.specs.declared.fault.VouchFault.TheVariants.{StrangeReply, BeforeCause, StrangeRequest, NoMemory}
-use Rattle.eden_follow.specs.declared.rows.Asked.{Asked}
-use Rattle.eden_follow.specs.declared.rows.Told.{Told}
+use Rattle.eden_follow.specs.declared.rows.RequestRow.{RequestRow}
+use Rattle.eden_follow.specs.declared.rows.ReplyRow.{ReplyRow}
 use Rattle.eden_follow.specs.Causes.{FirstCause, HasStrangeRequest, IsAgainst, IsCause, IsLate}
 use Rattle.eden_follow.specs.internal.Judged.{HasStrange, IsAt, Lists, Walks}
 use Rattle.eden_follow.specs.internal.Rows.{HasLate, IsAbove, IsHighest, IsMarked, IsTimelyRow, IsUnsent, asked, asked_by, asked_in, told, told_by, told_in}
@@ -68,21 +68,21 @@ kept tickets (Some high) ticket never is =
 
 -- ---- one note more
 
-pub at_first : (rows : List Asked) → All IsUnsent rows → IsAt [] rows None
+pub at_first : (rows : List RequestRow) → All IsUnsent rows → IsAt [] rows None
 at_first rows unsent =
     record {
       marked = All-weaker IsUnsent (IsMarked []) (λ row no. record { there = λ e. absurd (cc (no, e)); marked = λ c. absurd (nowhere row.request.now c) }) rows unsent;
       is_highest = none_highest;
     }
 
-pub at_began : (earlier : List Note) (rows : List Asked) (highest : Option ℕ) → IsAt earlier rows highest → IsAt (earlier ++ Began ∷ []) rows highest
+pub at_began : (earlier : List Note) (rows : List RequestRow) (highest : Option ℕ) → IsAt earlier rows highest → IsAt (earlier ++ Began ∷ []) rows highest
 at_began earlier rows highest is =
     record {
       marked = subst (λ (sent : List Request). All (IsMarked sent) rows) (sym (sent_more earlier Began ∙ append-nil (sent_in earlier))) is.marked;
       is_highest = subst (λ (came : List ℕ). IsHighest came highest) (sym (came_more earlier Began ∙ append-nil (came_in earlier))) is.is_highest;
     }
 
-pub at_sent : (earlier : List Note) (before rows : List Asked) (highest : Option ℕ) (requests : List Request) → IsAt earlier before highest
+pub at_sent : (earlier : List Note) (before rows : List RequestRow) (highest : Option ℕ) (requests : List Request) → IsAt earlier before highest
     → All (IsMarked (sent_in earlier ++ requests)) rows → IsAt (earlier ++ Sent requests ∷ []) rows highest
 at_sent earlier before rows highest requests is marked =
     record {
@@ -90,7 +90,7 @@ at_sent earlier before rows highest requests is marked =
       is_highest = subst (λ (came : List ℕ). IsHighest came highest) (sym (came_more earlier (Sent requests) ∙ append-nil (came_in earlier))) is.is_highest;
     }
 
-pub at_came : (earlier : List Note) (rows : List Asked) (highest higher : Option ℕ) (ticket : ℕ) (reply : Reply) → IsAt earlier rows highest
+pub at_came : (earlier : List Note) (rows : List RequestRow) (highest higher : Option ℕ) (ticket : ℕ) (reply : Reply) → IsAt earlier rows highest
     → IsHighest (came_in earlier ++ ticket ∷ []) higher → IsAt (earlier ++ Came ticket reply ∷ []) rows higher
 at_came earlier rows highest higher ticket reply is next =
     record {
@@ -145,18 +145,6 @@ sent_cause entries replies rows earlier highest requests note f is fault lists h
 
 -- ---- the notes in their order
 
-pub walk_first : (entries : List LogEntry) (whole : List Note) → Walks entries whole [] whole
-walk_first entries whole = record { vouched = λ h. h; cause = λ f h. h }
-
-pub walk_on : (entries : List LogEntry) (whole : List Note) (i : ℕ) (note : Note) → i < length whole → note ≡ get_or whole i note
-    → Walks entries whole (take i whole) (drop i whole) → IsVouchedNote entries (take i whole) note → Walks entries whole (take (i + 1) whole) (drop (i + 1) whole)
-walk_on entries whole i note h same walks is =
-    subst (λ (earlier : List Note). Walks entries whole earlier (drop (i + 1) whole)) (sym (taken_at whole i note h same))
-    (record { vouched = λ rest. on.vouched (is, rest); cause = λ f rest. on.cause f (inr (is, rest)) })
-  where
-    on : Walks entries whole (take i whole) (note ∷ drop (i + 1) whole)
-    on = subst (λ (left : List Note). Walks entries whole (take i whole) left) (left_at whole i note h same) walks
-
 pub walk_stop : (entries : List LogEntry) (whole : List Note) (i : ℕ) (note : Note) (f : VouchFault) → i < length whole → note ≡ get_or whole i note
     → Walks entries whole (take i whole) (drop i whole) → IsCause entries (take i whole) note f → FirstCause entries [] whole f
 walk_stop entries whole i note f h same walks is =
@@ -164,7 +152,7 @@ walk_stop entries whole i note f h same walks is =
 
 -- ---- the rows of entries
 
-told_one : (ticket : ℕ) (is : Answer) (t : ℕ) (reply : Reply) → Contains (told_by ticket is) (t, reply) → (ticket ≡ t) × (is ≡ answer.Replied reply)
+told_one : (ticket : ℕ) (is : CallAnswer) (t : ℕ) (reply : Reply) → Contains (told_by ticket is) (t, reply) → (ticket ≡ t) × (is ≡ answer.Replied reply)
 told_one ticket (answer.Replied other) t reply c =
     elim (cons_cases (ticket, other) [] (t, reply) c) [
       | inl e ↦ (ap (λ p. p.0) e, ap (λ p. answer.Replied p.1) e)
@@ -183,41 +171,34 @@ asked_one ticket (call.Ask other) t request c =
     ]
 asked_one ticket (call.Change change) t request c = absurd (nowhere (t, request) c)
 
-is_told : (entries : List LogEntry) (ticket : ℕ) (reply : Reply) → Contains (told_in entries) (ticket, reply) → IsAnswered entries ticket reply
-is_told [] ticket reply c = absurd (nowhere (ticket, reply) c)
-is_told (entry ∷ rest) ticket reply c =
-    elim (Contains-append_cases (told_by entry.ticket entry.answer) (told_in rest) (ticket, reply) c) [
-      | inl k ↦ let is = told_one entry.ticket entry.answer ticket reply k in record { entry = entry; there = here entry rest; under = is.0; told = is.1 }
-      | inr k ↦ let is = is_told rest ticket reply k in record { entry = is.entry; there = there entry rest is.entry is.there; under = is.under; told = is.told }
+-- what an element gives is among what all give
+gathered : {X A : Type 0} (f : X → List A) (xs : List X) (x : X) (a : A) → Contains xs x → Contains (f x) a → Contains (flat_map f xs) a
+gathered f [] x a c k = absurd (nowhere x c)
+gathered f (y ∷ ys) x a c k =
+    elim (cons_cases y ys x c) [
+      | inl e ↦ Contains-append_left (f y) (flat_map f ys) a (subst (λ z. Contains (f z) a) (sym e) k)
+      | inr later ↦ Contains-append_right (f y) (flat_map f ys) a (gathered f ys x a later k)
     ]
+
+giver : {X A : Type 0} (f : X → List A) (xs : List X) (a : A) → Contains (flat_map f xs) a → (x : X) × (Contains xs x × Contains (f x) a)
+giver f [] a c = absurd (nowhere a c)
+giver f (y ∷ ys) a c =
+    elim (Contains-append_cases (f y) (flat_map f ys) a c) [
+      | inl k ↦ (y, (here y ys, k))
+      | inr k ↦ let later = giver f ys a k in (later.0, (there y ys later.0 later.1.0, later.1.1))
+    ]
+
+is_told : (entries : List LogEntry) (ticket : ℕ) (reply : Reply) → Contains (told_in entries) (ticket, reply) → IsAnswered entries ticket reply
+is_told entries ticket reply c =
+    let found = giver (λ (entry : LogEntry). told_by entry.ticket entry.answer) entries (ticket, reply) c in
+    let is = told_one found.0.ticket found.0.answer ticket reply found.1.1 in
+    record { entry = found.0; there = found.1.0; under = is.0; told = is.1 }
 
 is_asked : (entries : List LogEntry) (ticket : ℕ) (request : Request) → Contains (asked_in entries) (ticket, request) → IsAsked entries ticket request
-is_asked [] ticket request c = absurd (nowhere (ticket, request) c)
-is_asked (entry ∷ rest) ticket request c =
-    elim (Contains-append_cases (asked_by entry.ticket entry.call) (asked_in rest) (ticket, request) c) [
-      | inl k ↦ let is = asked_one entry.ticket entry.call ticket request k in record { entry = entry; there = here entry rest; under = is.0; asks = is.1 }
-      | inr k ↦ let is = is_asked rest ticket request k in record { entry = is.entry; there = there entry rest is.entry is.there; under = is.under; asks = is.asks }
-    ]
-
-among_told : (entries : List LogEntry) (entry : LogEntry) (reply : Reply) → Contains entries entry → entry.answer ≡ answer.Replied reply → Contains (told_in entries) (entry.ticket, reply)
-among_told [] entry reply c e = absurd (nowhere entry c)
-among_told (first ∷ rest) entry reply c e =
-    elim (cons_cases first rest entry c) [
-      | inl same ↦ Contains-append_left (told_by first.ticket first.answer) (told_in rest) (entry.ticket, reply)
-          (subst (λ (x : LogEntry). Contains (told_by x.ticket x.answer) (entry.ticket, reply)) (sym same)
-          (subst (λ (a : Answer). Contains (told_by entry.ticket a) (entry.ticket, reply)) (sym e) (here (entry.ticket, reply) [])))
-      | inr k ↦ Contains-append_right (told_by first.ticket first.answer) (told_in rest) (entry.ticket, reply) (among_told rest entry reply k e)
-    ]
-
-among_asked : (entries : List LogEntry) (entry : LogEntry) (request : Request) → Contains entries entry → entry.call ≡ call.Ask request → Contains (asked_in entries) (entry.ticket, request)
-among_asked [] entry request c e = absurd (nowhere entry c)
-among_asked (first ∷ rest) entry request c e =
-    elim (cons_cases first rest entry c) [
-      | inl same ↦ Contains-append_left (asked_by first.ticket first.call) (asked_in rest) (entry.ticket, request)
-          (subst (λ (x : LogEntry). Contains (asked_by x.ticket x.call) (entry.ticket, request)) (sym same)
-          (subst (λ (a : Call). Contains (asked_by entry.ticket a) (entry.ticket, request)) (sym e) (here (entry.ticket, request) [])))
-      | inr k ↦ Contains-append_right (asked_by first.ticket first.call) (asked_in rest) (entry.ticket, request) (among_asked rest entry request k e)
-    ]
+is_asked entries ticket request c =
+    let found = giver (λ (entry : LogEntry). asked_by entry.ticket entry.call) entries (ticket, request) c in
+    let is = asked_one found.0.ticket found.0.call ticket request found.1.1 in
+    record { entry = found.0; there = found.1.0; under = is.0; asks = is.1 }
 
 pub lists_all : (entries : List LogEntry) (replies : List (ℕ × Reply)) (requests : List (ℕ × Request)) → replies ≡ told_in entries → requests ≡ asked_in entries
     → Lists entries replies requests
@@ -225,14 +206,16 @@ lists_all entries replies requests first second =
     record {
       told = λ ticket reply c. is_told entries ticket reply (subst (λ (rows : List (ℕ × Reply)). Contains rows (ticket, reply)) first c);
       answered = λ ticket reply is. subst (λ (rows : List (ℕ × Reply)). Contains rows (ticket, reply)) (sym first)
-          (subst (λ (t : ℕ). Contains (told_in entries) (t, reply)) is.under (among_told entries is.entry reply is.there is.told));
+          (gathered (λ (entry : LogEntry). told_by entry.ticket entry.answer) entries is.entry (ticket, reply) is.there (subst (λ (t : ℕ). Contains (told_by is.entry.ticket is.entry.answer) (t, reply)) is.under
+          (subst (λ (a : CallAnswer). Contains (told_by is.entry.ticket a) (is.entry.ticket, reply)) (sym is.told) (here (is.entry.ticket, reply) []))));
       asked = λ ticket request c. is_asked entries ticket request (subst (λ (rows : List (ℕ × Request)). Contains rows (ticket, request)) second c);
       asks = λ ticket request is. subst (λ (rows : List (ℕ × Request)). Contains rows (ticket, request)) (sym second)
-          (subst (λ (t : ℕ). Contains (asked_in entries) (t, request)) is.under (among_asked entries is.entry request is.there is.asks));
+          (gathered (λ (entry : LogEntry). asked_by entry.ticket entry.call) entries is.entry (ticket, request) is.there (subst (λ (t : ℕ). Contains (asked_by is.entry.ticket is.entry.call) (t, request)) is.under
+          (subst (λ (a : Call). Contains (asked_by is.entry.ticket a) (is.entry.ticket, request)) (sym is.asks) (here (is.entry.ticket, request) []))));
     }
 
 -- in another order
-pub lists_moved : (entries : List LogEntry) (told_first told_last : List Told) (asked_first asked_last : List Asked) → IsPermutation told_first told_last → IsPermutation asked_first asked_last
+pub lists_moved : (entries : List LogEntry) (told_first told_last : List ReplyRow) (asked_first asked_last : List RequestRow) → IsPermutation told_first told_last → IsPermutation asked_first asked_last
     → Lists entries (map told told_first) (map asked asked_first) → Lists entries (map told told_last) (map asked asked_last)
 lists_moved entries told_first told_last asked_first asked_last one two lists =
     record {
@@ -251,16 +234,16 @@ lists_moved entries told_first told_last asked_first asked_last one two lists =
 
 -- ---- the requests of the logs
 
-pub all_sent : (entries : List LogEntry) (replies : List (ℕ × Reply)) (rows : List Asked) (id life : ℕ) (notes : List Note) → Lists entries replies (map asked rows)
-    → All (IsMarked (sent_in notes)) rows → All (λ (row : Asked). is_own id life row.request.now ≡ true → row.sent ≡ true) rows → AllSent entries id life notes
+pub all_sent : (entries : List LogEntry) (replies : List (ℕ × Reply)) (rows : List RequestRow) (id life : ℕ) (notes : List Note) → Lists entries replies (map asked rows)
+    → All (IsMarked (sent_in notes)) rows → All (λ (row : RequestRow). is_own id life row.request.now ≡ true → row.sent ≡ true) rows → AllSent entries id life notes
 all_sent entries replies rows id life notes lists marked all ticket request is own =
     let found = from_mapped asked rows (ticket, request) (lists.asks ticket request is) in
     let same : found.0.request.now ≡ request = ap (λ p. p.1) found.1.1 in
     let sent : found.0.sent ≡ true =
-    All-contains (λ (row : Asked). is_own id life row.request.now ≡ true → row.sent ≡ true) rows found.0 all found.1.0 (ap (is_own id life) same ∙ own) in
+    All-contains (λ (row : RequestRow). is_own id life row.request.now ≡ true → row.sent ≡ true) rows found.0 all found.1.0 (ap (is_own id life) same ∙ own) in
     subst (Contains (sent_in notes)) same ((All-contains (IsMarked (sent_in notes)) rows found.0 marked found.1.0).there sent)
 
-pub strange : (entries : List LogEntry) (replies : List (ℕ × Reply)) (rows : List Asked) (id life : ℕ) (notes : List Note) (f : VouchFault) → Lists entries replies (map asked rows)
+pub strange : (entries : List LogEntry) (replies : List (ℕ × Reply)) (rows : List RequestRow) (id life : ℕ) (notes : List Note) (f : VouchFault) → Lists entries replies (map asked rows)
     → All (IsMarked (sent_in notes)) rows → AreVouched entries [] notes → HasStrange rows id life f → HasStrangeRequest entries id life notes
 strange entries replies rows id life notes f lists marked along has =
     record {
@@ -277,10 +260,10 @@ strange entries replies rows id life notes f lists marked along has =
 
 -- ---- all of it
 
-pub vouches : (logs : List CallLog) (m : MirrorState) (replies : List (ℕ × Reply)) (before after : List Asked) (id life : ℕ) (notes : List Note)
+pub vouches : (logs : List CallLog) (m : MirrorState) (replies : List (ℕ × Reply)) (before after : List RequestRow) (id life : ℕ) (notes : List Note)
     → Lists (entries_in logs) replies (map asked before) → id ≡ m.id → life ≡ m.life → map asked after ≡ map asked before
     → All (IsMarked (sent_in notes)) after → AreVouched (entries_in logs) [] notes
-    → All (λ (row : Asked). is_own id life row.request.now ≡ true → row.sent ≡ true) after → IsVouched logs m notes
+    → All (λ (row : RequestRow). is_own id life row.request.now ≡ true → row.sent ≡ true) after → IsVouched logs m notes
 vouches logs m replies before after id life notes lists one two same marked along all =
     record {
       along = along;
@@ -302,7 +285,7 @@ against_first logs m notes StrangeRequest is = absurd (never (entries_in logs) [
     never entries earlier (note ∷ notes) (inr later) = never entries (earlier ++ note ∷ []) notes later.1
 against_first logs m notes NoMemory is = tt
 
-pub against_strange : (logs : List CallLog) (m : MirrorState) (replies : List (ℕ × Reply)) (before after : List Asked) (id life : ℕ) (notes : List Note) (f : VouchFault)
+pub against_strange : (logs : List CallLog) (m : MirrorState) (replies : List (ℕ × Reply)) (before after : List RequestRow) (id life : ℕ) (notes : List Note) (f : VouchFault)
     → Lists (entries_in logs) replies (map asked before) → id ≡ m.id → life ≡ m.life → map asked after ≡ map asked before
     → All (IsMarked (sent_in notes)) after → AreVouched (entries_in logs) [] notes → HasStrange after id life f → IsAgainst logs m notes f
 against_strange logs m replies before after id life notes f lists one two same marked along has =

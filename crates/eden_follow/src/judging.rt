@@ -9,16 +9,16 @@ ghost use Rattle.eden_logs.specs.declared.log.CallLog.{CallLog};
 ghost use Rattle.eden_logs.specs.declared.log.LogEntry.{LogEntry};
 ghost use Rattle.eden_logs.specs.Logs.{entries_in};
 ghost use Rattle.eden_messages.specs.Mirrors.{MirrorState};
-ghost use Rattle.eden_follow.specs.declared.rows.Asked.{Asked};
+ghost use Rattle.eden_follow.specs.declared.rows.RequestRow.{RequestRow};
 ghost use Rattle.eden_follow.specs.Causes.{FirstCause, IsAgainst, IsCause};
 ghost use Rattle.eden_follow.specs.internal.Rows.{IsHighest, IsMarked, IsUnsent, asked, told};
-ghost use Rattle.eden_follow.specs.declared.rows.Told.{Told};
+ghost use Rattle.eden_follow.specs.declared.rows.ReplyRow.{ReplyRow};
 ghost use Rattle.eden_follow.specs.internal.Orders.{AreInOrder};
 ghost use Rattle.eden_follow.specs.internal.Judged.{HasStrange, IsAt, Lists};
 
 use crate::fault::VouchFault;
 use crate::marking::{is_above, is_told, send_all};
-use crate::rows::{Asked, Told};
+use crate::rows::{ReplyRow, RequestRow};
 use eden_headline::Note;
 use eden_messages::Request;
 
@@ -35,13 +35,13 @@ fn higher(highest: Option<u64>, ticket: u64) -> Option<u64>
 /// Checks a note, and returns the highest ticket after it.
 ///
 /// `highest` is the highest ticket of the replies that came before.
-fn judge_note(
-    replies: &[Told],
-    rows: &mut [Asked],
+fn check_note(
+    replies: &[ReplyRow],
+    rows: &mut [RequestRow],
     highest: Option<u64>,
     note: &Note,
 ) -> Result<Option<u64>, VouchFault>
-    requires replies { IsNonDecreasingBy (λ (row : Told). row.ticket) replies.now }
+    requires replies { IsNonDecreasingBy (λ (row : ReplyRow). row.ticket) replies.now }
     requires requests { AreInOrder rows.old }
     ensures rows { map asked rows.new ≡ map asked rows.old }
     ensures at { IfOk result (λ higher. (earlier : List Note) → IsAt earlier rows.old highest → IsAt (earlier ++ note.now ∷ []) rows.new higher) }
@@ -66,8 +66,12 @@ fn judge_note(
 }
 
 /// Checks notes in their order, and marks what was sent.
-fn judge_notes(replies: &[Told], rows: &mut [Asked], notes: &[Note]) -> Result<(), VouchFault>
-    requires replies { IsNonDecreasingBy (λ (row : Told). row.ticket) replies.now }
+fn check_notes(
+    replies: &[ReplyRow],
+    rows: &mut [RequestRow],
+    notes: &[Note],
+) -> Result<(), VouchFault>
+    requires replies { IsNonDecreasingBy (λ (row : ReplyRow). row.ticket) replies.now }
     requires requests { AreInOrder rows.old }
     requires unsent { All IsUnsent rows.old }
     ensures rows { map asked rows.new ≡ map asked rows.old }
@@ -77,7 +81,7 @@ fn judge_notes(replies: &[Told], rows: &mut [Asked], notes: &[Note]) -> Result<(
 {
     let mut highest = None;
     for note in notes {
-        highest = judge_note(replies, rows, highest, note)?;
+        highest = check_note(replies, rows, highest, note)?;
     }
     Ok(())
 }
@@ -93,8 +97,8 @@ fn is_own(request: &Request, id: u64, life: u64) -> bool
 /// Checks that the logs' requests of a follower are marked.
 ///
 /// They are those under its id and its life.
-fn judge_requests(rows: &[Asked], id: u64, life: u64) -> Result<(), VouchFault>
-    ensures all { OnOk result (All (λ (row : Asked). is_own id life row.request.now ≡ true → row.sent ≡ true) rows.now) }
+fn check_requests(rows: &[RequestRow], id: u64, life: u64) -> Result<(), VouchFault>
+    ensures all { OnOk result (All (λ (row : RequestRow). is_own id life row.request.now ≡ true → row.sent ≡ true) rows.now) }
     ensures strange { IfErr result (λ fault. HasStrange rows.now id life fault) }
 {
     for row in rows {
@@ -108,14 +112,14 @@ fn judge_requests(rows: &[Asked], id: u64, life: u64) -> Result<(), VouchFault>
 /// Checks notes against rows of logs, and then the logs' requests.
 ///
 /// The requests are those under an id and a life.
-pub(crate) fn judge(
-    replies: &[Told],
-    rows: &mut [Asked],
+pub(crate) fn check(
+    replies: &[ReplyRow],
+    rows: &mut [RequestRow],
     notes: &[Note],
     id: u64,
     life: u64,
 ) -> Result<(), VouchFault>
-    requires replies { IsNonDecreasingBy (λ (row : Told). row.ticket) replies.now }
+    requires replies { IsNonDecreasingBy (λ (row : ReplyRow). row.ticket) replies.now }
     requires requests { AreInOrder rows.old }
     requires unsent { All IsUnsent rows.old }
     ensures vouched { OnOk result ((logs : List CallLog) (m : MirrorState) → Lists (entries_in logs) (map told replies.now) (map asked rows.old)
@@ -123,6 +127,6 @@ pub(crate) fn judge(
     ensures against { IfErr result (λ fault. (logs : List CallLog) (m : MirrorState) → Lists (entries_in logs) (map told replies.now) (map asked rows.old)
         → id ≡ m.id → life ≡ m.life → IsAgainst logs m notes.now fault) }
 {
-    judge_notes(replies, rows, notes)?;
-    judge_requests(rows, id, life)
+    check_notes(replies, rows, notes)?;
+    check_requests(rows, id, life)
 }

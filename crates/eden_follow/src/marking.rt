@@ -3,14 +3,14 @@
 ghost use Rattle.std.specs.Prelude.{◌≡◌, ◌↔◌, ◌++◌, ◌∷◌, [], true, false, List, map, All, Contains, IsTrue, IfErr, OnOk};
 ghost use Rattle.std.specs.List.Sorted.{IsNonDecreasingBy};
 ghost use Rattle.eden_messages.specs.declared.message.Request.{Request};
-ghost use Rattle.eden_follow.specs.declared.rows.Asked.{Asked};
-ghost use Rattle.eden_follow.specs.declared.rows.Told.{Told};
+ghost use Rattle.eden_follow.specs.declared.rows.RequestRow.{RequestRow};
+ghost use Rattle.eden_follow.specs.declared.rows.ReplyRow.{ReplyRow};
 ghost use Rattle.eden_follow.specs.internal.Orders.{AreInOrder, IsGroup};
 ghost use Rattle.eden_follow.specs.internal.Rows.{HasLate, HasLow, IsAbove, IsLateRow, IsMarked, IsTimelyRow, asked, told};
 
 use crate::fault::VouchFault;
 use crate::ordering::{rows_of, rows_under};
-use crate::rows::{Asked, Told};
+use crate::rows::{ReplyRow, RequestRow};
 use eden_messages::{Reply, Request};
 
 /// Returns true if two replies are equal.
@@ -40,9 +40,9 @@ pub(crate) fn is_above(ticket: u64, highest: Option<u64>) -> bool
 }
 
 /// Returns true if a row has the reply under the ticket.
-fn has_reply(rows: &[Told], ticket: u64, reply: &Reply) -> bool
+fn has_reply(rows: &[ReplyRow], ticket: u64, reply: &Reply) -> bool
     ensures told { result ≡ true → Contains (map told rows.now) (ticket, reply.now) }
-    ensures untold { result ≡ false → All (λ (row : Told). row.ticket ≡ ticket → row.reply.now ≡ reply.now → ⊥) rows.now }
+    ensures untold { result ≡ false → All (λ (row : ReplyRow). row.ticket ≡ ticket → row.reply.now ≡ reply.now → ⊥) rows.now }
 {
     for row in rows {
         if row.ticket == ticket && same_reply(row.reply, reply) {
@@ -55,19 +55,19 @@ fn has_reply(rows: &[Told], ticket: u64, reply: &Reply) -> bool
 /// Returns true if a row has the reply under the ticket.
 ///
 /// The rows are in the order of their tickets.
-pub(crate) fn is_told(rows: &[Told], ticket: u64, reply: &Reply) -> bool
-    requires { IsNonDecreasingBy (λ (row : Told). row.ticket) rows.now }
+pub(crate) fn is_told(rows: &[ReplyRow], ticket: u64, reply: &Reply) -> bool
+    requires { IsNonDecreasingBy (λ (row : ReplyRow). row.ticket) rows.now }
     ensures told { result ≡ true → Contains (map told rows.now) (ticket, reply.now) }
-    ensures untold { result ≡ false → All (λ (row : Told). row.ticket ≡ ticket → row.reply.now ≡ reply.now → ⊥) rows.now }
+    ensures untold { result ≡ false → All (λ (row : ReplyRow). row.ticket ≡ ticket → row.reply.now ≡ reply.now → ⊥) rows.now }
 {
     let (start, end) = rows_under(rows, ticket);
     has_reply(&rows[start..end], ticket, reply)
 }
 
 /// Returns true if the request was sent, by its rows' marks.
-fn was_sent(rows: &[Asked], request: &Request) -> bool
+fn was_sent(rows: &[RequestRow], request: &Request) -> bool
     ensures sent { result ≡ true → (sent : List Request) → All (IsMarked sent) rows.now → Contains sent request.now }
-    ensures unsent { result ≡ false → All (λ (row : Asked). row.request.now ≡ request.now → row.sent ≡ false) rows.now }
+    ensures unsent { result ≡ false → All (λ (row : RequestRow). row.request.now ≡ request.now → row.sent ≡ false) rows.now }
 {
     for row in rows {
         if row.sent && same_request(row.request, request) {
@@ -78,8 +78,8 @@ fn was_sent(rows: &[Asked], request: &Request) -> bool
 }
 
 /// Returns true if the request's rows are above the highest ticket.
-fn are_above(rows: &[Asked], request: &Request, highest: Option<u64>) -> bool
-    ensures above { result ≡ true → All (λ (row : Asked). row.request.now ≡ request.now → IsAbove highest row.ticket) rows.now }
+fn are_above(rows: &[RequestRow], request: &Request, highest: Option<u64>) -> bool
+    ensures above { result ≡ true → All (λ (row : RequestRow). row.request.now ≡ request.now → IsAbove highest row.ticket) rows.now }
     ensures low { result ≡ false → HasLow rows.now request.now highest }
 {
     for row in rows {
@@ -91,7 +91,7 @@ fn are_above(rows: &[Asked], request: &Request, highest: Option<u64>) -> bool
 }
 
 /// Marks a row if it has the request.
-fn mark_row(row: &mut Asked, request: &Request)
+fn mark_row(row: &mut RequestRow, request: &Request)
     ensures row { asked row.new ≡ asked row.old }
     ensures marked { (sent : List Request) → IsMarked sent row.old → IsMarked (sent ++ request.now ∷ []) row.new }
 {
@@ -101,8 +101,8 @@ fn mark_row(row: &mut Asked, request: &Request)
 }
 
 /// Marks the rows of a request, which are all between two indexes.
-fn mark(rows: &mut [Asked], start: usize, end: usize, request: &Request)
-    requires { IsGroup (λ (row : Asked). row.request.now ≡ request.now) rows.old start end }
+fn mark(rows: &mut [RequestRow], start: usize, end: usize, request: &Request)
+    requires { IsGroup (λ (row : RequestRow). row.request.now ≡ request.now) rows.old start end }
     ensures rows { map asked rows.new ≡ map asked rows.old }
     ensures marked { (sent : List Request) → All (IsMarked sent) rows.old → All (IsMarked (sent ++ request.now ∷ [])) rows.new }
 {
@@ -115,7 +115,7 @@ fn mark(rows: &mut [Asked], start: usize, end: usize, request: &Request)
 ///
 /// Replies came before under tickets up to the highest one. Its rows are found by binary
 /// search. If it was sent before, the first of them is marked.
-fn send(rows: &mut [Asked], request: &Request, highest: Option<u64>) -> Result<(), VouchFault>
+fn send(rows: &mut [RequestRow], request: &Request, highest: Option<u64>) -> Result<(), VouchFault>
     requires { AreInOrder rows.old }
     ensures rows { map asked rows.new ≡ map asked rows.old }
     ensures marked { OnOk result ((sent : List Request) → All (IsMarked sent) rows.old → All (IsMarked (sent ++ request.now ∷ [])) rows.new) }
@@ -137,7 +137,7 @@ fn send(rows: &mut [Asked], request: &Request, highest: Option<u64>) -> Result<(
 
 /// Notes that requests are sent together.
 pub(crate) fn send_all(
-    rows: &mut [Asked],
+    rows: &mut [RequestRow],
     requests: &[Request],
     highest: Option<u64>,
 ) -> Result<(), VouchFault>

@@ -1,13 +1,13 @@
 //! Rows in order, and binary search of them.
 
-ghost use Rattle.std.specs.Prelude.{◌≡◌, map, All, OnOk};
+ghost use Rattle.std.specs.Prelude.{◌≡◌, All, OnOk};
 ghost use Rattle.std.specs.List.Sorted.{IsNonDecreasingBy, IsPermutation};
-ghost use Rattle.eden_follow.specs.declared.rows.Asked.{Asked};
-ghost use Rattle.eden_follow.specs.declared.rows.Told.{Told};
+ghost use Rattle.eden_follow.specs.declared.rows.RequestRow.{RequestRow};
+ghost use Rattle.eden_follow.specs.declared.rows.ReplyRow.{ReplyRow};
 ghost use Rattle.eden_follow.specs.internal.Orders.{AreInOrder, IsGroup, path_in, question_cmp};
 ghost use Rattle.eden_follow.specs.internal.Rows.{IsUnsent};
 
-use crate::rows::{Asked, Told};
+use crate::rows::{ReplyRow, RequestRow};
 use eden_ids::NoMemory;
 use eden_messages::Request;
 use std::cmp::Ordering;
@@ -38,16 +38,16 @@ fn by_question(one: &Request, other: &Request) -> Ordering
 }
 
 /// Sorts rows by their tickets.
-pub(crate) fn sort_replies(rows: &mut Vec<Told>) -> Result<(), NoMemory>
+pub(crate) fn sort_replies(rows: &mut Vec<ReplyRow>) -> Result<(), NoMemory>
     ensures same { IsPermutation rows.old.items rows.new.items }
-    ensures sorted { OnOk result (IsNonDecreasingBy (λ (row : Told). row.ticket) rows.new.items) }
+    ensures sorted { OnOk result (IsNonDecreasingBy (λ (row : ReplyRow). row.ticket) rows.new.items) }
 {
     rows.sort_by_key(|row| row.ticket)?;
     Ok(())
 }
 
 /// Sorts rows by their questions.
-pub(crate) fn sort_requests(rows: &mut Vec<Asked>) -> Result<(), NoMemory>
+pub(crate) fn sort_requests(rows: &mut Vec<RequestRow>) -> Result<(), NoMemory>
     ensures same { IsPermutation rows.old.items rows.new.items }
     ensures sorted { OnOk result (AreInOrder rows.new.items) }
     ensures unsent { All IsUnsent rows.old.items → All IsUnsent rows.new.items }
@@ -57,9 +57,9 @@ pub(crate) fn sort_requests(rows: &mut Vec<Asked>) -> Result<(), NoMemory>
 }
 
 /// Returns where the rows of a ticket begin and end.
-pub(crate) fn rows_under(rows: &[Told], ticket: u64) -> (usize, usize)
-    requires { IsNonDecreasingBy (λ (row : Told). row.ticket) rows.now }
-    ensures { IsGroup (λ (row : Told). row.ticket ≡ ticket) rows.now result.0 result.1 }
+pub(crate) fn rows_under(rows: &[ReplyRow], ticket: u64) -> (usize, usize)
+    requires { IsNonDecreasingBy (λ (row : ReplyRow). row.ticket) rows.now }
+    ensures { IsGroup (λ (row : ReplyRow). row.ticket ≡ ticket) rows.now result.0 result.1 }
 {
     let start = rows.partition_point(|row| row.ticket < ticket);
     let end = rows.partition_point(|row| row.ticket <= ticket);
@@ -67,9 +67,9 @@ pub(crate) fn rows_under(rows: &[Told], ticket: u64) -> (usize, usize)
 }
 
 /// Returns where the rows of a request's question begin and end.
-pub(crate) fn rows_of(rows: &[Asked], request: &Request) -> (usize, usize)
+pub(crate) fn rows_of(rows: &[RequestRow], request: &Request) -> (usize, usize)
     requires { AreInOrder rows.now }
-    ensures { IsGroup (λ (row : Asked). row.request.now ≡ request.now) rows.now result.0 result.1 }
+    ensures { IsGroup (λ (row : RequestRow). row.request.now ≡ request.now) rows.now result.0 result.1 }
 {
     let start = rows.partition_point(|row| by_question(row.request, request).is_lt());
     let end = rows.partition_point(|row| by_question(row.request, request).is_le());

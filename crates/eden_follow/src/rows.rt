@@ -5,44 +5,44 @@ ghost use Rattle.eden_logs.specs.Logs.{entries_in};
 ghost use Rattle.eden_follow.specs.internal.Rows.{IsUnsent, asked, asked_by, asked_in, told, told_by, told_in};
 
 use eden_ids::NoMemory;
-use eden_logs::{Answer, Call, CallLog, LogEntry};
+use eden_logs::{Call, CallAnswer, CallLog, LogEntry};
 use eden_messages::{Reply, Request};
 use std::alloc::Global;
 
 /// A reply that a log has as the answer under a ticket.
 #[derive(Clone, Copy)]
-pub(crate) struct Told<'a> {
+pub(crate) struct ReplyRow<'a> {
     pub(crate) ticket: u64,
     pub(crate) reply: &'a Reply,
 }
 
 /// A request in a log, its ticket, and whether it was sent.
 #[derive(Clone, Copy)]
-pub(crate) struct Asked<'a> {
+pub(crate) struct RequestRow<'a> {
     pub(crate) ticket: u64,
     pub(crate) request: &'a Request,
     pub(crate) sent: bool,
 }
 
 /// Adds a row for the reply of an entry, if any.
-fn add_reply<'a>(rows: &mut Vec<Told<'a>>, entry: &'a LogEntry) -> Result<(), NoMemory>
+fn add_reply<'a>(rows: &mut Vec<ReplyRow<'a>>, entry: &'a LogEntry) -> Result<(), NoMemory>
     ensures { OnOk result (map told rows.new.items ≡ map told rows.old.items ++ told_by entry.now.ticket entry.now.answer) }
 {
     let ticket = entry.ticket;
     match &entry.answer {
-        Answer::Replied(reply) => {
-            rows.push(Told { ticket, reply })?;
+        CallAnswer::Replied(reply) => {
+            rows.push(ReplyRow { ticket, reply })?;
             Ok(())
         }
-        Answer::At(_) => Ok(()),
-        Answer::Checked { .. } => Ok(()),
-        Answer::Refused(_) => Ok(()),
-        Answer::Unanswered => Ok(()),
+        CallAnswer::At(_) => Ok(()),
+        CallAnswer::Checked { .. } => Ok(()),
+        CallAnswer::Refused(_) => Ok(()),
+        CallAnswer::Unanswered => Ok(()),
     }
 }
 
 /// Adds a row for each reply of a log.
-fn add_replies<'a>(rows: &mut Vec<Told<'a>>, entries: &'a [LogEntry]) -> Result<(), NoMemory>
+fn add_replies<'a>(rows: &mut Vec<ReplyRow<'a>>, entries: &'a [LogEntry]) -> Result<(), NoMemory>
     ensures { OnOk result (map told rows.new.items ≡ map told rows.old.items ++ told_in entries.now) }
 {
     for entry in entries {
@@ -56,7 +56,7 @@ fn add_replies<'a>(rows: &mut Vec<Told<'a>>, entries: &'a [LogEntry]) -> Result<
 pub(crate) fn list_replies<'a>(
     alloc: Global,
     logs: &'a [CallLog],
-) -> Result<Vec<Told<'a>>, NoMemory>
+) -> Result<Vec<ReplyRow<'a>>, NoMemory>
     ensures { IfOk result (λ rows. map told rows.items ≡ told_in (entries_in logs.now)) }
 {
     let mut rows = Vec::new(alloc);
@@ -67,7 +67,7 @@ pub(crate) fn list_replies<'a>(
 }
 
 /// Adds a row for the request of an entry, if any.
-fn add_request<'a>(rows: &mut Vec<Asked<'a>>, entry: &'a LogEntry) -> Result<(), NoMemory>
+fn add_request<'a>(rows: &mut Vec<RequestRow<'a>>, entry: &'a LogEntry) -> Result<(), NoMemory>
     ensures rows { OnOk result (map asked rows.new.items ≡ map asked rows.old.items ++ asked_by entry.now.ticket entry.now.call) }
     ensures unsent { OnOk result (All IsUnsent rows.old.items → All IsUnsent rows.new.items) }
 {
@@ -76,7 +76,7 @@ fn add_request<'a>(rows: &mut Vec<Asked<'a>>, entry: &'a LogEntry) -> Result<(),
         Call::Change(_) => Ok(()),
         Call::Ask(request) => {
             let sent = false;
-            rows.push(Asked {
+            rows.push(RequestRow {
                 ticket,
                 request,
                 sent,
@@ -87,7 +87,7 @@ fn add_request<'a>(rows: &mut Vec<Asked<'a>>, entry: &'a LogEntry) -> Result<(),
 }
 
 /// Adds a row for each request of a log, as not sent.
-fn add_requests<'a>(rows: &mut Vec<Asked<'a>>, entries: &'a [LogEntry]) -> Result<(), NoMemory>
+fn add_requests<'a>(rows: &mut Vec<RequestRow<'a>>, entries: &'a [LogEntry]) -> Result<(), NoMemory>
     ensures rows { OnOk result (map asked rows.new.items ≡ map asked rows.old.items ++ asked_in entries.now) }
     ensures unsent { OnOk result (All IsUnsent rows.old.items → All IsUnsent rows.new.items) }
 {
@@ -102,7 +102,7 @@ fn add_requests<'a>(rows: &mut Vec<Asked<'a>>, entries: &'a [LogEntry]) -> Resul
 pub(crate) fn list_requests<'a>(
     alloc: Global,
     logs: &'a [CallLog],
-) -> Result<Vec<Asked<'a>>, NoMemory>
+) -> Result<Vec<RequestRow<'a>>, NoMemory>
     ensures rows { IfOk result (λ rows. map asked rows.items ≡ asked_in (entries_in logs.now)) }
     ensures unsent { IfOk result (λ rows. All IsUnsent rows.items) }
 {

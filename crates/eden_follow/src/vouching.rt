@@ -1,13 +1,13 @@
 //! The check whether logs vouch for a follower.
 
-ghost use Rattle.std.specs.Prelude.{◌≡◌, ◌≢◌, IfErr, OnOk};
+ghost use Rattle.std.specs.Prelude.{◌≢◌, IfErr, OnOk};
 ghost use Rattle.eden_headline.specs.Merges.{GoesWith};
 ghost use Rattle.eden_headline.specs.Vouched.{IsVouched};
 ghost use Rattle.eden_follow.specs.Causes.{IsAgainst};
 
 use crate::fault::VouchFault;
 use crate::follower::Follower;
-use crate::judging::judge;
+use crate::judging::check;
 use crate::ordering::{sort_replies, sort_requests};
 use crate::rows::{list_replies, list_requests};
 use eden_logs::CallLog;
@@ -61,7 +61,7 @@ pub fn vouch(alloc: Global, logs: &[CallLog], follower: &Follower) -> Result<(),
     sort_requests(&mut rows)?;
     let mirror = follower.mirror();
     let notes = follower.notes.as_slice();
-    judge(
+    check(
         replies.as_slice(),
         rows.as_mut_slice(),
         notes,

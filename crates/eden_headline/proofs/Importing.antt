@@ -10,8 +10,9 @@ use Rattle.eden_history.specs.Imports.{over_held, world_imported}
 use Rattle.eden_history.specs.Legal.{IsWorld}
 use Rattle.eden_history.proofs.Growing.{imported_by, world_changes}
 use Rattle.eden_headline.specs.Imports.{IsScheduleWithImports, MayHappenWithImports, OnFreshRunsWithImports, happens_with_imports, run_with_imports}
-use Rattle.eden_headline.specs.Schedules.{CommitsStay, IsSchedule, MayHappen, OnFreshRuns, Scene, Step, happens, run_schedule}
+use Rattle.eden_headline.specs.Schedules.{CommitsStay, IsSchedule, MayHappen, Scene, Step, happens, run_schedule}
 use Rattle.eden_headline.specs.Schedules.Step.{Changes, Grows}
+use Rattle.eden_headline.proofs.Scheduling.{HoldsAll, after_all}
 
 -- an import is the growth to the objects that there are after it
 abbrev as_growth : Namer → Scene → Step → Step
@@ -66,7 +67,8 @@ is_one name s (step ∷ steps) is may =
       ends = ap (λ t. run_schedule t (with_growth name next steps)) same ∙ rest.ends;
     }
 
-pub with_imports : (Holds : Scene → Type 0) → OnFreshRuns Holds → OnFreshRunsWithImports Holds
-with_imports Holds runs name s steps is fresh may =
+-- what follows from what is kept holds after every schedule with imports
+pub with_imports : (Holds : Scene → Type 0) → ((s : Scene) → HoldsAll s → Holds s) → OnFreshRunsWithImports Holds
+with_imports Holds means name s steps is fresh may =
     let one = is_one name s steps is may in
-    subst Holds one.ends (runs s (with_growth name s steps) fresh one.schedule)
+    subst Holds one.ends (after_all Holds means s (with_growth name s steps) fresh one.schedule)

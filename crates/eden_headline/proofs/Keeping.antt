@@ -49,7 +49,7 @@ now_is_row world = by world.opening world.past
 pub now_is_place : (world : WorldState) → IsPlace world (position_of (now world))
 now_is_place world = record { row = now world; is_row = now_is_row world; is = refl }
 
--- what stands at the path now
+-- what is at the path now
 pub stands_now : (world : WorldState) (p : List ℕ) → Stands world (now world).generation (now world).sequence p (file_at (now world).files p)
 stands_now world p = record { row = now world; is_row = now_is_row world; alike = refl; after = omega arith; value = refl }
 

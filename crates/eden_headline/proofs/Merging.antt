@@ -1,14 +1,13 @@
 -- A history and a follower's notes merge into a schedule, at whose end the world is the history's and the mirror the follower's.
-use Rattle.std.proofs.Common.{◌≡◌, ◌≢◌, ◌<◌, ◌≤◌, ◌⊎◌, inl, inr, ℕ, ◌+◌, Bool, true, false, ◌&&◌, nat_le, List, [], ◌∷◌, ◌++◌, Some, refl, sym, ap, subst, ◌∙◌, arith}
+use Rattle.std.proofs.Common.{◌≡◌, ◌<◌, ◌≤◌, ◌⊎◌, inl, inr, ℕ, ◌+◌, Bool, true, false, ◌&&◌, nat_le, List, [], ◌∷◌, ◌++◌, Some, refl, sym, ap, subst, ◌∙◌, arith}
 use Rattle.std.specs.Prelude.{Contains, ◌==◌, if◌then◌else◌}
-use Rattle.std.specs.Option.{option_map}
-use Rattle.std.proofs.lemmas.Bool.Decides.{eqb_tells, leb_tells}
+use Rattle.std.proofs.lemmas.Bool.{leb-false, leb-true}
 use Rattle.std.proofs.lemmas.List.Elements.{Contains-append_left, Contains-append_right, Contains-push}
 use Rattle.eden_history.specs.declared.answer.Answer as made
 use Rattle.eden_history.specs.declared.answer.Answer.TheVariants as of_change
 use Rattle.eden_history.specs.Worlds.{Namer, WorldState}
 use Rattle.eden_history.specs.Outcome.{answer_of}
-use Rattle.eden_logs.specs.declared.call.Answer.TheVariants.{Replied}
+use Rattle.eden_logs.specs.declared.call.CallAnswer.TheVariants.{Replied}
 use Rattle.eden_logs.specs.declared.call.Call.{Call}
 use Rattle.eden_logs.specs.declared.call.Call.TheVariants.{Change, Ask}
 use Rattle.eden_messages.specs.declared.message.Reply.{Reply}
@@ -16,7 +15,7 @@ use Rattle.eden_messages.specs.declared.message.Request.{Request}
 use Rattle.eden_logs.specs.Calls.{answer_made}
 use Rattle.eden_messages.specs.Mirrors.{MirrorState, begun, delivered, query_of}
 use Rattle.eden_messages.specs.Replies.{reply_of}
-use Rattle.eden_logs.specs.declared.history.Entry.{Entry}
+use Rattle.eden_logs.specs.declared.history.HistoryEntry.{HistoryEntry}
 use Rattle.eden_logs.specs.Histories.{IsLegalAfter, answer_in, replay, world_past}
 use Rattle.eden_logs.proofs.Covered.{cons_cases, here, nowhere, there}
 use Rattle.eden_headline.specs.declared.note.Note.{Note}
@@ -42,7 +41,7 @@ run_join name s (x ∷ xs) ys = run_join name (happens_with_imports name s x) xs
 
 -- ---- a history, cut in two
 
-pub split_at : (ticket : ℕ) (entries : List Entry) → up_to ticket entries ++ behind ticket entries ≡ entries
+pub split_at : (ticket : ℕ) (entries : List HistoryEntry) → up_to ticket entries ++ behind ticket entries ≡ entries
 split_at ticket [] = refl
 split_at ticket (entry ∷ rest) = by (nat_le entry.ticket ticket) (split_at ticket rest)
   where
@@ -50,11 +49,11 @@ split_at ticket (entry ∷ rest) = by (nat_le entry.ticket ticket) (split_at tic
     by true whole = ap (λ es. entry ∷ es) whole
     by false whole = refl
 
-replay_join : (name : Namer) (world : WorldState) (xs ys : List Entry) → replay name world (xs ++ ys) ≡ replay name (replay name world xs) ys
+replay_join : (name : Namer) (world : WorldState) (xs ys : List HistoryEntry) → replay name world (xs ++ ys) ≡ replay name (replay name world xs) ys
 replay_join name world [] ys = refl
 replay_join name world (x ∷ xs) ys = replay_join name (world_past name world x.call) xs ys
 
-legal_behind : (name : Namer) (count : ℕ) (world : WorldState) (xs ys : List Entry) → IsLegalAfter name count world (xs ++ ys)
+legal_behind : (name : Namer) (count : ℕ) (world : WorldState) (xs ys : List HistoryEntry) → IsLegalAfter name count world (xs ++ ys)
     → (later : ℕ) × IsLegalAfter name later (replay name world xs) ys
 legal_behind name count world [] ys legal = (count, legal)
 legal_behind name count world (x ∷ xs) ys legal = legal_behind name (count + 1) (world_past name world x.call) xs ys legal.2
@@ -62,12 +61,12 @@ legal_behind name count world (x ∷ xs) ys legal = legal_behind name (count + 1
 -- ---- the answers that are due
 
 -- one of these entries has the ticket, and this is the reply to it from this world on
-abbrev pub IsDue : Namer → WorldState → List Entry → ℕ → Reply → Type 0
+abbrev pub IsDue : Namer → WorldState → List HistoryEntry → ℕ → Reply → Type 0
 IsDue name world [] ticket reply = ⊥
 IsDue name world (entry ∷ rest) ticket reply =
     ((entry.ticket ≡ ticket) × (answer_in name world entry.call ≡ Replied reply)) ⊎ IsDue name (world_past name world entry.call) rest ticket reply
 
-due_split : (name : Namer) (world : WorldState) (xs ys : List Entry) (ticket : ℕ) (reply : Reply) → IsDue name world (xs ++ ys) ticket reply
+due_split : (name : Namer) (world : WorldState) (xs ys : List HistoryEntry) (ticket : ℕ) (reply : Reply) → IsDue name world (xs ++ ys) ticket reply
     → IsDue name world xs ticket reply ⊎ IsDue name (replay name world xs) ys ticket reply
 due_split name world [] ys ticket reply due = inr due
 due_split name world (x ∷ xs) ys ticket reply due =
@@ -76,7 +75,7 @@ due_split name world (x ∷ xs) ys ticket reply due =
       | inr later ↦ elim (due_split name (world_past name world x.call) xs ys ticket reply later) [ inl first ↦ inl (inr first) | inr second ↦ inr second ]
     ]
 
-due_above : (name : Namer) (count : ℕ) (world : WorldState) (entries : List Entry) (ticket : ℕ) (reply : Reply) → IsLegalAfter name count world entries
+due_above : (name : Namer) (count : ℕ) (world : WorldState) (entries : List HistoryEntry) (ticket : ℕ) (reply : Reply) → IsLegalAfter name count world entries
     → IsDue name world entries ticket reply → count < ticket
 due_above name count world [] ticket reply legal due = absurd due
 due_above name count world (entry ∷ rest) ticket reply legal due =
@@ -86,38 +85,34 @@ due_above name count world (entry ∷ rest) ticket reply legal due =
     ]
 
 -- what is due under a ticket is due from the entries up to it
-due_up_to : (name : Namer) (count : ℕ) (world : WorldState) (entries : List Entry) (ticket : ℕ) (reply : Reply) → IsLegalAfter name count world entries
+due_up_to : (name : Namer) (count : ℕ) (world : WorldState) (entries : List HistoryEntry) (ticket : ℕ) (reply : Reply) → IsLegalAfter name count world entries
     → IsDue name world entries ticket reply → IsDue name world (up_to ticket entries) ticket reply
 due_up_to name count world [] ticket reply legal due = due
 due_up_to name count world (entry ∷ rest) ticket reply legal due =
-    by (nat_le entry.ticket ticket) (leb_tells entry.ticket ticket) (due_up_to name (count + 1) (world_past name world entry.call) rest ticket reply legal.2) due
+    by (nat_le entry.ticket ticket) refl (due_up_to name (count + 1) (world_past name world entry.call) rest ticket reply legal.2) due
   where
     low : (ticket < entry.ticket) → IsDue name world (entry ∷ rest) ticket reply → ⊥
     low above (inl now) = omega (arith, now.0)
     low above (inr later) = omega (arith, legal.0, due_above name (count + 1) (world_past name world entry.call) rest ticket reply legal.2 later)
 
-    by : (b : Bool) → ((b ≡ true) × (entry.ticket ≤ ticket)) ⊎ ((b ≡ false) × (ticket < entry.ticket))
-        → (IsDue name (world_past name world entry.call) rest ticket reply → IsDue name (world_past name world entry.call) (up_to ticket rest) ticket reply)
+    by : (b : Bool) → nat_le entry.ticket ticket ≡ b → (IsDue name (world_past name world entry.call) rest ticket reply → IsDue name (world_past name world entry.call) (up_to ticket rest) ticket reply)
         → IsDue name world (entry ∷ rest) ticket reply → IsDue name world (if b then entry ∷ up_to ticket rest else []) ticket reply
-    by true tells onward (inl now) = inl now
-    by true tells onward (inr later) = inr (onward later)
-    by false (inl both) onward is = absurd (cc both.0)
-    by false (inr both) onward is = absurd (low both.1 is)
+    by true le onward (inl now) = inl now
+    by true le onward (inr later) = inr (onward later)
+    by false gt onward is = absurd (low (leb-false entry.ticket ticket gt) is)
 
 -- the entries up to a ticket have no later one
-low_tickets : (ticket : ℕ) (entries : List Entry) (entry : Entry) → Contains (up_to ticket entries) entry → entry.ticket ≤ ticket
+low_tickets : (ticket : ℕ) (entries : List HistoryEntry) (entry : HistoryEntry) → Contains (up_to ticket entries) entry → entry.ticket ≤ ticket
 low_tickets ticket [] entry c = absurd (nowhere entry c)
-low_tickets ticket (first ∷ rest) entry c = by (nat_le first.ticket ticket) (leb_tells first.ticket ticket) (low_tickets ticket rest entry) c
+low_tickets ticket (first ∷ rest) entry c = by (nat_le first.ticket ticket) refl (low_tickets ticket rest entry) c
   where
-    by : (b : Bool) → ((b ≡ true) × (first.ticket ≤ ticket)) ⊎ ((b ≡ false) × (ticket < first.ticket)) → (Contains (up_to ticket rest) entry → entry.ticket ≤ ticket)
-        → Contains (if b then first ∷ up_to ticket rest else []) entry → entry.ticket ≤ ticket
-    by true (inl both) onward k =
+    by : (b : Bool) → nat_le first.ticket ticket ≡ b → (Contains (up_to ticket rest) entry → entry.ticket ≤ ticket) → Contains (if b then first ∷ up_to ticket rest else []) entry → entry.ticket ≤ ticket
+    by true le onward k =
         elim (cons_cases first (up_to ticket rest) entry k) [
-          | inl e ↦ subst (λ (x : Entry). x.ticket ≤ ticket) e both.1
+          | inl e ↦ subst (λ (x : HistoryEntry). x.ticket ≤ ticket) e (leb-true first.ticket ticket le)
           | inr d ↦ onward d
         ]
-    by true (inr both) onward k = absurd (cc both.0)
-    by false tells onward k = absurd (nowhere entry k)
+    by false gt onward k = absurd (nowhere entry k)
 
 -- ---- the steps of one call
 
@@ -190,17 +185,15 @@ sent_by_another name s request strange =
       made = after.made;
     }
 
+pub itself : (n : ℕ) → (n == n) ≡ true
+itself n = grind arith
+
 not_own : (id life : ℕ) (s : Scene) (request : Request) → IsAlone id life s.mirrors → is_own id life request ≡ false → IsStrange s request
-not_own id life s request alone apart m at same = by (eqb_tells (query_of request).mirror id) (eqb_tells (query_of request).life life)
-  where
-    by : ((((query_of request).mirror == id) ≡ true) × ((query_of request).mirror ≡ id)) ⊎ ((((query_of request).mirror == id) ≡ false) × ((query_of request).mirror ≢ id))
-        → ((((query_of request).life == life) ≡ true) × ((query_of request).life ≡ life)) ⊎ ((((query_of request).life == life) ≡ false) × ((query_of request).life ≢ life))
-        → ⊥
-    by (inr p) q = p.1 (alone (query_of request).mirror m at).0
-    by (inl p) (inr q) = q.1 (sym same ∙ (alone (query_of request).mirror m at).1)
-    by (inl p) (inl q) =
-        let both : is_own id life request ≡ true = ap (λ b. b && ((query_of request).life == life)) p.0 ∙ q.0 in
-        cc (both, apart)
+not_own id life s request alone apart m at same =
+    let one = alone (query_of request).mirror m at in
+    let life_is : (query_of request).life ≡ life = sym same ∙ one.1 in
+    let own : is_own id life request ≡ true = (λ i. (one.0 i == id) && (life_is i == life)) ∙ (λ i. itself id i && itself life i) in
+    cc (own, apart)
 
 call_passes : (name : Namer) (id life : ℕ) (s : Scene) (call : Call) → IsAlone id life s.mirrors
     → ((request : Request) → call ≡ Ask request → is_own id life request ≡ true → Contains s.sent request)
@@ -225,10 +218,10 @@ call_passes name id life s (Ask request) alone asked = by (is_own id life reques
 -- ---- the steps of several
 
 -- each request of the mirror's that these entries have was sent
-abbrev AreAsked : ℕ → ℕ → List Request → List Entry → Type 0
-AreAsked id life sent entries = (entry : Entry) (request : Request) → Contains entries entry → entry.call ≡ Ask request → is_own id life request ≡ true → Contains sent request
+abbrev AreAsked : ℕ → ℕ → List Request → List HistoryEntry → Type 0
+AreAsked id life sent entries = (entry : HistoryEntry) (request : Request) → Contains entries entry → entry.call ≡ Ask request → is_own id life request ≡ true → Contains sent request
 
-entries_pass : (name : Namer) (id life : ℕ) (s : Scene) (entries : List Entry) → IsAlone id life s.mirrors → AreAsked id life s.sent entries
+entries_pass : (name : Namer) (id life : ℕ) (s : Scene) (entries : List HistoryEntry) → IsAlone id life s.mirrors → AreAsked id life s.sent entries
     → Passes name s (steps_of id life entries) (replay name s.world entries) (λ reply. (ticket : ℕ) × IsDue name s.world entries ticket reply)
 entries_pass name id life s [] alone asked =
     record {
@@ -276,27 +269,22 @@ IsComing ticket reply (Sent requests ∷ notes) = IsComing ticket reply notes
 IsComing ticket reply (Came came other ∷ notes) = ((came ≡ ticket) × (other ≡ reply)) ⊎ IsComing ticket reply notes
 
 -- the entries and the notes that are left can be merged
-pub record IsReady (name : Namer) (id life : ℕ) (s : Scene) (m : MirrorState) (entries : List Entry) (notes : List Note) : Type 0 where
+pub record IsReady (name : Namer) (id life : ℕ) (s : Scene) (m : MirrorState) (entries : List HistoryEntry) (notes : List Note) : Type 0 where
   pub at : s.mirrors id ≡ Some m
   pub alone : IsAlone id life s.mirrors
   pub own : AreOwnNotes m notes
   pub legal : (count : ℕ) × IsLegalAfter name count s.world entries
-  pub asked : (entry : Entry) (request : Request) → Contains entries entry → entry.call ≡ Ask request → is_own id life request ≡ true
+  pub asked : (entry : HistoryEntry) (request : Request) → Contains entries entry → entry.call ≡ Ask request → is_own id life request ≡ true
       → Contains s.sent request ⊎ IsInTime entry.ticket request notes
   pub told : (ticket : ℕ) (reply : Reply) → IsComing ticket reply notes → Contains s.replies reply ⊎ IsDue name s.world entries ticket reply
 
-pub record Merges (name : Namer) (id life : ℕ) (s : Scene) (m : MirrorState) (entries : List Entry) (notes : List Note) : Type 0 where
+pub record Merges (name : Namer) (id life : ℕ) (s : Scene) (m : MirrorState) (entries : List HistoryEntry) (notes : List Note) : Type 0 where
   pub schedule : IsScheduleWithImports name s (merge id life entries notes)
   pub world : (run_with_imports name s (merge id life entries notes)).world ≡ replay name s.world entries
   pub mirror : (run_with_imports name s (merge id life entries notes)).mirrors id ≡ Some (after_notes m notes)
 
 moved_here : (mirrors : Mirrors) (id : ℕ) (move : MirrorState → MirrorState) (m : MirrorState) → mirrors id ≡ Some m → moved mirrors id move id ≡ Some (move m)
-moved_here mirrors id move m at = by (id == id) (eqb_tells id id)
-  where
-    by : (b : Bool) → ((b ≡ true) × (id ≡ id)) ⊎ ((b ≡ false) × (id ≢ id)) → (if b then option_map move (mirrors id) else mirrors id) ≡ Some (move m)
-    by true tells = ap (option_map move) at
-    by false (inl both) = absurd (cc both.0)
-    by false (inr both) = absurd (both.1 refl)
+moved_here mirrors id move m at = rw (itself id, at) refl
 
 still_alone : (id life : ℕ) (mirrors : Mirrors) (move : MirrorState → MirrorState) → ((m : MirrorState) → (move m).life ≡ m.life) → IsAlone id life mirrors
     → IsAlone id life (moved mirrors id move)
@@ -304,14 +292,14 @@ still_alone id life mirrors move keeps alone =
     all_moved (λ other m. (other ≡ id) × (m.life ≡ life)) mirrors id move (λ m e. (refl, keeps m ∙ (alone id m e).1)) alone
 
 -- before a reply comes, the entries up to its ticket
-module _ (name : Namer) (id life : ℕ) (s : Scene) (m : MirrorState) (entries : List Entry) (notes : List Note) (came : ℕ) (reply : Reply)
+module _ (name : Namer) (id life : ℕ) (s : Scene) (m : MirrorState) (entries : List HistoryEntry) (notes : List Note) (came : ℕ) (reply : Reply)
     (ready : IsReady name id life s m entries (Came came reply ∷ notes)) where
   whole : up_to came entries ++ behind came entries ≡ entries
   whole = split_at came entries
 
   asked_up_to : AreAsked id life s.sent (up_to came entries)
   asked_up_to entry request c e own =
-      by (ready.asked entry request (subst (λ (es : List Entry). Contains es entry) whole (Contains-append_left (up_to came entries) (behind came entries) entry c)) e own)
+      by (ready.asked entry request (subst (λ (es : List HistoryEntry). Contains es entry) whole (Contains-append_left (up_to came entries) (behind came entries) entry c)) e own)
     where
       by : Contains s.sent request ⊎ ((came < entry.ticket) × IsInTime entry.ticket request notes) → Contains s.sent request
       by (inl sent) = sent
@@ -346,17 +334,17 @@ module _ (name : Namer) (id life : ℕ) (s : Scene) (m : MirrorState) (entries :
   ready_then =
       record {
         at = moved_here before.mirrors id (λ n. (delivered n reply).0) m (ap (λ ms. ms id) first.mirrors ∙ ready.at);
-        alone = still_alone id life before.mirrors (λ n. (delivered n reply).0) (λ n. (delivered_keeps n reply).life) (subst (IsAlone id life) (sym first.mirrors) ready.alone);
+        alone = still_alone id life before.mirrors (λ n. (delivered n reply).0) (λ n. ap (λ name. name.life) (delivered_keeps n reply)) (subst (IsAlone id life) (sym first.mirrors) ready.alone);
         own = ready.own.1;
         legal = subst (λ (w : WorldState). (count : ℕ) × IsLegalAfter name count w (behind came entries)) (sym first.world)
             (legal_behind name ready.legal.0 s.world (up_to came entries) (behind came entries)
-            (subst (λ (es : List Entry). IsLegalAfter name ready.legal.0 s.world es) (sym whole) ready.legal.1));
+            (subst (λ (es : List HistoryEntry). IsLegalAfter name ready.legal.0 s.world es) (sym whole) ready.legal.1));
         asked = λ entry request c e own. in_turn entry request
-            (ready.asked entry request (subst (λ (es : List Entry). Contains es entry) whole (Contains-append_right (up_to came entries) (behind came entries) entry c)) e own);
+            (ready.asked entry request (subst (λ (es : List HistoryEntry). Contains es entry) whole (Contains-append_right (up_to came entries) (behind came entries) entry c)) e own);
         told = λ ticket other coming. made ticket other (ready.told ticket other (inr coming));
       }
     where
-      in_turn : (entry : Entry) (request : Request) → Contains s.sent request ⊎ ((came < entry.ticket) × IsInTime entry.ticket request notes)
+      in_turn : (entry : HistoryEntry) (request : Request) → Contains s.sent request ⊎ ((came < entry.ticket) × IsInTime entry.ticket request notes)
           → Contains before.sent request ⊎ IsInTime entry.ticket request notes
       in_turn entry request (inl sent) = inl (first.sent request sent)
       in_turn entry request (inr late) = inr late.1
@@ -371,9 +359,9 @@ module _ (name : Namer) (id life : ℕ) (s : Scene) (m : MirrorState) (entries :
       made ticket other (inl is) = inl (first.replies other is)
       made ticket other (inr due) =
           cut ticket other (due_split name s.world (up_to came entries) (behind came entries) ticket other
-          (subst (λ (es : List Entry). IsDue name s.world es ticket other) (sym whole) due))
+          (subst (λ (es : List HistoryEntry). IsDue name s.world es ticket other) (sym whole) due))
 
-pub merges : (name : Namer) (id life : ℕ) (s : Scene) (m : MirrorState) (entries : List Entry) (notes : List Note) → IsReady name id life s m entries notes
+pub merges : (name : Namer) (id life : ℕ) (s : Scene) (m : MirrorState) (entries : List HistoryEntry) (notes : List Note) → IsReady name id life s m entries notes
     → Merges name id life s m entries notes
 unfolding happens before after
 merges name id life s m entries [] ready =
@@ -387,7 +375,7 @@ merges name id life s m entries [] ready =
 merges name id life s m entries (Began ∷ notes) ready =
     let rest = merges name id life (happens_with_imports name s (Begins id)) (begun m) entries notes (record {
       at = moved_here s.mirrors id begun m ready.at;
-      alone = still_alone id life s.mirrors begun (λ n. (begun_keeps n).life) ready.alone;
+      alone = still_alone id life s.mirrors begun (λ n. ap (λ name. name.life) (begun_keeps n)) ready.alone;
       own = ready.own.1;
       legal = ready.legal;
       asked = ready.asked;
@@ -408,7 +396,7 @@ merges name id life s m entries (Sent requests ∷ notes) ready =
     all : requests ≡ asked_by (s.mirrors id)
     all = ready.own.0 ∙ ap asked_by (sym ready.at)
 
-    by : (entry : Entry) (request : Request) → Contains s.sent request ⊎ (Contains requests request ⊎ IsInTime entry.ticket request notes)
+    by : (entry : HistoryEntry) (request : Request) → Contains s.sent request ⊎ (Contains requests request ⊎ IsInTime entry.ticket request notes)
         → Contains (s.sent ++ asked_by (s.mirrors id)) request ⊎ IsInTime entry.ticket request notes
     by entry request (inl sent) = inl (Contains-append_left s.sent (asked_by (s.mirrors id)) request sent)
     by entry request (inr (inl now)) =

@@ -38,12 +38,13 @@ use Rattle.eden_headline.specs.Schedules.Step.{Begins, Changes, Comes, Grows, No
 use Rattle.eden_messages.specs.Spells.{reply_bytes}
 use Rattle.eden_stream.specs.Frames.{body_limit}
 use Rattle.eden_history.specs.Status.{status_of}
+use Rattle.eden_logs.proofs.Covered.{here, nowhere}
 use Rattle.eden_history.proofs.Following.{IsNotAfter, none_said}
 use Rattle.eden_history.proofs.Growing.{made_still, row_goes_on, there_still}
 use Rattle.eden_history.proofs.Kept.{below_listed, none_moved, still}
 use Rattle.eden_headline.proofs.Keeping.{GoesOn, on_grown, on_over, on_same, place_in_time}
-use Rattle.eden_headline.proofs.Mirroring.{IsGoodRound, IsOwn, IsSound, own_patterns, own_query, own_request, sound_begun, sound_delivered, sound_new, sound_refiltered}
-use Rattle.eden_headline.proofs.Telling.{IsTrueOf, PollTells, among_changes, by_status, poll_grown, poll_over, reply_true, true_of_more, true_on}
+use Rattle.eden_headline.proofs.Mirroring.{IsGoodRound, IsOwn, IsSound, idle, own_by, own_patterns, own_query, own_request, sound_begun, sound_delivered, sound_new, sound_refiltered}
+use Rattle.eden_headline.proofs.Telling.{IsTrueOf, StaysOn, among_changes, by_status, reply_true, stays_grown, stays_over, true_of_more, true_on}
 
 -- ---- what holds of all
 
@@ -58,7 +59,7 @@ pub record HoldsAll (s : Scene) : Type 0 where
   pub sound : (id : ℕ) (m : MirrorState) → s.mirrors id ≡ Some m → IsSound s.world s.sent id m
 
 nothing_in : {X : Type 0} (xs : List X) (x : X) → xs ≡ [] → Contains xs x → ⊥
-nothing_in xs x none there = let within = there.1 in let few = ap length none in omega arith
+nothing_in xs x none there = nowhere x (rw none at there)
 
 all_fresh : (s : Scene) → IsFresh s → HoldsAll s
 all_fresh s fresh =
@@ -95,23 +96,13 @@ more_sent : (world : WorldState) (sent more : List Request) (id : ℕ) (m : Mirr
     → IsSound world sent id m → IsSound world (sent ++ more) id m
 unfolding outstanding_of
 more_sent world sent more id m own is =
-    record {
-      kept =
-          record {
-            named = is.kept.named;
-            numbers = λ request there mine. by request mine (Contains-append_cases sent more request there);
-            outside = is.kept.outside;
-            placed = is.kept.placed;
-            values = is.kept.values;
-          };
-      round = in_round m.round refl is.round;
-    }
+    record { name = (is.name.0, λ request there mine. by request mine (Contains-append_cases sent more request there)); kept = is.kept; round = in_round m.round refl is.round }
   where
     by : (request : Request) → IsOwn m request → Contains sent request ⊎ Contains more request → (query_of request).number ≤ m.last
-    by request mine (inl old) = is.kept.numbers request old mine
+    by request mine (inl old) = is.name.1 request old mine
     by request mine (inr new) = (own request new mine).0
 
-    in_round : (round : Round) → m.round ≡ round → IsGoodRound world sent m round → IsGoodRound world (sent ++ more) m round
+    in_round : (round : Round) → m.round ≡ round → IsGoodRound world sent (idle m) round → IsGoodRound world (sent ++ more) (idle m) round
     in_round Idle at good = tt
     in_round (Asked request) at good =
         record { asks = good.asks; alone = λ other there same. asked other same (Contains-append_cases sent more other there) }
@@ -119,23 +110,15 @@ more_sent world sent more id m own is =
         asked : (other : Request) → query_of other ≡ query_of request → Contains sent other ⊎ Contains more other → other ≡ request
         asked other same (inl old) = good.alone other old same
         asked other same (inr new) =
-            let query = same ∙ own_query world sent m request (Asked request) good (0, omega arith, refl) in
-            let mine = (own other new (record { mirror = ap (λ q. q.mirror) query; life = ap (λ q. q.life) query })).1 in
+            let mine = (own other new (own_by m other m.last (same ∙ own_query world sent m request (Asked request) good (here request [])))).1 in
             own_request m.patterns request other (subst (λ r. Contains (requests_in m.patterns r) other) at mine)
     in_round (Gathering query target awaited prefixes) at good =
-        record {
-          asks = good.asks;
-          reached = good.reached;
-          outside = good.outside;
-          gathered = good.gathered;
-          later = good.later;
-          lists = λ prefix patterns there. listed prefix patterns (Contains-append_cases sent more (Below query prefix patterns) there);
-        }
+        (good.0, λ prefix patterns there. listed prefix patterns (Contains-append_cases sent more (Below query prefix patterns) there))
       where
         listed : (prefix : List ℕ) (patterns : Patterns) → Contains sent (Below query prefix patterns) ⊎ Contains more (Below query prefix patterns) → patterns ≡ m.patterns
-        listed prefix patterns (inl old) = good.lists prefix patterns old
+        listed prefix patterns (inl old) = good.1 prefix patterns old
         listed prefix patterns (inr new) =
-            let mine = (own (Below query prefix patterns) new (record { mirror = ap (λ q. q.mirror) good.asks; life = ap (λ q. q.life) good.asks })).1 in
+            let mine = (own (Below query prefix patterns) new (own_by m (Below query prefix patterns) m.last good.0.asks)).1 in
             own_patterns m.patterns query target awaited prefixes query prefix patterns (subst (λ r. Contains (requests_in m.patterns r) (Below query prefix patterns)) at mine)
 
 -- ---- each step
@@ -145,18 +128,13 @@ record IsNext (world next : WorldState) : Type 0 where
   legal : IsLegal next
   begins : IsRooted next
   on : GoesOn world next
-  polls : (sent : List Request) (query : Query) (target : Position) (ps prefixes : List (List ℕ))
-      → PollTells world sent query target ps prefixes → PollTells next sent query target ps prefixes
+  stays : StaysOn world next
 
 changed : (world : WorldState) (change : Change) → IsLegal world → IsRooted world → IsNext world (row_after world change)
 changed world change legal begins =
-    row_goes_on (IsNext world) world change (record { legal = legal; begins = begins; on = on_same world; polls = λ sent query target ps prefixes tells. tells })
-    (λ event made. record {
-      legal = (legal.0, (made, legal.1));
-      begins = begins;
-      on = on_grown world event;
-      polls = λ sent query target ps prefixes. poll_grown world event sent query target ps prefixes legal made;
-    })
+    row_goes_on (IsNext world) world change
+    (record { legal = legal; begins = begins; on = on_same world; stays = λ since target p file place same stays. stays })
+    (λ event made. record { legal = (legal.0, (made, legal.1)); begins = begins; on = on_grown world event; stays = stays_grown world event legal made })
 
 has_more : (world : WorldState) (held : List Held) → IsLegal world → IsRooted world → CommitsStay world.held held → IsNext world (over_held world held)
 has_more world held legal begins stay =
@@ -164,7 +142,7 @@ has_more world held legal begins stay =
       legal = (legal.0, made_still (commits_of world) (commit_map held) stay world.opening world.past begins legal.1);
       begins = there_still (commits_of world) (commit_map held) stay world.opening.root begins;
       on = on_over world held;
-      polls = λ sent query target ps prefixes. poll_over world held sent query target ps prefixes;
+      stays = stays_over world held;
     }
 
 all_next : (s : Scene) (next : WorldState) → IsNext s.world next → HoldsAll s → HoldsAll (record s { world = next })
@@ -172,35 +150,35 @@ all_next s next step is =
     record {
       legal = step.legal;
       begins = step.begins;
-      honest = λ reply there. true_on s.world next s.sent step.on (step.polls s.sent) reply (is.honest reply there);
+      honest = λ reply there. true_on s.world next s.sent step.on step.stays reply (is.honest reply there);
       sound = λ id m e. sound_on id m (is.sound id m e);
     }
   where
     in_round : (m : MirrorState) (round : Round) → IsGoodRound s.world s.sent m round → IsGoodRound next s.sent m round
     in_round m Idle good = tt
     in_round m (Asked request) good = good
-    in_round m (Gathering query target awaited prefixes) good =
-        record {
-          asks = good.asks;
-          reached = step.on.place target good.reached;
-          outside = good.outside;
-          gathered = λ p wanted none outside. step.on.stands target.generation target.sequence p (file_at m.files p) (good.gathered p wanted none outside);
-          later = good.later;
-          lists = good.lists;
-        }
+    in_round m (Gathering query target awaited prefixes) (good, lists) = (
+      record {
+        asks = good.asks;
+        reached = step.on.place target good.reached;
+        outside = good.outside;
+        gathered = λ p wanted none outside. step.on.stands target.generation target.sequence p (file_at m.files p) (good.gathered p wanted none outside);
+        later = good.later;
+      },
+      lists,
+    )
 
     sound_on : (id : ℕ) (m : MirrorState) → IsSound s.world s.sent id m → IsSound next s.sent id m
     sound_on id m sound =
         record {
+          name = sound.name;
           kept =
               record {
-                named = sound.kept.named;
-                numbers = sound.kept.numbers;
                 outside = sound.kept.outside;
                 placed = λ place e. step.on.place place (sound.kept.placed place e);
                 values = λ place p e wanted. step.on.stands place.generation place.sequence p (file_at m.files p) (sound.kept.values place p e wanted);
               };
-          round = in_round m m.round sound.round;
+          round = in_round (idle m) m.round sound.round;
         }
 
 all_sent : (s : Scene) (more : List Request)
@@ -222,8 +200,7 @@ unfolding outstanding_of
 own_sent s id is None at other m e request there mine = absurd (nothing_in [] request refl there)
 own_sent s id is (Some n) at other m e request there mine =
     let query = own_query s.world s.sent n request n.round (is.sound id n at).round there in
-    let same : id ≡ other =
-    sym (is.sound id n at).kept.named ∙ sym (ap (λ q. q.mirror) query) ∙ mine.mirror ∙ (is.sound other m e).kept.named in
+    let same : id ≡ other = sym (is.sound id n at).name.0 ∙ sym (ap (λ q. q.mirror) query) ∙ mine.0 ∙ (is.sound other m e).name.0 in
     let one : n ≡ m = same_Some n m (sym at ∙ ap s.mirrors same ∙ e) in
     (subst (λ x. (query_of request).number ≤ x.last) one (number (ap (λ q. q.number) query)), subst (λ x. Contains (outstanding_of x) request) one there)
   where
@@ -232,16 +209,10 @@ own_sent s id is (Some n) at other m e request there mine =
 
 strange_sent : (s : Scene) (request : Request) → IsStrange s request → HoldsAll s → HoldsAll (record s { sent = s.sent ++ request ∷ [] })
 strange_sent s request strange is =
-    all_sent s (request ∷ []) (λ id m e other there mine. absurd (not_own id m e other (same_one other (Contains-push_cases [] request other there)) mine)) is
+    all_sent s (request ∷ []) (λ id m e other there mine. absurd (not_own id m e (subst (IsOwn m) (own_request m.patterns request other there) mine))) is
   where
-    same_one : (other : Request) → Contains [] other ⊎ (request ≡ other) → request ≡ other
-    same_one other (inl there) = absurd (nothing_in [] other refl there)
-    same_one other (inr e) = e
-
-    not_own : (id : ℕ) (m : MirrorState) → s.mirrors id ≡ Some m → (other : Request) → request ≡ other → IsOwn m other → ⊥
-    not_own id m e other one mine =
-        let own : IsOwn m request = subst (IsOwn m) (sym one) mine in
-        strange m (ap s.mirrors (own.mirror ∙ (is.sound id m e).kept.named) ∙ e) (sym own.life)
+    not_own : (id : ℕ) (m : MirrorState) → s.mirrors id ≡ Some m → IsOwn m request → ⊥
+    not_own id m e own = strange m (ap s.mirrors (own.0 ∙ (is.sound id m e).name.0) ∙ e) (sym own.1)
 
 all_with : (s : Scene) (id : ℕ) (move : MirrorState → MirrorState) → ((m : MirrorState) → s.mirrors id ≡ Some m → IsSound s.world s.sent id (move m))
     → HoldsAll s → HoldsAll (record s { mirrors = moved s.mirrors id move })
@@ -271,7 +242,7 @@ all_happens s (Refilters id patterns) may is =
     all_with s id (λ m. refiltered m patterns) (λ m e. sound_refiltered s.world s.sent id m patterns (is.sound id m e)) is
 all_happens s (Restarts id life patterns) may is =
     all_with s id (λ m. new_mirror m.id life patterns)
-    (λ m e. subst (λ i. IsSound s.world s.sent id (new_mirror i life patterns)) (sym (is.sound id m e).kept.named)
+    (λ m e. subst (λ i. IsSound s.world s.sent id (new_mirror i life patterns)) (sym (is.sound id m e).name.0)
     (sound_new s.world s.sent id life patterns (λ request there mirror same. may.unused request there mirror same))) is
 all_happens s (Strange request) may is = strange_sent s request may is
 all_happens s Nothing may is = is
@@ -307,7 +278,7 @@ never_ahead world sent id m place legal sound at same = by (place_in_time world 
     by (inl lt) = absurd (omega arith)
     by (inr both) = both.1
 
-covered : (s : Scene) → HoldsAll s → OfMirrors IsCovered s
+pub covered : (s : Scene) → HoldsAll s → OfMirrors IsCovered s
 covered s is id m e place p at differs =
     by_status (λ fault. status_of s.world place ≡ fault → (is_among (changes_after s.world place) (prefixes_after s.world place) p ≡ true) ⊎ IsRefused s.world place)
     (now s.world).generation (now s.world).sequence (floor_of s.world) place
@@ -324,7 +295,7 @@ bounded_tells query reply p tells = by (nat_lt body_limit (length (reply_bytes r
     by true = tt
     by false = tells
 
--- a path that a mirror wants and that is among the changes since its place is told of in the reply to a poll
+-- a path that a mirror wants and that is among the changes since its place is in the reply to a poll
 poll_tells : (world : WorldState) (place : Position) (patterns : Patterns) (query : Query) (p : List ℕ) → place.generation ≡ (now world).generation → admits patterns p ≡ true
     → is_among (changes_after world place) (prefixes_after world place) p ≡ true
     → Tells (ChangesAre query (position_of (now world)) (admitted patterns (marked_since world place.sequence)) (prefixes_since world place.sequence)) p
@@ -339,7 +310,7 @@ poll_tells world place patterns query p same wanted among =
     either false b true within e = refl
     either false b false within e = sym (within refl) ∙ e
 
-told : (s : Scene) → HoldsAll s → OfMirrors IsTold s
+pub told : (s : Scene) → HoldsAll s → OfMirrors IsTold s
 told s is id m e place p query at differs =
     by_status (λ fault. Tells (polled s.world query place.sequence m.patterns fault) p) (now s.world).generation (now s.world).sequence (floor_of s.world) place
     (λ apart. tt) (λ same late. absurd (let low = never_ahead s.world s.sent id m place is.legal (is.sound id m e) at same in omega arith)) (λ same before. tt)
@@ -348,7 +319,7 @@ told s is id m e place p query at differs =
     (poll_tells s.world place m.patterns query p same differs.wanted
     (differs_among s.world s.sent id m place p is.legal (is.sound id m e) at differs same)))
 
-at_head : (s : Scene) → HoldsAll s → OfMirrors AgreesAtHead s
+pub at_head : (s : Scene) → HoldsAll s → OfMirrors AgreesAtHead s
 at_head s is id m e place at head p = by (admits m.patterns p) refl
   where
     late : IsNotAfter place.generation place.sequence (now s.world)
@@ -367,40 +338,22 @@ at_head s is id m e place at head p = by (admits m.patterns p) refl
     by true wanted = stood s.world place p (file_at m.files p) is.legal head.generation none ((is.sound id m e).kept.values place p at wanted)
     by false out = (is.sound id m e).kept.outside p out
 
-together : (s : Scene) → HoldsAll s → OfPairs AgreeTogether s
+pub together : (s : Scene) → HoldsAll s → OfPairs AgreeTogether s
 together s is id other m n e f here there at_m at_n head_m head_n p wanted_m wanted_n =
     (at_head s is id m e here at_m head_m p ∙ ap (λ b. if b then file_at (now s.world).files p else None) wanted_m)
     ∙ sym (at_head s is other n f there at_n head_n p ∙ ap (λ b. if b then file_at (now s.world).files p else None) wanted_n)
 
-places : (s : Scene) → HoldsAll s → OfMirrors HasPlace s
+pub places : (s : Scene) → HoldsAll s → OfMirrors HasPlace s
 places s is id m e place at =
     record {
       is_place = (is.sound id m e).kept.placed place at;
       in_time = never_ahead s.world s.sent id m place is.legal (is.sound id m e) at;
     }
 
-values : (s : Scene) → HoldsAll s → OfMirrors HasValues s
+pub values : (s : Scene) → HoldsAll s → OfMirrors HasValues s
 values s is id m e place p at wanted = (is.sound id m e).kept.values place p at wanted
 
 -- ---- after every schedule
 
-after_all : (Holds : Scene → Type 0) → ((s : Scene) → HoldsAll s → Holds s) → OnFreshRuns Holds
+pub after_all : (Holds : Scene → Type 0) → ((s : Scene) → HoldsAll s → Holds s) → OnFreshRuns Holds
 after_all Holds means s steps fresh may = means (run_schedule s steps) (all_run s steps may (all_fresh s fresh))
-
-pub runs_covered : OnFreshRuns (OfMirrors IsCovered)
-runs_covered = after_all (OfMirrors IsCovered) covered
-
-pub runs_told : OnFreshRuns (OfMirrors IsTold)
-runs_told = after_all (OfMirrors IsTold) told
-
-pub runs_at_head : OnFreshRuns (OfMirrors AgreesAtHead)
-runs_at_head = after_all (OfMirrors AgreesAtHead) at_head
-
-pub runs_together : OnFreshRuns (OfPairs AgreeTogether)
-runs_together = after_all (OfPairs AgreeTogether) together
-
-pub runs_places : OnFreshRuns (OfMirrors HasPlace)
-runs_places = after_all (OfMirrors HasPlace) places
-
-pub runs_values : OnFreshRuns (OfMirrors HasValues)
-runs_values = after_all (OfMirrors HasValues) values

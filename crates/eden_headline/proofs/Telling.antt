@@ -1,5 +1,5 @@
 -- What every reply that a mount ever gave goes on to say truly of its world, whenever it comes.
-use Rattle.std.proofs.Common.{◌≡◌, ℕ, ◌<◌, ◌≤◌, ◌⊎◌, inl, inr, Bool, true, false, not, ◌&&◌, nat_lt, List, ◌++◌, length, filter, Option, Some, None, is_some, refl, sym, ap, subst, ◌∙◌, arith}
+use Rattle.std.proofs.Common.{◌≡◌, ℕ, ◌<◌, ◌≤◌, ◌⊎◌, inl, inr, Bool, true, false, not, ◌&&◌, nat_lt, List, ◌++◌, length, filter, Option, Some, None, refl, sym, ap, subst, ◌∙◌, arith}
 use Rattle.std.specs.Prelude.{Contains, ◌==◌, if◌then◌else◌}
 use Rattle.std.specs.FinMap as fin
 use Rattle.std.proofs.lemmas.Bool.{eqb-false, eqb-true, ltb-false, ltb-true, or_from}
@@ -39,26 +39,22 @@ use Rattle.eden_history.specs.Status.{status, status_of}
 use Rattle.eden_messages.proofs.Replying.{admitted_listed, marked_paths}
 use Rattle.eden_history.proofs.Following.{Follows, event_follows}
 use Rattle.eden_history.proofs.Growing.{grown}
+use Rattle.eden_history.proofs.RenameLaws.{absent}
 use Rattle.eden_history.proofs.Kept.{below_listed, still}
 use Rattle.eden_headline.proofs.Keeping.{GoesOn, now_is_place, now_is_row, on_grown, on_over, place_in_time, stands_now}
 use Rattle.std.proofs.Math.Bool.{and-false}
 
 -- ---- what is true of a reply
 
--- it answers some basis that was sent; at its position and later no file stood at an admitted path that is not listed
-pub record BasisTells (world : WorldState) (sent : List Request) (query : Query) (position : Position) (ps : List (List ℕ)) : Type 0 where
-  pub patterns : Patterns
-  pub asked : Contains sent (Basis query patterns)
+-- at the position and later no file was at an admitted path that is not listed
+pub record BasisTells (world : WorldState) (patterns : Patterns) (position : Position) (ps : List (List ℕ)) : Type 0 where
   pub place : IsPlace world position
   pub refused : (p : List ℕ) → admits patterns p ≡ false → is_among p ps ≡ false
   pub absent : (p : List ℕ) → admits patterns p ≡ true → is_among p ps ≡ false → Stands world position.generation position.sequence p None
 
--- it answers some poll that was sent; what stood at an admitted path that is not listed nor below a listed directory, since the poll's
--- position, stood there at the target or later
-pub record PollTells (world : WorldState) (sent : List Request) (query : Query) (target : Position) (ps prefixes : List (List ℕ)) : Type 0 where
-  pub since : Position
-  pub patterns : Patterns
-  pub asked : Contains sent (Poll query since patterns)
+-- what was at an admitted path that is not listed nor below a listed directory, since the poll's position, was there at the target or
+-- later
+pub record PollTells (world : WorldState) (since : Position) (patterns : Patterns) (target : Position) (ps prefixes : List (List ℕ)) : Type 0 where
   pub place : IsPlace world target
   pub alike : since.generation ≡ target.generation
   pub before : since.sequence ≤ target.sequence
@@ -66,41 +62,43 @@ pub record PollTells (world : WorldState) (sent : List Request) (query : Query) 
   pub stays : (p : List ℕ) (file : Option Content) → admits patterns p ≡ true → is_among p ps ≡ false → below_any prefixes p ≡ false
       → Stands world since.generation since.sequence p file → Stands world target.generation target.sequence p file
 
--- it answers some list that was asked for; at its position or later no file stood at an admitted path below the directory that is not listed
-pub record ListTells (world : WorldState) (sent : List Request) (query : Query) (position : Position) (prefix : List ℕ) (ps : List (List ℕ)) : Type 0 where
-  pub patterns : Patterns
-  pub asked : Contains sent (Below query prefix patterns)
+-- at the position or later no file was at an admitted path below the directory that is not listed
+pub record ListTells (world : WorldState) (patterns : Patterns) (position : Position) (prefix : List ℕ) (ps : List (List ℕ)) : Type 0 where
   pub refused : (p : List ℕ) → admits patterns p ≡ false → is_among p ps ≡ false
   pub absent : (p : List ℕ) → admits patterns p ≡ true → lies_below p prefix ≡ true → is_among p ps ≡ false
       → Stands world position.generation position.sequence p None
 
+-- it answers some request that was sent, and this holds of what was given there
+pub record Answers {A : Type 0} (sent : List Request) (make : A → Request) (Tells : A → Type 0) : Type 0 where
+  pub given : A
+  pub asked : Contains sent (make given)
+  pub told : Tells given
+
 abbrev pub IsTrueOf : WorldState → List Request → Reply → Type 0
-IsTrueOf world sent (BasisIs query position ps) = BasisTells world sent query position ps
-IsTrueOf world sent (ChangesAre query target marked prefixes) = PollTells world sent query target (paths_of marked) prefixes
+IsTrueOf world sent (BasisIs query position ps) = Answers sent (λ patterns. Basis query patterns) (λ patterns. BasisTells world patterns position ps)
+IsTrueOf world sent (ChangesAre query target marked prefixes) =
+    Answers sent (λ (given : Position × Patterns). Poll query given.0 given.1) (λ given. PollTells world given.0 given.1 target (paths_of marked) prefixes)
 IsTrueOf world sent (ContentIs query position path content) = Stands world position.generation position.sequence path content
 IsTrueOf world sent (Refused query cause) = Unit {0}
-IsTrueOf world sent (ListIs query position prefix ps) = ListTells world sent query position prefix ps
+IsTrueOf world sent (ListIs query position prefix ps) = Answers sent (λ patterns. Below query prefix patterns) (λ patterns. ListTells world patterns position prefix ps)
 
 -- ---- it stays true
 
+more_sent : {A : Type 0} {make : A → Request} {Tells : A → Type 0} (sent more : List Request) → Answers sent make Tells → Answers (sent ++ more) make Tells
+more_sent sent more is = record { given = is.given; asked = Contains-append_left sent more _ is.asked; told = is.told }
+
 pub true_of_more : (world : WorldState) (sent more : List Request) (reply : Reply) → IsTrueOf world sent reply → IsTrueOf world (sent ++ more) reply
-true_of_more world sent more (BasisIs query position ps) is =
-    record { patterns = is.patterns; asked = Contains-append_left sent more _ is.asked; place = is.place; refused = is.refused; absent = is.absent }
-true_of_more world sent more (ChangesAre query target marked prefixes) is =
-    record {
-      since = is.since;
-      patterns = is.patterns;
-      asked = Contains-append_left sent more _ is.asked;
-      place = is.place;
-      alike = is.alike;
-      before = is.before;
-      refused = is.refused;
-      stays = is.stays;
-    }
+true_of_more world sent more (BasisIs query position ps) is = more_sent sent more is
+true_of_more world sent more (ChangesAre query target marked prefixes) is = more_sent sent more is
 true_of_more world sent more (ContentIs query position path content) is = is
 true_of_more world sent more (Refused query cause) is = tt
-true_of_more world sent more (ListIs query position prefix ps) is =
-    record { patterns = is.patterns; asked = Contains-append_left sent more _ is.asked; refused = is.refused; absent = is.absent }
+true_of_more world sent more (ListIs query position prefix ps) is = more_sent sent more is
+
+-- what was since one place and so since another still does in the next world
+abbrev pub StaysOn : WorldState → WorldState → Type 0
+StaysOn world next = (since target : Position) (p : List ℕ) (file : Option Content) → IsPlace world target → since.generation ≡ target.generation
+    → (Stands world since.generation since.sequence p file → Stands world target.generation target.sequence p file)
+    → Stands next since.generation since.sequence p file → Stands next target.generation target.sequence p file
 
 -- a row that is new since a place of its generation comes after it
 new_row : (world : WorldState) (event : Event) (target : Position) (p : List ℕ) (file : Option Content) → IsLegal world → IsPlace world target
@@ -119,11 +117,8 @@ new_row world event target p file legal place made same value =
     by (inr lower) (inl lt) = absurd (omega arith)
     by (inr lower) (inr both) = absurd (let g = both.0 in omega arith)
 
-stays_grown : (world : WorldState) (event : Event) (since target : Position) (p : List ℕ) (file : Option Content) → IsLegal world → IsPlace world target
-    → outcome (commits_of world) (now world) event.change ≡ Next event → since.generation ≡ target.generation
-    → (Stands world since.generation since.sequence p file → Stands world target.generation target.sequence p file)
-    → Stands (grown world event) since.generation since.sequence p file → Stands (grown world event) target.generation target.sequence p file
-stays_grown world event since target p file legal place made same stays is = by is.is_row
+pub stays_grown : (world : WorldState) (event : Event) → IsLegal world → outcome (commits_of world) (now world) event.change ≡ Next event → StaysOn world (grown world event)
+stays_grown world event legal made since target p file place same stays is = by is.is_row
   where
     by : ((is.row ≡ event.row) ⊎ IsRow world is.row) → Stands (grown world event) target.generation target.sequence p file
     by (inl new) = new_row world event target p file legal place made (ap (λ r. r.generation) (sym new) ∙ is.alike ∙ same) (ap (λ r. file_at r.files p) (sym new) ∙ is.value)
@@ -131,59 +126,37 @@ stays_grown world event since target p file legal place made same stays is = by 
         (on_grown world event).stands target.generation target.sequence p file
         (stays (record { row = is.row; is_row = old; alike = is.alike; after = is.after; value = is.value }))
 
-pub poll_grown : (world : WorldState) (event : Event) (sent : List Request) (query : Query) (target : Position) (ps prefixes : List (List ℕ))
-    → IsLegal world → outcome (commits_of world) (now world) event.change ≡ Next event → PollTells world sent query target ps prefixes
-    → PollTells (grown world event) sent query target ps prefixes
-poll_grown world event sent query target ps prefixes legal made is =
-    record {
-      since = is.since;
-      patterns = is.patterns;
-      asked = is.asked;
-      place = (on_grown world event).place target is.place;
-      alike = is.alike;
-      before = is.before;
-      refused = is.refused;
-      stays = λ p file a none outside. stays_grown world event is.since target p file legal is.place made is.alike (is.stays p file a none outside);
-    }
-
 -- the rows of a world that is given back its objects are its own
-pub poll_over : (world : WorldState) (held : List Held) (sent : List Request) (query : Query) (target : Position) (ps prefixes : List (List ℕ))
-    → PollTells world sent query target ps prefixes → PollTells (over_held world held) sent query target ps prefixes
-poll_over world held sent query target ps prefixes is =
-    record {
-      since = is.since;
-      patterns = is.patterns;
-      asked = is.asked;
-      place = (on_over world held).place target is.place;
-      alike = is.alike;
-      before = is.before;
-      refused = is.refused;
-      stays = λ p file a none outside stood. (on_over world held).stands target.generation target.sequence p file
-          (is.stays p file a none outside ((on_over (over_held world held) world.held).stands is.since.generation is.since.sequence p file stood));
-    }
+pub stays_over : (world : WorldState) (held : List Held) → StaysOn world (over_held world held)
+stays_over world held since target p file place same stays stood =
+    (on_over world held).stands target.generation target.sequence p file (stays ((on_over (over_held world held) world.held).stands since.generation since.sequence p file stood))
 
--- what is true of a reply is true of it of the next world, if what replies to polls say is
-pub true_on : (world next : WorldState) (sent : List Request) → GoesOn world next
-    → ((query : Query) (target : Position) (ps prefixes : List (List ℕ)) → PollTells world sent query target ps prefixes → PollTells next sent query target ps prefixes)
-    → (reply : Reply) → IsTrueOf world sent reply → IsTrueOf next sent reply
-true_on world next sent on poll (BasisIs query position ps) is =
-    record {
-      patterns = is.patterns;
-      asked = is.asked;
-      place = on.place position is.place;
-      refused = is.refused;
-      absent = λ p a none. on.stands position.generation position.sequence p None (is.absent p a none);
-    }
-true_on world next sent on poll (ChangesAre query target marked prefixes) is = poll query target (paths_of marked) prefixes is
-true_on world next sent on poll (ContentIs query position path content) is = on.stands position.generation position.sequence path content is
-true_on world next sent on poll (Refused query cause) is = tt
-true_on world next sent on poll (ListIs query position prefix ps) is =
-    record {
-      patterns = is.patterns;
-      asked = is.asked;
-      refused = is.refused;
-      absent = λ p a under none. on.stands position.generation position.sequence p None (is.absent p a under none);
-    }
+told_on : {A : Type 0} {sent : List Request} {make : A → Request} {Tells Next : A → Type 0} → Answers sent make Tells → ((given : A) → Tells given → Next given) → Answers sent make Next
+told_on is step = record { given = is.given; asked = is.asked; told = step is.given is.told }
+
+-- what is true of a reply is true of it of the next world
+pub true_on : (world next : WorldState) (sent : List Request) → GoesOn world next → StaysOn world next → (reply : Reply) → IsTrueOf world sent reply → IsTrueOf next sent reply
+true_on world next sent on stays (BasisIs query position ps) is =
+    told_on is (λ patterns told. record {
+      place = on.place position told.place;
+      refused = told.refused;
+      absent = λ p a none. on.stands position.generation position.sequence p None (told.absent p a none);
+    })
+true_on world next sent on stays (ChangesAre query target marked prefixes) is =
+    told_on is (λ given told. record {
+      place = on.place target told.place;
+      alike = told.alike;
+      before = told.before;
+      refused = told.refused;
+      stays = λ p file a none outside. stays given.0 target p file told.place told.alike (told.stays p file a none outside);
+    })
+true_on world next sent on stays (ContentIs query position path content) is = on.stands position.generation position.sequence path content is
+true_on world next sent on stays (Refused query cause) is = tt
+true_on world next sent on stays (ListIs query position prefix ps) is =
+    told_on is (λ patterns told. record {
+      refused = told.refused;
+      absent = λ p a under none. on.stands position.generation position.sequence p None (told.absent p a under none);
+    })
 
 -- ---- lists of paths
 
@@ -224,40 +197,37 @@ among_admitted world patterns p = among_filter (admits patterns) p (paths (now w
 none_refused : (world : WorldState) (patterns : Patterns) (p : List ℕ) → admits patterns p ≡ false → is_among p (admitted_paths patterns (now world).files) ≡ false
 none_refused world patterns p out = among_admitted world patterns p ∙ turned_down patterns p (is_among p (paths (now world).files)) out
 
--- at a path that is admitted and not listed nothing stands now
+-- at a path that is admitted and not listed there is no file now
 absent_now : (world : WorldState) (patterns : Patterns) (p : List ℕ) → admits patterns p ≡ true → is_among p (admitted_paths patterns (now world).files) ≡ false
     → Stands world (now world).generation (now world).sequence p None
 absent_now world patterns p wanted none = subst (Stands world (now world).generation (now world).sequence p) nothing (stands_now world p)
   where
-    none_there : (file : Option Content) → is_some file ≡ false → file ≡ None
-    none_there None e = refl
-    none_there (Some file) e = cc
-
     nothing : file_at (now world).files p ≡ None
     nothing =
-        none_there (file_at (now world).files p)
+        absent (file_at (now world).files p)
         (fin.contains_key-keys (now world).files p ∙ left_over (admits patterns p) (is_among p (paths (now world).files)) wanted (sym (among_admitted world patterns p) ∙ none))
 
 basis_true : (world : WorldState) (sent : List Request) (query : Query) (patterns : Patterns) → Contains sent (Basis query patterns)
-    → BasisTells world sent query (position_of (now world)) (admitted_paths patterns (now world).files)
+    → IsTrueOf world sent (BasisIs query (position_of (now world)) (admitted_paths patterns (now world).files))
 basis_true world sent query patterns asked =
     record {
-      patterns = patterns;
+      given = patterns;
       asked = asked;
-      place = now_is_place world;
-      refused = λ p out. none_refused world patterns p out;
-      absent = λ p wanted none. absent_now world patterns p wanted none;
+      told = record { place = now_is_place world; refused = λ p out. none_refused world patterns p out; absent = λ p wanted none. absent_now world patterns p wanted none };
     }
 
 list_true : (world : WorldState) (sent : List Request) (query : Query) (prefix : List ℕ) (patterns : Patterns) → Contains sent (Below query prefix patterns)
-    → ListTells world sent query (position_of (now world)) prefix (below prefix (admitted_paths patterns (now world).files))
+    → IsTrueOf world sent (ListIs query (position_of (now world)) prefix (below prefix (admitted_paths patterns (now world).files)))
 list_true world sent query prefix patterns asked =
     record {
-      patterns = patterns;
+      given = patterns;
       asked = asked;
-      refused = λ p out. among_below p ∙ ap (λ b. lies_below p prefix && b) (none_refused world patterns p out) ∙ and-false (lies_below p prefix);
-      absent = λ p wanted under none. absent_now world patterns p wanted
-          (left_over (lies_below p prefix) (is_among p (admitted_paths patterns (now world).files)) under (sym (among_below p) ∙ none));
+      told =
+          record {
+            refused = λ p out. among_below p ∙ ap (λ b. lies_below p prefix && b) (none_refused world patterns p out) ∙ and-false (lies_below p prefix);
+            absent = λ p wanted under none. absent_now world patterns p wanted
+                (left_over (lies_below p prefix) (is_among p (admitted_paths patterns (now world).files)) under (sym (among_below p) ∙ none));
+          };
     }
   where
     among_below : (p : List ℕ) → is_among p (below prefix (admitted_paths patterns (now world).files)) ≡ (lies_below p prefix && is_among p (admitted_paths patterns (now world).files))
@@ -286,15 +256,12 @@ poll_true : (world : WorldState) (sent : List Request) (query : Query) (since : 
     → IsTrueOf world sent (polled world query since.sequence patterns (status_of world since))
 poll_true world sent query since patterns legal asked =
     by_status (λ fault. IsTrueOf world sent (polled world query since.sequence patterns fault)) (now world).generation (now world).sequence (floor_of world) since
-    (λ apart. tt) (λ same late. tt) (λ same before. tt) (λ same before. bounded_true world sent query _ (told same before))
+    (λ apart. tt) (λ same late. tt) (λ same before. tt) (λ same before. bounded_true world sent query _ (record { given = (since, patterns); asked = asked; told = told same before }))
   where
     told : since.generation ≡ (now world).generation → since.sequence ≤ (now world).sequence
-        → PollTells world sent query (position_of (now world)) (paths_of (admitted patterns (marked_since world since.sequence))) (prefixes_since world since.sequence)
+        → PollTells world since patterns (position_of (now world)) (paths_of (admitted patterns (marked_since world since.sequence))) (prefixes_since world since.sequence)
     told same before =
         record {
-          since = since;
-          patterns = patterns;
-          asked = asked;
           place = now_is_place world;
           alike = same;
           before = before;

@@ -7,12 +7,12 @@ use Rattle.std.proofs.lemmas.Option.{same_Some}
 use Rattle.eden_globs.specs.Filters.{Patterns}
 use Rattle.eden_history.specs.Worlds.{Namer, WorldState}
 use Rattle.eden_history.specs.Legal.{IsWorld}
-use Rattle.eden_logs.specs.declared.call.Answer.TheVariants.{Replied, Unanswered}
+use Rattle.eden_logs.specs.declared.call.CallAnswer.TheVariants.{Replied, Unanswered}
 use Rattle.eden_logs.specs.declared.call.Call.TheVariants.{Ask}
 use Rattle.eden_messages.specs.declared.message.Reply.{Reply}
 use Rattle.eden_messages.specs.declared.message.Request.{Request}
 use Rattle.eden_messages.specs.Mirrors.{MirrorState, new_mirror}
-use Rattle.eden_logs.specs.declared.history.Entry.{Entry}
+use Rattle.eden_logs.specs.declared.history.HistoryEntry.{HistoryEntry}
 use Rattle.eden_logs.specs.declared.log.CallLog.{CallLog}
 use Rattle.eden_logs.specs.declared.log.LogEntry.{LogEntry}
 use Rattle.eden_logs.specs.Histories.{IsLegalAfter, IsLegalHistory, answers_along, replay, world_past}
@@ -28,8 +28,8 @@ use Rattle.eden_headline.specs.Notes.{HasNotes, came_in, sent_in}
 use Rattle.eden_headline.specs.Schedules.{IsFresh}
 use Rattle.eden_headline.specs.Vouched.{AreVouched, IsAnswered, IsAsked, IsTimely, IsVouched, is_own}
 use Rattle.eden_headline.proofs.Importing.{with_imports}
-use Rattle.eden_headline.proofs.Merging.{IsComing, IsDue, IsInTime, IsReady, Merges, merges}
-use Rattle.eden_headline.proofs.Scheduling.{runs_at_head, runs_covered, runs_places, runs_told, runs_values}
+use Rattle.eden_headline.proofs.Merging.{IsComing, IsDue, IsInTime, IsReady, Merges, itself, merges}
+use Rattle.eden_headline.proofs.Scheduling.{at_head, covered, places, told as is_told, values}
 
 -- ---- one note more
 
@@ -113,7 +113,7 @@ answered entries earlier (Came came other ∷ notes) vouched ticket reply coming
     by onward (inl now) = record { entry = vouched.0.entry; there = vouched.0.there; under = vouched.0.under ∙ now.0; told = vouched.0.told ∙ ap (λ r. Replied r) now.1 }
     by onward (inr later) = onward later
 
-due_at : (name : Namer) (count : ℕ) (world : WorldState) (history : List Entry) → IsLegalAfter name count world history → (place : ℕ) (reply : Reply)
+due_at : (name : Namer) (count : ℕ) (world : WorldState) (history : List HistoryEntry) → IsLegalAfter name count world history → (place : ℕ) (reply : Reply)
     → slice_get (answers_along name world history) place ≡ Some (Replied reply) → IsDue name world history (count + suc place) reply
 due_at name count world [] legal place reply e = absurd (let bad : slice_get [] place ≡ Some (Replied reply) = e in cc)
 due_at name count world (entry ∷ rest) legal zero reply e = inl (omega (arith, legal.0), same_Some _ _ e)
@@ -124,7 +124,7 @@ due_at name count world (entry ∷ rest) legal (suc place) reply e =
     next : (a b : ℕ) → (a + 1) + suc b ≡ a + suc (suc b)
     next a b = omega arith
 
-due_under : (name : Namer) (world : WorldState) (history : List Entry) → IsLegalHistory name world history → (noted : LogEntry) (reply : Reply)
+due_under : (name : Namer) (world : WorldState) (history : List HistoryEntry) → IsLegalHistory name world history → (noted : LogEntry) (reply : Reply)
     → IsRight (answers_along name world history) noted → noted.answer ≡ Replied reply → IsDue name world history noted.ticket reply
 due_under name world history legal noted reply right told = by right
   where
@@ -150,10 +150,7 @@ only world id life patterns other m e = by (other == id) refl e
     by false apart is = absurd (let bad : ◌≡◌ {A = Option MirrorState} None (Some m) = is in cc)
 
 there_first : (world : WorldState) (id life : ℕ) (patterns : Patterns) → (opened_with world (new_mirror id life patterns)).mirrors id ≡ Some (new_mirror id life patterns)
-there_first world id life patterns = simp self refl
-  where
-    self : (id == id) ≡ true
-    self = grind arith
+there_first world id life patterns = rw (itself id) refl
 
 fresh_opening : (name : Namer) (world : WorldState) (id life : ℕ) (patterns : Patterns) → IsWorld name world → IsFresh (opened_with world (new_mirror id life patterns))
 fresh_opening name world id life patterns is =
@@ -172,12 +169,12 @@ fresh_opening name world id life patterns is =
 -- ---- the merge of a follower that is vouched for
 
 module _ (logs : List CallLog) (m : MirrorState) (notes : List Note) (has : HasNotes m notes) (vouched : IsVouched logs m notes)
-    (name : Namer) (world : WorldState) (history : List Entry) (is_world : IsWorld name world) (legal : IsLegalHistory name world history)
+    (name : Namer) (world : WorldState) (history : List HistoryEntry) (is_world : IsWorld name world) (legal : IsLegalHistory name world history)
     (agree : LogsAgree name world history logs) where
   first : MirrorState
   first = new_mirror m.id m.life m.patterns
 
-  asked : (entry : Entry) (request : Request) → Contains history entry → entry.call ≡ Ask request → is_own m.id m.life request ≡ true
+  asked : (entry : HistoryEntry) (request : Request) → Contains history entry → entry.call ≡ Ask request → is_own m.id m.life request ≡ true
       → Contains [] request ⊎ IsInTime entry.ticket request notes
   asked entry request c e own = by (in_time (entries_in logs) entry.ticket request there [] notes vouched.along (vouched.sent entry.ticket request there own))
     where
@@ -230,11 +227,11 @@ module _ (logs : List CallLog) (m : MirrorState) (notes : List Note) (has : HasN
         follows = at_end;
         faithful =
             record {
-              covered = holds IsCovered (with_imports (OfMirrors IsCovered) runs_covered);
-              told = holds IsTold (with_imports (OfMirrors IsTold) runs_told);
-              at_head = holds AgreesAtHead (with_imports (OfMirrors AgreesAtHead) runs_at_head);
-              place = holds HasPlace (with_imports (OfMirrors HasPlace) runs_places);
-              values = holds HasValues (with_imports (OfMirrors HasValues) runs_values);
+              covered = holds IsCovered (with_imports (OfMirrors IsCovered) covered);
+              told = holds IsTold (with_imports (OfMirrors IsTold) is_told);
+              at_head = holds AgreesAtHead (with_imports (OfMirrors AgreesAtHead) at_head);
+              place = holds HasPlace (with_imports (OfMirrors HasPlace) places);
+              values = holds HasValues (with_imports (OfMirrors HasValues) values);
             };
       }
 
@@ -243,8 +240,8 @@ module _ (logs : List CallLog) (m : MirrorState) (notes : List Note) (has : HasN
 pub goes_with : (logs : List CallLog) (m : MirrorState) (notes : List Note) → HasNotes m notes → IsVouched logs m notes → GoesWith logs m notes
 goes_with logs m notes has vouched = is_merged logs m notes has vouched
 
-pub on_merges : (Holds : Namer → WorldState → List Entry → MirrorState → List Note → Type 0)
-    → ((name : Namer) (world : WorldState) (entries : List Entry) (m : MirrorState) (notes : List Note) → IsMerged name world entries m notes → Holds name world entries m notes)
+pub on_merges : (Holds : Namer → WorldState → List HistoryEntry → MirrorState → List Note → Type 0)
+    → ((name : Namer) (world : WorldState) (entries : List HistoryEntry) (m : MirrorState) (notes : List Note) → IsMerged name world entries m notes → Holds name world entries m notes)
     → OnMerges Holds
 on_merges Holds means logs m notes has vouched name world entries is_world legal agree =
     means name world entries m notes (is_merged logs m notes has vouched name world entries is_world legal agree)

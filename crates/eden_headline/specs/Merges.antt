@@ -6,7 +6,7 @@ use Rattle.eden_logs.specs.declared.call.Call.{Call}
 use Rattle.eden_logs.specs.declared.call.Call.TheVariants.{Change, Ask}
 use Rattle.eden_messages.specs.declared.message.Request.{Request}
 use Rattle.eden_messages.specs.Mirrors.{MirrorState, new_mirror}
-use Rattle.eden_logs.specs.declared.history.Entry.{Entry}
+use Rattle.eden_logs.specs.declared.history.HistoryEntry.{HistoryEntry}
 use Rattle.eden_logs.specs.declared.log.CallLog.{CallLog}
 use Rattle.eden_logs.specs.Histories.{IsLegalHistory, replay}
 use Rattle.eden_logs.specs.Logs.{LogsAgree}
@@ -29,23 +29,23 @@ abbrev pub steps_of_call : ℕ → ℕ → Call → List Step
 steps_of_call id life (Change change) = Changes change ∷ []
 steps_of_call id life (Ask request) = steps_of_request id life request
 
-abbrev pub steps_of : ℕ → ℕ → List Entry → List Step
+abbrev pub steps_of : ℕ → ℕ → List HistoryEntry → List Step
 steps_of id life [] = []
 steps_of id life (entry ∷ rest) = steps_of_call id life entry.call ++ steps_of id life rest
 
 -- the first entries, as long as their tickets are at most this one, and the entries after
 -- them
-abbrev pub up_to : ℕ → List Entry → List Entry
+abbrev pub up_to : ℕ → List HistoryEntry → List HistoryEntry
 up_to ticket [] = []
 up_to ticket (entry ∷ rest) = if nat_le entry.ticket ticket then entry ∷ up_to ticket rest else []
 
-abbrev pub behind : ℕ → List Entry → List Entry
+abbrev pub behind : ℕ → List HistoryEntry → List HistoryEntry
 behind ticket [] = []
 behind ticket (entry ∷ rest) = if nat_le entry.ticket ticket then behind ticket rest else entry ∷ rest
 
 -- note by note; before a reply comes, the remaining entries up to its ticket; after all
 -- notes, those that remain
-abbrev pub merge : ℕ → ℕ → List Entry → List Note → List Step
+abbrev pub merge : ℕ → ℕ → List HistoryEntry → List Note → List Step
 merge id life entries [] = steps_of id life entries
 merge id life entries (Began ∷ notes) = Begins id ∷ merge id life entries notes
 merge id life entries (Sent requests ∷ notes) = Sends id ∷ merge id life entries notes
@@ -62,10 +62,10 @@ opened_with world m = record { world = world; sent = []; replies = []; mirrors =
 abbrev pub opening_of : WorldState → MirrorState → Scene
 opening_of world m = opened_with world (new_mirror m.id m.life m.patterns)
 
-abbrev pub merged : MirrorState → List Entry → List Note → List Step
+abbrev pub merged : MirrorState → List HistoryEntry → List Note → List Step
 merged m entries notes = merge m.id m.life entries notes
 
-abbrev pub ending_of : Namer → WorldState → MirrorState → List Entry → List Note → Scene
+abbrev pub ending_of : Namer → WorldState → MirrorState → List HistoryEntry → List Note → Scene
 ending_of name world m entries notes = run_with_imports name (opening_of world m) (merged m entries notes)
 
 -- what is promised of a mirror against a world, one mirror at a time
@@ -78,7 +78,7 @@ pub record IsFaithful (world : WorldState) (m : MirrorState) : Type 0 where
 
 -- the merge is a schedule with imports that ends with the history's world and the
 -- follower's mirror, and the mirror is faithful to that world
-pub record IsMerged (name : Namer) (world : WorldState) (entries : List Entry) (m : MirrorState) (notes : List Note) : Type 0 where
+pub record IsMerged (name : Namer) (world : WorldState) (entries : List HistoryEntry) (m : MirrorState) (notes : List Note) : Type 0 where
   pub schedule : IsScheduleWithImports name (opening_of world m) (merged m entries notes)
   pub replays : (ending_of name world m entries notes).world ≡ replay name world entries
   pub follows : (ending_of name world m entries notes).mirrors m.id ≡ Some m
@@ -86,12 +86,12 @@ pub record IsMerged (name : Namer) (world : WorldState) (entries : List Entry) (
 
 -- with each history, from any world, with which the logs agree
 abbrev pub GoesWith : List CallLog → MirrorState → List Note → Type 0
-GoesWith logs m notes = (name : Namer) (world : WorldState) (entries : List Entry) → IsWorld name world → IsLegalHistory name world entries
+GoesWith logs m notes = (name : Namer) (world : WorldState) (entries : List HistoryEntry) → IsWorld name world → IsLegalHistory name world entries
     → LogsAgree name world entries logs → IsMerged name world entries m notes
 
 -- what holds of each follower that logs vouch for, with each history with which they
 -- agree
-abbrev pub OnMerges : (Namer → WorldState → List Entry → MirrorState → List Note → Type 0) → Type 0
+abbrev pub OnMerges : (Namer → WorldState → List HistoryEntry → MirrorState → List Note → Type 0) → Type 0
 OnMerges Holds = (logs : List CallLog) (m : MirrorState) (notes : List Note) → HasNotes m notes → IsVouched logs m notes
-    → (name : Namer) (world : WorldState) (entries : List Entry) → IsWorld name world → IsLegalHistory name world entries
+    → (name : Namer) (world : WorldState) (entries : List HistoryEntry) → IsWorld name world → IsLegalHistory name world entries
     → LogsAgree name world entries logs → Holds name world entries m notes

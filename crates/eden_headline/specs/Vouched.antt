@@ -1,6 +1,6 @@
 -- When logs vouch for what a follower noted.
 use Rattle.std.specs.Prelude.{◌≡◌, ◌<◌, ◌⊎◌, ℕ, ◌==◌, Bool, true, ◌&&◌, List, [], ◌∷◌, ◌++◌, Contains}
-use Rattle.eden_logs.specs.declared.call.Answer.TheVariants.{Replied}
+use Rattle.eden_logs.specs.declared.call.CallAnswer.TheVariants.{Replied}
 use Rattle.eden_logs.specs.declared.call.Call.TheVariants.{Ask}
 use Rattle.eden_messages.specs.declared.message.Reply.{Reply}
 use Rattle.eden_messages.specs.declared.message.Request.{Request}

@@ -7,7 +7,7 @@ use Rattle.std.proofs.lemmas.Bool.{and_parts, false_from_ne_true, not-false}
 use Rattle.eden_ids.specs.declared.content.Content.{Content}
 use Rattle.eden_ids.specs.Paths.{clashes, lies_below}
 use Rattle.eden_ids.specs.FileMaps.{FileMap, IsFileMap, file_at, paths, same_file, same_path, differ, path_set, has, clashes_any}
-use Rattle.eden_ids.proofs.FileMapLemmas.{file_at-tabulate, has-append, has-differ, has-path_set, has-union, same_file-is, same_file-refl, unlisted, has-where, held}
+use Rattle.eden_ids.proofs.FileMapLemmas.{file_at-tabulate, has-append, has-differ, has-path_set, has-union, same_file-is, unlisted, has-where, held}
 use Rattle.eden_history.specs.declared.change.Mode.{Mode}
 use Rattle.eden_history.specs.declared.change.Mode.TheVariants.{Normal, Dry, Force}
 use Rattle.eden_history.specs.Checkouts.{is_clean, clashes_dirty, is_blocked, paths_of_all, normal_rule, normal_files, force_rule, force_files, rule_of, checked_out, is_conflict, conflicts, unclean}
@@ -100,7 +100,7 @@ has-unclean work root next target p = has-union (differ work root) (differ next 
 clashes_turned : (p q : List ℕ) → clashes p q ≡ clashes q p
 clashes_turned p q = or_comm (lies_below p q) (lies_below q p)
 
--- a path that clashes with no dirty one at which a file stands
+-- a path that clashes with no dirty one that has a file
 apart_from_dirty : (work root : FileMap) (p q : List ℕ) → clashes_dirty work root p ≡ false → is_clean work root q ≡ false → IsSome (file_at work q) → clashes p q ≡ false
 apart_from_dirty work root p q none dirty here =
     false_from_ne_true (clashes p q)
@@ -204,48 +204,5 @@ pub force_elsewhere : (work root target : FileMap) (p : List ℕ) → is_clean w
 force_elsewhere work root target p clean = cases (file_at work p) (file_at root p) (file_at target p) (clashes_any target p) (same_file-is (file_at work p) (file_at root p) clean)
   where
     cases : (w r t : Option Content) (any : Bool) → w ≡ r → cond (is_some r || is_some t) t (cond any None w) ≡ t
-    cases w (Some r) t any same = refl
-    cases w None (Some t) any same = refl
-    cases w None None true same = refl
     cases w None None false same = same
-
--- a path on which working copy, root and target are one stays
-pub normal_untouched : (work root target : FileMap) (p : List ℕ) → IsFileMap work → has (differ work root) p ≡ false → has (differ root target) p ≡ false
-    → file_at (normal_files work root target) p ≡ file_at work p
-normal_untouched work root target p ok clean same =
-    let one = same_where work root p clean in
-    let is : is_clean work root p ≡ true = ap (λ f. same_file f (file_at root p)) one ∙ same_file-refl (file_at root p) in
-    let free : is_conflict work root target p ≡ false =
-    false_from_ne_true (is_conflict work root target p) (λ e. let bad : false ≡ true = sym same ∙ conflict_differs work root target p ok e in cc) in
-    file_at-normal work root target p ∙ normal_elsewhere work root target p is free ∙ sym (one ∙ same_where root target p same)
-
-pub force_untouched : (work root target : FileMap) (p : List ℕ) → has (differ work root) p ≡ false → has (differ root target) p ≡ false
-    → file_at (force_files work root target) p ≡ file_at work p
-force_untouched work root target p clean same =
-    let one = same_where work root p clean in
-    let is : is_clean work root p ≡ true = ap (λ f. same_file f (file_at root p)) one ∙ same_file-refl (file_at root p) in
-    file_at-force work root target p ∙ force_elsewhere work root target p is ∙ sym (one ∙ same_where root target p same)
-
--- a path is unclean only where the working copy differs from the root, or the root from the target
-unclean_within : (work root next target : FileMap) (p : List ℕ)
-    → (has (differ work root) p ≡ false → has (differ root target) p ≡ false → file_at next p ≡ file_at work p)
-    → has (unclean work root next target) p ≡ true → (has (differ work root) p || has (differ root target) p) ≡ true
-unclean_within work root next target p stays e =
-    cases (has (differ work root) p) (has (differ root target) p) refl refl (sym (has-unclean work root next target p) ∙ e)
-  where
-    cases : (a b : Bool) → has (differ work root) p ≡ a → has (differ root target) p ≡ b → (a || has (differ next target) p) ≡ true → (a || b) ≡ true
-    cases true b x y h = refl
-    cases false true x y h = refl
-    cases false false x y h =
-        let same : file_at next p ≡ file_at target p = stays x y ∙ same_where work root p x ∙ same_where root target p y in
-        let none : has (differ next target) p ≡ false =
-        has-differ next target p ∙ ap (λ f. not (same_file f (file_at target p))) same ∙ ap not (same_file-refl (file_at target p)) in
-        sym none ∙ h
-
-pub normal_unclean : (work root target : FileMap) (p : List ℕ) → IsFileMap work → has (unclean work root (normal_files work root target) target) p ≡ true
-    → (has (differ work root) p || has (differ root target) p) ≡ true
-normal_unclean work root target p ok = unclean_within work root (normal_files work root target) target p (normal_untouched work root target p ok)
-
-pub force_unclean : (work root target : FileMap) (p : List ℕ) → has (unclean work root (force_files work root target) target) p ≡ true
-    → (has (differ work root) p || has (differ root target) p) ≡ true
-force_unclean work root target p = unclean_within work root (force_files work root target) target p (force_untouched work root target p)
+    cases w r t any same = refl

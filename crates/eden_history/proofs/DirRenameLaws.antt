@@ -1,4 +1,4 @@
--- A rename of a directory that is not refused: nothing stands where it puts files, each path that it makes is one, and nothing but the
+-- A rename of a directory that is not refused: nothing is where it puts files, each path that it makes is one, and nothing but the
 -- limits of length and depth can break a path.
 use Rattle.std.proofs.Common.{◌≡◌, ℕ, Bool, true, false, not, ◌&&◌, nat_eq, nat_lt, List, [], ◌∷◌, ◌++◌, length, Some, None, is_some, refl, sym, ap, ◌∙◌, arith}
 use Rattle.std.specs.Prelude.{IsSome, if◌then◌else◌}
@@ -18,7 +18,7 @@ use Rattle.eden_history.proofs.RenameLaws.{absent, first-none, no_fault}
 
 -- ---- what a rename that is not refused finds
 
--- no file stands at the new path or above it, and each moved path is a path
+-- no file is at the new path or above it, and each moved path is a path
 pub is_allowed : (m : FileMap) (old new : List ℕ) → target_fault m old new ≡ None → (has_file_upward m new ≡ false) × (breaks_a_path m old new ≡ false)
 is_allowed m old new e =
     let parts = first-none (free_fault m new) _ (no_fault (lies_below new old) IntoItself _ e).1 in
@@ -35,7 +35,7 @@ rename_dir_fits m old new fits allowed = by (same_bytes old new) (first-none (so
         let free = or_parts (is_some (file_at m new)) (has_file_above m new) (is_allowed m old new e).0 in
         carried_fits m old new fits (absent (file_at m new) free.0) free.1
 
--- a path below neither directory keeps what stands there
+-- a path below neither directory keeps what is there
 pub dir_renamed-elsewhere : (m : FileMap) (old new p : List ℕ) → lies_below p old ≡ false → lies_below p new ≡ false → file_at (dir_renamed m old new) p ≡ file_at m p
 dir_renamed-elsewhere m old new p from to = by (same_bytes old new)
   where

@@ -53,7 +53,7 @@ unlisted_is_absent work root ps p is unlisted = absent (file_at (dirty_files wor
 
 -- ---- as a list
 
--- the dirty paths at which a file stands
+-- the dirty paths that have a file
 pub dirty_listed : (work root : FileMap) → filter (λ p. is_some (file_at work p)) (listing (differ work root)) ≡ paths (dirty_files work root)
 dirty_listed work root =
     sym (listing_of (path_set (paths (dirty_files work root))) (differ work root) (λ p. is_some (file_at work p)) (λ p. members p ∙ is_dirty_file work root p ∙ ap (λ b. is_some (file_at work p) && b) (sym (has-differ work root p))))
@@ -72,7 +72,7 @@ clean_unless_listed work root ps p is =
     twice true = refl
     twice false = refl
 
--- and these stand in byte order
+-- and these are in byte order
 pub changed_rise : (work root : FileMap) (ps : List (List ℕ)) → ps ≡ listing (differ work root) → IsStrictlySortedBy order ps
 changed_rise work root ps is = subst (IsStrictlySortedBy order) (sym is) (fin_keys_rise (differ work root))
 
@@ -87,7 +87,7 @@ by_both true b f g = sym (f refl)
 by_both false true f g = g refl
 by_both false false f g = refl
 
--- to clash with a dirty path at which a file stands is to clash with a dirty file
+-- to clash with a dirty path that has a file is to clash with a dirty file
 pub clashes-dirty_files : (work root : FileMap) (p : List ℕ) → clashes_dirty work root p ≡ clashes_any (dirty_files work root) p
 clashes-dirty_files work root p = by_both _ _ there back
   where
@@ -110,7 +110,7 @@ clashes-dirty_files work root p = by_both _ _ there back
         (sym (fin.contains_key-keys work found.0) ∙ parts.0)
         (ap (λ b. b && not (is_clean work root found.0)) found.2 ∙ parts.1)
 
--- any files with the paths of the dirty ones tell it
+-- any files with the paths of the dirty ones determine it
 pub dirty_clashes : (work root dirty : FileMap) (p : List ℕ) → paths dirty ≡ paths (dirty_files work root) → clashes_any dirty p ≡ clashes_dirty work root p
 dirty_clashes work root dirty p is = ap (list_any (λ q. clashes p q)) is ∙ sym (clashes-dirty_files work root p)
 
@@ -121,6 +121,6 @@ none_clashes work root ps p is none = false_from_ne_true (clashes_dirty work roo
     let dirty = (and_parts (clashes p found.0) (not (is_clean work root found.0)) found.2).1 in
     let bad : true ≡ false = sym dirty ∙ ap not (clean_unless_listed work root ps found.0 is ∙ ap (λ qs. not (list_any (λ q. same_path found.0 q) qs)) (no_length ps none)) in cc)
 
--- the paths of the dirty files stand in byte order
+-- the paths of the dirty files are in byte order
 pub dirty_rise : (work root : FileMap) (ps : List (List ℕ)) → ps ≡ paths (dirty_files work root) → IsStrictlySortedBy order ps
 dirty_rise work root ps is = subst (IsStrictlySortedBy order) (sym is) (fin_keys_rise (dirty_files work root))

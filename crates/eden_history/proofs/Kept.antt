@@ -1,4 +1,4 @@
--- A path that no event names, and that lies below no directory that files were moved from or to, keeps what stands there, from any row of a
+-- A path that no event names, and that lies below no directory that files were moved from or to, keeps what is there, from any row of a
 -- generation to its last.
 use Rattle.std.proofs.Common.{◌≡◌, ℕ, ◌≤◌, inl, inr, Bool, true, false, cond, ◌||◌, List, [], ◌∷◌, Option, Some, None, refl, sym, ap, subst, ◌∙◌, arith}
 use Rattle.std.specs.Prelude.{if◌then◌else◌}
@@ -94,7 +94,7 @@ none_after commits generation number opening (event ∷ past) row made late (inr
 pub itself : (row : Row) → IsNotAfter row.generation row.sequence row
 itself row = inr (refl, omega arith)
 
--- an event of the range tells of the directories that it moved files between
+-- an event of the range names the directories that it moved files between
 below-counted : (generation since until : ℕ) (event : Event) (past : List Event) (p : List ℕ) → is_in_range generation since until event.row ≡ true
     → below_any (prefixes_told generation since until (event ∷ past)) p ≡ (below_any event.prefixes p || below_any (prefixes_told generation since until past) p)
 below-counted generation since until event past p counts =

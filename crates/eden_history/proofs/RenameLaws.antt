@@ -30,7 +30,7 @@ no_fault false fault rest e = (refl, e)
 free : (above below : Bool) → (if above then Some NotADirectory else (if below then Some IsADirectory else None)) ≡ None → (above ≡ false) × (below ≡ false)
 free above below e = let later = no_fault above NotADirectory _ e in (later.0, (no_fault below IsADirectory None later.1).0)
 
--- where a file can stand, it can be put
+-- where a file can be, it can be put
 put_fits : (m : FileMap) (k : List ℕ) (f : Content) → IsFileMap m → place_fault m k ≡ None → IsFileMap (fin.insert m k f)
 put_fits m k f fits e = let place = free (has_file_above m k) (has_file_below m k) e in IsFileMap-insert m k f fits place.0 place.1
 

@@ -1,4 +1,4 @@
--- Where a path stands among paths in byte order.
+-- Where a path is among paths in byte order.
 use Rattle.std.proofs.Common.{◌≡◌, ℕ, suc, zero, ◌<◌, ◌≤◌, true, false, ◌||◌, List, [], ◌∷◌, map, length, refl, sym, ap, subst, ◌∙◌, arith}
 use Rattle.std.specs.declared.cmp.Ordering.{Ordering}
 use Rattle.std.specs.declared.cmp.Ordering.TheVariants.{Less, Equal, Greater}
@@ -19,7 +19,7 @@ each_itself (p ∷ ps) = ap (λ rest. p ∷ rest) (each_itself ps)
 pub paths_parted : (k : List ℕ) (ps : List (List ℕ)) → IsStrictlySortedBy order ps → IsPartitionedBy (λ p. is_lt (order p k)) ps
 paths_parted k ps rise = parted (λ p. p) k ps (subst (IsStrictlySortedBy order) (sym (each_itself ps)) rise)
 
--- a path is none of those that come after it
+-- a path is not among those that come after it
 none_after : (k : List ℕ) (ps : List (List ℕ)) → AllByRecursion (λ p. order k p ≡ Less) ps → list_any (λ p. same_path k p) ps ≡ false
 none_after k [] after = refl
 none_after k (p ∷ ps) after = ap (λ o. is_eq o || list_any (λ q. same_path k q) ps) after.0 ∙ none_after k ps after.1
@@ -35,7 +35,7 @@ not_before k p before = ap is_eq (nat_list_cmp_total.antisymm k p ∙ ap orderin
 later : (k p : List ℕ) (ps : List (List ℕ)) (i : ℕ) → IsPlaceOf (λ p. p) k (p ∷ ps) (suc i) → IsPlaceOf (λ p. p) k ps i
 later k p ps i point = ((λ j d low high. point.0 (suc j) d (omega arith) (omega arith)), (λ j d low high. point.1 (suc j) d (omega arith) (omega arith)))
 
--- where the path's place is within the list, it is listed if it stands there
+-- if the path's place is within the list, it is listed if it is there
 pub listed_at : (k : List ℕ) (ps : List (List ℕ)) (i : ℕ) (d : List ℕ) → IsStrictlySortedBy order ps → IsPlaceOf (λ p. p) k ps i → i < length ps
     → list_any (λ p. same_path k p) ps ≡ same_path k (slice_index_or ps i d)
 unfolding IsStrictlySortedBy
@@ -52,7 +52,7 @@ listed_at k (p ∷ ps) (suc i) d rise point within =
     ap (λ b. b || list_any (λ q. same_path k q) ps) (not_before k p (point.0 0 p (omega arith) (omega arith)))
     ∙ listed_at k ps i d rise.1 (later k p ps i point) (omega arith)
 
--- where its place is behind the list, it is not listed
+-- if its place is after the list, it is not listed
 pub listed_nowhere : (k : List ℕ) (ps : List (List ℕ)) (i : ℕ) → IsPlaceOf (λ p. p) k ps i → length ps ≤ i → list_any (λ p. same_path k p) ps ≡ false
 listed_nowhere k [] i point behind = refl
 listed_nowhere k (p ∷ ps) zero point behind = absurd (omega arith)
@@ -60,7 +60,7 @@ listed_nowhere k (p ∷ ps) (suc i) point behind =
     ap (λ b. b || list_any (λ q. same_path k q) ps) (not_before k p (point.0 0 p (omega arith) (omega arith)))
     ∙ listed_nowhere k ps i (later k p ps i point) (omega arith)
 
--- the same as a comparison of bytes tells it
+-- the same as a comparison of bytes has it
 pub listed_there : (k : List ℕ) (ps : List (List ℕ)) (i : ℕ) (p : List ℕ) → IsStrictlySortedBy order ps → IsPlaceOf (λ p. p) k ps i → i < length ps → p ≡ slice_index_or ps i p
     → same_bytes p k ≡ list_any (λ q. same_path k q) ps
 listed_there k ps i p rise point within is =

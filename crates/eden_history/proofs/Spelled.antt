@@ -28,25 +28,22 @@ use Rattle.eden_history.specs.declared.change.Mode.{Mode}
 use Rattle.eden_history.specs.declared.change.Mode.TheVariants.{Normal, Dry, Force}
 use Rattle.eden_history.specs.declared.change.Change.{Change}
 use Rattle.eden_history.specs.declared.change.Change.TheVariants.{Write, Remove, Rename, RenameDir, Checkout, Reset, Remount}
-use Rattle.eden_history.specs.declared.change.ChangeFault.{ChangeFault}
 use Rattle.eden_history.specs.declared.change.ChangeFault.TheVariants.{TooLarge}
 use Rattle.eden_history.specs.Worlds.{Row, Event, Commits, Namer, WorldState, commits_of, last_row, now, opened}
 use Rattle.eden_history.specs.Checkouts.{checked_out, is_blocked, is_clean, rule_of, unclean}
 use Rattle.eden_history.specs.Named.{commits_differ, moved_prefixes, named, unclean_set}
 use Rattle.eden_history.specs.Said.{paths_said, said_of}
 use Rattle.eden_history.specs.Changes.{events_in, is_in_range, prefixes_since, prefixes_told, said, said_since}
-use Rattle.eden_history.specs.Outcome.{Outcome, change_fault, event_at, extended, is_event, judged, next_files, next_generation, next_root, next_row, outcome, refusal, row_after, world_after}
-use Rattle.eden_history.specs.Outcome.Outcome.{Refuses, NoEvent, Next}
+use Rattle.eden_history.specs.Outcome.{change_fault, is_event, next_files, next_generation, next_root, next_row, refusal}
 use Rattle.eden_history.specs.Renames.{moved, place_fault, renamed, write_fault}
 use Rattle.eden_overlay.specs.Carried.{carried, carried_files}
 use Rattle.eden_history.specs.DirRenames.{breaks_a_path, dir_renamed, rename_dir_fault, source_fault, target_fault}
 use Rattle.eden_history.specs.Legal.{AreMade, IsWorld}
-use Rattle.eden_history.specs.Imports.{over_held, world_imported}
+use Rattle.eden_history.specs.Imports.{over_held}
 use Rattle.eden_history.specs.Spellable.{AreObjects, IsChange, IsRowText, IsSpellable}
 use Rattle.eden_overlay.proofs.CarriedLemmas.{carried-back, carried-below, file_at-carried}
 use Rattle.eden_history.proofs.CheckoutLaws.{file_at-checked_out}
 use Rattle.eden_history.proofs.DirRenameLaws.{carried_path, is_allowed}
-use Rattle.eden_history.proofs.Growing.{after_by, imported_by}
 use Rattle.eden_history.proofs.LegalFiles.{allowed_files, files_hold}
 use Rattle.eden_history.proofs.Saying.{names-said, said-counted, said-none, said-skipped}
 use Rattle.eden_history.proofs.RenameLaws.{first-none, no_fault}
@@ -106,7 +103,7 @@ texts_dir_renamed files old new texts path allowed = by (same_bytes old new) (fi
     by true e = texts
     by false e = texts_carried files old new texts path (is_allowed files old new e).1
 
--- a file that a checkout leaves stood in the working copy or stands in the target
+-- a file that a checkout leaves was in the working copy or is in the target
 from_either : (mode : Mode) (work root target : FileMap) (p : List ℕ) (file : Content) → rule_of mode work root target p ≡ Some file
     → (file_at work p ≡ Some file) ⊎ (file_at target p ≡ Some file)
 from_either Normal work root target p file is = by (is_clean work root p) (is_blocked work root target p) is
@@ -282,33 +279,6 @@ spellable_opens held generation limit root files closed small fits id is =
 pub spellable_grows : (world : WorldState) (event : Event) → IsSpellable world → IsChange event.change → IsSpellable (record world { past = event ∷ world.past })
 spellable_grows world event is change = record { small = is.small; opening = is.opening; changes = (change, is.changes) }
 
--- an outcome's event is that of a change that a value can be
-abbrev OfChange : Outcome → Type 0
-OfChange (Refuses fault) = Unit {0}
-OfChange NoEvent = Unit {0}
-OfChange (Next event) = IsChange event.change
-
-outcome_change : (commits : Commits) (row : Row) (change : Change) → IsChange change → OfChange (outcome commits row change)
-outcome_change commits row change is = by (refusal commits row change)
-  where
-    happens : (b : Bool) → OfChange (if b then Next (event_at commits row change (next_row commits row change)) else NoEvent)
-    happens true = is
-    happens false = tt
-
-    by : (fault : Option ChangeFault) → OfChange (judged commits row change fault)
-    by (Some fault) = tt
-    by None = happens (is_event change)
-
-spellable_extended : (world : WorldState) (o : Outcome) → IsSpellable world → OfChange o → IsSpellable (extended world o)
-spellable_extended world (Refuses fault) is change = is
-spellable_extended world NoEvent is change = is
-spellable_extended world (Next event) is change = spellable_grows world event is change
-
--- by its rows, after any change, also one that is refused
-pub spellable_rows : (world : WorldState) (change : Change) → IsSpellable world → IsChange change → IsSpellable (row_after world change)
-spellable_rows world change is allowed =
-    spellable_extended world (outcome (commits_of world) (now world) change) is (outcome_change (commits_of world) (now world) change allowed)
-
 -- over other objects within the limits
 spellable_over : (world : WorldState) (held : List Held) → IsSpellable world → AreSmall held → IsSpellable (over_held world held)
 spellable_over world held is small = record { small = small; opening = is.opening; changes = is.changes }
@@ -316,13 +286,3 @@ spellable_over world held is small = record { small = small; opening = is.openin
 pub spellable_of_import : (name : Namer) (world : WorldState) (objects : List Object) (held : List Held) → IsSpellable world → AreObjects objects
     → import_outcome name objects world.held ≡ Ok held → IsSpellable (over_held world held)
 spellable_of_import name world objects held is are e = spellable_over world held is (imports_small name objects world.held held is.small are e)
-
-pub spellable_imports : (name : Namer) (world : WorldState) (objects : List Object) → IsSpellable world → AreObjects objects → IsSpellable (world_imported name world objects)
-spellable_imports name world objects is are =
-    imported_by IsSpellable world (import_outcome name objects world.held) is
-    (λ held e. spellable_of_import name world objects held is are e)
-
-pub spellable_after : (name : Namer) (world : WorldState) (change : Change) → IsSpellable world → IsChange change → IsSpellable (world_after name world change)
-spellable_after name world change is allowed =
-    after_by IsSpellable name world change (spellable_rows world change is allowed)
-    (λ objects e. spellable_imports name world objects is (subst IsChange e allowed))

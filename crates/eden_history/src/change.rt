@@ -2,6 +2,7 @@
 
 ghost use Rattle.std.specs.Prelude.{◌≡◌, IfOk};
 
+use bytes::Bytes;
 use eden_ids::{Id, Kind, NoMemory, Path, Sequence};
 use eden_objects::{Object, PutFault};
 use thiserror::Error;
@@ -29,7 +30,7 @@ pub enum Change {
         /// The file's new kind.
         kind: Kind,
         /// The file's new bytes, at most 8 MiB.
-        bytes: Sequence<u8>,
+        bytes: Bytes,
     },
     /// Removes the file at a path.
     Remove {
@@ -89,7 +90,7 @@ pub enum Change {
 }
 
 impl Change {
-    /// Returns a copy of this change.
+    /// Returns a copy of this change. A write's bytes are shared.
     ///
     /// # Errors
     ///

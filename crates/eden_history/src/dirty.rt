@@ -5,6 +5,7 @@ ghost use Rattle.eden_ids.specs.FileMaps.{paths};
 ghost use Rattle.eden_history.specs.DirtyFiles.{dirty_files};
 
 use crate::listed::is_listed;
+use bytes::Bytes;
 use eden_ids::{FileTree, Kind, Path, has_path_below};
 
 /// The files of a working copy at the dirty paths: those that differ from the commit
@@ -25,7 +26,7 @@ impl<'a, W: FileTree, R: FileTree> FileTree for Dirty<'a, W, R> {
 
     ghost files = { λ d. dirty_files (W.files d.work.now) (R.files d.root.now) };
 
-    fn file(&self, path: &[u8]) -> Option<(Kind, &[u8])> {
+    fn file(&self, path: &[u8]) -> Option<(Kind, &Bytes)> {
         if is_listed(self.listed, path) {
             self.work.file(path)
         } else {

@@ -7,6 +7,7 @@ ghost use Rattle.eden_history.specs.DirtyFiles.{dirty_files};
 
 use crate::change::Mode;
 use crate::listed::is_listed;
+use bytes::Bytes;
 use eden_ids::{FileTree, Kind, Path, clashes_any, has_file, is_same_at};
 
 /// The trees from which a checkout is decided.
@@ -72,7 +73,7 @@ impl<'a, W: FileTree, R: FileTree, T: FileTree, D: FileTree> Sides<'a, W, R, T, 
     }
 
     /// Returns the file at a path after a normal checkout.
-    fn normal_file(&self, path: &Path) -> Option<(Kind, &'a [u8])>
+    fn normal_file(&self, path: &Path) -> Option<(Kind, &'a Bytes)>
         ensures { lent result ≡ normal_rule (W.files self.now.work.now) (R.files self.now.root.now) (T.files self.now.target.now) path.now }
     {
         if !self.is_clean(path.as_bytes()) {
@@ -85,7 +86,7 @@ impl<'a, W: FileTree, R: FileTree, T: FileTree, D: FileTree> Sides<'a, W, R, T, 
     }
 
     /// Returns the file at a path after a forced checkout.
-    fn force_file(&self, path: &Path) -> Option<(Kind, &'a [u8])>
+    fn force_file(&self, path: &Path) -> Option<(Kind, &'a Bytes)>
         ensures { lent result ≡ force_rule (W.files self.now.work.now) (R.files self.now.root.now) (T.files self.now.target.now) path.now }
     {
         let at = path.as_bytes();
@@ -99,7 +100,7 @@ impl<'a, W: FileTree, R: FileTree, T: FileTree, D: FileTree> Sides<'a, W, R, T, 
     }
 
     /// Returns the file at a path after the checkout.
-    pub fn file_after(&self, mode: Mode, path: &Path) -> Option<(Kind, &'a [u8])>
+    pub fn file_after(&self, mode: Mode, path: &Path) -> Option<(Kind, &'a Bytes)>
         ensures { lent result ≡ rule_of mode (W.files self.now.work.now) (R.files self.now.root.now) (T.files self.now.target.now) path.now }
     {
         match mode {

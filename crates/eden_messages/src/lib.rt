@@ -4,13 +4,12 @@
 //! A client asks with a `Request`: which paths there are (`Basis`), which changed since a
 //! position (`Poll`), the file at a path (`Fetch`) or the paths below a directory
 //! (`List`). Each carries a `Query`, which identifies the question, and a mount answers
-//! with a `Reply` that carries the same query. A caller inside the process uses a `Call`,
-//! which is a request or a change, and gets an `Answer`.
+//! with a `Reply` that carries the same query. What a caller inside the process asks and gets
+//! is in eden_logs.
 //!
 //! The definitions are in `specs/`: `Spells.antt` gives the bytes of a message,
-//! `Replies.antt` the reply of a mount, `Calls.antt` the answer to a change, and
-//! `Mirrors.antt` what a mirror does with replies. What can happen between them, and what
-//! is true after it, is in eden_headline.
+//! `Replies.antt` the reply of a mount, and `Mirrors.antt` what a mirror does with replies. What
+//! can happen between them, and what is true after it, is in eden_headline.
 //!
 //! ```rust
 //! use eden_globs::Filter;

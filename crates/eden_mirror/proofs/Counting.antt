@@ -1,13 +1,14 @@
 -- A round counts down to its place.
-use Rattle.std.proofs.Common.{◌≡◌, ℕ, suc, ◌+◌, ◌==◌, Bool, true, false, ◌&&◌, ◌||◌, ◌⊎◌, inl, inr, List, [], ◌∷◌, ◌++◌, length, drop, Option, refl, sym, ap, subst, ◌∙◌, arith, if◌then◌else◌, nat_le}
-use Rattle.std.proofs.lemmas.Bool.{or_parts}
+use Rattle.std.proofs.Common.{◌≡◌, ℕ, suc, ◌+◌, Bool, true, false, ◌&&◌, ◌||◌, ◌⊎◌, inl, inr, List, [], ◌∷◌, ◌++◌, length, drop, Option, refl, sym, ap, subst, ◌∙◌, arith, if◌then◌else◌}
+use Rattle.std.proofs.Math.Seq.{drop-append_seam}
+use Rattle.std.proofs.lemmas.Bool.{and_parts, or_parts}
 use Rattle.std.proofs.lemmas.List.{length-append}
 use Rattle.eden_ids.specs.FileMaps.{put_option}
 use Rattle.eden_ids.specs.declared.content.Content.{Content}
 use Rattle.eden_history.specs.declared.position.Position.{Position}
 use Rattle.eden_messages.specs.declared.message.Query.{Query}
 use Rattle.eden_messages.specs.declared.message.Reply.{Reply}
-use Rattle.eden_messages.specs.declared.message.Reply.TheVariants.{BasisIs, ChangesAre, ContentIs, Refused, ListIs}
+use Rattle.eden_messages.specs.declared.message.Reply.TheVariants.{ContentIs, Refused, ListIs}
 use Rattle.eden_messages.specs.declared.outcome.Outcome.{Outcome}
 use Rattle.eden_messages.specs.declared.outcome.Outcome.TheVariants.{Taken, Ended, Ignored}
 use Rattle.eden_messages.specs.Mirrors.{MirrorState, Round, counts, delivered, delivered_in, distinct, ends_round, fetched, gathers, is_among, listed_below, listed_files, same_query, taken_if, without}
@@ -43,16 +44,9 @@ leaves m query target (path ∷ paths) prefixes = record { paths_left = refl; di
 
 -- ---- a reply that counts
 
-among_of : (a b c d : Bool) → (a && b && c && d) ≡ true → d ≡ true
-among_of true true true d e = e
-among_of false b c d e = cc
-among_of true false c d e = cc
-among_of true true false d e = cc
-
 awaited_of : (asked : Query) (target : Position) (awaited : List (List ℕ)) (query : Query) (position : Position) (path : List ℕ)
     → counts asked target awaited query position path ≡ true → is_among path awaited ≡ true
-awaited_of asked target awaited query position path e =
-    among_of (same_query query asked) (position.generation == target.generation) (nat_le target.sequence position.sequence) (is_among path awaited) e
+awaited_of asked target awaited query position path e = (and_parts _ _ e).1
 
 -- a content leaves its path out
 record Fetched (round : Round) (made : MirrorState × Outcome) : Type 0 where
@@ -81,30 +75,20 @@ list_taken m asked target awaited prefixes query position prefix paths e =
     (leaves (record m { files = listed_files m.files prefix paths }) asked target (distinct (awaited ++ paths)) (without prefix prefixes))
 
 round_fetched : (m : MirrorState) (round : Round) (reply : Reply) → content_counts round reply ≡ true → Fetched round (delivered_in m round reply)
-round_fetched m Idle reply e = cc
-round_fetched m (Asked request) reply e = cc
-round_fetched m (Gathering asked target awaited prefixes) (BasisIs query position paths) e = cc
-round_fetched m (Gathering asked target awaited prefixes) (ChangesAre query position marked moved) e = cc
 round_fetched m (Gathering asked target awaited prefixes) (ContentIs query position path content) e = record {
   path = path;
   was = awaited_of asked target awaited query position path e;
   left = content_taken m asked target awaited prefixes query position path content e;
 }
-round_fetched m (Gathering asked target awaited prefixes) (Refused query cause) e = cc
-round_fetched m (Gathering asked target awaited prefixes) (ListIs query position prefix paths) e = cc
+round_fetched m round reply e = cc
 
 round_listed : (m : MirrorState) (round : Round) (reply : Reply) → list_counts round reply ≡ true → Listed round reply (delivered_in m round reply)
-round_listed m Idle reply e = cc
-round_listed m (Asked request) reply e = cc
-round_listed m (Gathering asked target awaited prefixes) (BasisIs query position paths) e = cc
-round_listed m (Gathering asked target awaited prefixes) (ChangesAre query position marked moved) e = cc
-round_listed m (Gathering asked target awaited prefixes) (ContentIs query position path content) e = cc
-round_listed m (Gathering asked target awaited prefixes) (Refused query cause) e = cc
 round_listed m (Gathering asked target awaited prefixes) (ListIs query position prefix paths) e = record {
   prefix = prefix;
   was = awaited_of asked target prefixes query position prefix e;
   left = list_taken m asked target awaited prefixes query position prefix paths e;
 }
+round_listed m round reply e = cc
 
 fetched_of : (m : MirrorState) (reply : Reply) → content_counts m.round reply ≡ true → Fetched m.round (delivered m reply)
 unfolding delivered
@@ -141,32 +125,17 @@ record Counts (round : Round) (reply : Reply) (made : MirrorState × Outcome) : 
 
 -- a reply is not both
 no_list : (round : Round) (reply : Reply) → content_counts round reply ≡ true → list_counts round reply ≡ false
-no_list Idle reply e = refl
-no_list (Asked request) reply e = refl
-no_list (Gathering asked target awaited prefixes) (BasisIs query position paths) e = refl
-no_list (Gathering asked target awaited prefixes) (ChangesAre query position marked moved) e = refl
-no_list (Gathering asked target awaited prefixes) (ContentIs query position path content) e = refl
-no_list (Gathering asked target awaited prefixes) (Refused query cause) e = refl
 no_list (Gathering asked target awaited prefixes) (ListIs query position prefix paths) e = cc
-
-adds_if : (b : Bool) (n : ℕ) → b ≡ false → (if b then n else 0) ≡ 0
-adds_if b n e = ap (λ c. if c then n else 0) e
-
-adds_so : (b : Bool) (n : ℕ) → b ≡ true → (if b then n else 0) ≡ n
-adds_so b n e = ap (λ c. if c then n else 0) e
+no_list round reply e = refl
 
 none_added : (round : Round) (reply : Reply) → list_counts round reply ≡ false → added_in round reply ≡ 0
-none_added round reply e = adds_if (list_counts round reply) _ e
+none_added round reply e = ap (λ b. if b then length (drop (length (awaited_in round)) (distinct (awaited_in round ++ paths_listed reply))) else 0) e
 
-dropped_front : (ps qs : List (List ℕ)) → drop (length ps) (ps ++ qs) ≡ qs
-dropped_front [] qs = refl
-dropped_front (p ∷ ps) qs = dropped_front ps qs
-
--- what stands behind distinct paths once others are awaited too
+-- what is after distinct paths once others are awaited too
 behind : (ps qs : List (List ℕ)) → AreDistinct ps → length ps + length (drop (length ps) (distinct (ps ++ qs))) ≡ length (distinct (ps ++ qs))
 behind ps qs d =
     let got = begins ps qs d in
-    ap (λ rs. length ps + length (drop (length ps) rs)) got.1 ∙ ap (λ rs. length ps + length rs) (dropped_front ps got.0)
+    ap (λ rs. length ps + length (drop (length ps) rs)) got.1 ∙ ap (λ rs. length ps + length rs) (drop-append_seam ps got.0)
     ∙ sym (length-append ps got.0) ∙ ap length (sym got.1)
 
 content_counted : (m : MirrorState) (reply : Reply) → IsDistinctRound m.round → content_counts m.round reply ≡ true → Counts m.round reply (delivered m reply)
@@ -189,7 +158,8 @@ list_counted : (m : MirrorState) (reply : Reply) → IsDistinctRound m.round →
 list_counted m reply d e =
     let got = listed_of m reply e in
     let down = lists_count_down m d.directories reply e in
-    let more : added_in m.round reply ≡ length (drop (length (awaited_in m.round)) (distinct (awaited_in m.round ++ paths_listed reply))) = adds_so (list_counts m.round reply) _ e in
+    let more : added_in m.round reply ≡ length (drop (length (awaited_in m.round)) (distinct (awaited_in m.round ++ paths_listed reply))) =
+    ap (λ b. if b then length (drop (length (awaited_in m.round)) (distinct (awaited_in m.round ++ paths_listed reply))) else 0) e in
     let all = behind (awaited_in m.round) (paths_listed reply) d.paths in
     let same = ap length down.paths in
     record {
@@ -216,10 +186,6 @@ places_with_none_left m d reply e = (counts_so m reply d e).told
 
 round_ignores : (m : MirrorState) (round : Round) (reply : Reply) → is_gathering round ≡ true → counts_in round reply ≡ false
     → delivered_in m round reply ≡ (if ends_in round reply then (record m { round = Idle }, Ended) else (m, Ignored))
-round_ignores m Idle reply g e = cc
-round_ignores m (Asked request) reply g e = cc
-round_ignores m (Gathering asked target awaited prefixes) (BasisIs query position paths) g e = refl
-round_ignores m (Gathering asked target awaited prefixes) (ChangesAre query position marked moved) g e = refl
 round_ignores m (Gathering asked target awaited prefixes) (ContentIs query position path content) g e =
     ap (λ b. taken_if b m (fetched m asked target awaited prefixes path content)) (or_parts _ _ e).0
 round_ignores m (Gathering asked target awaited prefixes) (Refused query cause) g e = by (same_query query asked && ends_round prefixes cause)
@@ -229,6 +195,8 @@ round_ignores m (Gathering asked target awaited prefixes) (Refused query cause) 
     by false = refl
 round_ignores m (Gathering asked target awaited prefixes) (ListIs query position prefix paths) g e =
     ap (λ b. taken_if b m (listed_below m asked target awaited prefixes prefix paths)) e
+round_ignores m (Gathering asked target awaited prefixes) reply g e = refl
+round_ignores m round reply g e = cc
 
 pub ignores_others : (m : MirrorState) → IgnoresOthers m
 unfolding delivered
@@ -245,32 +213,22 @@ content_ignored m query position path content e = by m.round e
     by (Asked request) e = refl
     by (Gathering asked target awaited prefixes) e = sym (ap (λ b. taken_if b m (fetched m asked target awaited prefixes path content)) e)
 
-idle_ignores : (m : MirrorState) (round : Round) (reply : Reply) → round ≡ Idle → delivered_in m round reply ≡ (m, Ignored)
-idle_ignores m Idle (BasisIs query position paths) e = refl
-idle_ignores m Idle (ChangesAre query position marked moved) e = refl
-idle_ignores m Idle (ContentIs query position path content) e = refl
-idle_ignores m Idle (Refused query cause) e = refl
-idle_ignores m Idle (ListIs query position prefix paths) e = refl
-idle_ignores m (Asked request) reply e = cc
-idle_ignores m (Gathering asked target awaited prefixes) reply e = cc
-
 idle_delivered : (m : MirrorState) (reply : Reply) → m.round ≡ Idle → delivered m reply ≡ (m, Ignored)
 unfolding delivered
-idle_delivered m reply e = idle_ignores m m.round reply e
+idle_delivered m reply e = ap (λ round. delivered_in m round reply) e ∙ nothing reply
+  where
+    nothing : (other : Reply) → delivered_in m Idle other ≡ (m, Ignored)
+    nothing (ContentIs query position path content) = refl
+    nothing other = refl
 
 -- where no round is under way none comes of replies
 idle_after : (m : MirrorState) (replies : List Reply) → m.round ≡ Idle → after m replies ≡ m
 idle_after m [] e = refl
 idle_after m (reply ∷ replies) e = ap (λ made. after made.0 replies) (idle_delivered m reply e) ∙ idle_after m replies e
 
-idle_counts : (round : Round) (reply : Reply) → round ≡ Idle → counts_in round reply ≡ false
-idle_counts Idle reply e = refl
-idle_counts (Asked request) reply e = cc
-idle_counts (Gathering asked target awaited prefixes) reply e = cc
-
 none_after : (m : MirrorState) (replies : List Reply) (reply : Reply) → m.round ≡ Idle → counts_in (after m replies).round reply ≡ true → ⊥
 none_after m replies reply idle e =
-    let none : counts_in (after m replies).round reply ≡ false = idle_counts _ reply (ap (λ n. n.round) (idle_after m replies idle) ∙ idle) in
+    let none : counts_in (after m replies).round reply ≡ false = ap (λ round. counts_in round reply) (ap (λ n. n.round) (idle_after m replies idle) ∙ idle) in
     let bad : true ≡ false = sym e ∙ none in cc
 
 -- ---- whole rounds

@@ -1,5 +1,5 @@
 -- What is made of a list that counts.
-use Rattle.std.proofs.Common.{◌≡◌, ℕ, ◌==◌, Bool, true, false, ◌&&◌, nat_le, List, [], ◌∷◌, ◌++◌, Option, Some, None, is_none, refl, sym, ap, ◌∙◌}
+use Rattle.std.proofs.Common.{◌≡◌, ℕ, ◌==◌, true, false, ◌&&◌, nat_le, List, [], ◌∷◌, ◌++◌, Option, Some, None, is_none, refl, sym, ap, ◌∙◌}
 use Rattle.eden_ids.specs.FileMaps.{FileMap}
 use Rattle.eden_globs.specs.Filters.{Patterns}
 use Rattle.eden_history.specs.declared.mark.Marked.{Marked}
@@ -26,12 +26,6 @@ changes_delivered m asked (Some since) patterns query target marked moved e plac
     sym (ap (λ r. delivered_in m r (ChangesAre query target marked moved)) e
     ∙ ap (λ b. taken_if b m (gathers m asked target (distinct (paths_of marked)) (distinct moved))) same)
 
-all_of : (a b c d : Bool) → (a && b && c) ≡ true → d ≡ true → (a && b && c && d) ≡ true
-all_of true true true d e f = f
-all_of false b c d e f = cc
-all_of true false c d e f = cc
-all_of true true false d e f = cc
-
 pub list_delivered : (m : MirrorState) (asked : Query) (target : Position) (awaited prefixes : List (List ℕ)) (query : Query) (position : Position) (prefix : List ℕ) (paths : List (List ℕ))
     → m.round ≡ Gathering asked target awaited prefixes
     → (same_query query asked && position.generation == target.generation && nat_le target.sequence position.sequence) ≡ true → is_among prefix prefixes ≡ true
@@ -39,8 +33,7 @@ pub list_delivered : (m : MirrorState) (asked : Query) (target : Position) (awai
     → gathers (record m { files = files; round = Gathering asked target now left }) asked target now left ≡ delivered m (ListIs query position prefix paths)
 unfolding delivered
 list_delivered m asked target awaited prefixes query position prefix paths e of_round among files now left f n l =
-    let d : counts asked target prefixes query position prefix ≡ true =
-    all_of (same_query query asked) (position.generation == target.generation) (nat_le target.sequence position.sequence) (is_among prefix prefixes) of_round among in
+    let d : counts asked target prefixes query position prefix ≡ true = ap (λ b. b && is_among prefix prefixes) of_round ∙ among in
     gathers_any (record m { files = files }) (Gathering asked target now left) asked target now left
     ∙ ap (λ g. gathers (record m { files = g }) asked target now left) f
     ∙ ap (λ ps. gathers (record m { files = listed_files m.files prefix paths }) asked target ps left) n

@@ -1,14 +1,17 @@
 -- What the table of awaited paths says as it is filled, marked and swept.
-use Rattle.std.proofs.Common.{◌≡◌, ℕ, suc, Bool, true, false, cond, not, ◌||◌, List, [], ◌∷◌, ◌++◌, filter, length, take, Option, Some, None, is_some, refl, sym, ap, subst, ◌∙◌, ◌+◌, ◌≤◌, arith}
+use Rattle.std.proofs.Common.{◌≡◌, ℕ, suc, Bool, true, false, cond, not, ◌&&◌, ◌||◌, List, [], ◌∷◌, ◌++◌, filter, length, take, Option, Some, None, is_some, refl, sym, ap, subst, ◌∙◌, ◌+◌, ◌≤◌, arith}
 use Rattle.std.proofs.lemmas.Bool.{or_parts, or_from}
-use Rattle.std.proofs.lemmas.List.{append-nil, map-append}
+use Rattle.std.proofs.Math.Seq.{take-append_seam}
+use Rattle.std.proofs.lemmas.List.{append-nil, length-map, map-append}
+use Rattle.std.proofs.lemmas.List.Elements.{filter-append}
+use Rattle.std.proofs.lemmas.Map.Views.{any-filter_same}
 use Rattle.std.specs.List.{AllByRecursion, IsDistinct, position}
 use Rattle.std.specs.Map.{keys_of, lookup, set_value}
 use Rattle.indexmap.specs.IndexMap.{insert_entry, set_value_at}
 use Rattle.indexmap.proofs.MapLemmas.{Found-position, insert_entry-first, some_index}
 use Rattle.eden_ids.specs.Sameness.{same_bytes}
 use Rattle.eden_ids.specs.FileMaps.{same_path}
-use Rattle.eden_ids.proofs.FileMapLemmas.{same_path-is, same_path-bytes, same_path-turned}
+use Rattle.eden_ids.proofs.FileMapLemmas.{same_path-is, same_path-bytes, same_path-refl, same_path-turned}
 use Rattle.eden_history.specs.declared.mark.Marked.{Marked}
 use Rattle.eden_messages.specs.Mirrors.{distinct, is_among, without}
 use Rattle.eden_messages.specs.Spells.{paths_of}
@@ -49,39 +52,37 @@ without-absent k (p ∷ ps) h = kept k p ps h.0 ∙ ap (λ qs. p ∷ qs) (withou
 pub without-not_among : (k : List ℕ) (ps : List (List ℕ)) → is_among k ps ≡ false → ps ≡ without k ps
 without-not_among k ps e = sym (without-absent k ps (absent k ps e))
 
-absent_without : (j k : List ℕ) (ps : List (List ℕ)) → IsAbsent j ps → IsAbsent j (without k ps)
-absent_without j k [] h = tt
-absent_without j k (p ∷ ps) h = by (same_path k p) refl (absent_without j k ps h.1)
-  where
-    by : (b : Bool) → same_path k p ≡ b → IsAbsent j (without k ps) → IsAbsent j (without k (p ∷ ps))
-    by true e rest = subst (IsAbsent j) (sym (dropped k p ps e)) rest
-    by false e rest = subst (IsAbsent j) (sym (kept k p ps e)) (h.0, rest)
+among_without : (j k : List ℕ) (ps : List (List ℕ)) → is_among j (without k ps) ≡ (not (same_path j k) && is_among j ps)
+among_without j k ps = any-filter_same (λ p. same_path j p) (λ p. not (same_path p k)) (not (same_path j k)) (λ p e. ap (λ q. not (same_path q k)) (sym (same_path-is j p e))) ps
 
--- the paths but one are distinct as all are
-pub distinct_without : (k : List ℕ) (ps : List (List ℕ)) → AreDistinct ps → AreDistinct (without k ps)
+all_filter : (Holds : List ℕ → Type 0) (test : List ℕ → Bool) (ps : List (List ℕ)) → AllByRecursion Holds ps → AllByRecursion Holds (filter test ps)
+all_filter Holds test [] h = tt
+all_filter Holds test (p ∷ ps) h = by (test p) (all_filter Holds test ps h.1)
+  where
+    by : (b : Bool) → AllByRecursion Holds (filter test ps) → AllByRecursion Holds (cond b (p ∷ filter test ps) (filter test ps))
+    by true rest = (h.0, rest)
+    by false rest = rest
+
+-- some of the paths are distinct as all are
+distinct_filter : (test : List ℕ → Bool) (ps : List (List ℕ)) → AreDistinct ps → AreDistinct (filter test ps)
 unfolding IsDistinct
-distinct_without k [] h = tt
-distinct_without k (p ∷ ps) h = by (same_path k p) refl (distinct_without k ps h.1)
+distinct_filter test [] h = tt
+distinct_filter test (p ∷ ps) h = by (test p) (distinct_filter test ps h.1)
   where
-    by : (b : Bool) → same_path k p ≡ b → AreDistinct (without k ps) → AreDistinct (without k (p ∷ ps))
-    by true e rest = subst AreDistinct (sym (dropped k p ps e)) rest
-    by false e rest = subst AreDistinct (sym (kept k p ps e)) (absent_without p k ps h.0, rest)
+    by : (b : Bool) → AreDistinct (filter test ps) → AreDistinct (cond b (p ∷ filter test ps) (filter test ps))
+    by true rest = (all_filter (λ q. same_path p q ≡ false) test ps h.0, rest)
+    by false rest = rest
 
--- a path is gone once it is taken out
-gone : (k : List ℕ) (ps : List (List ℕ)) → IsAbsent k (without k ps)
-gone k [] = tt
-gone k (p ∷ ps) = by (same_path k p) refl (gone k ps)
-  where
-    by : (b : Bool) → same_path k p ≡ b → IsAbsent k (without k ps) → IsAbsent k (without k (p ∷ ps))
-    by true e rest = subst (IsAbsent k) (sym (dropped k p ps e)) rest
-    by false e rest = subst (IsAbsent k) (sym (kept k p ps e)) (e, rest)
+pub distinct_without : (k : List ℕ) (ps : List (List ℕ)) → AreDistinct ps → AreDistinct (without k ps)
+distinct_without k ps h = distinct_filter (λ p. not (same_path p k)) ps h
 
 pub distinct_distinct : (ps : List (List ℕ)) → AreDistinct (distinct ps)
 unfolding IsDistinct
 distinct_distinct [] = tt
-distinct_distinct (p ∷ ps) = (gone p (distinct ps), distinct_without p (distinct ps) (distinct_distinct ps))
+distinct_distinct (p ∷ ps) =
+    (absent p (without p (distinct ps)) (among_without p p (distinct ps) ∙ ap (λ b. not b && is_among p (distinct ps)) (same_path-refl p)), distinct_without p (distinct ps) (distinct_distinct ps))
 
--- one path fewer, where it stood there
+-- one path fewer, if it was there
 pub length-without : (k : List ℕ) (ps : List (List ℕ)) → AreDistinct ps → is_among k ps ≡ true → length ps ≡ length (without k ps) + 1
 unfolding IsDistinct
 length-without k [] h e = cc
@@ -197,15 +198,11 @@ pub pending-fresh : (ps : List (List ℕ)) → pending (fresh ps) ≡ ps
 pending-fresh [] = refl
 pending-fresh (p ∷ ps) = ap (λ qs. p ∷ qs) (pending-fresh ps)
 
-length-fresh : (ps : List (List ℕ)) → length (fresh ps) ≡ length ps
-length-fresh [] = refl
-length-fresh (p ∷ ps) = ap suc (length-fresh ps)
-
 -- each path is counted as none is answered
 pub length-pending-fresh : (ps : List (List ℕ)) → length (fresh ps) ≡ length (pending (fresh ps))
-length-pending-fresh ps = length-fresh ps ∙ ap length (sym (pending-fresh ps))
+length-pending-fresh ps = length-map ps (λ p. (p, false)) ∙ ap length (sym (pending-fresh ps))
 
--- the list with a path behind it, unless it stands there
+-- the list with a path after it, unless it is there
 abbrev pub grown : List (List ℕ) → List ℕ → List (List ℕ)
 grown ps k = cond (is_among k ps) ps (ps ++ k ∷ [])
 
@@ -228,31 +225,17 @@ insert-fresh (p ∷ ps) k = by (same_path k p) refl (insert-fresh ps k)
     by false f rest = ap (λ es. (p, false) ∷ es) rest ∙ ap fresh (grown_more p ps k f)
 
 without-append : (k : List ℕ) (ps qs : List (List ℕ)) → without k (ps ++ qs) ≡ without k ps ++ without k qs
-without-append k [] qs = refl
-without-append k (p ∷ ps) qs = by (not (same_path p k)) (without-append k ps qs)
-  where
-    by : (b : Bool) → without k (ps ++ qs) ≡ without k ps ++ without k qs
-        → cond b (p ∷ without k (ps ++ qs)) (without k (ps ++ qs)) ≡ cond b (p ∷ without k ps) (without k ps) ++ without k qs
-    by true rest = ap (λ rs. p ∷ rs) rest
-    by false rest = rest
+without-append k ps qs = filter-append (λ p. not (same_path p k)) ps qs
 
 is_among-without : (k j : List ℕ) (ps : List (List ℕ)) → same_path j k ≡ false → is_among j (without k ps) ≡ is_among j ps
-is_among-without k j [] apart = refl
-is_among-without k j (p ∷ ps) apart = by (same_path k p) refl (is_among-without k j ps apart)
-  where
-    other : same_path k p ≡ true → same_path j p ≡ false
-    other f = subst (λ q. same_path j q ≡ false) (same_path-is k p f) apart
+is_among-without k j ps apart = among_without j k ps ∙ ap (λ b. not b && is_among j ps) apart
 
-    by : (b : Bool) → same_path k p ≡ b → is_among j (without k ps) ≡ is_among j ps → is_among j (without k (p ∷ ps)) ≡ (same_path j p || is_among j ps)
-    by true f rest = ap (is_among j) (dropped k p ps f) ∙ rest ∙ sym (ap (λ b. b || is_among j ps) (other f))
-    by false f rest = ap (is_among j) (kept k p ps f) ∙ ap (λ b. same_path j p || b) rest
-
--- one more path in the list is one more distinct path, unless it stood there
+-- one more path in the list is one more distinct path, unless it was there
 distinct-more : (ps : List (List ℕ)) (k : List ℕ) → distinct (ps ++ k ∷ []) ≡ grown (distinct ps) k
 distinct-more [] k = refl
 distinct-more (p ∷ ps) k = by (same_path k p) refl (is_among k (distinct ps)) refl (distinct-more ps k)
   where
-    -- what stands behind the first, where it is known whether the path is there
+    -- what is after the first, where it is known whether the path is there
     behind : (a : Bool) → is_among k (distinct ps) ≡ a → distinct (ps ++ k ∷ []) ≡ grown (distinct ps) k
         → p ∷ without p (distinct (ps ++ k ∷ [])) ≡ p ∷ without p (cond a (distinct ps) (distinct ps ++ k ∷ []))
     behind a g rest = ap (λ qs. p ∷ without p qs) rest ∙ ap (λ c. p ∷ without p (cond c (distinct ps) (distinct ps ++ k ∷ []))) g
@@ -289,7 +272,7 @@ unfolding IsDistinct
 distinct-itself [] h = refl
 distinct-itself (p ∷ ps) h = ap (λ qs. p ∷ without p qs) (distinct-itself ps h.1) ∙ ap (λ qs. p ∷ qs) (without-absent p ps h.0)
 
--- distinct paths stand first once others are put behind them
+-- distinct paths are first once others are put after them
 pub begins : (ps qs : List (List ℕ)) → AreDistinct ps → (rest : List (List ℕ)) × (distinct (ps ++ qs) ≡ ps ++ rest)
 unfolding IsDistinct
 begins [] qs h = (distinct qs, refl)
@@ -304,16 +287,13 @@ begins (p ∷ ps) qs h = by (begins ps qs h.1)
 
 pub is_among-distinct : (k : List ℕ) (ps : List (List ℕ)) → is_among k (distinct ps) ≡ is_among k ps
 is_among-distinct k [] = refl
-is_among-distinct k (p ∷ ps) = by (same_path k p) refl (is_among-distinct k ps)
+is_among-distinct k (p ∷ ps) =
+    ap (λ b. same_path k p || b) (among_without k p (distinct ps) ∙ ap (λ b. not (same_path k p) && b) (is_among-distinct k ps))
+    ∙ once (same_path k p) (is_among k ps)
   where
-    by : (b : Bool) → same_path k p ≡ b → is_among k (distinct ps) ≡ is_among k ps
-        → (same_path k p || is_among k (without p (distinct ps))) ≡ (same_path k p || is_among k ps)
-    by true f rest = ap (λ b. b || is_among k (without p (distinct ps))) f ∙ sym (ap (λ b. b || is_among k ps) f)
-    by false f rest = ap (λ b. same_path k p || b) (is_among-without p k (distinct ps) f ∙ rest)
-
-taken_front : (es fs : Entries) → take (length es) (es ++ fs) ≡ es
-taken_front [] fs = refl
-taken_front (e ∷ es) fs = ap (λ gs. e ∷ gs) (taken_front es fs)
+    once : (a b : Bool) → (a || (not a && b)) ≡ (a || b)
+    once true b = refl
+    once false b = refl
 
 -- a table of which none is answered, as it is before others are added
 pub fresh-none : (es : Entries) → IsDistinct same_bytes (keys_of es) → es ≡ fresh (pending es) → es ≡ fresh (distinct (pending es ++ []))
@@ -325,9 +305,9 @@ fresh-back es qs h all =
     let got = begins (pending es) qs (pending_distinct es h) in
     ap (λ ps. take (length es) (fresh ps)) got.1
     ∙ ap (take (length es)) (map-append (λ p. (p, false)) (pending es) got.0 ∙ ap (λ fs. fs ++ fresh got.0) (sym all))
-    ∙ taken_front es (fresh got.0)
+    ∙ take-append_seam es (fresh got.0)
 
--- where marked paths are taken out, and where there are none, no path of the table is answered
+-- if marked paths are taken out, and there are none, no path of the table is answered
 pub swept-fresh : (es : Entries) → filter (λ e. not e.1) es ≡ fresh (pending es)
 swept-fresh [] = refl
 swept-fresh (e ∷ es) = by e.1 (swept-fresh es)

@@ -41,7 +41,7 @@ impl Mirror {
     /// Returns the outcome of a reply that counted.
     ///
     /// The mirror is placed if no path and no directory is awaited any more.
-    fn settle(&mut self) -> Outcome
+    fn place_if_complete(&mut self) -> Outcome
         ensures { (self.new, result) ≡ settled_in self.old self.old.round }
     {
         let Round::Gathering {
@@ -70,7 +70,7 @@ impl Mirror {
             awaited,
             prefixes,
         };
-        self.settle()
+        self.place_if_complete()
     }
 
     /// Takes the list of all paths.
@@ -160,10 +160,10 @@ impl Mirror {
         if !awaited.answer(&mut self.files, path, content)? {
             return Ok(Outcome::Ignored);
         }
-        Ok(self.settle())
+        Ok(self.place_if_complete())
     }
 
-    /// Takes a borrowed content, and copies it if it counts.
+    /// Takes a borrowed content, and shares its bytes if it counts.
     #[tactic(auto, unfolding(eden_messages::specs::Mirrors::delivered))]
     fn take_lent(
         &mut self,
@@ -211,7 +211,7 @@ impl Mirror {
         awaited.extend(paths)?;
         prefixes.take_out(prefix);
         remove_all(&mut self.files, gone.as_slice());
-        Ok(self.settle())
+        Ok(self.place_if_complete())
     }
 
     /// Takes a refusal of a list. Does not allocate.

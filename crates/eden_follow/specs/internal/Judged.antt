@@ -9,7 +9,7 @@ use Rattle.eden_headline.specs.Vouched.{AreVouched, IsAnswered, IsAsked, is_own}
 use Rattle.eden_follow.specs.Causes.{FirstCause}
 use Rattle.eden_follow.specs.declared.fault.VouchFault.{VouchFault}
 use Rattle.eden_follow.specs.declared.fault.VouchFault.TheVariants.{StrangeRequest}
-use Rattle.eden_follow.specs.declared.rows.Asked.{Asked}
+use Rattle.eden_follow.specs.declared.rows.RequestRow.{RequestRow}
 use Rattle.eden_follow.specs.internal.Rows.{IsHighest, IsMarked}
 
 -- the rows are those of the entries, in any order
@@ -20,7 +20,7 @@ pub record Lists (entries : List LogEntry) (replies : List (ℕ × Reply)) (requ
   pub asks : (ticket : ℕ) (request : Request) → IsAsked entries ticket request → Contains requests (ticket, request)
 
 -- after these notes the rows are marked, and this is the highest ticket of a reply
-pub record IsAt (earlier : List Note) (rows : List Asked) (highest : Option ℕ) : Type 0 where
+pub record IsAt (earlier : List Note) (rows : List RequestRow) (highest : Option ℕ) : Type 0 where
   pub marked : All (IsMarked (sent_in earlier)) rows
   pub is_highest : IsHighest (came_in earlier) highest
 
@@ -30,9 +30,9 @@ pub record Walks (entries : List LogEntry) (whole earlier left : List Note) : Ty
   pub cause : (f : VouchFault) → FirstCause entries earlier left f → FirstCause entries [] whole f
 
 -- a row of this id and life is not marked
-pub record HasStrange (rows : List Asked) (id life : ℕ) (fault : VouchFault) : Type 0 where
+pub record HasStrange (rows : List RequestRow) (id life : ℕ) (fault : VouchFault) : Type 0 where
   pub is : fault ≡ StrangeRequest
-  pub row : Asked
+  pub row : RequestRow
   pub there : Contains rows row
   pub own : is_own id life row.request.now ≡ true
   pub unsent : row.sent ≡ false

@@ -7,7 +7,7 @@ use Rattle.std.specs.declared.cmp.Ordering.{Ordering}
 use Rattle.eden_messages.specs.declared.message.Request.{Request}
 use Rattle.eden_messages.specs.declared.message.Request.TheVariants.{Basis, Poll, Fetch, List as Below}
 use Rattle.eden_messages.specs.Mirrors.{query_of}
-use Rattle.eden_follow.specs.declared.rows.Asked.{Asked}
+use Rattle.eden_follow.specs.declared.rows.RequestRow.{RequestRow}
 
 -- the path whose content or list is requested
 abbrev pub path_in : Request → List ℕ
@@ -22,8 +22,8 @@ question_cmp =
     then_cmp (then_cmp (then_cmp (on (λ (r : Request). (query_of r).mirror) nat_cmp) (on (λ (r : Request). (query_of r).life) nat_cmp)) (on (λ (r : Request). (query_of r).number) nat_cmp))
     (on path_in (slice_cmp nat_cmp))
 
-abbrev pub AreInOrder : List Asked → Type 0
-AreInOrder rows = IsSortedBy (λ (a b : Asked). is_lt (question_cmp a.request.now b.request.now)) rows
+abbrev pub AreInOrder : List RequestRow → Type 0
+AreInOrder rows = IsSortedBy (λ (a b : RequestRow). is_lt (question_cmp a.request.now b.request.now)) rows
 
 -- all items of the list for which this holds are from the start up to the end
 pub record IsGroup {X : Type 0} (IsIt : X → Type 0) (xs : List X) (start end : ℕ) : Type 0 where

@@ -20,14 +20,14 @@ returns-clause-vouched c =
     (lists_moved (entries_in c.args.logs.now) c.in_ok-replies.replies.items c.sort_replies.new.rows.items c.in_ok-rows.rows.items c.sort_requests.new.rows.items
     c.sort_replies.ensures.same c.sort_requests.ensures.same (lists_all (entries_in c.args.logs.now) _ _ c.in_ok-replies.ensures c.in_ok-rows.ensures.rows))) in
     let notes : c.as_slice-notes.result.now ≡ c.args.follower.now.notes = c.as_slice-notes.ensures.value ∙ ap (λ (f : Followed). f.notes) c.follower.view_is in
-    on_ok_weaker c.judge.result (λ is. subst (λ (ns : List Note). IsVouched c.args.logs.now c.args.follower.now.mirror ns) notes
+    on_ok_weaker c.check.result (λ is. subst (λ (ns : List Note). IsVouched c.args.logs.now c.args.follower.now.mirror ns) notes
     (is c.args.logs.now c.args.follower.now.mirror lists
     (c.id.ensures ∙ ap (λ (m : MirrorState). m.id) c.mirror-mirror.ensures.mirror) (c.life.ensures ∙ ap (λ (m : MirrorState). m.life) c.mirror-mirror.ensures.mirror)))
-    c.judge.ensures.vouched
+    c.check.ensures.vouched
 
 pub returns-clause-merges : goal.returns-clause-merges
 returns-clause-merges c =
-    on_ok_weaker c.judge.result (λ is. goes_with c.args.logs.now c.args.follower.now.mirror c.args.follower.now.notes c.mirror-mirror.ensures.notes is) (returns-clause-vouched c)
+    on_ok_weaker c.check.result (λ is. goes_with c.args.logs.now c.args.follower.now.mirror c.args.follower.now.notes c.mirror-mirror.ensures.notes is) (returns-clause-vouched c)
 
 pub returns-clause-fault : goal.returns-clause-fault
 returns-clause-fault c =
@@ -37,11 +37,11 @@ returns-clause-fault c =
     (lists_moved (entries_in c.args.logs.now) c.in_ok-replies.replies.items c.sort_replies.new.rows.items c.in_ok-rows.rows.items c.sort_requests.new.rows.items
     c.sort_replies.ensures.same c.sort_requests.ensures.same (lists_all (entries_in c.args.logs.now) _ _ c.in_ok-replies.ensures c.in_ok-rows.ensures.rows))) in
     let notes : c.as_slice-notes.result.now ≡ c.args.follower.now.notes = c.as_slice-notes.ensures.value ∙ ap (λ (f : Followed). f.notes) c.follower.view_is in
-    IfErr-weaker c.judge.result _ _ (λ f is. subst (λ (ns : List Note). IsAgainst c.args.logs.now c.args.follower.now.mirror ns f) notes
+    IfErr-weaker c.check.result _ _ (λ f is. subst (λ (ns : List Note). IsAgainst c.args.logs.now c.args.follower.now.mirror ns f) notes
     (is c.args.logs.now c.args.follower.now.mirror lists
     (c.id.ensures ∙ ap (λ (m : MirrorState). m.id) c.mirror-mirror.ensures.mirror) (c.life.ensures ∙ ap (λ (m : MirrorState). m.life) c.mirror-mirror.ensures.mirror)))
-    c.judge.ensures.against
+    c.check.ensures.against
 
 pub returns-clause-excluded : goal.returns-clause-excluded
 returns-clause-excluded c =
-    IfErr-weaker c.judge.result _ _ (λ f is other vouched. excludes c.args.logs.now c.args.follower.now.mirror c.args.follower.now.notes f is other vouched) (returns-clause-fault c)
+    IfErr-weaker c.check.result _ _ (λ f is other vouched. excludes c.args.logs.now c.args.follower.now.mirror c.args.follower.now.notes f is other vouched) (returns-clause-fault c)

@@ -1,20 +1,14 @@
-use Rattle.eden_headline.proofs.Scheduling.{runs_at_head, runs_covered, runs_places, runs_together, runs_told, runs_values}
+use Rattle.eden_headline.specs.Headline.{AgreeTogether, AgreesAtHead, HasPlace, HasValues, IsCovered, IsTold, OfMirrors, OfPairs}
+use Rattle.eden_headline.proofs.Scheduling.{after_all, at_head, covered, places, together, told, values}
 use Rattle.eden_headline.proofs.schedule_laws.schedule_law.Goals as goal
 
-pub returns-clause-covered : goal.returns-clause-covered
-returns-clause-covered c = runs_covered
-
-pub returns-clause-told : goal.returns-clause-told
-returns-clause-told c = runs_told
-
-pub returns-clause-at_head : goal.returns-clause-at_head
-returns-clause-at_head c = runs_at_head
-
-pub returns-clause-together : goal.returns-clause-together
-returns-clause-together c = runs_together
-
-pub returns-clause-places : goal.returns-clause-places
-returns-clause-places c = runs_places
-
-pub returns-clause-values : goal.returns-clause-values
-returns-clause-values c = runs_values
+pub returns : goal.returns
+returns c =
+    record {
+      covered = after_all (OfMirrors IsCovered) covered;
+      told = after_all (OfMirrors IsTold) told;
+      at_head = after_all (OfMirrors AgreesAtHead) at_head;
+      together = after_all (OfPairs AgreeTogether) together;
+      places = after_all (OfMirrors HasPlace) places;
+      values = after_all (OfMirrors HasValues) values;
+    }

@@ -21,7 +21,7 @@ returns-clause-ok c =
     ∙ ap (λ ps. retain_keys s.files (λ path. not (is_among path ps))) c.as_slice.ensures.value
     ∙ c.in_ok-gone.ensures
     ∙ ap (λ n. listed_files n.files c.args.prefix.now c.args.paths.now) c.self.view_is in
-    c.settle.ensures
+    c.place_if_complete.ensures
     ∙ ap (λ n. gathers (record n { files = c.remove_all.new.files; round = Gathering (query_numbered n n.last) g.target c.extend.new.self c.take_out.new.self })
     (query_numbered n n.last) g.target c.extend.new.self c.take_out.new.self) c.self.view_is
     ∙ list_delivered m asked g.target g.awaited g.prefixes c.args.query c.args.position c.args.prefix.now c.args.paths.now round of_round among

@@ -6,7 +6,7 @@ use Rattle.eden_headline.specs.Notes.{sent_in}
 use Rattle.eden_follow.specs.internal.Rows.{HasLate, IsMarked, IsTimelyRow, asked, told}
 use Rattle.eden_follow.proofs.Judged.{at_began, at_came, at_sent, sent_cause, sent_vouched}
 use Rattle.eden_follow.proofs.Marked.{none_told}
-use Rattle.eden_follow.proofs.judging.judge_note.Goals as goal
+use Rattle.eden_follow.proofs.judging.check_note.Goals as goal
 
 pub returns-in_err-send_all-in-Sent-clause-cause : goal.returns-in_err-send_all-in-Sent-clause-cause
 returns-in_err-send_all-in-Sent-clause-cause c =

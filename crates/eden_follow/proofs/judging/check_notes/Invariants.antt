@@ -2,7 +2,7 @@ use Rattle.std.proofs.Common.{◌≡◌, List, map, take, drop}
 use Rattle.eden_logs.specs.declared.log.LogEntry.{LogEntry}
 use Rattle.eden_follow.specs.internal.Judged.{IsAt, Lists, Walks}
 use Rattle.eden_follow.specs.internal.Rows.{asked, told}
-use Rattle.eden_follow.proofs.judging.judge_notes.Given as goal
+use Rattle.eden_follow.proofs.judging.check_notes.Given as goal
 
 -- the notes so far are judged, and what is found of those that are left settles them all
 abbrev pub invariant-loop-note : goal.invariant-loop-note

@@ -1,5 +1,0 @@
-use Rattle.eden_follow.proofs.Grouped.{still_in_order}
-use Rattle.eden_follow.proofs.judging.judge_notes.Goals as goal
-
-pub judge_note-requires-clause-requests : goal.judge_note-requires-clause-requests
-judge_note-requires-clause-requests c = still_in_order c.args.rows.now c.loop-note.rows c.loop-note.invariant.rows c.requires.requests
