@@ -73,7 +73,7 @@ same_request body x y one other = ok_is x y (sym (request_read body x one) ∙ r
 pub same_reply : (body : List ℕ) (x y : Reply) → SpellsReply body x → SpellsReply body y → x ≡ y
 same_reply body x y one other = ok_is x y (sym (reply_read body x one) ∙ reply_read body y other)
 
--- a body whose tag is that of a request: it is below every reply's, and not that of a patience or
+-- a body whose tag is that of a question: it is below every reply's, and not that of a patience or
 -- of a change
 pub record IsAsked (body : List ℕ) : Type 0 where
   pub tag : ℕ
@@ -83,15 +83,25 @@ pub record IsAsked (body : List ℕ) : Type 0 where
   pub asks : eqb tag 6 ≡ false
   pub low : tag < 128
 
-excluded_asked : (excluded : List (List ℕ)) (tag : ℕ) (rest : List ℕ) → tag < 5 → IsAsked (excluded_bytes excluded ++ (2 ∷ tag ∷ rest))
-excluded_asked [] tag rest low =
-    record { tag = tag; rest = rest; parts = refl; alone = ne_eqb _ _ (omega (arith, low)); asks = ne_eqb _ _ (omega (arith, low)); low = omega (arith, low) }
-excluded_asked (p ∷ ps) tag rest low = record { tag = 7; rest = filter_bytes (p ∷ ps) ++ (2 ∷ tag ∷ rest); parts = refl; alone = refl; asks = refl; low = omega arith }
+-- the tag is not that of a Stat either
+pub record IsRequested (body : List ℕ) : Type 0 where
+  pub asked : IsAsked body
+  pub whole : eqb asked.tag 8 ≡ false
 
-pub request_asked : (x : Request) → IsAsked (request_bytes x)
+excluded_asked : (excluded : List (List ℕ)) (tag : ℕ) (rest : List ℕ) → tag < 5 → IsRequested (excluded_bytes excluded ++ (2 ∷ tag ∷ rest))
+excluded_asked [] tag rest low = record {
+  asked = record { tag = tag; rest = rest; parts = refl; alone = ne_eqb _ _ (omega (arith, low)); asks = ne_eqb _ _ (omega (arith, low)); low = omega (arith, low) };
+  whole = ne_eqb _ _ (omega (arith, low));
+}
+excluded_asked (p ∷ ps) tag rest low = record {
+  asked = record { tag = 7; rest = filter_bytes (p ∷ ps) ++ (2 ∷ tag ∷ rest); parts = refl; alone = refl; asks = refl; low = omega arith };
+  whole = refl;
+}
+
+pub request_asked : (x : Request) → IsRequested (request_bytes x)
 request_asked (Basis q f) = excluded_asked f.excluded 1 _ (omega arith)
 request_asked (Poll q s f) = excluded_asked f.excluded 2 _ (omega arith)
-request_asked (Fetch q p) = record { tag = 3; rest = query_bytes q ++ text_bytes p; parts = refl; alone = refl; asks = refl; low = omega arith }
+request_asked (Fetch q p) = record { asked = record { tag = 3; rest = query_bytes q ++ text_bytes p; parts = refl; alone = refl; asks = refl; low = omega arith }; whole = refl }
 request_asked (Below q p f) = excluded_asked f.excluded 4 _ (omega arith)
 
 reply_tag : (x : Reply) → 128 < get_or (reply_bytes x) 1 0
@@ -103,7 +113,7 @@ reply_tag (ListIs q s p ps) = omega arith
 
 pub request_is_no_reply : (body : List ℕ) (x : Request) (y : Reply) → SpellsRequest body x → SpellsReply body y → ⊥
 request_is_no_reply body x y one other =
-    let asked = request_asked x in
+    let asked = (request_asked x).asked in
     let same : asked.tag ≡ get_or (reply_bytes y) 1 0 = ap (λ (b : List ℕ). get_or b 1 0) (sym asked.parts ∙ sym one.bytes ∙ other.bytes) in
     omega (arith, same, asked.low, reply_tag y)
 

@@ -1,54 +1,51 @@
 -- A body is read as what is asked for exactly if it encodes it.
-use Rattle.std.proofs.Common.{◌≡◌, ℕ, ◌≤◌, true, false, cond, eqb, List, ◌∷◌, ◌++◌, length, Option, Some, None, Result, Ok, Err, refl, sym, ap, subst, ◌∙◌, inl, inr, ◌⊎◌, arith}
+use Rattle.std.proofs.Common.{◌≡◌, ℕ, ◌≤◌, false, cond, eqb, List, ◌∷◌, ◌++◌, length, Option, Some, None, Result, Ok, Err, refl, ap, subst, ◌∙◌, inl, inr, ◌⊎◌, arith}
 use Rattle.std.specs.Prelude.{IfOk}
 use Rattle.std.specs.Int.{w32, to_be_bytes}
 use Rattle.eden_ids.specs.declared.content.Content.{Content}
-use Rattle.eden_ids.specs.declared.id.Id.{Id}
-use Rattle.eden_git.specs.declared.word.Word.{Word}
-use Rattle.eden_git.specs.declared.word.Word.TheVariants.{Blob, Tree, Commit}
+use Rattle.eden_git.specs.declared.object_type.ObjectType.{ObjectType}
+use Rattle.eden_git.specs.declared.object_type.ObjectType.TheVariants.{Blob, Tree, Commit}
 use Rattle.eden_objects.specs.declared.import.Object.{Object}
 use Rattle.eden_history.specs.declared.change.Change.{Change}
 use Rattle.eden_history.specs.declared.change.Change.TheVariants.{Write, Remove, Rename, RenameDir, Checkout, Reset, Flush, Remount, Import}
 use Rattle.eden_history.specs.declared.change.Mode.{Mode}
 use Rattle.eden_history.specs.declared.change.Mode.TheVariants.{Normal, Dry, Force}
-use Rattle.eden_messages.specs.Spells.{request_bytes}
 use Rattle.eden_messages.specs.declared.message.Query.{Query}
-use Rattle.eden_wire.specs.declared.asking.Asked.{Asked}
-use Rattle.eden_wire.specs.declared.doing.Command.{Command}
-use Rattle.eden_wire.specs.declared.doing.Command.TheVariants.{Ask, Do}
-use Rattle.eden_wire.specs.declared.doing.Doing.{Doing}
+use Rattle.eden_wire.specs.declared.asked.Asked.{Asked}
+use Rattle.eden_wire.specs.declared.command.Command.{Command}
+use Rattle.eden_wire.specs.declared.command.Command.TheVariants.{Ask, Do}
+use Rattle.eden_wire.specs.declared.command.Doing.{Doing}
 use Rattle.eden_wire.specs.declared.fault.DecodeFault.{DecodeFault}
 use Rattle.eden_wire.specs.declared.fault.DecodeFault.TheVariants.{BadTag, BadField}
-use Rattle.eden_wire.specs.Asking.{SpellsAsked, patience_bytes, read_asked}
-use Rattle.eden_wire.specs.Doing.{ChangeParts, SpellsCommand, SpellsDo, change, change_of, change_parts, do_bytes, doing, doing_of, doing_parts, id, mode, mode_byte, modes, object, objects, putting, read_command, read_do, word, word_byte, words}
+use Rattle.eden_wire.specs.Asked.{SpellsAsked, read_asked}
+use Rattle.eden_wire.specs.Commands.{ChangeParts, SpellsCommand, SpellsDo, change, change_of, change_parts, doing, doing_of, doing_parts, mode_byte, modes, object, objects, putting, read_command, read_do, type_byte, object_types}
 use Rattle.eden_wire.specs.Formats.{◌>>=◌, find}
 use Rattle.eden_wire.specs.Messages.{query}
 use Rattle.eden_wire.specs.Reading.{Gives, tag_at}
+use Rattle.eden_wire.specs.Stats.{question_bytes}
 use Rattle.eden_wire.proofs.Numbers.{IsBytes, along, bind_ok}
-use Rattle.eden_wire.proofs.FormatLaws.{Laws, nothing_laws, exactly_laws, and_laws, as_type_laws, versioned_laws}
+use Rattle.eden_wire.proofs.FormatLaws.{Laws, nothing_laws, and_laws, as_type_laws, versioned_laws}
 use Rattle.eden_wire.proofs.ListLaws.{list_laws}
 use Rattle.eden_wire.proofs.TagLaws.{chosen, one_of_laws, no_case_laws, case_laws, tagged_laws}
-use Rattle.eden_wire.proofs.MessageLaws.{u32, u64, query_laws, path_laws, file_laws, content_laws, read_back, read_encodes}
-use Rattle.eden_wire.proofs.BodyLaws.{request_asked, tag_again}
+use Rattle.eden_wire.proofs.MessageLaws.{u32, u64, query_laws, id_laws, path_laws, file_laws, content_laws, read_back, read_encodes}
+use Rattle.eden_wire.proofs.BodyLaws.{tag_again}
+use Rattle.eden_wire.proofs.StatLaws.{question_asked}
 use Rattle.eden_wire.proofs.AskedLaws.{asked_read, asked_spelled}
 
 -- ---- fields
-
-id_laws : Laws Id id
-id_laws = as_type_laws _ (exactly_laws 20) _ _ (λ x fits. refl) (λ i. refl)
 
 each_mode : (m : Mode) → find mode_byte modes (mode_byte m) ≡ Ok m
 each_mode Normal = refl
 each_mode Dry = refl
 each_mode Force = refl
 
-each_word : (w : Word) → find word_byte words (word_byte w) ≡ Ok w
-each_word Blob = refl
-each_word Tree = refl
-each_word Commit = refl
+each_type : (w : ObjectType) → find type_byte object_types (type_byte w) ≡ Ok w
+each_type Blob = refl
+each_type Tree = refl
+each_type Commit = refl
 
 object_laws : Laws Object object
-object_laws = as_type_laws _ (and_laws _ (one_of_laws word_byte words each_word) _ file_laws) _ _ (λ x fits. refl) (λ o. refl)
+object_laws = as_type_laws _ (and_laws _ (one_of_laws type_byte object_types each_type) _ file_laws) _ _ (λ x fits. refl) (λ o. refl)
 
 objects_laws : Laws (List Object) objects
 objects_laws = list_laws _ u32 _ object_laws _
@@ -134,9 +131,9 @@ ask_command body asked spells =
     let read = asked_read body asked spells in
     elim spells.bytes [
       | inl alone ↦
-          let is = request_asked asked.request in
+          let is = question_asked asked.question in
           ask_by_tag body is.rest is.tag asked spells.limit (alone.1 ∙ is.parts) is.asks read
-      | inr more ↦ ask_by_tag body (to_be_bytes w32 asked.patience ++ request_bytes asked.request) 5 asked spells.limit more refl read
+      | inr more ↦ ask_by_tag body (to_be_bytes w32 asked.patience ++ question_bytes asked.question) 5 asked spells.limit more refl read
     ]
 
 pub command_read : (body : List ℕ) (command : Command) → SpellsCommand body command → read_command body ≡ Ok command

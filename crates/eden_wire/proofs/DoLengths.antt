@@ -1,6 +1,6 @@
 -- How long the bodies are that ask for changes, and which changes have one.
-use Rattle.std.proofs.Common.{◌≡◌, ℕ, ◌+◌, ◌<◌, ◌≤◌, Bool, true, false, cond, nat_lt, List, [], ◌∷◌, length, get_or, take, Option, Some, None, Result, Err, refl, ap, arith}
-use Rattle.std.specs.Prelude.{All, IsSome}
+use Rattle.std.proofs.Common.{◌≡◌, ℕ, ◌+◌, ◌<◌, ◌≤◌, Bool, true, false, cond, nat_lt, List, [], ◌∷◌, length, get_or, take, Some, None, Result, Err, refl, ap, arith}
+use Rattle.std.specs.Prelude.{All}
 use Rattle.std.specs.List.{AllByRecursion, flat_map}
 use Rattle.std.proofs.lemmas.List.{length-append}
 use Rattle.std.proofs.lemmas.List.Concat.{flat_map-cons}
@@ -10,19 +10,16 @@ use Rattle.std.proofs.lemmas.Bool.{le-leb, leb-true, lt-ltb}
 use Rattle.eden_ids.specs.declared.content.Kind.{Kind}
 use Rattle.eden_ids.specs.declared.content.Kind.TheVariants.{Plain, Exec, Link}
 use Rattle.eden_ids.specs.declared.id.Id.{Id}
-use Rattle.eden_ids.specs.Texts.{AreBytes}
 use Rattle.eden_objects.specs.declared.import.Object.{Object}
 use Rattle.eden_history.specs.declared.change.Change.{Change}
 use Rattle.eden_history.specs.declared.change.Change.TheVariants.{Write, Remove, Rename, RenameDir, Checkout, Reset, Flush, Remount, Import}
 use Rattle.eden_history.specs.declared.change.Mode.{Mode}
 use Rattle.eden_history.specs.Spellable.{AreObjects, IsChange}
 use Rattle.eden_messages.specs.Spells.{IsQuery, if_small, text_bytes}
-use Rattle.eden_wire.specs.declared.doing.Doing.{Doing}
+use Rattle.eden_wire.specs.declared.command.Doing.{Doing}
 use Rattle.eden_wire.specs.declared.fault.EncodeFault.{EncodeFault}
 use Rattle.eden_wire.specs.declared.fault.EncodeFault.TheVariants as encode
-use Rattle.eden_wire.specs.Doing.{SpellsDo, change, do_bytes, object, objects}
-use Rattle.eden_wire.specs.Formats.{Follow}
-use Rattle.eden_wire.specs.Messages.{any_order}
+use Rattle.eden_wire.specs.Commands.{SpellsDo, change, do_bytes, object}
 use Rattle.eden_wire.specs.internal.Steps.{IsSmallChange, IsSmallObject}
 use Rattle.eden_wire.proofs.Same.{in_any_order, path_from, query_from, value_from}
 

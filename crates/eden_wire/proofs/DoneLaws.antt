@@ -1,5 +1,5 @@
 -- A body is read as what was done exactly if it encodes it, and how long it is.
-use Rattle.std.proofs.Common.{◌≡◌, ℕ, ◌+◌, ◌<◌, ◌≤◌, ◌^◌, true, false, eqb, List, [], ◌∷◌, ◌++◌, length, get_or, take, Result, Ok, Err, None, refl, sym, ap, inl, inr, ◌⊎◌, arith, length-append}
+use Rattle.std.proofs.Common.{◌≡◌, ℕ, ◌+◌, ◌<◌, ◌≤◌, ◌^◌, false, eqb, List, [], ◌∷◌, ◌++◌, length, get_or, take, Result, Ok, Err, None, refl, ap, inl, inr, ◌⊎◌, arith, length-append}
 use Rattle.std.specs.Prelude.{IfOk, nat_le}
 use Rattle.std.specs.Int.{w64, to_be_bytes}
 use Rattle.std.specs.List.{flat_map}
@@ -17,7 +17,7 @@ use Rattle.eden_wire.specs.declared.done.Done.{Done}
 use Rattle.eden_wire.specs.declared.done.Done.TheVariants.{NotWritable, At, Checked, Refused, Conflicting}
 use Rattle.eden_wire.specs.declared.fault.DecodeFault.{DecodeFault}
 use Rattle.eden_wire.specs.declared.fault.DecodeFault.TheVariants.{BadTag, BadField}
-use Rattle.eden_wire.specs.Doing.{DoneParts, SpellsDone, answered, answered_of, answered_parts, done, done_by, done_bytes, done_parts, fault, fault_byte, fault_cases, fault_of, fault_parts, no_object, plain_faults, put_byte, put_faults, read_done}
+use Rattle.eden_wire.specs.Commands.{DoneParts, SpellsDone, answered, answered_of, answered_parts, done, done_by, done_bytes, done_parts, fault, fault_byte, fault_cases, fault_of, fault_parts, no_object, plain_faults, put_byte, put_faults, read_done}
 use Rattle.eden_wire.specs.Formats.{each_case, find}
 use Rattle.eden_wire.specs.Reading.{Gives}
 use Rattle.eden_wire.specs.internal.Steps.{object_in}
@@ -51,7 +51,7 @@ zeros (place, number) none zero = cc
 no_object_laws : Laws Unit no_object
 no_object_laws = as_type_laws _ (and_laws _ (only_laws _ u64 _) _ (only_laws _ byte_laws _)) _ _ (λ x fits. zeros x (eqb-true x.0 0 fits.0.1) (eqb-true x.1 0 fits.1.1)) (λ x. refl)
 
--- a fault that has the number of a plain one is none of an object
+-- a fault that has the number of a plain one is not that of an object
 plain_apart : (f : ChangeFault) → (each_case fault_byte plain_faults no_object).fits f → eqb (fault_byte f) 10 ≡ false
 plain_apart NotADirectory fits = refl
 plain_apart IsADirectory fits = refl

@@ -8,6 +8,7 @@ mod Same
 mod Whole
 mod WholeChanges
 pub mod BodyLaws
+mod StatLaws
 mod AskedLaws
 mod DoLaws
 mod DoLengths

@@ -7,6 +7,7 @@ use Rattle.std.proofs.lemmas.List.{nil_from_length}
 use Rattle.eden_ids.specs.declared.content.Content.{Content}
 use Rattle.eden_ids.specs.declared.content.Kind.{Kind}
 use Rattle.eden_ids.specs.declared.content.Kind.TheVariants.{Plain, Exec, Link}
+use Rattle.eden_ids.specs.declared.id.Id.{Id}
 use Rattle.eden_globs.specs.Filters.{Patterns, including}
 use Rattle.eden_history.specs.declared.mark.Mark.{Mark}
 use Rattle.eden_history.specs.declared.mark.Mark.TheVariants.{Created, Removed, Changed, Root}
@@ -22,7 +23,7 @@ use Rattle.eden_messages.specs.declared.message.Reply.TheVariants.{BasisIs, Chan
 use Rattle.eden_messages.specs.Spells.{mark_byte}
 use Rattle.eden_wire.specs.declared.fault.DecodeFault.TheVariants.{TooLarge, BadTag, BadField, Trailing}
 use Rattle.eden_wire.specs.Formats.{◌>>=◌, Format, number, only, find, no_case, case, tagged}
-use Rattle.eden_wire.specs.Messages.{query, position, text, path, filter, marks, mark, marked_path, paths_within, marked_paths, file_bytes, Held, content_of, held_by, held, content, Numbers, cause_of, cause_number, cause, FilteredParts, filtered_of, filtered_cases, excepting, RequestParts, request_of, request_parts, request_cases, request, ReplyParts, reply_of, reply_parts, reply}
+use Rattle.eden_wire.specs.Messages.{query, position, id, text, path, filter, marks, mark, marked_path, paths_within, marked_paths, file_bytes, Held, content_of, held_by, held, content, Numbers, cause_of, cause_number, cause, FilteredParts, filtered_of, filtered_cases, excepting, RequestParts, request_of, request_parts, request_cases, request, ReplyParts, reply_of, reply_parts, reply}
 use Rattle.eden_wire.specs.Reading.{read_whole}
 use Rattle.eden_wire.proofs.Numbers.{IsBytes, bind_ok, guard_ok, held_ok, ok_is, wide16, wide32, wide64}
 use Rattle.eden_wire.proofs.FormatLaws.{Laws, nothing_laws, byte_laws, number_laws, exactly_laws, only_laws, then_laws, and_laws, as_type_laws, as_some_laws, versioned_laws}
@@ -42,6 +43,9 @@ query_laws = as_type_laws _ (and_laws _ u64 _ (and_laws _ u64 _ u64)) _ _ (λ x 
 
 pub position_laws : Laws Position position
 position_laws = as_type_laws _ (and_laws _ u64 _ (and_laws _ u64 _ (exactly_laws 20))) _ _ (λ x fits. refl) (λ p. refl)
+
+pub id_laws : Laws Id id
+id_laws = as_type_laws _ (exactly_laws 20) _ _ (λ x fits. refl) (λ i. refl)
 
 text_laws : (limit : ℕ) → Laws (List ℕ) (text limit)
 text_laws limit = counted_laws _ (only_laws _ (number_laws w16 wide16) _)

@@ -4,19 +4,19 @@ use Rattle.std.proofs.Common.{◌≡◌, ℕ, Bool, true, false, cond, eqb, List
 use Rattle.std.specs.Int.{w32, w64}
 use Rattle.eden_history.specs.declared.change.Change.TheVariants.{Rename, RenameDir, Checkout, Reset, Flush, Remount, Import}
 use Rattle.eden_history.specs.declared.change.ChangeFault.TheVariants.{BadObject}
-use Rattle.eden_wire.specs.declared.doing.Command.{Command}
-use Rattle.eden_wire.specs.declared.doing.Command.TheVariants.{Ask, Do}
-use Rattle.eden_wire.specs.declared.doing.Doing.{Doing}
+use Rattle.eden_wire.specs.declared.command.Command.{Command}
+use Rattle.eden_wire.specs.declared.command.Command.TheVariants.{Ask, Do}
+use Rattle.eden_wire.specs.declared.command.Doing.{Doing}
 use Rattle.eden_wire.specs.declared.done.Done.TheVariants.{NotWritable, At, Checked, Refused, Conflicting}
 use Rattle.eden_wire.specs.declared.fault.DecodeFault.{DecodeFault}
 use Rattle.eden_wire.specs.declared.fault.DecodeFault.TheVariants.{BadTag, BadField}
-use Rattle.eden_wire.specs.Asking.{read_asked}
-use Rattle.eden_wire.specs.Doing.{answered_of, answered_parts, change, change_cases, change_of, change_parts, done, done_by, done_cases, done_parts, doing_of, doing_parts, fault, fault_byte, fault_cases, fault_of, fault_parts, id, mode, no_object, objects, plain_faults, put_fault, putting, read_command, read_do, read_done}
+use Rattle.eden_wire.specs.Asked.{read_asked}
+use Rattle.eden_wire.specs.Commands.{answered_of, answered_parts, change, change_cases, change_of, change_parts, done, done_by, done_cases, done_parts, doing_of, doing_parts, fault, fault_byte, fault_cases, fault_of, fault_parts, mode, no_object, objects, plain_faults, put_fault, putting, read_command, read_do, read_done}
 use Rattle.eden_wire.specs.Formats.{◌>>=◌, Cases, byte_at, find, number, ◌▹◌, as_type, case, no_case, tagged}
-use Rattle.eden_wire.specs.Messages.{content, path, paths_within, position, query}
-use Rattle.eden_wire.specs.Reading.{tag_at}
-use Rattle.eden_wire.specs.internal.Steps.{read_as, read_to_end}
-use Rattle.eden_wire.proofs.Whole.{along_tag, chosen_end, end, message_whole, wrapped}
+use Rattle.eden_wire.specs.Messages.{content, id, path, paths_within, position, query}
+use Rattle.eden_wire.specs.Reading.{read_to_end, tag_at}
+use Rattle.eden_wire.specs.internal.Steps.{read_as}
+use Rattle.eden_wire.proofs.Whole.{along_tag, chosen_end, message_whole, wrapped}
 
 -- ---- fields
 

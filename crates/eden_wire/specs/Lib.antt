@@ -1,7 +1,8 @@
 pub mod Formats
 pub mod Messages
 pub mod Reading
-pub mod Asking
-pub mod Doing
+pub mod Stats
+pub mod Asked
+pub mod Commands
 pub mod Laws
 pub mod internal

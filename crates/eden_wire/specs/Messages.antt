@@ -7,7 +7,9 @@ use Rattle.std.specs.Ordering.{nat_cmp, is_lt}
 use Rattle.std.specs.Cmp.Lexicographic.{slice_cmp}
 use mathlib.Core.Logic.{inl, inr}
 use Rattle.eden_ids.specs.declared.content.Content.{Content}
+use Rattle.eden_ids.specs.declared.content.Kind.{Kind}
 use Rattle.eden_ids.specs.declared.content.Kind.TheVariants.{Plain, Exec, Link}
+use Rattle.eden_ids.specs.declared.id.Id.{Id}
 use Rattle.eden_ids.specs.Paths.{path_fault, lies_below}
 use Rattle.eden_globs.specs.Filters.{Patterns, filter_fault, including}
 use Rattle.eden_history.specs.declared.mark.Mark.{Mark}
@@ -21,7 +23,7 @@ use Rattle.eden_messages.specs.declared.message.Cause.{Cause}
 use Rattle.eden_messages.specs.declared.message.Cause.TheVariants as causes
 use Rattle.eden_messages.specs.declared.message.Reply.{Reply}
 use Rattle.eden_messages.specs.declared.message.Reply.TheVariants.{BasisIs, ChangesAre, ContentIs, Refused, ListIs}
-use Rattle.eden_messages.specs.Spells.{mark_byte}
+use Rattle.eden_messages.specs.Spells.{kind_byte, mark_byte}
 use Rattle.eden_wire.specs.declared.fault.DecodeFault.TheVariants.{BadTag, BadField}
 use Rattle.eden_wire.specs.Formats.{Format, Cases, nothing, byte, number, exactly, only, then_by, ◌▹◌, as_type, as_some, counted, list, one_of, versioned, no_case, case, tagged}
 
@@ -36,6 +38,9 @@ abbrev pub position : Format Position
 position = as_type (number w64 ▹ number w64 ▹ exactly 20)
     (λ x. record { generation = x.0; sequence = x.1.0; root = record { 0 = x.1.1 } })
     (λ p. (p.generation, (p.sequence, p.root.0)))
+
+abbrev pub id : Format Id
+id = as_type (exactly 20) (λ bytes. record { 0 = bytes }) (λ id. id.0)
 
 -- one byte at least and `limit` at most, after a count of two bytes; the count is a fault
 -- before the bytes that it counts are looked for
@@ -90,6 +95,12 @@ marked_paths = list (number w32) marked_path ascending_marks
 -- the bytes of a file, at most 8 MiB
 abbrev pub file_bytes : Format (List ℕ)
 file_bytes = counted (only (number w32) (λ n. nat_le n 8388608))
+
+abbrev pub kinds : List Kind
+kinds = Plain ∷ Exec ∷ Link ∷ []
+
+abbrev pub kind : Format Kind
+kind = one_of kind_byte kinds
 
 -- nothing, or the bytes of a plain file, of an executable one or of a link
 abbrev pub Held : Type 0

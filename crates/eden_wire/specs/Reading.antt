@@ -13,11 +13,19 @@ abbrev pub Gives : {X Y : Type 0} → (X → Y) → Result X DecodeFault → Res
 Gives view (Ok x) read = read ≡ Ok (view x)
 Gives view (Err fault) read = fault ≢ NoMemory → read ≡ Err fault
 
+-- no byte comes after the message
+abbrev pub ended : {A : Type 0} → A → List ℕ → Result A DecodeFault
+ended message rest = if length rest == 0 then Ok message else Err Trailing
+
+-- a message after its tag, and no byte after it
+abbrev pub read_to_end : {A B : Type 0} → Format A → (A → B) → List ℕ → Result B DecodeFault
+read_to_end format message bytes = format.read bytes >>= λ x. ended (message x.0) x.1
+
 -- a body has at most 16,777,216 bytes, and no byte comes after its message
 abbrev pub read_whole : {A : Type 0} → Format A → List ℕ → Result A DecodeFault
 read_whole format body =
     if nat_lt 16777216 (length body) then Err TooLarge else
-    (format.read body >>= λ x. if length x.1 == 0 then Ok x.0 else Err Trailing)
+    read_to_end format (λ x. x) body
 
 -- the request that a body encodes, or the first fault
 unfoldable pub read_request : List ℕ → Result Request DecodeFault

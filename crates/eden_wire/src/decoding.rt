@@ -10,9 +10,8 @@ ghost use Rattle.eden_messages.specs.Spells.{SpellsRequest, SpellsReply};
 ghost use Rattle.eden_wire.specs.Formats.{byte, items_at, only, tagged, then_by, versioned, ◌▹◌};
 ghost use Rattle.eden_wire.specs.Messages.{query, position, path, filter, excluded, excepting, filtered_of, filtered_cases, marked_path, is_above, is_within, paths_within, ascending_marks, marked_paths, content, cause};
 ghost use Rattle.eden_wire.specs.Messages as messages;
-ghost use Rattle.eden_wire.specs.Reading.{Gives, tag_at, read_request, read_reply};
+ghost use Rattle.eden_wire.specs.Reading.{Gives, ended, read_to_end, tag_at, read_request, read_reply};
 ghost use Rattle.eden_wire.specs.internal.Listing.{last_item};
-ghost use Rattle.eden_wire.specs.internal.Steps.{ended, read_to_end};
 
 use crate::fault::DecodeFault;
 use crate::fields::{
@@ -112,6 +111,7 @@ fn paths_of<'a>(
     Ok((list, rest))
 }
 
+/// Reads ascending paths, all below a prefix if there is one.
 pub(crate) fn path_listing_of<'a>(
     alloc: Global,
     prefix: Option<&Path>,
@@ -156,6 +156,7 @@ fn list_of(alloc: Global, count: u32, bytes: &[u8]) -> Result<(Vec<Marked>, &[u8
     Ok((list, rest))
 }
 
+/// Reads a list of marked paths. Returns it and the bytes after it.
 fn listing_of(alloc: Global, bytes: &[u8]) -> Result<(Sequence<Marked>, &[u8]), DecodeFault>
     ensures { Gives (λ x. (x.0, x.1.now)) result (marked_paths.read bytes.now) }
 {
@@ -175,6 +176,7 @@ pub(crate) fn whole<T: Drop>(message: T, rest: &[u8]) -> Result<T, DecodeFault>
     }
 }
 
+/// Reads the rest of a Basis, after its tag.
 fn basis_of(alloc: Global, bytes: &[u8]) -> Result<Request, DecodeFault>
     ensures { Gives (λ request. request) result (read_to_end (query ▹ filter) (λ x. Basis x.0 x.1) bytes.now) }
 {
@@ -183,6 +185,7 @@ fn basis_of(alloc: Global, bytes: &[u8]) -> Result<Request, DecodeFault>
     whole(Request::Basis { query, filter }, rest)
 }
 
+/// Reads the rest of a Fetch, after its tag.
 fn fetch_of(alloc: Global, bytes: &[u8]) -> Result<Request, DecodeFault>
     ensures { Gives (λ request. request) result (read_to_end (query ▹ path) (λ x. Fetch x.0 x.1) bytes.now) }
 {
@@ -191,6 +194,7 @@ fn fetch_of(alloc: Global, bytes: &[u8]) -> Result<Request, DecodeFault>
     whole(Request::Fetch { query, path }, rest)
 }
 
+/// Reads the rest of a Poll, after its tag.
 fn poll_of(alloc: Global, bytes: &[u8]) -> Result<Request, DecodeFault>
     ensures { Gives (λ request. request) result (read_to_end (query ▹ position ▹ filter) (λ x. Poll x.0 x.1.0 x.1.1) bytes.now) }
 {
@@ -205,6 +209,7 @@ fn poll_of(alloc: Global, bytes: &[u8]) -> Result<Request, DecodeFault>
     whole(message, rest)
 }
 
+/// Reads the rest of a List, after its tag.
 fn list_request_of(alloc: Global, bytes: &[u8]) -> Result<Request, DecodeFault>
     ensures { Gives (λ request. request) result (read_to_end (query ▹ path ▹ filter) (λ x. Below x.0 x.1.0 x.1.1) bytes.now) }
 {
@@ -279,6 +284,7 @@ fn excluding_of(alloc: Global, bytes: &[u8]) -> Result<Request, DecodeFault>
     Ok(excepting(request, &excluded)?)
 }
 
+/// Reads the rest of a BasisIs, after its tag.
 fn basis_is_of(alloc: Global, bytes: &[u8]) -> Result<Reply, DecodeFault>
     ensures { Gives (λ reply. reply) result (read_to_end (query ▹ position ▹ paths_within None) (λ x. BasisIs x.0 x.1.0 x.1.1) bytes.now) }
 {
@@ -293,6 +299,7 @@ fn basis_is_of(alloc: Global, bytes: &[u8]) -> Result<Reply, DecodeFault>
     whole(message, rest)
 }
 
+/// Reads the rest of a ContentIs, after its tag.
 fn content_is_of(alloc: Global, bytes: &[u8]) -> Result<Reply, DecodeFault>
     ensures { Gives (λ reply. reply) result (read_to_end (query ▹ position ▹ path ▹ content) (λ x. ContentIs x.0 x.1.0 x.1.1.0 x.1.1.1) bytes.now) }
 {
@@ -309,6 +316,7 @@ fn content_is_of(alloc: Global, bytes: &[u8]) -> Result<Reply, DecodeFault>
     whole(message, rest)
 }
 
+/// Reads the rest of a ChangesAre, after its tag.
 fn changes_are_of(alloc: Global, bytes: &[u8]) -> Result<Reply, DecodeFault>
     ensures { Gives (λ reply. reply) result (read_to_end (query ▹ position ▹ marked_paths ▹ paths_within None) (λ x. ChangesAre x.0 x.1.0 x.1.1.0 x.1.1.1) bytes.now) }
 {
@@ -325,6 +333,7 @@ fn changes_are_of(alloc: Global, bytes: &[u8]) -> Result<Reply, DecodeFault>
     whole(message, rest)
 }
 
+/// Reads the rest of a Refused, after its tag.
 fn refused_of(bytes: &[u8]) -> Result<Reply, DecodeFault>
     ensures { Gives (λ reply. reply) result (read_to_end (query ▹ cause) (λ x. Refused x.0 x.1) bytes.now) }
 {
@@ -333,6 +342,7 @@ fn refused_of(bytes: &[u8]) -> Result<Reply, DecodeFault>
     whole(Reply::Refused { query, cause }, rest)
 }
 
+/// Reads the rest of a ListIs, after its tag.
 fn list_is_of(alloc: Global, bytes: &[u8]) -> Result<Reply, DecodeFault>
     ensures { Gives (λ reply. reply) result (read_to_end (query ▹ position ▹ then_by path (λ prefix. paths_within (Some prefix))) (λ x. ListIs x.0 x.1.0 x.1.1.0 x.1.1.1) bytes.now) }
 {
@@ -349,6 +359,7 @@ fn list_is_of(alloc: Global, bytes: &[u8]) -> Result<Reply, DecodeFault>
     whole(message, rest)
 }
 
+/// Reads the whole body of a request.
 #[tactic(auto, using(crate::proofs::Whole::request_whole))]
 pub(crate) fn request_of(alloc: Global, body: &[u8]) -> Result<Request, DecodeFault>
     ensures { Gives (λ request. request) result (read_request body.now) }
@@ -364,6 +375,7 @@ pub(crate) fn request_of(alloc: Global, body: &[u8]) -> Result<Request, DecodeFa
     }
 }
 
+/// Reads the whole body of a reply.
 #[tactic(auto, using(crate::proofs::Whole::reply_whole))]
 fn reply_of(alloc: Global, body: &[u8]) -> Result<Reply, DecodeFault>
     ensures { Gives (λ reply. reply) result (read_reply body.now) }

@@ -11,12 +11,12 @@ ghost use Rattle.eden_messages.specs.Spells.{text_bytes};
 ghost use Rattle.eden_stream.specs.Frames.{body_limit, frame};
 ghost use Rattle.eden_wire.specs.declared.done.Done.{Done};
 ghost use Rattle.eden_wire.specs.declared.done.Done.TheVariants.{At, Checked, Conflicting, Refused};
-ghost use Rattle.eden_wire.specs.Doing as formats;
-ghost use Rattle.eden_wire.specs.Doing.{SpellsDone, done, done_bytes, done_of, fault, fault_byte, no_object, plain_faults, put_byte, put_fault, put_faults, read_done};
+ghost use Rattle.eden_wire.specs.Commands as formats;
+ghost use Rattle.eden_wire.specs.Commands.{SpellsDone, done, done_bytes, done_of, fault, fault_byte, no_object, plain_faults, put_byte, put_fault, put_faults, read_done};
 ghost use Rattle.eden_wire.specs.Formats.{find, number, ◌▹◌};
 ghost use Rattle.eden_wire.specs.Messages.{paths_within, position, query};
-ghost use Rattle.eden_wire.specs.Reading.{Gives};
-ghost use Rattle.eden_wire.specs.internal.Steps.{object_in, read_as, read_to_end};
+ghost use Rattle.eden_wire.specs.Reading.{Gives, read_to_end};
+ghost use Rattle.eden_wire.specs.internal.Steps.{object_in, read_as};
 
 use crate::decoding::{path_listing_of, tag_of, whole};
 use crate::encoding::{len_of_path, put_bytes, put_head, put_paths, put_position};
@@ -110,6 +110,7 @@ fn checked(position: Position, conflicts: Sequence<Path>) -> Done
 
 // ---- reading
 
+/// Reads the position after a change.
 fn at_of(bytes: &[u8]) -> Result<(Done, &[u8]), DecodeFault>
     ensures { Gives (λ x. (x.0, x.1.now)) result (read_as position (λ position. At position) bytes.now) }
 {
@@ -117,6 +118,7 @@ fn at_of(bytes: &[u8]) -> Result<(Done, &[u8]), DecodeFault>
     Ok((Done::At(position), rest))
 }
 
+/// Reads the position after a checkout, and its conflicts.
 fn checked_of(alloc: Global, bytes: &[u8]) -> Result<(Done, &[u8]), DecodeFault>
     ensures { Gives (λ x. (x.0, x.1.now)) result (read_as (position ▹ paths_within None) (λ x. Checked x.0 x.1) bytes.now) }
 {
@@ -129,6 +131,7 @@ fn checked_of(alloc: Global, bytes: &[u8]) -> Result<(Done, &[u8]), DecodeFault>
     Ok((done, rest))
 }
 
+/// Reads the position after a checkout, and the number of its conflicts.
 fn conflicting_of(bytes: &[u8]) -> Result<(Done, &[u8]), DecodeFault>
     ensures { Gives (λ x. (x.0, x.1.now)) result (read_as (position ▹ number w32) (λ x. Conflicting x.0 x.1) bytes.now) }
 {
@@ -137,6 +140,7 @@ fn conflicting_of(bytes: &[u8]) -> Result<(Done, &[u8]), DecodeFault>
     Ok((Done::Conflicting { position, count }, rest))
 }
 
+/// Returns the fault of an object that this byte names.
 fn put_fault_of_byte(byte: u8) -> Result<PutFault, DecodeFault>
     ensures { result ≡ find put_byte put_faults byte }
 {
@@ -203,6 +207,7 @@ fn bad_object_of(bytes: &[u8]) -> Result<(ChangeFault, &[u8]), DecodeFault>
     Ok((ChangeFault::BadObject { place, fault }, rest))
 }
 
+/// Reads why a change was refused.
 #[tactic(auto, using(crate::proofs::WholeChanges::fault_whole))]
 fn fault_of(bytes: &[u8]) -> Result<(ChangeFault, &[u8]), DecodeFault>
     ensures { Gives (λ x. (x.0, x.1.now)) result (fault.read bytes.now) }
@@ -216,6 +221,7 @@ fn fault_of(bytes: &[u8]) -> Result<(ChangeFault, &[u8]), DecodeFault>
     Ok((fault, rest))
 }
 
+/// Reads the refusal of a change.
 fn refused_of(bytes: &[u8]) -> Result<(Done, &[u8]), DecodeFault>
     ensures { Gives (λ x. (x.0, x.1.now)) result (read_as fault (λ fault. Refused fault) bytes.now) }
 {
@@ -223,6 +229,7 @@ fn refused_of(bytes: &[u8]) -> Result<(Done, &[u8]), DecodeFault>
     Ok((Done::Refused(fault), rest))
 }
 
+/// Reads how a change ended. Returns it and the bytes after it.
 #[tactic(auto, using(crate::proofs::WholeChanges::done_whole))]
 fn done_of(alloc: Global, bytes: &[u8]) -> Result<(Done, &[u8]), DecodeFault>
     ensures { Gives (λ x. (x.0, x.1.now)) result (done.read bytes.now) }
@@ -247,6 +254,7 @@ fn rest_of(alloc: Global, bytes: &[u8]) -> Result<(Query, Done), DecodeFault>
     whole((query, done), rest)
 }
 
+/// Reads the whole body of a Done.
 #[tactic(auto, using(crate::proofs::WholeChanges::answered_whole))]
 fn answered_of(alloc: Global, body: &[u8]) -> Result<(Query, Done), DecodeFault>
     ensures { Gives (λ x. x) result (read_done body.now) }
@@ -260,6 +268,7 @@ fn answered_of(alloc: Global, body: &[u8]) -> Result<(Query, Done), DecodeFault>
 
 // ---- writing
 
+/// Returns the byte that names the fault of an object.
 fn byte_of_put_fault(fault: PutFault) -> u8
     ensures { result ≡ put_byte fault }
 {
@@ -281,6 +290,7 @@ fn byte_of_put_fault(fault: PutFault) -> u8
     }
 }
 
+/// Returns the byte that names why a change was refused.
 fn byte_of_fault(fault: ChangeFault) -> u8
     ensures { result ≡ fault_byte fault }
 {
@@ -309,6 +319,7 @@ fn object_in(fault: ChangeFault) -> (u64, u8)
     }
 }
 
+/// Writes why a change was refused.
 #[tactic(auto, using(crate::proofs::DoneLaws::fault_encoded))]
 fn put_fault(out: &mut Vec<u8>, fault: ChangeFault) -> Result<(), AllocError>
     ensures told { OnOk result (out.new.items ≡ out.old.items ++ formats.fault.spell fault) }

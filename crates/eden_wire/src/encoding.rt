@@ -24,6 +24,7 @@ pub(crate) fn put_bytes(out: &mut Vec<u8>, bytes: &[u8]) -> Result<(), AllocErro
     out.extend_from_slice(bytes)
 }
 
+/// Writes the numbers of a query.
 #[tactic(auto, using(eden_ids::proofs::Fronts::grown_keeps))]
 fn put_query(out: &mut Vec<u8>, query: &Query) -> Result<(), AllocError>
     ensures told { OnOk result (out.new.items ≡ out.old.items ++ query_bytes query.now) }
@@ -34,6 +35,7 @@ fn put_query(out: &mut Vec<u8>, query: &Query) -> Result<(), AllocError>
     out.put_u64(query.number)
 }
 
+/// Writes a position: its generation, its number and its root.
 #[tactic(auto, using(eden_ids::proofs::Fronts::grown_keeps))]
 pub(crate) fn put_position(out: &mut Vec<u8>, position: &Position) -> Result<(), AllocError>
     ensures told { OnOk result (out.new.items ≡ out.old.items ++ position_bytes position.now) }
@@ -44,6 +46,7 @@ pub(crate) fn put_position(out: &mut Vec<u8>, position: &Position) -> Result<(),
     out.put_slice(&position.root.0)
 }
 
+/// Writes a text: two bytes of length, and its bytes.
 fn put_text(out: &mut Vec<u8>, text: &[u8]) -> Result<(), AllocError>
     requires { length text.now < 2 ^ 16 }
     ensures told { OnOk result (out.new.items ≡ out.old.items ++ text_bytes text.now) }
@@ -88,6 +91,7 @@ fn put_included(out: &mut Vec<u8>, filter: &Filter) -> Result<(), AllocError>
     put_patterns(out, filter.patterns())
 }
 
+/// Returns the byte that names a mark.
 fn byte_of_mark(mark: Mark) -> u8
     ensures { result ≡ mark_byte mark }
 {
@@ -99,6 +103,7 @@ fn byte_of_mark(mark: Mark) -> u8
     }
 }
 
+/// Writes a mark and its path.
 fn put_marked(out: &mut Vec<u8>, marked: &Marked) -> Result<(), AllocError>
     ensures told { OnOk result (out.new.items ≡ out.old.items ++ marked_bytes marked.now) }
     ensures front { KeepsFront out.old.items out.new.items }
@@ -116,6 +121,7 @@ pub(crate) fn len_of_path(path: &Path) -> usize
     2 + path.as_bytes().len()
 }
 
+/// Writes a path: its length and its bytes.
 #[tactic(auto, using(eden_messages::proofs::Spelling::path_few))]
 pub(crate) fn put_path(out: &mut Vec<u8>, path: &Path) -> Result<(), AllocError>
     ensures told { OnOk result (out.new.items ≡ out.old.items ++ text_bytes path.now) }
@@ -124,6 +130,7 @@ pub(crate) fn put_path(out: &mut Vec<u8>, path: &Path) -> Result<(), AllocError>
     put_text(out, path.as_bytes())
 }
 
+/// Writes paths: their number, and each of them.
 pub(crate) fn put_paths(out: &mut Vec<u8>, paths: &[Path]) -> Result<(), AllocError>
     requires { length paths.now < 2 ^ 32 }
     ensures told { OnOk result (out.new.items ≡ out.old.items ++ paths_bytes paths.now) }
@@ -136,6 +143,7 @@ pub(crate) fn put_paths(out: &mut Vec<u8>, paths: &[Path]) -> Result<(), AllocEr
     Ok(())
 }
 
+/// Writes marked paths: their number, and each of them.
 fn put_list(out: &mut Vec<u8>, list: &[Marked]) -> Result<(), AllocError>
     requires { length list.now < 2 ^ 32 }
     ensures told { OnOk result (out.new.items ≡ out.old.items ++ list_bytes list.now) }
@@ -148,7 +156,8 @@ fn put_list(out: &mut Vec<u8>, list: &[Marked]) -> Result<(), AllocError>
     Ok(())
 }
 
-fn byte_of_kind(kind: Kind) -> u8
+/// Returns the byte that names a kind of file.
+pub(crate) fn byte_of_kind(kind: Kind) -> u8
     ensures { result ≡ kind_byte kind }
 {
     match kind {
@@ -178,6 +187,7 @@ pub(crate) fn put_file(out: &mut Vec<u8>, kind: Kind, bytes: &[u8]) -> Result<()
     put_counted(out, bytes)
 }
 
+/// Writes a file, or that there is none.
 fn put_content(out: &mut Vec<u8>, content: &Option<Content>) -> Result<(), AllocError>
     requires { length (content_bytes content.now) ≤ 16777216 }
     ensures told { OnOk result (out.new.items ≡ out.old.items ++ content_bytes content.now) }
@@ -189,6 +199,7 @@ fn put_content(out: &mut Vec<u8>, content: &Option<Content>) -> Result<(), Alloc
     }
 }
 
+/// Writes why a request is refused.
 fn put_cause(out: &mut Vec<u8>, cause: Cause) -> Result<(), AllocError>
     ensures told { OnOk result (out.new.items ≡ out.old.items ++ cause_bytes cause) }
     ensures front { KeepsFront out.old.items out.new.items }
@@ -215,6 +226,7 @@ pub(crate) fn put_head(out: &mut Vec<u8>, tag: u8, query: &Query) -> Result<(), 
     Ok(())
 }
 
+/// Writes the body of a request.
 pub(crate) fn put_request(out: &mut Vec<u8>, request: &Request) -> Result<(), AllocError>
     ensures told { OnOk result (out.new.items ≡ out.old.items ++ request_bytes request.now) }
     ensures front { KeepsFront out.old.items out.new.items }
@@ -256,6 +268,7 @@ pub(crate) fn put_request(out: &mut Vec<u8>, request: &Request) -> Result<(), Al
     }
 }
 
+/// Writes the body of a reply.
 fn put_reply(out: &mut Vec<u8>, reply: &Reply) -> Result<(), AllocError>
     requires { length (reply_bytes reply.now) ≤ 16777216 }
     ensures told { OnOk result (out.new.items ≡ out.old.items ++ reply_bytes reply.now) }

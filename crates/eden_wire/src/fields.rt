@@ -4,15 +4,15 @@ ghost use Rattle.std.specs.Prelude.{◌≡◌, None, map};
 ghost use Rattle.std.specs.Int.{w16, w32, w64};
 ghost use Rattle.eden_messages.specs.Spells.{kind_byte, mark_byte};
 ghost use Rattle.eden_wire.specs.Formats.{byte, number, exactly, items_at, find};
-ghost use Rattle.eden_wire.specs.Messages.{query, position, text, path, any_order, filter, excluded, marks, mark, file_bytes, content, cause};
+ghost use Rattle.eden_wire.specs.Messages.{query, position, text, path, any_order, filter, excluded, marks, mark, file_bytes, kinds, content, cause};
 ghost use Rattle.eden_wire.specs.Reading.{Gives};
-ghost use Rattle.eden_wire.specs.internal.Steps.{path_of, filter_of, kinds, cause_by};
+ghost use Rattle.eden_wire.specs.internal.Steps.{path_of, filter_of, cause_by};
 
 use crate::fault::DecodeFault;
-use bytes::Buf;
+use bytes::{Buf, Bytes};
 use eden_globs::{Filter, FilterFault};
 use eden_history::{Mark, Position};
-use eden_ids::{Content, Id, Kind, Path, PathFault, Sequence};
+use eden_ids::{Content, Id, Kind, Path, PathFault};
 use eden_messages::{Cause, Query};
 use std::alloc::Global;
 
@@ -27,6 +27,7 @@ pub(crate) fn byte_of(bytes: &[u8]) -> Result<(u8, &[u8]), DecodeFault>
     Ok((byte, rest))
 }
 
+/// Reads a number of two bytes, the highest first.
 fn u16_of(bytes: &[u8]) -> Result<(u16, &[u8]), DecodeFault>
     ensures { Gives (λ x. (x.0, x.1.now)) result ((number w16).read bytes.now) }
 {
@@ -35,6 +36,7 @@ fn u16_of(bytes: &[u8]) -> Result<(u16, &[u8]), DecodeFault>
     Ok((number, rest))
 }
 
+/// Reads a number of four bytes, the highest first.
 pub(crate) fn u32_of(bytes: &[u8]) -> Result<(u32, &[u8]), DecodeFault>
     ensures { Gives (λ x. (x.0, x.1.now)) result ((number w32).read bytes.now) }
 {
@@ -43,6 +45,7 @@ pub(crate) fn u32_of(bytes: &[u8]) -> Result<(u32, &[u8]), DecodeFault>
     Ok((number, rest))
 }
 
+/// Reads a number of eight bytes, the highest first.
 pub(crate) fn u64_of(bytes: &[u8]) -> Result<(u64, &[u8]), DecodeFault>
     ensures { Gives (λ x. (x.0, x.1.now)) result ((number w64).read bytes.now) }
 {
@@ -66,6 +69,7 @@ fn text_of(limit: u16, bytes: &[u8]) -> Result<(&[u8], &[u8]), DecodeFault>
     Ok(rest.split_at(count))
 }
 
+/// Reads the numbers of a query.
 pub(crate) fn query_of(bytes: &[u8]) -> Result<(Query, &[u8]), DecodeFault>
     ensures { Gives (λ x. (x.0, x.1.now)) result (query.read bytes.now) }
 {
@@ -80,6 +84,7 @@ pub(crate) fn query_of(bytes: &[u8]) -> Result<(Query, &[u8]), DecodeFault>
     Ok((query, rest))
 }
 
+/// Reads an id of 20 bytes.
 pub(crate) fn id_of(bytes: &[u8]) -> Result<(Id, &[u8]), DecodeFault>
     ensures { Gives (λ x. (x.0.0, x.1.now)) result ((exactly 20).read bytes.now) }
 {
@@ -89,6 +94,7 @@ pub(crate) fn id_of(bytes: &[u8]) -> Result<(Id, &[u8]), DecodeFault>
     Ok((Id(id), rest))
 }
 
+/// Reads a position: its generation, its number and its root.
 pub(crate) fn position_of(bytes: &[u8]) -> Result<(Position, &[u8]), DecodeFault>
     ensures { Gives (λ x. (x.0, x.1.now)) result (position.read bytes.now) }
 {
@@ -103,6 +109,7 @@ pub(crate) fn position_of(bytes: &[u8]) -> Result<(Position, &[u8]), DecodeFault
     Ok((position, rest))
 }
 
+/// Returns the path that a text spells.
 fn parsed_path(alloc: Global, text: &[u8]) -> Result<Path, DecodeFault>
     ensures { Gives (λ path. path) result (path_of text.now) }
 {
@@ -113,6 +120,7 @@ fn parsed_path(alloc: Global, text: &[u8]) -> Result<Path, DecodeFault>
     }
 }
 
+/// Reads a path: its length and its bytes.
 pub(crate) fn path_of(alloc: Global, bytes: &[u8]) -> Result<(Path, &[u8]), DecodeFault>
     ensures { Gives (λ x. (x.0, x.1.now)) result (path.read bytes.now) }
 {
@@ -120,6 +128,7 @@ pub(crate) fn path_of(alloc: Global, bytes: &[u8]) -> Result<(Path, &[u8]), Deco
     Ok((parsed_path(alloc, text)?, rest))
 }
 
+/// Returns the filter that these patterns make.
 fn parsed_filter(alloc: Global, patterns: &[&[u8]]) -> Result<Filter, DecodeFault>
     ensures { Gives (λ filter. filter) result (filter_of (map (λ p. p.now) patterns.now)) }
 {
@@ -147,6 +156,7 @@ fn patterns_of(alloc: Global, count: u8, bytes: &[u8]) -> Result<(Vec<&[u8]>, &[
     Ok((patterns, rest))
 }
 
+/// Reads a filter: the number of its patterns, and each of them.
 pub(crate) fn filter_of(alloc: Global, bytes: &[u8]) -> Result<(Filter, &[u8]), DecodeFault>
     ensures { Gives (λ x. (x.0, x.1.now)) result (filter.read bytes.now) }
 {
@@ -169,6 +179,7 @@ pub(crate) fn excluded_of(alloc: Global, bytes: &[u8]) -> Result<(Filter, &[u8])
     Ok((filter, rest))
 }
 
+/// Returns the mark that this byte names.
 fn mark_of_byte(byte: u8) -> Result<Mark, DecodeFault>
     ensures { result ≡ find mark_byte marks byte }
 {
@@ -181,6 +192,7 @@ fn mark_of_byte(byte: u8) -> Result<Mark, DecodeFault>
     }
 }
 
+/// Reads a mark.
 pub(crate) fn mark_of(bytes: &[u8]) -> Result<(Mark, &[u8]), DecodeFault>
     ensures { Gives (λ x. (x.0, x.1.now)) result (mark.read bytes.now) }
 {
@@ -188,7 +200,8 @@ pub(crate) fn mark_of(bytes: &[u8]) -> Result<(Mark, &[u8]), DecodeFault>
     Ok((mark_of_byte(byte)?, rest))
 }
 
-fn kind_of_byte(byte: u8) -> Result<Kind, DecodeFault>
+/// Returns the kind of file that this byte names.
+pub(crate) fn kind_of_byte(byte: u8) -> Result<Kind, DecodeFault>
     ensures { result ≡ find kind_byte kinds byte }
 {
     match byte {
@@ -232,11 +245,12 @@ pub(crate) fn content_of(
     let (held, rest) = bytes_of(rest)?;
     let content = Content {
         kind,
-        bytes: Sequence::from_vec(held.to_vec(alloc)?),
+        bytes: Bytes::copy_from_slice(alloc, held)?,
     };
     Ok((Some(content), rest))
 }
 
+/// Returns the cause that this byte and this number name.
 fn cause_by(byte: u8, value: u64) -> Result<Cause, DecodeFault>
     ensures { result ≡ cause_by byte value }
 {
@@ -249,6 +263,7 @@ fn cause_by(byte: u8, value: u64) -> Result<Cause, DecodeFault>
     }
 }
 
+/// Reads why a request is refused.
 #[tactic(auto, using(crate::proofs::Whole::cause_whole))]
 pub(crate) fn cause_of(bytes: &[u8]) -> Result<(Cause, &[u8]), DecodeFault>
     ensures { Gives (λ x. (x.0, x.1.now)) result (cause.read bytes.now) }

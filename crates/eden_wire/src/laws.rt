@@ -4,8 +4,9 @@ ghost use Rattle.std.specs.Prelude.{◌≡◌, ℕ, List};
 ghost use Rattle.eden_messages.specs.declared.message.Request.{Request};
 ghost use Rattle.eden_messages.specs.declared.message.Reply.{Reply};
 ghost use Rattle.eden_messages.specs.Spells.{SpellsRequest, SpellsReply};
-ghost use Rattle.eden_wire.specs.Asking.{AskedAreReadBack, ReadAskedAreSpelled};
-ghost use Rattle.eden_wire.specs.Doing.{CommandsAreReadBack, DoneAreReadBack, ReadCommandsAreSpelled, ReadDoneAreSpelled};
+ghost use Rattle.eden_wire.specs.Asked.{AskedAreReadBack, ReadAskedAreSpelled};
+ghost use Rattle.eden_wire.specs.Commands.{CommandsAreReadBack, DoneAreReadBack, ReadCommandsAreSpelled, ReadDoneAreSpelled};
+ghost use Rattle.eden_wire.specs.Stats.{QuestionsAreReadBack, ReadQuestionsAreSpelled, ReadStatsAreSpelled, StatsAreReadBack};
 ghost use Rattle.eden_wire.specs.Laws.{RequestsAreReadBack, ReadRequestsAreSpelled, RepliesAreReadBack, ReadRepliesAreSpelled};
 
 /// States that the body of a request is decoded to it.
@@ -24,6 +25,22 @@ pub fn request_law()
 pub fn reply_law()
     ensures decoded { RepliesAreReadBack }
     ensures encoded { ReadRepliesAreSpelled }
+{}
+
+/// States that the body of a question is decoded to it.
+///
+/// Conversely, a body that was decoded to a question encodes it.
+pub fn question_law()
+    ensures decoded { QuestionsAreReadBack }
+    ensures encoded { ReadQuestionsAreSpelled }
+{}
+
+/// States that the body of a reply to a Stat is decoded to it.
+///
+/// Conversely, a body that was decoded to such a reply encodes it.
+pub fn stat_law()
+    ensures decoded { StatsAreReadBack }
+    ensures encoded { ReadStatsAreSpelled }
 {}
 
 /// States that the body of what is asked is decoded to it.

@@ -1,7 +1,5 @@
 -- What the parts of the decoder give.
 use Rattle.std.specs.Prelude.{ℕ, ◌≤◌, All, List, [], ◌∷◌, Result, Ok, Err, is_none, length, ◌==◌, if◌then◌else◌}
-use Rattle.eden_ids.specs.declared.content.Kind.{Kind}
-use Rattle.eden_ids.specs.declared.content.Kind.TheVariants.{Plain, Exec, Link}
 use Rattle.eden_ids.specs.Paths.{path_fault}
 use Rattle.eden_globs.specs.Filters.{Patterns, filter_fault, including}
 use Rattle.eden_objects.specs.declared.import.Object.{Object}
@@ -12,8 +10,8 @@ use Rattle.eden_history.specs.declared.change.ChangeFault.TheVariants as faults
 use Rattle.eden_messages.specs.declared.message.Cause.{Cause}
 use Rattle.eden_messages.specs.declared.message.Cause.TheVariants as causes
 use Rattle.eden_wire.specs.declared.fault.DecodeFault.{DecodeFault}
-use Rattle.eden_wire.specs.declared.fault.DecodeFault.TheVariants.{BadField, Trailing}
-use Rattle.eden_wire.specs.Doing.{put_byte}
+use Rattle.eden_wire.specs.declared.fault.DecodeFault.TheVariants.{BadField}
+use Rattle.eden_wire.specs.Commands.{put_byte}
 use Rattle.eden_wire.specs.Formats.{◌>>=◌, Format}
 
 abbrev pub path_of : List ℕ → Result (List ℕ) DecodeFault
@@ -22,10 +20,6 @@ path_of bytes = if is_none (path_fault bytes) then Ok bytes else Err BadField
 abbrev pub filter_of : List (List ℕ) → Result Patterns DecodeFault
 filter_of patterns = if is_none (filter_fault patterns) then Ok (including patterns) else Err BadField
 
--- the kinds of files
-abbrev pub kinds : List Kind
-kinds = Plain ∷ Exec ∷ Link ∷ []
-
 -- the cause of a byte from 1 to 4, with its number
 abbrev pub cause_by : ℕ → ℕ → Result Cause DecodeFault
 cause_by byte value =
@@ -33,14 +27,6 @@ cause_by byte value =
     if byte == 2 then Ok (causes.Ahead value) else
     if byte == 3 then Ok (causes.Truncated value) else
     if value == 0 then Ok causes.TooLarge else Err BadField
-
--- no byte comes after the message
-abbrev pub ended : {A : Type 0} → A → List ℕ → Result A DecodeFault
-ended message rest = if length rest == 0 then Ok message else Err Trailing
-
--- a message after its tag, and no byte after it
-abbrev pub read_to_end : {A B : Type 0} → Format A → (A → B) → List ℕ → Result B DecodeFault
-read_to_end format message bytes = format.read bytes >>= λ x. ended (message x.0) x.1
 
 -- a field read by this format, as the value that it gives
 abbrev pub read_as : {A B : Type 0} → Format A → (A → B) → List ℕ → Result (B × List ℕ) DecodeFault

@@ -1,6 +1,6 @@
 use Rattle.std.proofs.Common.{◌∷◌, [], ◌++◌, arith, ap, length}
 use Rattle.eden_messages.specs.Spells.{paths_bytes, position_bytes}
-use Rattle.eden_wire.specs.Doing as formats
+use Rattle.eden_wire.specs.Commands as formats
 use Rattle.eden_wire.proofs.DoneLaws.{conflicts_few}
 use Rattle.eden_wire.proofs.Written.{behind}
 use Rattle.eden_wire.proofs.done.put_done.Goals as goal
