@@ -43,7 +43,7 @@ state held work log = record { held = held; work = work; log = log }
 abbrev pub GrowsBy : journal.Log → journal.Log → FilesChanged → Type 0
 GrowsBy log more files = (h : History) → journal.StandsFor log h → journal.StandsFor more (recorded h h.root (File files))
 
--- the same mount, told by other parts
+-- the same mount, given by other parts
 pub kept : {held : List Held} {work other : WorkCopy} {log more : journal.Log} → other ≡ work → more ≡ log → IsPresent (state held work log) → IsPresent (state held other more)
 kept {held} works logs h = (h.0, subst (λ m. StandsFor m h.0) (λ i. state held (sym works i) (sym logs i)) h.1)
 
@@ -106,7 +106,7 @@ files-written : (commits : Commits) (row : Row) (path : List ℕ) (kind : Kind) 
 unfolding next_files
 files-written commits row path kind bytes = refl
 
--- a file that was written, where nothing stood against it
+-- a file that was written, if nothing refused it
 pub write_follows : {held : List Held} {old new : WorkCopy} {log other more : journal.Log} {mount : State} (path : List ℕ) (kind : Kind) (bytes : List ℕ) → state held old log ≡ mount
     → IsRefusal mount (Write path kind bytes) None → IsChange (Write path kind bytes) → new.root ≡ old.root
     → ((h : List Held) → means h new ≡ fin.insert (means h old) path (record { kind = kind; bytes = bytes }))
@@ -126,7 +126,7 @@ write_follows {held} {old} {new} {log} {other} {more} {mount} path kind bytes vi
 
 -- ---- remove
 
--- where nothing is absent a file stands
+-- where nothing is absent there is a file
 present : (files : FileMap) (path : List ℕ) → absent_fault files path ≡ None → is_some (file_at files path) ≡ true
 present files path e = by (is_some (file_at files path)) refl (first-none (place_fault files path) _ e).1
   where
@@ -145,7 +145,7 @@ files-removed : (commits : Commits) (row : Row) (path : List ℕ) → fin.remove
 unfolding next_files
 files-removed commits row path = refl
 
--- a file that was taken away, where one stood there
+-- a file that was taken away, if there was one
 pub remove_follows : {held : List Held} {old new : WorkCopy} {log other more : journal.Log} {mount : State} (path : List ℕ) → state held old log ≡ mount
     → IsRefusal mount (Remove path) None → IsChange (Remove path) → new.root ≡ old.root
     → ((h : List Held) → means h new ≡ fin.remove (means h old) path) → ((h : List Held) → FitsIn h old → FitsIn h new)
@@ -190,7 +190,7 @@ files-renamed : (commits : Commits) (row : Row) (old new : List ℕ) → renamed
 unfolding next_files
 files-renamed commits row old new = refl
 
--- a file that was moved to another path, where nothing stood against it
+-- a file that was moved to another path, if nothing refused it
 pub rename_follows : {held : List Held} {before after : WorkCopy} {log other more : journal.Log} {mount : State} (old new : List ℕ) → state held before log ≡ mount
     → IsRefusal mount (Rename old new) None → IsChange (Rename old new) → same_bytes old new ≡ false → old ≢ new → after.root ≡ before.root
     → means held after ≡ renamed (means held before) old new
@@ -245,7 +245,7 @@ rename_dir-itself {held} {work} {log} {mount} old new fault view is same world h
     alone None = refl
     alone (Some found) = refl
 
--- where nothing stands against it and a number is left
+-- if nothing refuses it and a number is left
 pub rename_dir-judged : {held : List Held} {work : WorkCopy} {log : journal.Log} {mount : State} (old new : List ℕ) → state held work log ≡ mount
     → rename_dir_fault (means held work) old new ≡ None → number_fault mount.log.head ≡ None → same_bytes old new ≡ false → IsRefusal mount (RenameDir old new) None
 rename_dir-judged {held} {work} {log} {mount} old new view none left distinct world h =
@@ -268,7 +268,7 @@ rename_dir-exhausted mount old new fault none out distinct world h =
     answer-refused world (RenameDir old new) fault
     (sym (refusal-numbered mount (RenameDir old new) None world h (sym (ap (λ m. rename_dir_fault m old new) (sym h.files) ∙ none)) (ap not distinct)) ∙ out)
 
--- a directory that was renamed, where nothing stood against it
+-- a directory that was renamed, if nothing refused it
 pub rename_dir_follows : {held : List Held} {before after : WorkCopy} {log other more : journal.Log} {mount : State} (old new : List ℕ) → state held before log ≡ mount
     → IsRefusal mount (RenameDir old new) None → IsChange (RenameDir old new) → same_bytes old new ≡ false → after.root ≡ before.root → FitsIn held after
     → means held after ≡ dir_renamed (means held before) old new

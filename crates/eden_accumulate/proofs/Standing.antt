@@ -33,7 +33,7 @@ use Rattle.eden_history.proofs.Spelled.{spellable_grows, spellable_opens}
 use Rattle.eden_accumulate.specs.Mounts.{begun_at, State, StandsFor, files_of}
 use Rattle.eden_accumulate.specs.internal.Refusals.{IsRefusal, number_fault}
 use Rattle.eden_accumulate.specs.internal.Rows.{Follows, Refuses}
-use Rattle.eden_accumulate.proofs.Histories.{after-event, after-nothing, answer-allowed, answer-refused, event_of, grown, grown_world, head_is, history-recorded, root-made}
+use Rattle.eden_accumulate.proofs.Histories.{after-event, answer-allowed, answer-refused, event_of, grown, grown_world, head_is, history-recorded, root-made}
 
 -- ---- the present
 
@@ -168,11 +168,6 @@ made_stands mount world change next h =
       is_world = grown_world world change h.allowed h.happens h.stood.is_world;
       spellable = spellable_grows world (event_of world change) h.stood.spellable h.text;
     })
-
--- a mount is not changed by what makes no event
-pub same_stands : (mount : State) (world : WorldState) (change : Change) → StandsFor mount world → refusal (commits_of world) (now world) change ≡ None
-    → is_event change ≡ false → StandsFor mount (row_after world change)
-same_stands mount world change h allowed e = subst (StandsFor mount) (sym (after-nothing world change allowed e)) h
 
 -- the journal after an event that it records
 pub log_recorded : (world : WorldState) (change : Change) (log : journal.Log) (what : Delta) → starts change ≡ false

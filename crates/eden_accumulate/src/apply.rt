@@ -46,7 +46,7 @@ fn answer_checked(told: Result<Checked, ChangeFault>) -> Option<Answer>
 impl<N: Naming + Drop> Mount<N> {
     /// Makes a change and returns its answer.
     ///
-    /// The answer is what the method for this change returns: the position after it, with
+    /// The bytes of a write are shared with the change. The answer is what the method for this change returns: the position after it, with
     /// the conflicts of a checkout, or why it is refused. If it is refused, nothing
     /// changes.
     ///
@@ -68,11 +68,7 @@ impl<N: Naming + Drop> Mount<N> {
         ensures { applied.Applies N.id self.old change.now result self.new }
     {
         match change {
-            Change::Write { path, kind, bytes } => answer_at(self.write(
-                path,
-                *kind,
-                bytes.as_slice(),
-            )),
+            Change::Write { path, kind, bytes } => answer_at(self.write_shared(path, *kind, bytes)),
             Change::Remove { path } => answer_at(self.remove(path)),
             Change::Rename { old, new } => answer_at(self.rename(old, new)),
             Change::RenameDir { old, new } => answer_at(self.rename_dir(old, new)),

@@ -1,6 +1,6 @@
 //! A mount, its parts and its present state.
 
-ghost use Rattle.std.specs.Prelude.{◌≡◌, ◌≢◌, [], None, Some, IfOk, IfErr, OnOk, OnErr, IsSome, not, nat_lt, ◌^◌, ◌-◌, if◌then◌else◌};
+ghost use Rattle.std.specs.Prelude.{◌≡◌, [], None, Some, IfOk, IfErr, IsSome, ◌-◌};
 ghost use Rattle.eden_ids.specs.FileMaps.{file_at};
 ghost use Rattle.eden_objects.specs.Commits.{commit_map};
 ghost use Rattle.eden_objects.specs.Files.{commit_files};

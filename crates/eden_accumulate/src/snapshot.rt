@@ -1,6 +1,6 @@
 //! The files that a mount held at a position.
 
-ghost use Rattle.std.specs.Prelude.{◌≡◌, ◌≢◌, None, IsSome, List, ℕ, T, IfOk, IfErr};
+ghost use Rattle.std.specs.Prelude.{◌≡◌, ◌≢◌, None, IsSome, T, IfOk, IfErr};
 ghost use Rattle.std.specs.FinMap.{is_sorted};
 ghost use Rattle.eden_globs.specs.Filters.{Patterns};
 ghost use Rattle.eden_objects.specs.Commits.{commit_map};
@@ -15,9 +15,9 @@ use crate::mount::Mount;
 use eden_globs::Filter;
 use eden_history::Position;
 use eden_ids::{Naming, NoMemory, Path, Sequence, paths_below};
-use eden_moves::{Moved, Moves};
 use eden_objects::{CommitFault, Store};
 use eden_overlay::woven;
+use eden_renames::{Renamed, Renames};
 
 /// The files that a mount held at a position, without their contents.
 ///
@@ -26,7 +26,7 @@ use eden_overlay::woven;
 #[derive(Drop)]
 pub struct Snapshot {
     position: Position,
-    moves: Moves,
+    renames: Renames,
     touched: Sequence<(Path, bool)>,
     // The paths ascend, each once.
     ghost ascending: { T (is_sorted by_bytes touched) },
@@ -65,7 +65,7 @@ impl Snapshot {
             return Err(CommitFault::NoCommit);
         };
         let alloc = store.allocator();
-        let listed = Moved::of(commit, &self.moves).list(alloc, filter)?;
+        let listed = Renamed::of(commit, &self.renames).list(alloc, filter)?;
         Ok(woven(alloc, listed, self.touched.as_slice(), filter)?)
     }
 
@@ -93,7 +93,7 @@ impl Snapshot {
             return Err(CommitFault::NoCommit);
         };
         let alloc = store.allocator();
-        let listed = Moved::of(commit, &self.moves).list_below(alloc, prefix, filter)?;
+        let listed = Renamed::of(commit, &self.renames).list_below(alloc, prefix, filter)?;
         let touched = paths_below(self.touched.as_slice(), prefix.as_bytes());
         Ok(woven(alloc, listed, touched, filter)?)
     }
@@ -109,18 +109,18 @@ impl<N: Naming + Drop> Mount<N> {
     /// - `NoMemory` if an allocation fails.
     pub fn snapshot(&self) -> Result<Snapshot, NoMemory>
         ensures position { IfOk result (λ snapshot. (world : WorldState) → StandsFor self.now world → snapshot.position ≡ position_of (now world)) }
-        ensures moves { IfOk result (λ snapshot. snapshot.moves ≡ self.now.work.moves) }
+        ensures renames { IfOk result (λ snapshot. snapshot.renames ≡ self.now.work.renames) }
         ensures touched { IfOk result (λ snapshot. snapshot.touched ≡ touched_of self.now.work) }
         // Over the mount's store, it shows those of the world's files that the filter
         // admits.
         ensures files { IfOk result (λ snapshot. (world : WorldState) → StandsFor self.now world → (patterns : Patterns)
             → shown_to patterns self.now.held snapshot ≡ admitted patterns (now world).files) }
     {
-        let moves = self.work.moves().copy()?;
+        let renames = self.work.renames().copy()?;
         let touched = self.work.touched()?;
         Ok(Snapshot {
             position: self.position(),
-            moves,
+            renames,
             touched: Sequence::from_vec(touched),
         })
     }

@@ -48,7 +48,7 @@ not_dry Normal kept = refl
 not_dry Dry kept = absurd (kept refl)
 not_dry Force kept = refl
 
--- a checkout that is not dry comes to stand on its commit
+-- after a checkout that is not dry, its commit is the root
 pub root_moved : (mode : Mode) (root commit : Id) → (mode ≡ Dry → ⊥) → (if is_dry mode then root else commit) ≡ commit
 root_moved mode root commit kept = ap (λ b. if b then root else commit) (not_dry mode kept)
 
@@ -66,12 +66,12 @@ files_planned held mode work start next w r t root target w_is r_is t_is begun k
     by Force begun kept made = made (λ e. absurd (let bad : Force ≡ Dry = e in cc))
 
 pub made_fits : (held : List Held) (mode : Mode) (start next : WorkCopy) (work root target : FileMap) → IsFileMap work → AreTexts work → FitsIn held start → means held start ≡ target
-    → next.root ≡ start.root → next.moves ≡ start.moves → means held next ≡ checked_out mode work root target → FitsIn held next
-made_fits held mode start next work root target ok texts fits begun same moves files = record {
+    → next.root ≡ start.root → next.renames ≡ start.renames → means held next ≡ checked_out mode work root target → FitsIn held next
+made_fits held mode start next work root target ok texts fits begun same renames files = record {
   root = subst (λ (id : Id). IsSome (commit_map held id)) (sym same) fits.root;
   files = subst IsFileMap (sym files) (checked_out_no_clash mode work root target ok (subst IsFileMap begun fits.files));
   texts = subst AreTexts (sym files) (texts_checked_out mode work root target texts (subst AreTexts begun fits.texts));
-  below = subst AreTexts (λ i. base_of held (record start { root = sym same i; moves = sym moves i })) fits.below;
+  below = subst AreTexts (λ i. base_of held (record start { root = sym same i; renames = sym renames i })) fits.below;
 }
 
 -- a set that nothing is added to

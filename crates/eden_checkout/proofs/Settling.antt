@@ -1,4 +1,4 @@
--- Files that are put where a rule says another file than the one that stands there.
+-- Files that are put where a rule gives another file than the one that is there.
 use Rattle.std.proofs.Common.{◌≡◌, ℕ, suc, zero, ◌+◌, ◌<◌, Bool, true, false, cond, ◌||◌, List, [], ◌∷◌, take, length, Option, refl, sym, ap, ◌∙◌, arith, add-one}
 use Rattle.std.specs.List.{list_any, slice_index_or}
 use Rattle.eden_ids.specs.declared.content.Content.{Content}
@@ -11,7 +11,7 @@ use Rattle.eden_history.specs.declared.change.Mode.{Mode}
 use Rattle.eden_history.specs.declared.change.Mode.TheVariants.{Normal, Dry, Force}
 use Rattle.std.proofs.lemmas.Bool.{not-false}
 
--- to put what stands there changes nothing
+-- to put what is there changes nothing
 pub put_same : (m : FileMap) (p : List ℕ) (f : Option Content) → same_file (file_at m p) f ≡ true → m ≡ put_option m p f
 put_same m p f e = same_file_map m (put_option m p f) (λ q. by q (same_path q p) refl ∙ sym (put_option-at m p f q))
   where
@@ -22,9 +22,6 @@ put_same m p f e = same_file_map m (put_option m p f) (λ q. by q (same_path q p
 -- at these paths the map holds what the rule says, and elsewhere what it held
 abbrev pub Settled : (List ℕ → Option Content) → FileMap → List (List ℕ) → FileMap → Type 0
 Settled rule old ps new = (q : List ℕ) → file_at new q ≡ cond (list_any (λ p. same_path q p) ps) (rule q) (file_at old q)
-
-pub settled_nothing : (rule : List ℕ → Option Content) (m : FileMap) → Settled rule m [] m
-settled_nothing rule m q = refl
 
 pub any_suc : (test : List ℕ → Bool) (ps : List (List ℕ)) (i : ℕ) (p : List ℕ) → i < length ps → p ≡ slice_index_or ps i p → list_any test (take (suc i) ps) ≡ (test p || list_any test (take i ps))
 any_suc test [] i p within is = absurd (omega arith)

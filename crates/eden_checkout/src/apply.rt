@@ -6,6 +6,7 @@ ghost use Rattle.eden_ids.specs.FileMaps.{file_at, lent, listing, put_option, sa
 ghost use Rattle.eden_workcopy.specs.Meanings.{means};
 ghost use Rattle.eden_history.specs.Checkouts.{checked_out, conflicts, rule_of};
 
+use bytes::Bytes;
 use eden_history::{Mode, Sides};
 use eden_ids::{Content, FileTree, Kind, Naming, NoMemory, Path, is_same_file};
 use eden_objects::Store;
@@ -17,16 +18,16 @@ fn put<N: Naming + Drop>(
     store: &Store<N>,
     next: &mut WorkCopy,
     path: &Path,
-    file: Option<(Kind, &[u8])>,
+    file: Option<(Kind, &Bytes)>,
 ) -> Result<(), NoMemory>
     ensures root { next.new.root ≡ next.old.root }
-    ensures moves { next.new.moves ≡ next.old.moves }
+    ensures renames { next.new.renames ≡ next.old.renames }
     ensures files { OnOk result (means store.now next.new ≡ put_option (means store.now next.old) path.now (lent file.entry)) }
 {
     if is_same_file(next.file(store, path.as_bytes()), file) {
         return Ok(());
     }
-    let copy = Content::of_lent(store.allocator(), file)?;
+    let copy = Content::of_lent(file)?;
     let key = path.copy()?;
     next.set(key, copy)
 }
@@ -40,7 +41,7 @@ fn apply_rule<N: Naming + Drop, W: FileTree, R: FileTree, T: FileTree, D: FileTr
     paths: &[Path],
 ) -> Result<(), NoMemory>
     ensures root { next.new.root ≡ next.old.root }
-    ensures moves { next.new.moves ≡ next.old.moves }
+    ensures renames { next.new.renames ≡ next.old.renames }
     ensures files { OnOk result ((q : List ℕ) → file_at (means store.now next.new) q
         ≡ (if list_any (λ p. same_path q p) paths.now
         then rule_of mode (W.files sides.now.work.now) (R.files sides.now.root.now) (T.files sides.now.target.now) q
@@ -67,7 +68,7 @@ pub(crate) fn checked_out<N: Naming + Drop, W: FileTree, R: FileTree, T: FileTre
     requires start { means store.now start ≡ T.files sides.now.target.now }
     requires found { found.now ≡ listing (conflicts (W.files sides.now.work.now) (R.files sides.now.root.now) (T.files sides.now.target.now)) }
     ensures root { IfOk result (λ next. next.root ≡ start.root) }
-    ensures moves { IfOk result (λ next. next.moves ≡ start.moves) }
+    ensures renames { IfOk result (λ next. next.renames ≡ start.renames) }
     ensures files { IfOk result (λ next. means store.now next
         ≡ checked_out mode (W.files sides.now.work.now) (R.files sides.now.root.now) (T.files sides.now.target.now)) }
 {

@@ -1,12 +1,11 @@
 //! The plan of a checkout.
 
-ghost use Rattle.std.specs.Prelude.{◌≡◌, ◌≢◌, [], Some, None, IsSome, is_some, filter, if◌then◌else◌, IfOk, IfErr};
-ghost use Rattle.eden_ids.specs.FileMaps.{IsFileMap, differ, file_at, listing, path_set, paths, union};
+ghost use Rattle.std.specs.Prelude.{◌≡◌, ◌≢◌, [], None, IsSome, if◌then◌else◌, IfOk, IfErr};
+ghost use Rattle.eden_ids.specs.FileMaps.{IsFileMap, differ, listing, path_set, paths, union};
 ghost use Rattle.eden_ids.specs.Texts.{AreTexts};
 ghost use Rattle.eden_objects.specs.Commits.{commit_map};
 ghost use Rattle.eden_objects.specs.Files.{commit_files};
 ghost use Rattle.eden_workcopy.specs.Meanings.{FitsIn, means};
-ghost use Rattle.eden_history.specs.DirtyFiles.{dirty_files};
 ghost use Rattle.eden_history.specs.Checkouts.{checked_out, conflicts, is_conflict, is_dry, unclean};
 ghost use Rattle.eden_checkout.specs.Plans.{root_files};
 
@@ -83,7 +82,7 @@ fn start_of<N: Naming + Drop>(
 
 /// The working copy after a checkout, and the conflicts.
 #[derive(Drop)]
-struct Judged {
+struct Decided {
     next: WorkCopy,
     conflicts: Vec<Path>,
 }
@@ -93,36 +92,36 @@ struct Judged {
 /// Each path at which the commits differ is searched for among the dirty ones. The trees
 /// are asked only for a path that is dirty or clashes with a dirty one.
 #[tactic(auto, using(crate::proofs::Planning::conflicts_listed))]
-fn judge<N: Naming + Drop, W: FileTree, R: FileTree, T: FileTree, D: FileTree>(
+fn decide<N: Naming + Drop, W: FileTree, R: FileTree, T: FileTree, D: FileTree>(
     store: &Store<N>,
     start: WorkCopy,
     mode: Mode,
     sides: &Sides<'_, W, R, T, D>,
     differing: &[Path],
-) -> Result<Judged, NoMemory>
+) -> Result<Decided, NoMemory>
     requires files { IsFileMap (W.files sides.now.work.now) }
     requires texts { AreTexts (W.files sides.now.work.now) }
     requires differing { differing.now ≡ listing (differ (R.files sides.now.root.now) (T.files sides.now.target.now)) }
     requires start { mode ≢ Mode.Dry → means store.now start ≡ T.files sides.now.target.now }
     requires fits { FitsIn store.now start }
-    ensures root { IfOk result (λ judged. judged.next.root ≡ start.root) }
-    ensures files { IfOk result (λ judged. mode ≢ Mode.Dry → means store.now judged.next
+    ensures root { IfOk result (λ decided. decided.next.root ≡ start.root) }
+    ensures files { IfOk result (λ decided. mode ≢ Mode.Dry → means store.now decided.next
         ≡ checked_out mode (W.files sides.now.work.now) (R.files sides.now.root.now) (T.files sides.now.target.now)) }
-    ensures dry { IfOk result (λ judged. mode ≡ Mode.Dry → judged.next ≡ start) }
-    ensures fits { IfOk result (λ judged. FitsIn store.now judged.next) }
-    ensures conflicts { IfOk result (λ judged. judged.conflicts.items
+    ensures dry { IfOk result (λ decided. mode ≡ Mode.Dry → decided.next ≡ start) }
+    ensures fits { IfOk result (λ decided. FitsIn store.now decided.next) }
+    ensures conflicts { IfOk result (λ decided. decided.conflicts.items
         ≡ listing (conflicts (W.files sides.now.work.now) (R.files sides.now.root.now) (T.files sides.now.target.now))) }
 {
     let mut conflicts = Vec::new(store.allocator());
     push_where(&mut conflicts, differing, |path| sides.is_conflict(path))?;
     match mode {
-        Mode::Dry => Ok(Judged {
+        Mode::Dry => Ok(Decided {
             next: start,
             conflicts,
         }),
         _ => {
             let next = checked_out(store, start, sides, mode, &conflicts)?;
-            Ok(Judged { next, conflicts })
+            Ok(Decided { next, conflicts })
         }
     }
 }
@@ -219,11 +218,11 @@ pub fn plan<N: Naming + Drop>(
         dirty: &dirty,
         changed: &changed,
     };
-    let judged = judge(store, start, mode, &sides, &differing)?;
-    let unclean = unclean_paths(alloc, store, &changed, &judged.next, mode)?;
+    let decided = decide(store, start, mode, &sides, &differing)?;
+    let unclean = unclean_paths(alloc, store, &changed, &decided.next, mode)?;
     Ok(Planned {
-        next: judged.next,
+        next: decided.next,
         unclean: Sequence::from_vec(unclean),
-        conflicts: Sequence::from_vec(judged.conflicts),
+        conflicts: Sequence::from_vec(decided.conflicts),
     })
 }

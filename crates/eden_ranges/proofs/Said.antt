@@ -41,7 +41,7 @@ touched-said q (touch ∷ more) = by (same_path q touch.path) (ends_at q (map by
     by true (Some t) h = refl
     by false o h = h
 
--- told again as changes of files, they come to the same
+-- said again as changes of files, they come to the same
 pub touched-again : (q : List ℕ) (list : List Said) → ends_at q (map by_touch (touches_in list)) ≡ ends_at q list
 touched-again q [] = refl
 touched-again q (one ∷ more) = by one.1 (touched-again q more)

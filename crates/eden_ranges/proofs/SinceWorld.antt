@@ -40,11 +40,11 @@ counted_more generation since until event past e = ap (λ b. cond b (event ∷ e
 
 -- ---- lists of paths
 
--- the deltas after a number tell the paths that the events have
+-- the deltas after a number have the paths of the events
 abbrev TellsPaths : (Delta → List (List ℕ)) → (Event → List (List ℕ)) → ℕ → ℕ → ℕ → Row → List Event → Type 0
 TellsPaths told had generation since until opening past = flat_map told (newer opening past since) ≡ flat_map had (events_in generation since until past)
 
--- the delta of an event tells the paths that it has
+-- the delta of an event has the paths of the event
 abbrev TellsEach : (Delta → List (List ℕ)) → (Event → List (List ℕ)) → Commits → Type 0
 TellsEach told had commits = (before : Row) (event : Event) → Makes commits before event → told (delta_of before event) ≡ had event
 

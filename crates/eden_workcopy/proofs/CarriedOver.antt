@@ -29,7 +29,7 @@ use Rattle.eden_overlay.proofs.Overs.{file_below}
 
 -- ---- one file is taken away
 
--- where no file is seen there is none to be taken away
+-- where no file is seen there is no file to be taken away
 pub none_taken : (base : FileMap) (layer : Layer) (path : List ℕ) → fin.get layer path ≡ None → file_at base path ≡ None → over base layer ≡ fin.remove (over base layer) path
 none_taken base layer path untold none =
     same_file_map _ _ (λ q. by q (same_path q path) refl ∙ sym (file_at-remove (over base layer) path q))
@@ -287,7 +287,7 @@ clear m old new e = by (lies_below new old) refl e
     by true is none = absurd (let bad : ◌≡◌ {A = Option ChangeFault} (Some IntoItself) None = none in cc)
     by false is none = (is, none)
 
--- once nothing else stands against it, a path that would be none does, or nothing
+-- once nothing else refuses it, a path that would be invalid does, or nothing
 pub judged : (m : FileMap) (old new : List ℕ) (broken : Bool) → source_fault m old ≡ None → same_bytes old new ≡ false → way_fault m old new ≡ None
     → list_any (breaks old new) (below old (paths m)) ≡ broken → rename_dir_fault m old new ≡ (if broken then Some PathTooLong else None)
 judged m old new broken source distinct way is =

@@ -16,9 +16,9 @@ use Rattle.eden_history.specs.DirRenames.{breaks_a_path}
 use Rattle.eden_overlay.proofs.CarriedLemmas.{carried-below, file_at-carried}
 use Rattle.eden_overlay.proofs.Joined.{names_alone, names_joined, parts_joined}
 use Rattle.eden_ids.specs.declared.id.Id.{Id}
-use Rattle.eden_moves.specs.Moves.{Moves, dir_moved, is_path, seen_through}
-use Rattle.eden_moves.proofs.Renames.{seen-dir_moved}
-use Rattle.eden_moves.proofs.Settled.{no_long}
+use Rattle.eden_renames.specs.Renames.{Renames, dir_moved, is_path, seen_through}
+use Rattle.eden_renames.proofs.DirRenamed.{seen-dir_moved}
+use Rattle.eden_renames.proofs.Settled.{no_long}
 use Rattle.eden_objects.specs.Objects.{Held}
 use Rattle.eden_objects.specs.Files.{commit_files}
 use Rattle.eden_objects.specs.Passing.{IsWithin}
@@ -47,7 +47,7 @@ unbroken_over base layer old new below said = any_none test (paths (over base la
     by p false e there = ap (λ b. b && breaks old new p) e
     by p true e there = seen p (fin.get layer p) refl e (sym (ap is_some (file_at-over base layer p)) ∙ stands (over base layer) p there)
 
--- no file stands at a path below a directory that has none below it
+-- no file is at a path below a directory that has none below it
 none_at : (files : FileMap) (top p : List ℕ) → has_file_below files top ≡ false → lies_below p top ≡ true → file_at files p ≡ None
 none_at files top p none into = by (file_at files p) refl
   where
@@ -86,13 +86,13 @@ roomy dir rest size path short flat within =
     (legal (dir ++ 47 ∷ rest) (omega (arith, long)) (omega (arith, long, short, within.0)) names (omega (arith, deep, flat, within.2)))
 
 -- what is seen beneath after one more directory was renamed
-pub moved_beneath : (held : List Held) (root : Id) (moves after : Moves) (old new : List ℕ) → AreTexts (commit_files held root) → after ≡ dir_moved moves old new
-    → seen_through (commit_files held root) after ≡ carried_files (seen_through (commit_files held root) moves) old new
-moved_beneath held root moves after old new texts is =
+pub moved_beneath : (held : List Held) (root : Id) (renames after : Renames) (old new : List ℕ) → AreTexts (commit_files held root) → after ≡ dir_moved renames old new
+    → seen_through (commit_files held root) after ≡ carried_files (seen_through (commit_files held root) renames) old new
+moved_beneath held root renames after old new texts is =
     ap (seen_through (commit_files held root)) is
-    ∙ seen-dir_moved (commit_files held root) moves old new (λ p file at. (texts p file at).0.path)
+    ∙ seen-dir_moved (commit_files held root) renames old new (λ p file at. (texts p file at).0.path)
 
--- and so a search for what has no place tells it
+-- and so a search for what has no place decides it
 pub unplaced : (files : FileMap) (old new : List ℕ) → list_any (λ p. lies_below p old && not (is_path (carried old new p))) (paths files) ≡ breaks_a_path files old new
 unplaced files old new = λ i. list_any (λ p. lies_below p old && twice (path_fault (carried old new p)) i) (paths files)
   where
@@ -100,7 +100,7 @@ unplaced files old new = λ i. list_any (λ p. lies_below p old && twice (path_f
     twice None = refl
     twice (Some fault) = refl
 
--- what is longer than a path is none
+-- what is longer than a path is no path
 pub no_path_so_long : (bytes : List ℕ) → 1024 < length bytes → false ≡ is_path bytes
 no_path_so_long bytes long = by (is_none (path_fault bytes)) refl
   where

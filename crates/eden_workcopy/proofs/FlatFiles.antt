@@ -10,8 +10,8 @@ use Rattle.eden_ids.specs.Paths.{path_fault}
 use Rattle.eden_ids.specs.Texts.{AreTexts}
 use Rattle.eden_ids.specs.FileMaps.{FileMap, file_at, has, listing, same_path}
 use Rattle.eden_ids.proofs.FileMapLemmas.{has-listing, same_file_map, same_path-is}
-use Rattle.eden_moves.specs.Moves.{Moves, seen_through, unsettled}
-use Rattle.eden_moves.proofs.Settled.{settled}
+use Rattle.eden_renames.specs.Renames.{Renames, seen_through, unsettled}
+use Rattle.eden_renames.proofs.Settled.{settled}
 use Rattle.eden_workcopy.specs.internal.Agreements.{kept_below, kept_each}
 use Rattle.eden_overlay.specs.Layers.{Layer, or_below, over}
 use Rattle.eden_overlay.proofs.Overs.{file_at-over}
@@ -77,19 +77,19 @@ flat_files base other layer flat ps is elsewhere =
         (λ i. or_below (each_rule (is_some (e i)) (t i) (e i) (file_at base q)) (file_at other q)) ∙ sym (elsewhere q t) ∙ sym (ap (λ o. or_below o (file_at base q)) e)
 
 -- outside of the unsettled paths the files that are seen are the commit's, at what is no path too
-pub elsewhere : (files : FileMap) (moves : Moves) (ps : List (List ℕ)) → ps ≡ listing (unsettled files moves) → AreTexts files → AreTexts (seen_through files moves)
-    → (q : List ℕ) → listed q ps ≡ false → file_at (seen_through files moves) q ≡ file_at files q
-elsewhere files moves ps is texts moved q out = by (path_fault q) refl
+pub elsewhere : (files : FileMap) (renames : Renames) (ps : List (List ℕ)) → ps ≡ listing (unsettled files renames) → AreTexts files → AreTexts (seen_through files renames)
+    → (q : List ℕ) → listed q ps ≡ false → file_at (seen_through files renames) q ≡ file_at files q
+elsewhere files renames ps is texts moved q out = by (path_fault q) refl
   where
-    gone : has (unsettled files moves) q ≡ false
-    gone = has-listing (unsettled files moves) q ∙ ap (λ ks. listed q ks) (sym is) ∙ out
+    gone : has (unsettled files renames) q ≡ false
+    gone = has-listing (unsettled files renames) q ∙ ap (λ ks. listed q ks) (sym is) ∙ out
 
     none : (m : FileMap) → AreTexts m → (fault : PathFault) → path_fault q ≡ Some fault → (o : Option Content) → file_at m q ≡ o → o ≡ None
     none m are fault broken None at = refl
     none m are fault broken (Some file) at =
         absurd (let bad : ◌≡◌ {A = Option PathFault} None (Some fault) = sym ((are q file at).0.path) ∙ broken in cc)
 
-    by : (o : Option PathFault) → path_fault q ≡ o → file_at (seen_through files moves) q ≡ file_at files q
-    by None is_path = settled files moves q is_path gone
+    by : (o : Option PathFault) → path_fault q ≡ o → file_at (seen_through files renames) q ≡ file_at files q
+    by None is_path = settled files renames q is_path gone
     by (Some fault) broken =
-        none (seen_through files moves) moved fault broken (file_at (seen_through files moves) q) refl ∙ sym (none files texts fault broken (file_at files q) refl)
+        none (seen_through files renames) moved fault broken (file_at (seen_through files renames) q) refl ∙ sym (none files texts fault broken (file_at files q) refl)

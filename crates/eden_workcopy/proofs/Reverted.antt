@@ -1,13 +1,12 @@
 -- A path of which the overlay says nothing any more.
-use Rattle.std.proofs.Common.{◌≡◌, ℕ, Bool, true, false, cond, ◌||◌, List, [], ◌∷◌, map, Option, Some, None, is_some, refl, sym, ap, ◌∙◌}
+use Rattle.std.proofs.Common.{◌≡◌, ℕ, Bool, true, false, cond, ◌||◌, List, [], ◌∷◌, map, Option, Some, None, is_some, refl, sym, ap, ◌∙◌, Bor}
 use Rattle.std.specs.Prelude.{if◌then◌else◌}
 use Rattle.std.specs.Option.{option_or}
 use Rattle.std.specs.List.{list_any}
 use Rattle.std.proofs.lemmas.Bool.{or_parts}
 use Rattle.eden_ids.specs.Paths.{lies_below}
-use Rattle.std.proofs.Common.{Bor}
-use Rattle.eden_moves.specs.Moves.{Entry, nearest}
-use Rattle.eden_moves.specs.internal.Told.{entry_told}
+use Rattle.eden_renames.specs.Renames.{Entry, nearest}
+use Rattle.eden_renames.specs.internal.Told.{entry_told}
 use Rattle.std.specs.Cmp.Lexicographic.{nat_list_cmp_total}
 use Rattle.std.specs.FinMap as fin
 use Rattle.eden_ids.specs.declared.content.Content.{Content}
@@ -50,7 +49,7 @@ revert_fits m base k ok free = by (file_at base k) free
     by None e = IsFileMap-remove m k ok
     by (Some f) e = let apart = place_free (has_file_above m k) (has_file_below m k) None (ap (λ o. option_or o None) e) in IsFileMap-insert m k f ok apart.0 apart.1
 
--- ---- whether a renamed directory stands above a path
+-- ---- whether a renamed directory is above a path
 
 pub ungoverned : (es : List Entry) (path : List ℕ) → nearest es path ≡ None → list_any (λ top. lies_below path top) (map (λ (e : Entry). e.0) es) ≡ false
 ungoverned [] path none = refl

@@ -1,7 +1,7 @@
 -- What a working copy means, as its calls have it.
 use Rattle.std.proofs.Common.{◌≡◌, ℕ, Bool, true, false, cond, not, ◌&&◌, ◌||◌, List, [], ◌∷◌, Option, Some, None, is_some, refl, sym, ap, subst, ◌∙◌}
 use Rattle.std.specs.Prelude.{IsSome}
-use Rattle.std.specs.Option.{is_none, option_or}
+use Rattle.std.specs.Option.{option_or}
 use Rattle.std.specs.List.{list_any, AllByRecursion}
 use Rattle.std.specs.FinMap as fin
 use Rattle.eden_ids.specs.declared.id.Id.{Id}
@@ -11,7 +11,7 @@ use Rattle.eden_ids.specs.FileMaps.{FileMap, file_at, paths, has_file_below, sam
 use Rattle.eden_ids.specs.Texts.{AreTexts}
 use Rattle.std.specs.Ordering.{nat_cmp}
 use Rattle.std.specs.Cmp.Lexicographic.{slice_cmp}
-use Rattle.eden_ids.proofs.FileMapLemmas.{same_file_map, same_order, same_path-is}
+use Rattle.eden_ids.proofs.FileMapLemmas.{same_path-is}
 use Rattle.eden_ids.proofs.TreeMaps.{entries_found}
 use Rattle.eden_objects.specs.Objects.{Held}
 use Rattle.eden_objects.specs.Commits.{Row, commit_rows, commit_map, map_of_rows}
@@ -24,8 +24,8 @@ use Rattle.eden_history.specs.declared.change.ChangeFault.{ChangeFault}
 use Rattle.eden_history.specs.declared.change.ChangeFault.TheVariants.{NotADirectory, IsADirectory}
 use Rattle.eden_history.specs.Renames.{moved, renamed}
 use Rattle.eden_ids.specs.Sameness.{same_bytes}
-use Rattle.eden_moves.specs.Moves.{Moves, at_paths, is_path, seen_through}
-use Rattle.eden_moves.proofs.Seen.{seen-unmoved}
+use Rattle.eden_renames.specs.Renames.{Renames, seen_through}
+use Rattle.eden_renames.proofs.Seen.{seen-unmoved}
 use Rattle.eden_workcopy.specs.declared.work.WorkCopy.{WorkCopy}
 use Rattle.eden_workcopy.specs.Meanings.{base_of, means, FitsIn}
 use Rattle.eden_overlay.specs.Layers.{Layer, Entry, over}
@@ -36,33 +36,21 @@ some_rows : (held : List Held) (o : Option (List Row)) → is_some o ≡ true �
 some_rows held None e = absurd (cc)
 some_rows held (Some rows) e = refl
 
--- files that keep the limits all stand at paths
-pub all_at_paths : (files : FileMap) → AreTexts files → at_paths files ≡ files
-all_at_paths files texts = same_file_map (at_paths files) files (λ p. fin.get-retain_keys files is_path p (λ q e. ap is_path (sym (same_order p q e))) ∙ by p (file_at files p) refl)
-  where
-    gone : (b : Bool) (o : Option Content) → o ≡ None → cond b o None ≡ o
-    gone true o e = refl
-    gone false o e = sym e
-
-    by : (p : List ℕ) (found : Option Content) → file_at files p ≡ found → cond (is_path p) (file_at files p) None ≡ file_at files p
-    by p None e = gone (is_path p) (file_at files p) e
-    by p (Some file) e = ap (λ o. cond (is_none o) (file_at files p) None) (texts p file e).0.path
-
 -- where no directory was renamed and nothing was changed the files are the commit's
-plain : (files : FileMap) (moves : Moves) (layer : Layer) → moves ≡ fin.empty → layer ≡ fin.empty → over (seen_through files moves) layer ≡ files
-plain files moves layer unmoved is = ap (over (seen_through files moves)) is ∙ over-nothing (seen_through files moves) ∙ ap (seen_through files) unmoved ∙ seen-unmoved files
+plain : (files : FileMap) (renames : Renames) (layer : Layer) → renames ≡ fin.empty → layer ≡ fin.empty → over (seen_through files renames) layer ≡ files
+plain files renames layer unmoved is = ap (over (seen_through files renames)) is ∙ over-nothing (seen_through files renames) ∙ ap (seen_through files) unmoved ∙ seen-unmoved files
 
-pub new_files : (held : List Held) (root : Id) (moves : Moves) (layer : Layer) → is_some (commit_rows held root) ≡ true → moves ≡ fin.empty → layer ≡ fin.empty
-    → commit_map held root ≡ Some (over (seen_through (commit_files held root) moves) layer)
-new_files held root moves layer e unmoved is =
-    some_rows held (commit_rows held root) e ∙ ap Some (sym (plain (commit_files held root) moves layer unmoved is))
+pub new_files : (held : List Held) (root : Id) (renames : Renames) (layer : Layer) → is_some (commit_rows held root) ≡ true → renames ≡ fin.empty → layer ≡ fin.empty
+    → commit_map held root ≡ Some (over (seen_through (commit_files held root) renames) layer)
+new_files held root renames layer e unmoved is =
+    some_rows held (commit_rows held root) e ∙ ap Some (sym (plain (commit_files held root) renames layer unmoved is))
 
-pub new_fits : (held : List Held) (root : Id) (moves : Moves) (layer : Layer) → IsClosed held → AreSmall held → is_some (commit_rows held root) ≡ true → moves ≡ fin.empty → layer ≡ fin.empty
-    → FitsIn held (record { root = root; moves = moves; overlay = layer })
-new_fits held root moves layer closed small e unmoved is =
-    let base = seen_through (commit_files held root) moves in
+pub new_fits : (held : List Held) (root : Id) (renames : Renames) (layer : Layer) → IsClosed held → AreSmall held → is_some (commit_rows held root) ≡ true → renames ≡ fin.empty → layer ≡ fin.empty
+    → FitsIn held (record { root = root; renames = renames; overlay = layer })
+new_fits held root renames layer closed small e unmoved is =
+    let base = seen_through (commit_files held root) renames in
     let files = over base layer in
-    let map = new_files held root moves layer e unmoved is in
+    let map = new_files held root renames layer e unmoved is in
     let texts = commits_texts held closed small root files map in record {
       root = ap is_some map;
       files = file_maps held closed root files map;
@@ -136,10 +124,10 @@ place_free false false later e = (refl, refl)
 -- ---- another store
 
 pub means_elsewhere : (held other : List Held) (work : WorkCopy) → commit_map held work.root ≡ commit_map other work.root → means held work ≡ means other work
-means_elsewhere held other work is = ap (λ o. over (seen_through (files_of o) work.moves) work.overlay) is
+means_elsewhere held other work is = ap (λ o. over (seen_through (files_of o) work.renames) work.overlay) is
 
 base_elsewhere : (held other : List Held) (work : WorkCopy) → commit_map held work.root ≡ commit_map other work.root → base_of held work ≡ base_of other work
-base_elsewhere held other work is = ap (λ o. seen_through (files_of o) work.moves) is
+base_elsewhere held other work is = ap (λ o. seen_through (files_of o) work.renames) is
 
 pub fits_elsewhere : (held other : List Held) (work : WorkCopy) → commit_map held work.root ≡ commit_map other work.root → FitsIn held work → FitsIn other work
 fits_elsewhere held other work is fits = record {

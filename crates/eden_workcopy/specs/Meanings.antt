@@ -7,13 +7,13 @@ use Rattle.eden_ids.specs.Texts.{AreTexts}
 use Rattle.eden_objects.specs.Objects.{Held}
 use Rattle.eden_objects.specs.Commits.{commit_map}
 use Rattle.eden_objects.specs.Files.{commit_files}
-use Rattle.eden_moves.specs.Moves.{seen_through}
+use Rattle.eden_renames.specs.Renames.{seen_through}
 use Rattle.eden_overlay.specs.Layers.{marks, over}
 use Rattle.eden_workcopy.specs.declared.work.WorkCopy.{WorkCopy}
 
 -- the files below the overlay: those of the root's commit, as the renamed directories show them
 abbrev pub base_of : List Held → WorkCopy → FileMap
-base_of held work = seen_through (commit_files held work.root) work.moves
+base_of held work = seen_through (commit_files held work.root) work.renames
 
 -- the files that a working copy holds
 abbrev pub means : List Held → WorkCopy → FileMap

@@ -1,10 +1,10 @@
 //! The files below a directory, each moved by itself to the same place below another.
 
-ghost use Rattle.std.specs.Prelude.{◌≡◌, ◌≢◌, true, false, None, Some, if◌then◌else◌, IfOk, IfErr, OnOk, is_some};
+ghost use Rattle.std.specs.Prelude.{◌≡◌, ◌≢◌, true, false, None, Some, IfOk, IfErr, OnOk};
 ghost use Rattle.std.specs.List.{list_any, AllByRecursion};
 ghost use Rattle.std.specs.FinMap as fin;
-ghost use Rattle.eden_ids.specs.FileMaps.{file_at, paths, put_option};
-ghost use Rattle.eden_ids.specs.Paths.{lies_below, path_fault};
+ghost use Rattle.eden_ids.specs.FileMaps.{file_at, paths};
+ghost use Rattle.eden_ids.specs.Paths.{lies_below};
 ghost use Rattle.eden_objects.specs.Files.{commit_files};
 ghost use Rattle.eden_overlay.specs.Carried.{breaks};
 ghost use Rattle.eden_history.specs.Changes.{below};
@@ -42,7 +42,7 @@ fn hide<B: FileTree>(base: &B, overlay: &mut Overlay, path: Path) -> Result<(), 
 
 /// Removes the file that is seen at a path, and returns it.
 ///
-/// What the overlay said is moved; the bytes of a file below it are copied.
+/// What the overlay said is moved; the bytes of a file below it are shared.
 fn take<B: FileTree>(
     base: &B,
     overlay: &mut Overlay,
@@ -53,7 +53,7 @@ fn take<B: FileTree>(
 {
     let file = match overlay.forget(path.as_bytes()) {
         Some(file) => file,
-        None => Content::of_lent(overlay.allocator(), base.file(path.as_bytes()))?,
+        None => Content::of_lent(base.file(path.as_bytes()))?,
     };
     hide(base, overlay, path)?;
     Ok(file)

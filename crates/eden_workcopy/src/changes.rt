@@ -10,7 +10,7 @@ ghost use Rattle.eden_workcopy.specs.Meanings.{means, FitsIn};
 use crate::carrying::way_fault;
 use crate::work::WorkCopy;
 use eden_history::{ChangeFault, rename_fault, source_fault};
-use eden_ids::{Kind, Naming, NoMemory, Path, path_law};
+use eden_ids::{Content, Kind, Naming, NoMemory, Path, path_law};
 use eden_objects::Store;
 
 impl WorkCopy {
@@ -54,7 +54,8 @@ impl WorkCopy {
         if let Some(fault) = self.write_fault(store, path, bytes) {
             return Err(fault);
         }
-        self.put_file(path, kind, bytes)?;
+        let copy = Content::from_bytes(self.overlay.allocator(), kind, bytes)?;
+        self.put_file(path, kind, &copy.bytes)?;
         Ok(())
     }
 
@@ -161,10 +162,10 @@ impl WorkCopy {
         ensures { IfOk result (λ work. work ≡ self.now) }
     {
         let overlay = self.overlay.copy()?;
-        let moves = self.moves.copy()?;
+        let renames = self.renames.copy()?;
         Ok(WorkCopy {
             root: self.root,
-            moves,
+            renames,
             overlay,
         })
     }

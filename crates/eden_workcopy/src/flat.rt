@@ -34,12 +34,12 @@ impl WorkCopy {
         requires { FitsIn store.now self.now }
         ensures { IfOk result (λ flat. over (commit_files store.now self.now.root) (flat_or flat self.now.overlay) ≡ means store.now self.now) }
     {
-        if self.moves.is_empty() {
+        if self.renames.is_empty() {
             return Ok(None);
         }
         let commit = store.commit_files(self.root);
         commit.texts_law();
-        let paths = self.moves.unsettled(&commit)?;
+        let paths = self.renames.unsettled(&commit)?;
         let mut flat = self.overlay.copy()?;
         keep_listed(&self.base(store), &self.overlay, &mut flat, &paths)?;
         Ok(Some(flat))

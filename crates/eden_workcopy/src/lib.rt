@@ -1,7 +1,7 @@
 //! A working copy: the files of a commit, and those that were changed since.
 //!
 //! A [`WorkCopy`] has three parts: the id of its root's commit, which directories of the commit
-//! were renamed ([`eden_moves::Moves`]), and an overlay of changed paths
+//! were renamed ([`eden_renames::Renames`]), and an overlay of changed paths
 //! ([`eden_overlay::Overlay`]). It borrows a store for each call, and holds no copy of a file that
 //! was not changed. `specs/Meanings.antt` says which files it holds there, as `means`.
 //!

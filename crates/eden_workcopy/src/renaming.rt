@@ -3,7 +3,7 @@
 //! What the overlay says is carried as a whole, and the files below the overlay are seen at the new
 //! place.
 
-ghost use Rattle.std.specs.Prelude.{◌≡◌, ◌≢◌, ◌++◌, ◌∷◌, ℕ, List, false, true, None, Some, IsSome, IfOk, IfErr, OnOk, OnErr, length};
+ghost use Rattle.std.specs.Prelude.{◌≡◌, ◌≢◌, ◌++◌, ◌∷◌, ℕ, List, false, true, None, Some, IsSome, IfErr, OnOk, OnErr, length};
 ghost use Rattle.std.specs.FinMap as fin;
 ghost use Rattle.std.specs.List.{list_any};
 ghost use Rattle.eden_ids.specs.FileMaps.{paths};
@@ -13,7 +13,7 @@ ghost use Rattle.eden_ids.specs.Texts.{AreTexts};
 ghost use Rattle.eden_overlay.specs.Carried.{breaks, carried_files};
 ghost use Rattle.eden_history.specs.Changes.{below};
 ghost use Rattle.eden_history.specs.DirRenames.{breaks_a_path, dir_renamed, rename_dir_fault, source_fault};
-ghost use Rattle.eden_moves.specs.Moves.{is_path};
+ghost use Rattle.eden_renames.specs.Renames.{is_path};
 ghost use Rattle.eden_objects.specs.Passing.{IsWithin};
 ghost use Rattle.eden_overlay.specs.Layers.{IsCarried};
 ghost use Rattle.eden_workcopy.specs.internal.Carrying.{each_carried, way_fault};
@@ -22,9 +22,9 @@ ghost use Rattle.eden_workcopy.specs.Meanings.{base_of, means, FitsIn};
 use crate::work::WorkCopy;
 use eden_history::ChangeFault;
 use eden_ids::{FileTree, Naming, Path, is_path, path_law};
-use eden_moves::{Moved, Moves, joined};
 use eden_objects::{Passes, Size, Store};
 use eden_overlay::CarryFault;
+use eden_renames::{Renamed, Renames, joined};
 
 /// Returns how many components a path has.
 fn depth(path: &[u8]) -> usize
@@ -72,7 +72,7 @@ struct Placed<'a> {
 
 impl Passes for Placed<'_> {
     ghost use Rattle.eden_overlay.specs.Carried.{carried};
-    ghost use Rattle.eden_moves.specs.Moves.{is_path};
+    ghost use Rattle.eden_renames.specs.Renames.{is_path};
 
     ghost passes = { λ placed path. is_path (carried placed.old.now placed.new.now path) };
 
@@ -95,7 +95,7 @@ impl Passes for Placed<'_> {
 /// Returns whether a file below the old path would have no path below the new one.
 ///
 /// Does not allocate. It reads no directory whose size says that there is room for its files.
-fn breaks_a_path<N: Naming + Drop>(base: &Moved<'_, N>, old: &Path, new: &Path) -> bool
+fn breaks_a_path<N: Naming + Drop>(base: &Renamed<'_, N>, old: &Path, new: &Path) -> bool
     ensures { result ≡ breaks_a_path base.now old.now new.now }
 {
     base.has_below_but(old, &Placed { old, new })
@@ -123,12 +123,12 @@ impl WorkCopy {
             self.overlay.carry(old, new)?;
             return Ok(());
         }
-        let renaming = self.moves.begin_rename(old, new)?;
+        let renaming = self.renames.begin_rename(old, new)?;
         if let Err(fault) = self.overlay.carry(old, new) {
-            self.moves = renaming.undone();
+            self.renames = renaming.undone();
             return Err(fault);
         }
-        self.moves = renaming.done();
+        self.renames = renaming.done();
         Ok(())
     }
 
@@ -181,7 +181,7 @@ impl WorkCopy {
     {
         store.closed_law();
         self.overlay = self.carried(store, old, new)?;
-        self.moves = Moves::new(self.overlay.allocator());
+        self.renames = Renames::new(self.overlay.allocator());
         Ok(())
     }
 

@@ -13,9 +13,9 @@ use crate::flat::flat_or;
 use crate::work::WorkCopy;
 use crate::working::lent;
 use eden_ids::{Content, FileTree, Id, Naming, NoMemory, Path, is_same_file};
-use eden_moves::Moves;
 use eden_objects::{CommitFault, Store};
 use eden_overlay::Overlay;
+use eden_renames::Renames;
 use eden_treediff::diff;
 
 /// Returns whether this file is seen at a path of a tree with an overlay over it.
@@ -58,7 +58,7 @@ fn keep_below<R: FileTree>(
     if touched.get(path.as_bytes()).is_some() {
         return Ok(());
     }
-    let file = Content::of_lent(next.allocator(), root.file(path.as_bytes()))?;
+    let file = Content::of_lent(root.file(path.as_bytes()))?;
     let key = path.copy()?;
     next.set(key, file)?;
     Ok(())
@@ -133,7 +133,7 @@ impl WorkCopy {
         )?;
         Ok(WorkCopy {
             root: commit,
-            moves: Moves::new(alloc),
+            renames: Renames::new(alloc),
             overlay,
         })
     }

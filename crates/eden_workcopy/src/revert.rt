@@ -2,7 +2,7 @@
 
 ghost use Rattle.std.specs.Prelude.{◌≡◌, ◌≢◌, false, None, Some, is_some, IfOk, IfErr, OnOk, OnErr};
 ghost use Rattle.eden_ids.specs.FileMaps.{file_at, put_option};
-ghost use Rattle.eden_moves.specs.Moves.{is_governed};
+ghost use Rattle.eden_renames.specs.Renames.{is_governed};
 ghost use Rattle.eden_objects.specs.Files.{commit_files};
 ghost use Rattle.eden_workcopy.specs.Meanings.{means, FitsIn};
 ghost use Rattle.eden_workcopy.specs.Reverts.{revert_fault};
@@ -32,14 +32,14 @@ impl WorkCopy {
         path: &Path,
     ) -> Result<(), ChangeFault>
         ensures root { self.new.root ≡ self.old.root }
-        ensures moves { self.new.moves ≡ self.old.moves }
+        ensures renames { self.new.renames ≡ self.old.renames }
         ensures files { OnOk result (means store.now self.new
             ≡ put_option (means store.now self.old) path.now (file_at (commit_files store.now self.old.root) path.now)) }
         ensures refuses { IfErr result (λ fault. fault ≡ ChangeFault.NoMemory) }
         ensures same { OnErr result (self.new ≡ self.old) }
     {
         let root = store.commit_files(self.root);
-        let file = Content::of_lent(self.overlay.allocator(), root.file(path.as_bytes()))?;
+        let file = Content::of_lent(root.file(path.as_bytes()))?;
         self.put(path.copy()?, file)?;
         Ok(())
     }
@@ -63,14 +63,14 @@ impl WorkCopy {
             ≡ put_option (means store.now self.old) path.now (file_at (commit_files store.now self.old.root) path.now)) }
         ensures refuses { IfErr result (λ fault. fault ≢ ChangeFault.NoMemory
             → revert_fault (means store.now self.old) (commit_files store.now self.old.root) path.now ≡ Some fault) }
-        ensures memory { is_governed self.old.moves path.now ≡ false → IfErr result (λ fault. fault ≢ ChangeFault.NoMemory) }
+        ensures memory { is_governed self.old.renames path.now ≡ false → IfErr result (λ fault. fault ≢ ChangeFault.NoMemory) }
         ensures same { OnErr result (self.new ≡ self.old) }
     {
         if let Some(fault) = self.revert_fault(store, path) {
             return Err(fault);
         }
         store.closed_law();
-        if self.moves.nearest(path.as_bytes()).is_some() {
+        if self.renames.nearest(path.as_bytes()).is_some() {
             self.restore(store, path)?;
             return Ok(());
         }

@@ -37,7 +37,7 @@ impl WorkCopy {
     /// Does what `set` does. Its contract says what becomes of the overlay too.
     pub(crate) fn put(&mut self, path: Path, file: Option<Content>) -> Result<(), NoMemory>
         ensures root { self.new.root ≡ self.old.root }
-        ensures moves { self.new.moves ≡ self.old.moves }
+        ensures renames { self.new.renames ≡ self.old.renames }
         ensures overlay { OnOk result (self.new.overlay ≡ fin.insert self.old.overlay path file) }
         ensures files { OnOk result ((held : List Held) → means held self.new ≡ put_option (means held self.old) path file) }
         ensures same { OnErr result (self.new ≡ self.old) }
@@ -52,7 +52,7 @@ impl WorkCopy {
     /// `NoMemory` if an allocation fails; then nothing changes.
     pub fn set(&mut self, path: Path, file: Option<Content>) -> Result<(), NoMemory>
         ensures root { self.new.root ≡ self.old.root }
-        ensures moves { self.new.moves ≡ self.old.moves }
+        ensures renames { self.new.renames ≡ self.old.renames }
         ensures files { OnOk result ((held : List Held) → means held self.new ≡ put_option (means held self.old) path file) }
         ensures same { OnErr result (self.new ≡ self.old) }
     {

@@ -8,15 +8,16 @@ ghost use Rattle.eden_history.specs.Renames.{rename_fault, renamed, write_fault}
 ghost use Rattle.eden_workcopy.specs.Meanings.{means, FitsIn};
 
 use crate::work::WorkCopy;
-use eden_ids::{Content, Kind, Naming, NoMemory, Path, path_law};
+use bytes::Bytes;
+use eden_ids::{Content, Kind, Naming, NoMemory, Path, bytes_law, path_law};
 use eden_objects::Store;
 
 impl WorkCopy {
     /// Puts a file at a path, replacing any there, and does not check that it can be there.
     ///
-    /// If `write_fault` reports nothing, root and changes still make a file map. `NoMemory` if an
+    /// The bytes are shared. If `write_fault` reports nothing, root and changes still make a file map. `NoMemory` if an
     /// allocation fails; then nothing changes.
-    pub fn put_file(&mut self, path: &Path, kind: Kind, bytes: &[u8]) -> Result<(), NoMemory>
+    pub fn put_file(&mut self, path: &Path, kind: Kind, bytes: &Bytes) -> Result<(), NoMemory>
         ensures root { self.new.root ≡ self.old.root }
         ensures files { OnOk result ((held : List Held)
             → means held self.new ≡ fin.insert (means held self.old) path.now (record { kind = kind; bytes = bytes.now })) }
@@ -25,9 +26,10 @@ impl WorkCopy {
         ensures same { OnErr result (self.new ≡ self.old) }
     {
         path_law(path);
-        let content = Content::from_bytes(self.overlay.allocator(), kind, bytes)?;
+        bytes_law(bytes.as_slice());
+        let bytes = bytes.clone()?;
         let key = path.copy()?;
-        self.overlay.set(key, Some(content))?;
+        self.overlay.set(key, Some(Content { kind, bytes }))?;
         Ok(())
     }
 

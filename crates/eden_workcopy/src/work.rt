@@ -1,21 +1,17 @@
 //! A working copy, and why a change of it is refused.
 
-ghost use Rattle.std.specs.Prelude.{◌≡◌, ◌≢◌, None, Some, IfOk, IfErr, OnOk, OnErr, is_some, if◌then◌else◌, nat_lt, nat_eq, ◌<◌, ◌&&◌, take, length};
-ghost use Rattle.std.specs.List.{slice_index_or};
-ghost use Rattle.std.specs.FinMap as fin;
-ghost use Rattle.eden_ids.specs.FileMaps.{differ, file_at, has_file_above, has_file_below, listing, paths, lent};
+ghost use Rattle.std.specs.Prelude.{◌≡◌, None, Some, IfOk, IfErr, ◌<◌};
+ghost use Rattle.eden_ids.specs.FileMaps.{file_at, lent};
 ghost use Rattle.eden_objects.specs.Commits.{commit_map};
-ghost use Rattle.eden_objects.specs.Files.{commit_files};
-ghost use Rattle.eden_history.specs.Renames.{place_fault};
-ghost use Rattle.eden_history.specs.Renames.{absent_fault, rename_fault, renamed, write_fault};
-ghost use Rattle.eden_ids.specs.Sameness.{same_bytes};
+ghost use Rattle.eden_history.specs.Renames.{place_fault, absent_fault, rename_fault, write_fault};
 ghost use Rattle.eden_workcopy.specs.Meanings.{means, FitsIn};
 
+use bytes::Bytes;
 use eden_history::{ChangeFault, absent_fault, place_fault, rename_fault, write_fault};
 use eden_ids::{Content, Id, Kind, Naming, NoMemory, Path, Sequence};
-use eden_moves::Moves;
 use eden_objects::{NoCommit, Store};
 use eden_overlay::Overlay;
+use eden_renames::Renames;
 use std::alloc::Global;
 
 /// The files of a commit, and over them those that were written, removed or renamed since.
@@ -26,7 +22,7 @@ use std::alloc::Global;
 #[derive(Drop)]
 pub struct WorkCopy {
     pub(crate) root: Id,
-    pub(crate) moves: Moves,
+    pub(crate) renames: Renames,
     pub(crate) overlay: Overlay,
 }
 
@@ -49,7 +45,7 @@ impl WorkCopy {
         if store.has_commit(root) {
             Ok(WorkCopy {
                 root,
-                moves: Moves::new(alloc),
+                renames: Renames::new(alloc),
                 overlay: Overlay::new(alloc),
             })
         } else {
@@ -65,10 +61,10 @@ impl WorkCopy {
     }
 
     /// Returns which directories of the commit were renamed, and where they are seen.
-    pub fn moves(&self) -> &Moves
-        ensures { result.now ≡ self.now.moves }
+    pub fn renames(&self) -> &Renames
+        ensures { result.now ≡ self.now.renames }
     {
-        &self.moves
+        &self.renames
     }
 
     /// Returns the kind and the bytes of the file at a path.
@@ -78,7 +74,7 @@ impl WorkCopy {
         &'a self,
         store: &'a Store<N>,
         path: &[u8],
-    ) -> Option<(Kind, &'a [u8])>
+    ) -> Option<(Kind, &'a Bytes)>
         ensures { lent result ≡ file_at (means store.now self.now) path.now }
     {
         self.over(store).file(path)

@@ -7,11 +7,12 @@ ghost use Rattle.eden_overlay.specs.Layers.{over};
 ghost use Rattle.eden_workcopy.specs.Meanings.{base_of, means};
 
 use crate::work::WorkCopy;
+use bytes::Bytes;
 use eden_history::{ChangeFault, place_fault};
 use eden_ids::{Content, FileTree, Kind, Naming, NoMemory, Path};
-use eden_moves::Moved;
 use eden_objects::{Passes, Size, Store};
 use eden_overlay::Overlay;
+use eden_renames::Renamed;
 use std::marker::Model;
 
 /// A working copy together with its store: the tree of files that it holds there.
@@ -20,7 +21,7 @@ use std::marker::Model;
 /// for all questions.
 #[derive(Drop)]
 pub struct Working<'a, N: Naming + Drop> {
-    base: Moved<'a, N>,
+    base: Renamed<'a, N>,
     overlay: &'a Overlay,
 }
 
@@ -39,11 +40,11 @@ impl<'a, N: Naming + Drop> Model for Working<'a, N> {
 }
 
 /// Returns the kind and the bytes of a file.
-pub(crate) fn lent(file: &Option<Content>) -> Option<(Kind, &[u8])>
+pub(crate) fn lent(file: &Option<Content>) -> Option<(Kind, &Bytes)>
     ensures { lent result ≡ file.now }
 {
     match file {
-        Some(content) => Some((content.kind, content.bytes.as_slice())),
+        Some(content) => Some((content.kind, &content.bytes)),
         None => None,
     }
 }
@@ -72,10 +73,10 @@ impl Passes for Spoken<'_> {
 /// Returns the file that is seen at a path of files with an overlay over them.
 #[tactic(auto, using(eden_overlay::proofs::Overs::file_told, eden_overlay::proofs::Overs::file_below))]
 fn file_over<'a, N: Naming + Drop>(
-    base: &Moved<'a, N>,
+    base: &Renamed<'a, N>,
     overlay: &'a Overlay,
     path: &[u8],
-) -> Option<(Kind, &'a [u8])>
+) -> Option<(Kind, &'a Bytes)>
     ensures { lent result ≡ file_at (over base.now overlay.now) path.now }
 {
     match overlay.get(path) {
@@ -88,7 +89,7 @@ fn file_over<'a, N: Naming + Drop>(
 ///
 /// Of the overlay only the entries below the path are looked at. The search ends at the first file
 /// that is seen.
-fn has_below_over<N: Naming + Drop>(base: &Moved<'_, N>, overlay: &Overlay, path: &Path) -> bool
+fn has_below_over<N: Naming + Drop>(base: &Renamed<'_, N>, overlay: &Overlay, path: &Path) -> bool
     ensures { result ≡ has_file_below (over base.now overlay.now) path.now }
 {
     if overlay.has_file_below(path) {
@@ -99,14 +100,14 @@ fn has_below_over<N: Naming + Drop>(base: &Moved<'_, N>, overlay: &Overlay, path
 
 impl<'a, N: Naming + Drop> Working<'a, N> {
     /// Returns the files that are seen with an overlay over others.
-    pub(crate) fn of(base: Moved<'a, N>, overlay: &'a Overlay) -> Working<'a, N>
+    pub(crate) fn of(base: Renamed<'a, N>, overlay: &'a Overlay) -> Working<'a, N>
         ensures { result ≡ over base.entry overlay.now }
     {
         Working { base, overlay }
     }
 
     /// Returns the kind and the bytes of the file at a path, if there is one. Does not allocate.
-    pub fn file(&self, path: &[u8]) -> Option<(Kind, &'a [u8])>
+    pub fn file(&self, path: &[u8]) -> Option<(Kind, &'a Bytes)>
         ensures { lent result ≡ file_at self.now path.now }
     {
         file_over(&self.base, self.overlay, path)
@@ -124,23 +125,25 @@ impl<'a, N: Naming + Drop> Working<'a, N> {
             return Err(fault);
         }
         match self.file(path.as_bytes()) {
-            Some(file) => Ok(file),
+            Some((kind, bytes)) => Ok((kind, bytes.as_slice())),
             None => Err(ChangeFault::NoEntry),
         }
     }
 
-    /// Returns a copy of the file at a path, if there is one. `NoMemory` if an allocation fails.
+    /// Returns a copy of the file at a path, if there is one, which shares its bytes.
+    ///
+    /// `NoMemory` if the count of those that share them is full. Does not allocate.
     pub fn file_copy(&self, path: &Path) -> Result<Option<Content>, NoMemory>
         ensures { IfOk result (λ file. file ≡ file_at self.now path.now) }
     {
-        Content::of_lent(self.overlay.allocator(), self.file(path.as_bytes()))
+        Content::of_lent(self.file(path.as_bytes()))
     }
 }
 
 impl<'a, N: Naming + Drop> FileTree for Working<'a, N> {
     ghost files = { λ w. w };
 
-    fn file(&self, path: &[u8]) -> Option<(Kind, &[u8])> {
+    fn file(&self, path: &[u8]) -> Option<(Kind, &Bytes)> {
         Working::file(self, path)
     }
 
@@ -151,10 +154,10 @@ impl<'a, N: Naming + Drop> FileTree for Working<'a, N> {
 
 impl WorkCopy {
     /// Returns the files below the overlay as a tree. Does not allocate.
-    pub(crate) fn base<'a, N: Naming + Drop>(&'a self, store: &'a Store<N>) -> Moved<'a, N>
+    pub(crate) fn base<'a, N: Naming + Drop>(&'a self, store: &'a Store<N>) -> Renamed<'a, N>
         ensures { result ≡ base_of store.now self.now }
     {
-        Moved::of(store.commit_files(self.root), &self.moves)
+        Renamed::of(store.commit_files(self.root), &self.renames)
     }
 
     /// Returns the files that it holds over a store, as a tree. Does not allocate.

@@ -10,7 +10,7 @@ loop-path-preserved g c =
     let held = c.args.store.now in
     let sides = c.args.sides.now in record {
       root = c.in_ok-put.ensures.root ∙ c.loop-path.invariant.root;
-      moves = c.in_ok-put.ensures.moves ∙ c.loop-path.invariant.moves;
+      renames = c.in_ok-put.ensures.renames ∙ c.loop-path.invariant.renames;
       files =
           settled_more
           (rule_of c.args.mode (g.W.FileTree.files sides.work.now) (g.R.FileTree.files sides.root.now) (g.T.FileTree.files sides.target.now))

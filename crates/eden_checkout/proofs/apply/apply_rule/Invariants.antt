@@ -7,7 +7,7 @@ use Rattle.eden_checkout.proofs.apply.apply_rule.Given as goal
 abbrev pub invariant-loop-path : goal.invariant-loop-path
 invariant-loop-path g l = record {
   root : l.next.root ≡ l.initial.next.root;
-  moves : l.next.moves ≡ l.initial.next.moves;
+  renames : l.next.renames ≡ l.initial.next.renames;
   files : Settled (rule_of l.mode (g.W.FileTree.files l.sides.work.now) (g.R.FileTree.files l.sides.root.now) (g.T.FileTree.files l.sides.target.now))
       (means l.store l.initial.next) (take l.path-index l.paths) (means l.store l.next);
 }

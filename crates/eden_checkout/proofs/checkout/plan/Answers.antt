@@ -13,23 +13,23 @@ use Rattle.eden_checkout.proofs.checkout.plan.Goals as goal
 pub returns-clause-files : goal.returns-clause-files
 returns-clause-files g c =
     let held = c.args.store.now in
-    files_planned held c.args.mode c.args.work.now c.in_ok-start.start c.in_ok-judged.judged.next
+    files_planned held c.args.mode c.args.work.now c.in_ok-start.start c.in_ok-decided.decided.next
     c.over-files.result c.commit_files-root.result c.commit_files-target.result (root_files held c.args.work.now) (commit_files held c.args.commit)
     c.over-files.ensures (c.commit_files-root.ensures ∙ ap (commit_files held) c.root-2.ensures) c.commit_files-target.ensures
-    c.in_ok-start.ensures.dry c.in_ok-judged.ensures.dry c.in_ok-judged.ensures.files
+    c.in_ok-start.ensures.dry c.in_ok-decided.ensures.dry c.in_ok-decided.ensures.files
 
 pub returns-clause-unclean : goal.returns-clause-unclean
 returns-clause-unclean g c =
     let held = c.args.store.now in
     c.from_vec.ensures
-    ∙ unclean_planned c.args.mode (means held c.args.work.now) (root_files held c.args.work.now) (means held c.in_ok-judged.judged.next)
-    (commit_files held c.in_ok-judged.judged.next.root) (commit_files held c.args.commit) c.deref-5.result.now c.in_ok-unclean.unclean.items
+    ∙ unclean_planned c.args.mode (means held c.args.work.now) (root_files held c.args.work.now) (means held c.in_ok-decided.decided.next)
+    (commit_files held c.in_ok-decided.decided.next.root) (commit_files held c.args.commit) c.deref-5.result.now c.in_ok-unclean.unclean.items
     (c.deref-5.ensures.value ∙ c.in_ok-changed.ensures)
-    (λ kept. ap (commit_files held) (c.in_ok-judged.ensures.root ∙ c.in_ok-start.ensures.root ∙ root_moved c.args.mode c.args.work.now.root c.args.commit kept))
+    (λ kept. ap (commit_files held) (c.in_ok-decided.ensures.root ∙ c.in_ok-start.ensures.root ∙ root_moved c.args.mode c.args.work.now.root c.args.commit kept))
     c.in_ok-unclean.ensures
 
-pub judge-requires-clause-texts : goal.judge-requires-clause-texts
-judge-requires-clause-texts g c = subst AreTexts (sym c.over-files.ensures) c.requires.texts
+pub decide-requires-clause-texts : goal.decide-requires-clause-texts
+decide-requires-clause-texts g c = subst AreTexts (sym c.over-files.ensures) c.requires.texts
 
 pub invariant_of-dirty : goal.invariant_of-dirty
 invariant_of-dirty g c =

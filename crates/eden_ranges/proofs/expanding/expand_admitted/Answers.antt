@@ -1,4 +1,4 @@
-use Rattle.std.proofs.Common.{List, ℕ, ◌++◌, map, ap, ◌∙◌}
+use Rattle.std.proofs.Common.{◌++◌, map, ap, ◌∙◌}
 use Rattle.eden_globs.specs.Filters.{Patterns}
 use Rattle.eden_history.specs.Marks.{mark_said}
 use Rattle.eden_history.specs.Said.{by_root, by_touch, ends}

@@ -1,6 +1,6 @@
 use Rattle.std.proofs.Common.{rules, ◌≡◌, ◌+◌, ◌<◌, ◌≤◌, true, length}
 use Rattle.eden_ids.specs.Paths.{components}
-use Rattle.eden_moves.specs.Moves.{is_path}
+use Rattle.eden_renames.specs.Renames.{is_path}
 use Rattle.eden_workcopy.proofs.CarriedWhole.{roomy}
 use Rattle.eden_workcopy.proofs.renaming.has_room.Goals as goal
 use Rattle.eden_workcopy.proofs.renaming.has_room.Goals.{then-is_path, else-is_path}

@@ -14,9 +14,9 @@ returns-clause-files g c =
     λ world h patterns.
     let n = c.args.self.now in
     let present : IsPresent n = subst IsPresent c.self.view_is c.self.invariant in
-    shows n.held n.work c.position.result.root c.in_ok-moves.moves c.from_vec.result patterns (now world).files
+    shows n.held n.work c.position.result.root c.in_ok-renames.renames c.from_vec.result patterns (now world).files
     ((λ i. (c.position.ensures.log i).root) ∙ root_is n present)
-    (c.in_ok-moves.ensures ∙ c.moves.ensures ∙ ap (λ (m : State). m.work.moves) c.self.view_is)
+    (c.in_ok-renames.ensures ∙ c.renames.ensures ∙ ap (λ (m : State). m.work.renames) c.self.view_is)
     (c.from_vec.ensures ∙ c.in_ok-touched.ensures ∙ ap (λ (m : State). touched_of m.work) c.self.view_is)
     h.files h.fits.below
 

@@ -7,7 +7,7 @@ use Rattle.eden_ids.specs.Paths.{lies_below}
 use Rattle.eden_ids.proofs.ByteOrder.{keys_rise}
 use Rattle.eden_ids.proofs.Sifted.{keys-sifted}
 use Rattle.eden_objects.specs.Files.{commit_files}
-use Rattle.eden_moves.specs.Moves.{at_paths, seen_through}
+use Rattle.eden_renames.specs.Renames.{at_paths, seen_through}
 use Rattle.eden_overlay.specs.Layers.{by_bytes}
 use Rattle.eden_overlay.specs.Listings.{shown_over}
 use Rattle.eden_overlay.proofs.WovenBelow.{files_below, shown_below, sorted_below}
@@ -28,12 +28,12 @@ pub returns-clause-files : goal.returns-clause-files
 returns-clause-files g c =
     let held = c.args.store.now in
     let root = c.args.self.now.position.root in
-    let moves = c.args.self.now.moves in
+    let renames = c.args.self.now.renames in
     let wanted = c.args.filter.now in
     let top = c.args.prefix.now in
-    let base = at_paths (seen_through (commit_files held root) moves) in
+    let base = at_paths (seen_through (commit_files held root) renames) in
     let sorted : T (is_sorted by_bytes c.args.self.now.touched) = search rules in
-    let seen = seen_there held root moves c.in-Some.commit c.of.result c.in-Some.ensures c.of.ensures in
+    let seen = seen_there held root renames c.in-Some.commit c.of.result c.in-Some.ensures c.of.ensures in
     c.in_ok-woven.ensures (files_below top base)
     (c.in_ok-listed.ensures
     ∙ ap (λ (m : FileMap). filter (admits wanted) (filter (λ path. lies_below path top) (paths (at_paths m)))) seen

@@ -4,8 +4,8 @@ use Rattle.eden_objects.specs.Commits.{commit_map}
 use Rattle.eden_objects.specs.Files.{commit_files}
 use Rattle.eden_objects.proofs.CommitTexts.{commits_texts}
 use Rattle.eden_history.proofs.Spelled.{held_texts}
-use Rattle.eden_moves.specs.Moves.{seen_through}
-use Rattle.eden_moves.proofs.Seen.{seen-unmoved}
+use Rattle.eden_renames.specs.Renames.{seen_through}
+use Rattle.eden_renames.proofs.Seen.{seen-unmoved}
 use Rattle.eden_overlay.specs.Layers.{over}
 use Rattle.eden_workcopy.proofs.work.WorkCopy.carry_files.Goals as goal
 

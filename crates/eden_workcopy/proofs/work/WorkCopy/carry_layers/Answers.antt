@@ -19,5 +19,5 @@ returns-then-not-has_file_below-2-clause-beneath g c =
 pub returns-clause-beneath : goal.returns-clause-beneath
 returns-clause-beneath g c =
     let work = c.args.self.now in
-    moved_beneath c.args.store.now work.root work.moves c.done.result c.args.old.now c.args.new.now (subst AreTexts c.commit_files.ensures c.texts_law.ensures)
+    moved_beneath c.args.store.now work.root work.renames c.done.result c.args.old.now c.args.new.now (subst AreTexts c.commit_files.ensures c.texts_law.ensures)
     (c.done.ensures ∙ ap (λ p. p.1) c.in_ok-renaming.ensures.ready)

@@ -2,7 +2,7 @@ use Rattle.std.proofs.Common.{◌≡◌, false, sym, ap, subst, ◌∙◌}
 use Rattle.eden_ids.specs.Texts.{AreTexts}
 use Rattle.eden_history.specs.DirRenames.{breaks_a_path}
 use Rattle.eden_history.proofs.DirRenameLaws.{carried_path}
-use Rattle.eden_moves.proofs.Settled.{carried_texts}
+use Rattle.eden_renames.proofs.Settled.{carried_texts}
 use Rattle.eden_overlay.specs.Layers.{over}
 use Rattle.eden_workcopy.specs.Meanings.{base_of}
 use Rattle.eden_overlay.proofs.CarriedLayers.{over_carried}

@@ -2,8 +2,8 @@ use Rattle.std.proofs.Common.{sym, ap, subst, ◌∙◌}
 use Rattle.eden_ids.specs.Texts.{AreTexts}
 use Rattle.eden_objects.specs.Files.{commit_files}
 use Rattle.eden_ids.specs.FileMaps.{listing}
-use Rattle.eden_moves.specs.Moves.{seen_through, unsettled}
-use Rattle.eden_moves.proofs.Seen.{seen-unmoved}
+use Rattle.eden_renames.specs.Renames.{seen_through, unsettled}
+use Rattle.eden_renames.proofs.Seen.{seen-unmoved}
 use Rattle.eden_overlay.specs.Layers.{over}
 use Rattle.eden_workcopy.specs.Meanings.{base_of}
 use Rattle.eden_workcopy.specs.internal.Agreements.{kept_each}
@@ -24,6 +24,6 @@ returns g c =
     flat_files base files work.overlay c.keep_listed.new.next c.in_ok-paths.paths.items
     (c.in_ok-keep_listed.ensures.each
     ∙ (λ i. kept_each (c.base.ensures i) work.overlay (c.in_ok-flat.ensures i) (c.deref.ensures.value i)))
-    (elsewhere files work.moves c.in_ok-paths.paths.items
-    (c.in_ok-paths.ensures ∙ ap (λ m. listing (unsettled m work.moves)) c.commit_files-commit.ensures)
+    (elsewhere files work.renames c.in_ok-paths.paths.items
+    (c.in_ok-paths.ensures ∙ ap (λ m. listing (unsettled m work.renames)) c.commit_files-commit.ensures)
     (subst AreTexts c.commit_files-commit.ensures c.texts_law.ensures) c.requires.below)

@@ -2,9 +2,9 @@ use Rattle.std.proofs.Common.{filter, ap, ◌∙◌}
 use Rattle.eden_ids.specs.FileMaps.{FileMap, paths}
 use Rattle.eden_ids.specs.Paths.{lies_below}
 use Rattle.eden_overlay.proofs.WovenBelow.{all_wanted}
-use Rattle.eden_moves.specs.Moves.{at_paths}
+use Rattle.eden_renames.specs.Renames.{at_paths}
 use Rattle.eden_workcopy.specs.Meanings.{base_of}
-use Rattle.eden_workcopy.proofs.Works.{all_at_paths}
+use Rattle.eden_renames.proofs.Listed.{all_at_paths}
 use Rattle.eden_workcopy.proofs.work.WorkCopy.list_below.Goals as goal
 
 pub returns : goal.returns

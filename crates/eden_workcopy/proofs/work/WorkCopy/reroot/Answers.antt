@@ -8,8 +8,8 @@ use Rattle.eden_workcopy.specs.internal.Agreements.{IsLean}
 use Rattle.eden_overlay.specs.Layers.{over}
 use Rattle.eden_objects.proofs.CommitTexts.{commits_texts}
 use Rattle.eden_history.proofs.Spelled.{held_texts}
-use Rattle.eden_moves.specs.Moves.{seen_through}
-use Rattle.eden_moves.proofs.Seen.{seen-unmoved}
+use Rattle.eden_renames.specs.Renames.{seen_through}
+use Rattle.eden_renames.proofs.Seen.{seen-unmoved}
 use Rattle.eden_workcopy.specs.Meanings.{means}
 use Rattle.eden_workcopy.proofs.Rerooted.{lean_differs, listed_differ, no_second}
 use Rattle.eden_workcopy.proofs.work.WorkCopy.reroot.Goals as goal

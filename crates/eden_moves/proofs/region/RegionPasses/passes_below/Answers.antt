@@ -1,8 +1,0 @@
-use Rattle.std.proofs.Common.{sym, ◌∙◌}
-use Rattle.std.proofs.lemmas.Bool.{or_right}
-use Rattle.eden_moves.proofs.Regions.{past_more}
-use Rattle.eden_moves.proofs.region.RegionPasses.passes_below.Goals as goal
-
-pub returns-else-passes_below : goal.returns-else-passes_below
-returns-else-passes_below g c = λ past rest within.
-    or_right _ _ (past_more c.args.self.now.moves.now c.args.front.now c.args.self.now.long (sym c.is_past.ensures ∙ past) rest)

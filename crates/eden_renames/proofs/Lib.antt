@@ -1,0 +1,12 @@
+pub mod Nearest
+pub mod Seen
+pub mod DirRenamed
+pub mod Settled
+pub mod Finding
+pub mod Shifting
+pub mod Regions
+pub mod Unsettling
+pub mod Listed
+pub mod InOrder
+pub mod PutIn
+pub mod Apart
