@@ -1,99 +1,131 @@
--- What frames tell of a server, carried on from body to body, and what it says at the end.
-use Rattle.std.proofs.Common.{ℕ, inl, inr, List, [], ◌∷◌, ◌++◌, map, Option, Result, Ok, Err, refl, sym, ap, ◌∙◌, subst}
+-- What frames say of a server, carried on from body to body, and what it says at the end.
+use Rattle.std.proofs.Common.{◌≡◌, ℕ, inl, inr, List, [], ◌∷◌, ◌++◌, map, Option, Result, Ok, Err, refl, sym, ap, ◌∙◌, subst}
 use Rattle.std.proofs.lemmas.List.{map-append}
+use Rattle.eden_history.specs.Worlds.{Namer, WorldState}
 use Rattle.eden_stream.proofs.FrameEndings.{at_each_end, serve_ends}
-use Rattle.eden_stream.proofs.Replying.{answers_tell, replied_none}
-use Rattle.eden_stream.specs.FrameAnswers.{AnswersBody, RepliesAs}
+use Rattle.eden_stream.proofs.Replying.{answers_tell, replied_none, same_replied}
+use Rattle.eden_stream.specs.FrameAnswers.{AnswersBody, Answering, RepliesAs}
 use Rattle.eden_stream.specs.FrameEnds.{Serves}
 use Rattle.eden_stream.specs.FrameTellings.{EndsTelling}
+use Rattle.eden_stream.specs.Stories.{Story, Tells}
 use Rattle.eden_stream.specs.declared.frame_fault.FrameFault.{FrameFault}
 use Rattle.eden_stream.specs.declared.frames.ServeFault.{ServeFault}
-use Rattle.eden_history.specs.Worlds.{WorldState}
-use Rattle.eden_messages.specs.declared.message.Request.{Request}
-use Rattle.eden_stream.specs.Stories.{Tells}
 use Rattle.eden_stream.specs.declared.teller.Step.{Step}
 use Rattle.eden_stream.specs.declared.teller.Step.TheVariants.{Told, Fault, NoMemory}
+use Rattle.eden_wire.specs.Stats.{read_question}
+use Rattle.eden_wire.specs.declared.command.Command.{Command}
+use Rattle.eden_wire.specs.declared.fault.DecodeFault.{DecodeFault}
+use Rattle.eden_wire.specs.declared.question.Question.{Question}
 use Rattle.eden_query.specs.Answers.{answer_to, answered, refused_with}
-use Rattle.eden_wire.specs.Reading.{read_request}
-use Rattle.eden_query.specs.Servers.{Asks}
-use Rattle.eden_query.specs.Servings.{AsksBodies, serving_story}
-use Rattle.eden_query.specs.declared.raw.Raw.{Raw}
-use Rattle.eden_query.specs.internal.Askings.{AsksBody, AsksOne}
+use Rattle.eden_query.specs.Commands.{Reading, after, answer_by, answers_in, as_asked, read_asking, world_past}
+use Rattle.eden_query.specs.Servers.{DoAll}
+use Rattle.eden_query.specs.Servings.{DoesBodies, serving_story}
+use Rattle.eden_query.specs.internal.Askings.{DoesBody, DoesOne}
 
-module _ {T : Type 0} (gives : T → ℕ → Request → Raw → T → Type 0) (caller : ℕ) where
-  asks_more : (old : T) (requests : List Request) (mid : T) (request : Request) (raw : Raw) (new : T) → Asks gives caller old requests mid
-      → gives mid caller request raw new → Asks gives caller old (requests ++ request ∷ []) new
-  asks_more old [] mid request raw new same given = (new, raw, subst (λ (s : T). gives s caller request raw new) same given, refl)
-  asks_more old (first ∷ rest) mid request raw new asked given =
-      (asked.0, asked.1, asked.2, asks_more asked.0 rest mid request raw new asked.3 given)
+do_more : {T : Type 0} (does : T → Command → T → Type 0) (old : T) (commands : List Command) (mid : T) (command : Command) (new : T) → DoAll does old commands mid
+    → does mid command new → DoAll does old (commands ++ command ∷ []) new
+do_more does old [] mid command new same did = (new, subst (λ s. does s command new) same did, refl)
+do_more does old (first ∷ rest) mid command new done did = (done.0, done.1, do_more does done.0 rest mid command new done.2 did)
 
-  -- one more body was asked
-  bodies_more : (old : T) (bodies : List (List ℕ)) (mid : T) (body : List ℕ) (new : T) → AsksBodies gives caller old bodies mid
-      → AsksOne gives caller mid body new → AsksBodies gives caller old (bodies ++ body ∷ []) new
+after_more : (name : Namer) (read : Reading) (world : WorldState) (bodies : List (List ℕ)) (body : List ℕ)
+    → after name read world (bodies ++ body ∷ []) ≡ world_past name (after name read world bodies) (read body)
+after_more name read world [] body = refl
+after_more name read world (first ∷ rest) body = after_more name read (world_past name world (read first)) rest body
+
+module _ {T : Type 0} (name : Namer) (read : Reading) (stands_for : T → WorldState → Type 0) (does : T → Command → T → Type 0) where
+  -- the command of one more body was done
+  bodies_more : (old : T) (bodies : List (List ℕ)) (mid : T) (body : List ℕ) (new : T) → DoesBodies name read stands_for does old bodies mid
+      → DoesOne name read stands_for does mid body new → DoesBodies name read stands_for does old (bodies ++ body ∷ []) new
   bodies_more old bodies mid body new before one = record {
-    requests = before.requests ++ one.request ∷ [];
-    spelled = map-append read_request bodies (body ∷ []) ∙ ap (λ results. results ++ read_request body ∷ []) before.spelled
-        ∙ ap (λ result. map (λ request. Ok request) before.requests ++ result ∷ []) one.spelled
-        ∙ sym (map-append (λ request. Ok request) before.requests (one.request ∷ []));
-    asked = asks_more old before.requests mid one.request one.raw new before.asked one.given;
+    commands = before.commands ++ one.command ∷ [];
+    spelled = map-append read bodies (body ∷ []) ∙ ap (λ results. results ++ read body ∷ []) before.spelled
+        ∙ ap (λ result. map (λ command. Ok command) before.commands ++ result ∷ []) one.spelled
+        ∙ sym (map-append (λ command. Ok command) before.commands (one.command ∷ []));
+    done = do_more does old before.commands mid one.command new before.done one.done.did;
+    stands = λ world s.
+        subst (stands_for new) (ap (world_past name (after name read world bodies)) (sym one.spelled) ∙ sym (after_more name read world bodies body))
+        (one.done.stands (after name read world bodies) (before.stands world s));
   }
 
-  module _ (stands_for : T → WorldState → Type 0) (before : T) where
-    pub serving_none : (serving_story stands_for gives caller before before).told [] []
+  module _ (before : T) where
+    pub serving_none : (serving_story name read stands_for does before before).told [] []
     serving_none = (
-      record { replied = λ world s. replied_none (answer_to world); stands = λ world s. s },
-      record { requests = []; spelled = refl; asked = refl },
+      λ world s. replied_none (answers_in name read world),
+      record { commands = []; spelled = refl; done = refl; stands = λ world s. s },
     )
 
     pub serving_tells : (old new : T) (bodies : List (List ℕ)) (sent body before_text text : List ℕ) (answer : Step FrameFault)
-        → ((world : WorldState) → stands_for old world → AnswersBody (answer_to world) body before_text text answer)
-        → ((world : WorldState) → stands_for old world → stands_for new world) → AsksBody gives caller old body new answer
-        → (serving_story stands_for gives caller before old).told bodies (sent ++ before_text)
-        → Tells (serving_story stands_for gives caller before new) bodies sent body before_text text answer
-    serving_tells old new bodies sent body before_text text Told answers stays asks told = (
-      record {
-        replied = λ world s. answers_tell (answer_to world) bodies sent body before_text text Told (answers world (told.0.stands world s)) (told.0.replied world s);
-        stands = λ world s. stays world (told.0.stands world s);
-      },
-      bodies_more before bodies old body new told.1 asks,
+        → ((world : WorldState) → stands_for old world → AnswersBody (λ body. answer_by name world (read body)) body before_text text answer)
+        → DoesBody name read stands_for does old body new answer → (serving_story name read stands_for does before old).told bodies (sent ++ before_text)
+        → Tells (serving_story name read stands_for does before new) bodies sent body before_text text answer
+    serving_tells old new bodies sent body before_text text Told answers done told = (
+      λ world s. answers_tell (answers_in name read world) bodies sent body before_text text Told (answers (after name read world bodies) (told.1.stands world s)) (told.0 world s),
+      bodies_more before bodies old body new told.1 done,
     )
-    serving_tells old new bodies sent body before_text text (Fault fault) answers stays asks told = (
+    serving_tells old new bodies sent body before_text text (Fault fault) answers done told = (
       (
-        record {
-          replied = λ world s. (answers_tell (answer_to world) bodies sent body before_text text (Fault fault) (answers world (told.0.stands world s)) (told.0.replied world s)).0;
-          stands = λ world s. stays world (told.0.stands world s);
-        },
-        subst (AsksBodies gives caller before bodies) (sym asks.1) told.1,
+        λ world s. (answers_tell (answers_in name read world) bodies sent body before_text text (Fault fault) (answers (after name read world bodies) (told.1.stands world s)) (told.0 world s)).0,
+        subst (DoesBodies name read stands_for does before bodies) (sym done.1) told.1,
       ),
-      asks.0,
+      done.0,
     )
-    serving_tells old new bodies sent body before_text text NoMemory answers stays asks told = (
-      record {
-        replied = λ world s. answers_tell (answer_to world) bodies sent body before_text text NoMemory (answers world (told.0.stands world s)) (told.0.replied world s);
-        stands = λ world s. stays world (told.0.stands world s);
-      },
-      elim asks [
-        | inl same ↦ inl (subst (AsksBodies gives caller before bodies) (sym same) told.1)
+    serving_tells old new bodies sent body before_text text NoMemory answers done told = (
+      λ world s. answers_tell (answers_in name read world) bodies sent body before_text text NoMemory (answers (after name read world bodies) (told.1.stands world s)) (told.0 world s),
+      elim done [
+        | inl same ↦ inl (subst (DoesBodies name read stands_for does before bodies) (sym same) told.1)
         | inr one ↦ inr (bodies_more before bodies old body new told.1 one)
       ],
     )
 
-    module _ (now : T) (r0 r1 w0 w1 : Option (List ℕ)) (result : Result ℕ ServeFault)
-        (ends : EndsTelling (serving_story stands_for gives caller before now) r0 r1 w0 w1 result) where
-      replies_as : (world : WorldState) → stands_for before world → RepliesAs (answer_to world) (serving_story stands_for gives caller before now)
-      replies_as world s = record {
-        told = λ bodies text told. told.0.replied world s;
-        lost = λ bodies text lost. lost.0.replied world s;
-        refused = λ bodies body fault unread. ap (answered world) unread.1 ∙ ap refused_with unread.2;
-        spent = λ bodies body text spent. spent.0.replied world s;
-      }
+    pub replies_as : (now : T) (world : WorldState) → stands_for before world
+        → RepliesAs (answers_in name read world) (λ bodies. stands_for now (after name read world bodies)) (serving_story name read stands_for does before now)
+    replies_as now world s = record {
+      told = λ bodies text told. (told.0 world s, told.1.stands world s);
+      lost = λ bodies text lost. (lost.0 world s, lost.1.stands world s);
+      refused = λ bodies body fault unread. ap (answer_by name (after name read world bodies)) unread.1 ∙ ap refused_with unread.2;
+      spent = λ bodies body text spent. (spent.0 world s, elim spent.1 [ inl done ↦ inl (done.stands world s) | inr done ↦ inr (done.stands world s) ]);
+    }
 
-      pub serving_ends : (world : WorldState) → stands_for before world → Serves (answer_to world) r0 r1 w0 w1 result
-      serving_ends world s =
-          subst (Serves (answer_to world) r0 r1 w0 w1) (sym ends.1)
-          (serve_ends (answer_to world) (serving_story stands_for gives caller before now) (replies_as world s) r0 r1 w0 w1 ends.0 ends.2)
+-- ---- requests alone
 
-      pub serving_stands : (world : WorldState) → stands_for before world → stands_for now world
-      serving_stands world s =
-          at_each_end (stands_for now world) (serving_story stands_for gives caller before now) r0 r1 w0 w1
-          (λ bodies text told. told.0.stands world s) (λ bodies text lost. lost.0.stands world s) (λ bodies body text spent. spent.0.stands world s) ends.0 ends.2
+by_asking : (name : Namer) (world : WorldState) (read : Result Question DecodeFault) → answer_by name world (as_asked read) ≡ answered name world read
+by_asking name world (Ok question) = refl
+by_asking name world (Err fault) = refl
+
+past_asking : (name : Namer) (world : WorldState) (read : Result Question DecodeFault) → world_past name world (as_asked read) ≡ world
+past_asking name world (Ok question) = refl
+past_asking name world (Err fault) = refl
+
+pub after_asking : (name : Namer) (world : WorldState) (bodies : List (List ℕ)) → after name read_asking world bodies ≡ world
+after_asking name world [] = refl
+after_asking name world (body ∷ bodies) = ap (λ w. after name read_asking w bodies) (past_asking name world (read_question body)) ∙ after_asking name world bodies
+
+in_asking : (name : Namer) (world : WorldState) (before : List (List ℕ)) (body : List ℕ) → answers_in name read_asking world before body ≡ answer_to name world body
+in_asking name world before body = ap (λ w. answer_by name w (read_asking body)) (after_asking name world before) ∙ by_asking name world (read_question body)
+
+-- a world that no body changes answers each body alike, and stays the present
+pub replies_alike : (name : Namer) (world : WorldState) (stands : WorldState → Type 0) (story : Story FrameFault)
+    → RepliesAs (answers_in name read_asking world) (λ bodies. stands (after name read_asking world bodies)) story → RepliesAs (λ _. answer_to name world) (λ _. stands world) story
+replies_alike name world stands story says =
+    let stay : (bodies : List (List ℕ)) → stands (after name read_asking world bodies) → stands world = λ bodies. subst stands (after_asking name world bodies) in
+    let same = same_replied (answers_in name read_asking world) (λ _. answer_to name world) (in_asking name world) in
+    record {
+      told = λ bodies text told. let right = says.told bodies text told in (same bodies text right.0, stay bodies right.1);
+      lost = λ bodies text lost. let right = says.lost bodies text lost in (same bodies text right.0, stay bodies right.1);
+      refused = λ bodies body fault unread. sym (in_asking name world bodies body) ∙ says.refused bodies body fault unread;
+      spent = λ bodies body text spent. let right = says.spent bodies body text spent in
+          (same bodies text right.0, elim right.1 [ inl left ↦ inl (stay bodies left) | inr left ↦ inr (stay (bodies ++ body ∷ []) left) ]);
+    }
+
+-- ---- ends
+
+module _ (answers : Answering) (left : List (List ℕ) → Type 0) (story : Story FrameFault) (says : RepliesAs answers left story)
+    (r0 r1 w0 w1 : Option (List ℕ)) (result : Result ℕ ServeFault) (ends : EndsTelling story r0 r1 w0 w1 result) where
+  pub serving_ends : Serves answers left r0 r1 w0 w1 result
+  serving_ends = subst (Serves answers left r0 r1 w0 w1) (sym ends.1) (serve_ends answers left story says r0 r1 w0 w1 ends.0 ends.2)
+
+pub serving_stays : (answers : Answering) (P : Type 0) (story : Story FrameFault) → RepliesAs answers (λ _. P) story → (r0 r1 w0 w1 : Option (List ℕ)) (result : Result ℕ ServeFault)
+    → EndsTelling story r0 r1 w0 w1 result → P
+serving_stays answers P story says r0 r1 w0 w1 result ends =
+    at_each_end P story r0 r1 w0 w1 (λ bodies text told. (says.told bodies text told).1) (λ bodies text lost. (says.lost bodies text lost).1)
+    (λ bodies body text spent. elim (says.spent bodies body text spent).1 [ inl stays ↦ stays | inr stays ↦ stays ]) ends.0 ends.2

@@ -1,4 +1,4 @@
--- What a mount tells of its past is what the worlds reply for which it stands.
+-- What a mount says of its past is what the worlds reply for which it is.
 use Rattle.std.proofs.Common.{◌≡◌, ℕ, true, List, Option, Some, None, refl, sym, ap, subst, ◌∙◌}
 use Rattle.std.specs.Prelude.{IsSome, Ok, Err}
 use Rattle.eden_ids.specs.declared.id.Id.{Id}

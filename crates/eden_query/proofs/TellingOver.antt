@@ -11,7 +11,7 @@ use Rattle.eden_history.specs.Marks.{admitted, mark_said}
 use Rattle.eden_history.specs.Said.{by_root, by_touch, ends}
 use Rattle.eden_messages.specs.declared.message.Reply.TheVariants.{BasisIs, ChangesAre, ListIs}
 use Rattle.eden_messages.specs.Replies.{bounded}
-use Rattle.eden_moves.specs.Moves.{at_paths, seen_through}
+use Rattle.eden_renames.specs.Renames.{at_paths, seen_through}
 use Rattle.eden_objects.specs.Closed.{IsClosed}
 use Rattle.eden_objects.specs.Commits.{commit_map}
 use Rattle.eden_objects.specs.Files.{files_of}
@@ -28,7 +28,7 @@ use Rattle.eden_query.proofs.Telling.{named_answerable}
 
 -- the paths that a snapshot shows over the files of its commit
 abbrev shown_of : Patterns → Snapshot → Option FileMap → List (List ℕ)
-shown_of patterns snapshot files = filter (admits patterns) (listing (shown_over (at_paths (seen_through (files_of files) snapshot.moves)) snapshot.touched))
+shown_of patterns snapshot files = filter (admits patterns) (listing (shown_over (at_paths (seen_through (files_of files) snapshot.renames)) snapshot.touched))
 
 module _ (held more : List Held) (closed : IsClosed held) (grown : IsClosed more) (all : HasAll held more) where
   same_commit : (commit : Id) → IsSome (commit_map held commit) → commit_map more commit ≡ commit_map held commit

@@ -2,16 +2,16 @@
 use Rattle.std.specs.Prelude.{◌≡◌, ℕ, List, [], Option, Some, None, Result, Ok, Err}
 use Rattle.eden_wire.specs.declared.fault.DecodeFault.{DecodeFault}
 use Rattle.eden_wire.specs.declared.fault.DecodeFault.TheVariants as decode
-use Rattle.eden_wire.specs.Reading.{read_request}
+use Rattle.eden_wire.specs.declared.question.Question.{Question}
+use Rattle.eden_wire.specs.Stats.{read_question, request_of, said, wants_of}
 use Rattle.eden_stream.specs.declared.frame_fault.FrameFault.{FrameFault}
 use Rattle.eden_stream.specs.declared.frame_fault.FrameFault.TheVariants as frame
 use Rattle.eden_messages.specs.declared.message.Reply.{Reply}
 use Rattle.eden_messages.specs.declared.message.Request.{Request}
 use Rattle.eden_history.specs.Legal.{IsSomeWorld}
 use Rattle.eden_history.specs.Spellable.{IsSpellable}
-use Rattle.eden_history.specs.Worlds.{WorldState}
+use Rattle.eden_history.specs.Worlds.{Namer, WorldState}
 use Rattle.eden_messages.specs.Replies.{reply_of}
-use Rattle.eden_messages.specs.Spells.{reply_bytes}
 use Rattle.eden_stream.specs.Frames as frames
 
 -- the fault of a body under the name that it has as a frame's; `NoMemory` is no fault of a body
@@ -29,14 +29,14 @@ abbrev pub refused_with : Option FrameFault → Result (List ℕ) FrameFault
 refused_with (Some fault) = Err fault
 refused_with None = Ok []
 
-abbrev pub answered : WorldState → Result Request DecodeFault → Result (List ℕ) FrameFault
-answered world (Ok request) = Ok (frames.frame (reply_bytes (reply_of world request)))
-answered world (Err fault) = refused_with (frame_fault_of fault)
+abbrev pub answered : Namer → WorldState → Result Question DecodeFault → Result (List ℕ) FrameFault
+answered name world (Ok question) = Ok (frames.frame (said name (wants_of question) (reply_of world (request_of question))))
+answered name world (Err fault) = refused_with (frame_fault_of fault)
 
--- the frame of the world's reply to the request that the body spells, or the first fault of a body
--- that spells none
-abbrev pub answer_to : WorldState → List ℕ → Result (List ℕ) FrameFault
-answer_to world body = answered world (read_request body)
+-- the frame of what the body wants of the world's reply to its request, or the first fault of a body
+-- that asks nothing
+abbrev pub answer_to : Namer → WorldState → List ℕ → Result (List ℕ) FrameFault
+answer_to name world body = answered name world (read_question body)
 
 -- some world gives this reply to the request, and all that it replies has a spelling
 abbrev pub IsReplyOfWorld : Request → Reply → Type 0

@@ -1,4 +1,5 @@
 pub mod Answers
+pub mod Commands
 pub mod Raws
 pub mod Settled
 pub mod Servers

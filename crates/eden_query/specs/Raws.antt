@@ -1,5 +1,5 @@
 -- The reply that is made of what was held of a mount.
-use Rattle.std.specs.Prelude.{◌≡◌, Bool, true, is_some, IsSome, List, [], ℕ}
+use Rattle.std.specs.Prelude.{◌≡◌, Bool, true, is_some, IsSome, List}
 use Rattle.eden_globs.specs.Filters.{Patterns, all_paths}
 use Rattle.eden_objects.specs.Closed.{IsClosed}
 use Rattle.eden_objects.specs.Commits.{commit_map}

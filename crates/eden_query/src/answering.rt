@@ -1,6 +1,6 @@
 //! The reply to a request, from what was held of a mount.
 
-ghost use Rattle.std.specs.Prelude.{◌≡◌, ◌≢◌, ◌≤◌, length, true, false, is_some, IfOk, IfErr, OnOk};
+ghost use Rattle.std.specs.Prelude.{◌≡◌, ◌≢◌, ◌≤◌, length, true, false, IfOk, IfErr, OnOk};
 ghost use Rattle.eden_globs.specs.Filters.{all_paths};
 ghost use Rattle.eden_objects.specs.Commits.{commit_map};
 ghost use Rattle.eden_messages.specs.Replies.{bounded};

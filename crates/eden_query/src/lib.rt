@@ -31,9 +31,10 @@
 
 pub use crate::answering::{answer, answer_request};
 pub use crate::laws::told_over_law;
+pub use crate::naming::UnitNaming;
 pub use crate::raw::Raw;
 pub use crate::served::Served;
-pub use crate::serving::{fault_of_frame, reply_to, serve};
+pub use crate::serving::{fault_of_frame, reply_to, serve, serve_writable};
 pub use eden_stream::{BODY_LIMIT, FrameFault, ServeFault, tell_frames};
 pub use eden_wire::{
     DecodeFault, EncodeFault, append_reply, decode_reply, decode_request, encode_reply,
@@ -42,7 +43,8 @@ pub use eden_wire::{
 
 mod answering;
 mod laws;
-mod mounting;
+mod mount;
+mod naming;
 mod raw;
 mod served;
 mod serving;

@@ -1,12 +1,11 @@
 -- What an audit and the check of a follower say together.
-use Rattle.std.proofs.Common.{◌≡◌, ℕ, List, None, sym, ap, ◌∙◌, subst}
+use Rattle.std.proofs.Common.{List, None, sym, ap, ◌∙◌, subst}
 use Rattle.std.specs.Prelude.{if◌then◌else◌}
 use Rattle.eden_accumulate.proofs.Standing.{sequence_is}
-use Rattle.eden_accumulate.specs.Mounts.{State, StandsFor, files_of}
+use Rattle.eden_accumulate.specs.Mounts.{State, StandsFor}
 use Rattle.eden_globs.specs.Filters.{admits}
 use Rattle.eden_headline.specs.Headline.{AgreesAtHead}
 use Rattle.eden_headline.specs.Merges.{GoesWith}
-use Rattle.eden_history.specs.declared.position.Position.{Position}
 use Rattle.eden_history.specs.Worlds.{Namer, WorldState}
 use Rattle.eden_headline.specs.declared.note.Note.{Note}
 use Rattle.eden_ids.specs.FileMaps.{FileMap, file_at}

@@ -6,8 +6,8 @@ use Rattle.std.proofs.lemmas.Bool.Decides.{Decides-eqb}
 use mathlib.Core.Bool.{true≢false}
 use Rattle.std.proofs.lemmas.List.{get_or-set_same, get_or-set_other}
 use Rattle.std.proofs.lemmas.List.Elements.{Contains-push, Contains-push_cases, Contains-append_left}
-use Rattle.eden_logs.specs.declared.call.Answer.{Answer}
-use Rattle.eden_logs.specs.declared.history.Entry.{Entry}
+use Rattle.eden_logs.specs.declared.call.CallAnswer.{CallAnswer}
+use Rattle.eden_logs.specs.declared.history.HistoryEntry.{HistoryEntry}
 use Rattle.eden_logs.specs.declared.log.LogEntry.{LogEntry}
 use Rattle.eden_logs.specs.Logs.{AllGood, IsNumber}
 use Rattle.eden_shared.specs.internal.Marks.{Marks, is_marked}
@@ -69,7 +69,7 @@ unmarked count = record { there = λ q h. absurd (true≢false (sym h ∙ none c
 
 -- ---- the tickets of a good log are numbers of the history
 
-pub good_numbers : (history : List Entry) (answers : List Answer) (earlier : List ℕ) (caller : ℕ) (last : ℕ) (entries : List LogEntry) (count : ℕ) → count ≡ length history
+pub good_numbers : (history : List HistoryEntry) (answers : List CallAnswer) (earlier : List ℕ) (caller : ℕ) (last : ℕ) (entries : List LogEntry) (count : ℕ) → count ≡ length history
     → AllGood history answers earlier caller last entries → All (λ (noted : LogEntry). IsNumber count noted.ticket) entries
 good_numbers history answers earlier caller last entries count same good =
     each last entries good where

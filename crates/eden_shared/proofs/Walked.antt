@@ -1,34 +1,24 @@
 -- How a walk goes on, and how it ends.
 use Rattle.std.proofs.Common.{◌≡◌, ℕ, ◌+◌, ◌<◌, ◌≤◌, List, [], ◌∷◌, ◌++◌, length, length-append, take, drop, get_or, refl, sym, ◌∙◌, ap, subst, inl, inr, append_assoc, append-nil, arith}
 use Rattle.std.proofs.lemmas.List.{length-map, take-append-drop}
-use Rattle.eden_logs.specs.declared.call.Answer.{Answer}
+use Rattle.eden_logs.specs.declared.call.CallAnswer.{CallAnswer}
 use Rattle.eden_logs.proofs.Covered.{left_at, taken_at}
 use Rattle.eden_logs.specs.declared.fault.AuditFault.{AuditFault}
-use Rattle.eden_logs.specs.declared.history.Entry.{Entry}
+use Rattle.eden_logs.specs.declared.history.HistoryEntry.{HistoryEntry}
 use Rattle.eden_logs.specs.declared.log.CallLog.{CallLog}
 use Rattle.eden_logs.specs.declared.log.LogEntry.{LogEntry}
 use Rattle.eden_shared.specs.Faults.{IsFault, FirstFault, LogsFault}
-use Rattle.eden_logs.specs.Logs.{IsGood, AllGood, tickets_in, tickets_of}
+use Rattle.eden_logs.specs.Logs.{AllGood, tickets_in, tickets_of}
 use Rattle.eden_shared.specs.internal.Walks.{Walks, LogWalks}
 
 -- ---- along a log
 
-pub walk_first : (history : List Entry) (answers : List Answer) (earlier : List ℕ) (caller : ℕ) (whole : List LogEntry)
-    → Walks history answers earlier caller whole 0 whole
-walk_first history answers earlier caller whole = record { good = λ h. h; fault = λ f h. h }
-
-pub walk_on : (history : List Entry) (answers : List Answer) (earlier : List ℕ) (caller : ℕ) (whole : List LogEntry) (last : ℕ) (noted : LogEntry) (rest : List LogEntry)
-    → Walks history answers earlier caller whole last (noted ∷ rest) → IsGood history answers earlier caller last noted
-    → Walks history answers earlier caller whole noted.ticket rest
-walk_on history answers earlier caller whole last noted rest walks good =
-    record { good = λ h. walks.good (good, h); fault = λ f h. walks.fault f (inr (good, h)) }
-
-pub walk_found : (history : List Entry) (answers : List Answer) (earlier : List ℕ) (caller : ℕ) (whole : List LogEntry) (last : ℕ) (noted : LogEntry) (rest : List LogEntry) (f : AuditFault)
+pub walk_found : (history : List HistoryEntry) (answers : List CallAnswer) (earlier : List ℕ) (caller : ℕ) (whole : List LogEntry) (last : ℕ) (noted : LogEntry) (rest : List LogEntry) (f : AuditFault)
     → Walks history answers earlier caller whole last (noted ∷ rest) → IsFault history answers earlier caller last noted f
     → FirstFault history answers earlier caller 0 whole f
 walk_found history answers earlier caller whole last noted rest f walks h = walks.fault f (inl h)
 
-pub walk_stop : (history : List Entry) (answers : List Answer) (earlier : List ℕ) (caller : ℕ) (whole : List LogEntry) (i : ℕ) (last : ℕ) (noted : LogEntry) (f : AuditFault)
+pub walk_stop : (history : List HistoryEntry) (answers : List CallAnswer) (earlier : List ℕ) (caller : ℕ) (whole : List LogEntry) (i : ℕ) (last : ℕ) (noted : LogEntry) (f : AuditFault)
     → i < length whole → noted ≡ get_or whole i noted
     → Walks history answers earlier caller whole last (drop i whole) → IsFault history answers earlier caller last noted f
     → FirstFault history answers earlier caller 0 whole f
@@ -38,13 +28,13 @@ walk_stop history answers earlier caller whole i last noted f h same walks is =
 
 -- ---- along the logs
 
-pub logs_on : (history : List Entry) (answers : List Answer) (whole : List CallLog) (earlier : List ℕ) (log : CallLog) (rest : List CallLog)
+pub logs_on : (history : List HistoryEntry) (answers : List CallAnswer) (whole : List CallLog) (earlier : List ℕ) (log : CallLog) (rest : List CallLog)
     → LogWalks history answers whole earlier (log ∷ rest) → AllGood history answers earlier log.caller 0 log.entries
     → LogWalks history answers whole (earlier ++ tickets_of log) rest
 logs_on history answers whole earlier log rest walks good =
     record { good = λ h. walks.good (good, h); fault = λ f h. walks.fault f (inr (good, h)) }
 
-pub logs_found : (history : List Entry) (answers : List Answer) (whole : List CallLog) (earlier : List ℕ) (log : CallLog) (rest : List CallLog) (f : AuditFault)
+pub logs_found : (history : List HistoryEntry) (answers : List CallAnswer) (whole : List CallLog) (earlier : List ℕ) (log : CallLog) (rest : List CallLog) (f : AuditFault)
     → LogWalks history answers whole earlier (log ∷ rest) → FirstFault history answers earlier log.caller 0 log.entries f
     → LogsFault history answers [] whole f
 logs_found history answers whole earlier log rest f walks h = walks.fault f (inl h)
@@ -76,7 +66,7 @@ count_within logs i =
     ∙ length-append (tickets_in (take i logs)) (tickets_in (drop i logs)) in
     omega arith
 
-pub logs_stop : (history : List Entry) (answers : List Answer) (whole : List CallLog) (earlier : List ℕ) (i : ℕ) (log : CallLog) (f : AuditFault)
+pub logs_stop : (history : List HistoryEntry) (answers : List CallAnswer) (whole : List CallLog) (earlier : List ℕ) (i : ℕ) (log : CallLog) (f : AuditFault)
     → i < length whole → log ≡ get_or whole i log
     → LogWalks history answers whole earlier (drop i whole) → FirstFault history answers earlier log.caller 0 log.entries f
     → LogsFault history answers [] whole f
@@ -84,7 +74,7 @@ logs_stop history answers whole earlier i log f h same walks is =
     logs_found history answers whole earlier log (drop (i + 1) whole) f
     (subst (λ (left : List CallLog). LogWalks history answers whole earlier left) (left_at whole i log h same) walks) is
 
-pub logs_next : (history : List Entry) (answers : List Answer) (whole : List CallLog) (i : ℕ) (log : CallLog)
+pub logs_next : (history : List HistoryEntry) (answers : List CallAnswer) (whole : List CallLog) (i : ℕ) (log : CallLog)
     → i < length whole → log ≡ get_or whole i log
     → LogWalks history answers whole (tickets_in (take i whole)) (drop i whole)
     → AllGood history answers (tickets_in (take i whole)) log.caller 0 log.entries

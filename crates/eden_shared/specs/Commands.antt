@@ -9,18 +9,21 @@ use Rattle.eden_history.specs.declared.answer.Answer.{Answer}
 use Rattle.eden_history.specs.declared.change.Change.{Change}
 use Rattle.eden_messages.specs.declared.message.Reply.{Reply}
 use Rattle.eden_messages.specs.declared.message.Request.{Request}
-use Rattle.eden_messages.specs.Spells.{SpellsReply}
+use Rattle.eden_messages.specs.Spells.{SpellsReply, reply_bytes}
+use Rattle.eden_history.specs.Worlds.{Namer}
 use Rattle.eden_query.specs.Answers.{frame_fault_of}
 use Rattle.eden_stream.specs.Frames.{frame}
 use Rattle.eden_stream.specs.Stories.{Story}
 use Rattle.eden_stream.specs.declared.frame_fault.FrameFault.{FrameFault}
-use Rattle.eden_wire.specs.declared.doing.Command.{Command}
-use Rattle.eden_wire.specs.declared.doing.Command.TheVariants.{Ask, Do}
-use Rattle.eden_wire.specs.declared.doing.Doing.{Doing}
+use Rattle.eden_wire.specs.declared.command.Command.{Command}
+use Rattle.eden_wire.specs.declared.command.Command.TheVariants.{Ask, Do}
+use Rattle.eden_wire.specs.declared.command.Doing.{Doing}
 use Rattle.eden_wire.specs.declared.done.Done.{Done}
 use Rattle.eden_wire.specs.declared.done.Done.TheVariants.{NotWritable}
 use Rattle.eden_wire.specs.declared.fault.DecodeFault.{DecodeFault}
-use Rattle.eden_wire.specs.Doing.{done_bytes, done_of, read_command}
+use Rattle.eden_wire.specs.declared.question.Question.{Question}
+use Rattle.eden_wire.specs.Stats.{request_of, said, wants_of}
+use Rattle.eden_wire.specs.Commands.{done_bytes, done_of, read_command}
 use Rattle.eden_shared.specs.Passes.{PassView}
 
 -- the body asks for nothing, and this is its fault
@@ -45,12 +48,13 @@ abbrev pub counting : ℕ → Option PassView → Option PassView
 counting more None = None
 counting more (Some pass) = Some (record pass { amount = pass.amount + more })
 
--- What is said is the reply that was told to the request.
-pub record SaysReply (Told : ℕ → Request → Reply → Type 0) (request : Request) (said : List ℕ) : Type 0 where
+-- What is said is what the question wants of the reply that was said to its request.
+pub record SaysReply (name : Namer) (Told : ℕ → Request → Reply → Type 0) (question : Question) (body : List ℕ) : Type 0 where
   pub number : ℕ
   pub reply : Reply
-  pub told : Told number request reply
-  pub spelled : SpellsReply said reply
+  pub told : Told number (request_of question) reply
+  pub spelled : SpellsReply (reply_bytes reply) reply
+  pub said_is : body ≡ said name (wants_of question) reply
 
 -- The change was made and got this answer. The changes before it are at least those that the pass
 -- counts.
@@ -65,27 +69,27 @@ EndsSo Made None change done = done ≡ NotWritable
 EndsSo Made (Some pass) change done = (answer : Answer) × Makes Made pass change answer × (done ≡ done_of answer)
 
 -- what is said to a command: the reply to a request, or how a change ended
-abbrev pub Says : (ℕ → Request → Reply → Type 0) → (ℕ → Change → Answer → Type 0) → Option PassView → Command → List ℕ → Type 0
-Says Told Made writing (Ask asked) said = SaysReply Told asked.request said
-Says Told Made writing (Do doing) said = (done : Done) × EndsSo Made writing doing.change done × (said ≡ done_bytes doing.query done)
+abbrev pub Says : (Question → List ℕ → Type 0) → (ℕ → Change → Answer → Type 0) → Option PassView → Command → List ℕ → Type 0
+Says Tells Made writing (Ask asked) body = Tells asked.question body
+Says Tells Made writing (Do doing) body = (done : Done) × EndsSo Made writing doing.change done × (body ≡ done_bytes doing.query done)
 
 -- This is said to the commands, one after another. The pass counts each change before the next
 -- command.
-abbrev pub SaysAll : (ℕ → Request → Reply → Type 0) → (ℕ → Change → Answer → Type 0) → Option PassView → List Command → List (List ℕ) → Type 0
-SaysAll Told Made writing [] [] = Unit {0}
-SaysAll Told Made writing [] (said ∷ more) = ⊥
-SaysAll Told Made writing (command ∷ commands) [] = ⊥
-SaysAll Told Made writing (command ∷ commands) (said ∷ more) =
-    Says Told Made writing command said × SaysAll Told Made (counting (changes_of command) writing) commands more
+abbrev pub SaysAll : (Question → List ℕ → Type 0) → (ℕ → Change → Answer → Type 0) → Option PassView → List Command → List (List ℕ) → Type 0
+SaysAll Tells Made writing [] [] = Unit {0}
+SaysAll Tells Made writing [] (body ∷ more) = ⊥
+SaysAll Tells Made writing (command ∷ commands) [] = ⊥
+SaysAll Tells Made writing (command ∷ commands) (body ∷ more) =
+    Says Tells Made writing command body × SaysAll Tells Made (counting (changes_of command) writing) commands more
 
 -- The text is the frames of what was said to the bodies, one to each, in order. The pass counts one
 -- change more for each that they ask for, and no other.
-pub record Answers (Told : ℕ → Request → Reply → Type 0) (Made : ℕ → Change → Answer → Type 0) (before now : Option PassView)
+pub record Answers (Tells : Question → List ℕ → Type 0) (Made : ℕ → Change → Answer → Type 0) (before now : Option PassView)
     (bodies : List (List ℕ)) (text : List ℕ) : Type 0 where
   pub commands : List Command
   pub said : List (List ℕ)
   pub read : AllZip Reads bodies commands
-  pub says : SaysAll Told Made before commands said
+  pub says : SaysAll Tells Made before commands said
   pub text_is : text ≡ flat_map frame said
   pub counted : now ≡ counting (changes_in commands) before
 
@@ -99,14 +103,14 @@ pub record MakesUnsaid (Made : ℕ → Change → Answer → Type 0) (body : Lis
   pub makes : Makes Made pass doing.change answer
   pub counted : now ≡ counting 1 was
 
--- What frames tell of a server of which nothing is logged, and of the pass by which they change it.
--- A body that can't be read is told nothing. If there was no memory to answer a change, it was made
+-- What frames say of a server of which nothing is logged, and of the pass by which they change it.
+-- A body that can't be read gets no answer. If there was no memory to answer a change, it was made
 -- once, or not at all.
-abbrev pub unlogged_story : (ℕ → Request → Reply → Type 0) → (ℕ → Change → Answer → Type 0) → Option PassView → Option PassView → Story FrameFault
-unlogged_story Told Made before now = record {
-  told = Answers Told Made before now;
-  lost = Answers Told Made before now;
+abbrev pub unlogged_story : (Question → List ℕ → Type 0) → (ℕ → Change → Answer → Type 0) → Option PassView → Option PassView → Story FrameFault
+unlogged_story Tells Made before now = record {
+  told = Answers Tells Made before now;
+  lost = Answers Tells Made before now;
   refused = λ bodies body fault. IsUnread body fault;
-  spent = λ bodies body text. Answers Told Made before now bodies text
-      ⊎ ((was : Option PassView) × Answers Told Made before was bodies text × MakesUnsaid Made body was now);
+  spent = λ bodies body text. Answers Tells Made before now bodies text
+      ⊎ ((was : Option PassView) × Answers Tells Made before was bodies text × MakesUnsaid Made body was now);
 }

@@ -5,7 +5,6 @@ ghost use Rattle.eden_accumulate.specs.Mounts.{StandsFor};
 ghost use Rattle.eden_history.specs.Worlds.{WorldState};
 ghost use Rattle.eden_logs.specs.Accounts.{AllNoted};
 ghost use Rattle.eden_shared.specs.Faults.{IsWrong};
-ghost use Rattle.eden_logs.specs.Histories.{answers_along};
 ghost use Rattle.eden_logs.specs.Logs.{LogsAgree};
 
 use crate::audited::Audited;

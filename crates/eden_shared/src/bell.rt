@@ -48,7 +48,7 @@ impl Bell {
         self.rung.lock(rt).times
     }
 
-    /// Rings, and wakes all that wait.
+    /// Counts one more ring, and wakes all that wait.
     pub(crate) fn ring(&self, rt: &impl Wait) {
         let mut rung = self.rung.lock(rt);
         rung.times = rung.times.wrapping_add(1);

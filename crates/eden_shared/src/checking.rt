@@ -7,7 +7,7 @@ ghost use Rattle.eden_shared.specs.Faults.{FirstFault, IsFault};
 ghost use Rattle.eden_shared.specs.internal.Marks.{Marks};
 
 use crate::marking::is_marked;
-use eden_logs::{Answer, AuditFault, Call, CallLog, Entry, LogEntry};
+use eden_logs::{AuditFault, Call, CallAnswer, CallLog, HistoryEntry, LogEntry};
 
 /// Returns the item under a ticket. The first item is under ticket 1.
 fn at_ticket<T>(items: &[T], ticket: u64) -> Option<&T>
@@ -25,14 +25,14 @@ fn same_call(one: &Call, other: &Call) -> bool
 }
 
 /// Compares two answers.
-fn same_answer(one: &Answer, other: &Answer) -> bool
+fn same_answer(one: &CallAnswer, other: &CallAnswer) -> bool
     ensures { IsTrue result ↔ (one.now ≡ other.now) }
 {
     one == other
 }
 
 /// Returns whether the history has this call of this caller under its ticket.
-fn is_known(history: &[Entry], caller: u64, noted: &LogEntry) -> bool
+fn is_known(history: &[HistoryEntry], caller: u64, noted: &LogEntry) -> bool
     ensures { IsTrue result ↔ IsKnown history.now caller noted.now }
 {
     match at_ticket(history, noted.ticket) {
@@ -42,10 +42,10 @@ fn is_known(history: &[Entry], caller: u64, noted: &LogEntry) -> bool
 }
 
 /// Returns whether the answer is the right one, or there is none.
-fn is_right(answers: &[Answer], noted: &LogEntry) -> bool
+fn is_right(answers: &[CallAnswer], noted: &LogEntry) -> bool
     ensures { IsTrue result ↔ IsRight answers.now noted.now }
 {
-    if let Answer::Unanswered = &noted.answer {
+    if let CallAnswer::Unanswered = &noted.answer {
         return true;
     }
     match at_ticket(answers, noted.ticket) {
@@ -59,8 +59,8 @@ fn is_right(answers: &[Answer], noted: &LogEntry) -> bool
 /// The entry before it in the log has the ticket `last`, or `last` is 0. The marked tickets are in
 /// earlier logs.
 fn check_entry(
-    history: &[Entry],
-    answers: &[Answer],
+    history: &[HistoryEntry],
+    answers: &[CallAnswer],
     marks: &[bool],
     caller: u64,
     last: u64,
@@ -87,8 +87,8 @@ fn check_entry(
 
 /// Judges the entries of a log. The marked tickets are in earlier logs.
 pub(crate) fn check_log(
-    history: &[Entry],
-    answers: &[Answer],
+    history: &[HistoryEntry],
+    answers: &[CallAnswer],
     marks: &[bool],
     log: &CallLog,
 ) -> Result<(), AuditFault>

@@ -7,15 +7,15 @@ ghost use Rattle.eden_shared.specs.internal.Marks.{Marks};
 
 use crate::checking::check_log;
 use crate::marking::mark_tickets;
-use eden_logs::{Answer, AuditFault, CallLog, Entry};
+use eden_logs::{AuditFault, CallAnswer, CallLog, HistoryEntry};
 use std::alloc::Global;
 
 /// Judges the entries of all logs, each once.
 ///
 /// There is a mark for each entry of the history, and none is set.
-fn judge(
-    history: &[Entry],
-    answers: &[Answer],
+fn check_with_marks(
+    history: &[HistoryEntry],
+    answers: &[CallAnswer],
     marks: &mut [bool],
     logs: &[CallLog],
 ) -> Result<(), AuditFault>
@@ -35,8 +35,8 @@ fn judge(
 #[tactic(auto, using(crate::proofs::Marked::unmarked))]
 pub(crate) fn check_logs(
     alloc: Global,
-    history: &[Entry],
-    answers: &[Answer],
+    history: &[HistoryEntry],
+    answers: &[CallAnswer],
     logs: &[CallLog],
 ) -> Result<(), AuditFault>
     ensures good { OnOk result (LogsGood history.now answers.now [] logs.now) }
@@ -45,7 +45,7 @@ pub(crate) fn check_logs(
     match Vec::from_elem(alloc, false, history.len()) {
         Ok(marks) => {
             let mut marks = marks;
-            judge(history, answers, marks.as_mut_slice(), logs)
+            check_with_marks(history, answers, marks.as_mut_slice(), logs)
         }
         Err(_) => Err(AuditFault::NoMemory),
     }

@@ -83,7 +83,7 @@ pub use crate::serving::serve_shared;
 pub use crate::shared::{PassMissing, Shared, Ticketed};
 pub use crate::unlogged::{Holding, PassOut, Unlogged};
 pub use crate::unlogged_serving::serve_unlogged;
-pub use eden_logs::{Answer, AuditFault, Call, CallLog, Entry, LogEntry, Settled};
+pub use eden_logs::{AuditFault, Call, CallAnswer, CallLog, CallOutcome, HistoryEntry, LogEntry};
 
 mod audited;
 mod auditing;

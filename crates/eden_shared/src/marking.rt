@@ -1,6 +1,6 @@
 //! Marks of the tickets that are in logs.
 
-ghost use Rattle.std.specs.Prelude.{◌≡◌, ◌≤◌, ℕ, List, ◌++◌, ◌∷◌, [], length, All};
+ghost use Rattle.std.specs.Prelude.{◌≡◌, ℕ, List, ◌++◌, ◌∷◌, [], length, All};
 ghost use Rattle.eden_logs.specs.Logs.{IsNumber, tickets_of};
 ghost use Rattle.eden_shared.specs.internal.Marks.{Marks, is_marked};
 

@@ -1,6 +1,5 @@
 //! What a lock of which nothing is logged begins with.
 
-ghost use Rattle.std.specs.Prelude.{ℕ};
 ghost use Rattle.eden_history.specs.Worlds.{WorldState};
 
 use std::marker::Brand;

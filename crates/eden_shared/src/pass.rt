@@ -130,7 +130,7 @@ impl<L: Ledger> Passes<L> {
     }
 
     /// Shows that the passes count all calls of the book, if all of them are back.
-    pub(crate) fn settle(&mut self, book: &mut Book<L>)
+    pub(crate) fn show_total(&mut self, book: &mut Book<L>)
         requires all_back { self.old.back ≡ self.old.given }
         ensures total { book.old.total ≡ self.old.amount }
         ensures same_book { book.new.total ≡ book.old.total }

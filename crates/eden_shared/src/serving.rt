@@ -12,33 +12,32 @@ use crate::gate::Gate;
 use crate::patience::patience_of;
 use crate::shared::Shared;
 use eden_ids::Naming;
-use eden_query::{Served, append_reply, fault_of_frame};
+use eden_query::{Served, UnitNaming, fault_of_frame};
 use eden_stream::{
     CountedRead, CountedWrite, FrameFault, Frames, ServeFault, Step, Teller, tell_frames,
 };
-use eden_wire::decode_asked;
+use eden_wire::{append_wanted, decode_asked};
 use std::alloc::Global;
 use std::sync::Wait;
 use std::sync::ledger::Ledger;
 
 /// Asks a lock what the bodies of frames spell.
 #[derive(Drop)]
-struct Asker<'a, N: Naming + Drop, T: Served<N>, L: Ledger, G: Gate, R: Wait> {
+struct LockTeller<'a, N: Naming + Drop, T: Served<N>, L: Ledger, G: Gate, R: Wait> {
     rt: &'a R,
     alloc: Global,
     shared: &'a Shared<N, T, L>,
     gate: &'a G,
 }
 
-/// Asks what a body spells, and adds the frame of the reply to a text.
-#[tactic(auto, using(eden_ids::proofs::Fronts::kept))]
-fn ask_body<N: Naming + Drop, T: Served<N>, L: Ledger, G: Gate, R: Wait>(
-    asker: &Asker<N, T, L, G, R>,
+/// Asks what a body asks, and adds the frame of what it wants of the reply to a text.
+fn ask_body<N: UnitNaming + Drop, T: Served<N>, L: Ledger, G: Gate, R: Wait>(
+    asker: &LockTeller<N, T, L, G, R>,
     desk: &mut Desk<L>,
     body: &[u8],
     text: &mut Vec<u8>,
 ) -> Step<FrameFault>
-    ensures { TakesStep (IsTold (IsTurnOf T.stored) T.stands_for T.held T.hold_gives desk.old.caller) desk.old desk.new body.now text.old.items text.new.items result }
+    ensures { TakesStep N.id (IsTold (IsTurnOf T.stored) T.stands_for T.held T.hold_gives desk.old.caller) desk.old desk.new body.now text.old.items text.new.items result }
 {
     let asked = match decode_asked(asker.alloc, body) {
         Ok(asked) => asked,
@@ -50,25 +49,26 @@ fn ask_body<N: Naming + Drop, T: Served<N>, L: Ledger, G: Gate, R: Wait>(
         }
     };
     let patience = patience_of(asked.patience);
-    let replied = desk.ask_patiently(asker.rt, asker.shared, &asked.request, patience, asker.gate);
+    let (request, wants) = asked.question.into_request();
+    let replied = desk.ask_patiently(asker.rt, asker.shared, &request, patience, asker.gate);
     let reply = match replied {
         Ok((_, reply)) => reply,
         Err(_) => return Step::NoMemory,
     };
-    match append_reply(text, &reply) {
+    match append_wanted(text, &N::unit(), wants, reply) {
         Ok(()) => Step::Told,
         Err(_) => Step::NoMemory,
     }
 }
 
-impl<'a, N: Naming + Drop, T: Served<N>, L: Ledger, G: Gate, R: Wait> Teller<
+impl<'a, N: UnitNaming + Drop, T: Served<N>, L: Ledger, G: Gate, R: Wait> Teller<
     Frames,
     Desk<L>,
     FrameFault,
-> for Asker<'a, N, T, L, G, R> {
-    ghost story = { λ _ before now. desk_story (IsTold (IsTurnOf T.stored) T.stands_for T.held T.hold_gives before.caller) before now };
+> for LockTeller<'a, N, T, L, G, R> {
+    ghost story = { λ _ before now. desk_story N.id (IsTold (IsTurnOf T.stored) T.stands_for T.held T.hold_gives before.caller) before now };
 
-    fn tell(&self, desk: &mut Desk<L>, body: &[u8], text: &mut Vec<u8>) -> Step<FrameFault> {
+    fn answer(&self, desk: &mut Desk<L>, body: &[u8], text: &mut Vec<u8>) -> Step<FrameFault> {
         ask_body(self, desk, body, text)
     }
 
@@ -81,7 +81,8 @@ impl<'a, N: Naming + Drop, T: Served<N>, L: Ledger, G: Gate, R: Wait> Teller<
 /// once. The frames of its replies are written to `writer`.
 ///
 /// A request may come after a patience (`eden_wire::decode_asked`). `Gate::before` gets it, as at
-/// most `LONGEST` milliseconds.
+/// most `LONGEST` milliseconds. A Stat is asked and noted as the Fetch that it is. The bytes of the
+/// file are hashed after the hold.
 ///
 /// Each frame is one call of the desk, in one hold of the lock. Others may call between two of
 /// them. A frame with a fault is no call. If an allocation fails, the frame after those that are
@@ -102,7 +103,7 @@ impl<'a, N: Naming + Drop, T: Served<N>, L: Ledger, G: Gate, R: Wait> Teller<
 ///   read are written.
 /// - `NoMemory` if an allocation fails. The replies to some first frames are written.
 pub fn serve_shared<
-    N: Naming + Drop,
+    N: UnitNaming + Drop,
     T: Served<N>,
     L: Ledger,
     G: Gate,
@@ -117,14 +118,14 @@ pub fn serve_shared<
     desk: &mut Desk<L>,
     gate: &G,
 ) -> Result<u64, ServeFault>
-    ensures ends { EndsTelling (desk_story (IsTold (IsTurnOf T.stored) T.stands_for T.held T.hold_gives desk.old.caller) desk.old desk.new)
+    ensures ends { EndsTelling (desk_story N.id (IsTold (IsTurnOf T.stored) T.stands_for T.held T.hold_gives desk.old.caller) desk.old desk.new)
         (R.remaining reader.old) (R.remaining reader.new) (W.contents writer.old) (W.contents writer.new) result }
     ensures read { IsErrOf result ServeFault.Read → Rose (R.failed reader.old) (R.failed reader.new) }
     ensures write { IsErrOf result ServeFault.Write → Rose (W.failed writer.old) (W.failed writer.new) }
     ensures turns_spent { IsErrOf result ServeFault.TurnsSpent → RoseBy 1000000 (R.called reader.old) (R.called reader.new) }
     ensures turns { R.called reader.new ≤ R.called reader.old + 1000000 }
 {
-    let asker = Asker {
+    let asker = LockTeller {
         rt,
         alloc,
         shared,

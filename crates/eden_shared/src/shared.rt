@@ -227,7 +227,6 @@ impl<N: Naming + Drop, T: Served<N>, L: Ledger> Shared<N, T, L> {
     /// The server has taken exactly the calls that the passes count. `PassMissing` if fewer passes
     /// are handed in than were given. Nothing is allocated.
     pub fn finish(self, passes: Vec<Pass<L>>) -> Result<T, PassMissing<N, T, L>>
-        requires whole { L.parts ≡ 256 }
         ensures count { IfOk result (λ object. T.stored object ≡ Some (made_by passes.items)) }
         ensures descends { IfOk result (λ object. IsDescended T.stored T.apply_gives T.hold_gives (made_by passes.items) object) }
         ensures back { IfErr result (λ missing. missing.passes ≡ passes) }
@@ -247,7 +246,7 @@ impl<N: Naming + Drop, T: Served<N>, L: Ledger> Shared<N, T, L> {
             ..
         } = locked;
         all.take_all_back(passes);
-        all.settle(&mut book);
+        all.show_total(&mut book);
         Ok(object)
     }
 }

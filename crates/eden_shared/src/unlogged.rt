@@ -249,7 +249,7 @@ impl<N: Naming + Drop, T: Served<N>, L: Origin> Unlogged<N, T, L> {
             ..
         } = held.into_inner();
         let mut passes = passes;
-        passes.settle(&mut book);
+        passes.show_total(&mut book);
         Ok(object)
     }
 }

@@ -6,8 +6,8 @@ ghost use Rattle.eden_stream.specs.Counts.{Rose, RoseBy};
 ghost use Rattle.eden_stream.specs.FrameTellings.{EndsTelling};
 ghost use Rattle.eden_messages.specs.declared.message.Query.{Query};
 ghost use Rattle.eden_stream.specs.Frames.{body_limit, frame};
-ghost use Rattle.eden_wire.specs.Doing.{done_bytes};
-ghost use Rattle.eden_wire.specs.declared.doing.Command.TheVariants as commands;
+ghost use Rattle.eden_wire.specs.Commands.{done_bytes};
+ghost use Rattle.eden_wire.specs.declared.command.Command.TheVariants as commands;
 ghost use Rattle.eden_shared.specs.Commands.{EndsSo, MakesUnsaid, Reads, Says, SaysReply, changes_of, counting, unlogged_story};
 ghost use Rattle.eden_shared.specs.Gives.{IsMade, IsTold};
 ghost use Rattle.eden_shared.specs.Reached.{IsReached};
@@ -19,46 +19,47 @@ use crate::patience::{Peer, patience_of};
 use crate::unlogged::Unlogged;
 use eden_history::Change;
 use eden_ids::{Naming, NoMemory};
-use eden_query::{Served, append_reply, fault_of_frame};
+use eden_query::{Served, UnitNaming, fault_of_frame};
 use eden_stream::{
     CountedRead, CountedWrite, FrameFault, Frames, ServeFault, Step, Teller, tell_frames,
 };
-use eden_wire::{Asked, Command, Doing, Done, append_done, decode_command};
+use eden_wire::{Asked, Command, Doing, Done, append_done, append_wanted, decode_command};
 use std::alloc::Global;
 use std::sync::Wait;
 use std::time::Clock;
 
 /// Does at a lock what the bodies of frames ask for, for a peer.
 #[derive(Drop)]
-struct UnloggedAsker<'a, N: Naming + Drop, T: Served<N>, L: Origin, P: Peer, R: Wait + Clock> {
+struct UnloggedTeller<'a, N: Naming + Drop, T: Served<N>, L: Origin, P: Peer, R: Wait + Clock> {
     rt: &'a R,
     alloc: Global,
     unlogged: &'a Unlogged<N, T, L>,
     peer: &'a P,
 }
 
-/// Asks a request, and adds the frame of the reply to a text.
-fn ask<N: Naming + Drop, T: Served<N>, L: Origin, P: Peer, R: Wait + Clock>(
-    asker: &UnloggedAsker<N, T, L, P, R>,
-    asked: &Asked,
+/// Asks a question, and adds the frame of what it wants of the reply to a text.
+fn ask<N: UnitNaming + Drop, T: Served<N>, L: Origin, P: Peer, R: Wait + Clock>(
+    asker: &UnloggedTeller<N, T, L, P, R>,
+    asked: Asked,
     text: &mut Vec<u8>,
 ) -> Result<(), NoMemory>
-    ensures said { OnOk result ((said : List ℕ) × SaysReply (IsTold (IsReached N.id T.stands_for L.opens) T.stands_for T.held T.hold_gives 0) asked.now.request said
+    ensures said { OnOk result ((said : List ℕ) × SaysReply N.id (IsTold (IsReached N.id T.stands_for L.opens) T.stands_for T.held T.hold_gives 0) asked.question said
         × (text.new.items ≡ text.old.items ++ frame said)) }
     ensures front { KeepsFront text.old.items text.new.items }
 {
     let patience = patience_of(asked.patience);
+    let (request, wants) = asked.question.into_request();
     let reply = asker
         .unlogged
-        .ask_patiently(asker.rt, &asked.request, patience, asker.peer)?;
-    append_reply(text, &reply)?;
+        .ask_patiently(asker.rt, &request, patience, asker.peer)?;
+    append_wanted(text, &N::unit(), wants, reply)?;
     Ok(())
 }
 
 /// Makes a change with a caller's pass, if it has one, and returns how that ended.
 #[tactic(auto, using(crate::proofs::Answered::not_writable_fits))]
 fn make<N: Naming + Drop, T: Served<N>, L: Origin, P: Peer, R: Wait + Clock>(
-    asker: &UnloggedAsker<N, T, L, P, R>,
+    asker: &UnloggedTeller<N, T, L, P, R>,
     writing: &mut Option<Pass<L>>,
     change: &Change,
 ) -> Result<Done, NoMemory>
@@ -75,12 +76,12 @@ fn make<N: Naming + Drop, T: Served<N>, L: Origin, P: Peer, R: Wait + Clock>(
 
 /// Makes the change that a body asks for, and adds the frame of its answer to a text.
 fn change<N: Naming + Drop, T: Served<N>, L: Origin, P: Peer, R: Wait + Clock>(
-    asker: &UnloggedAsker<N, T, L, P, R>,
+    asker: &UnloggedTeller<N, T, L, P, R>,
     writing: &mut Option<Pass<L>>,
     doing: &Doing,
     text: &mut Vec<u8>,
 ) -> Result<(), NoMemory>
-    ensures said { OnOk result ((said : List ℕ) × Says (IsTold (IsReached N.id T.stands_for L.opens) T.stands_for T.held T.hold_gives 0)
+    ensures said { OnOk result ((said : List ℕ) × Says (SaysReply N.id (IsTold (IsReached N.id T.stands_for L.opens) T.stands_for T.held T.hold_gives 0))
         (IsMade (IsReached N.id T.stands_for L.opens) N.id T.stands_for T.apply_gives 0) writing.old (commands.Do doing.now) said
         × (text.new.items ≡ text.old.items ++ frame said)) }
     ensures counted { OnOk result (writing.new ≡ counting 1 writing.old) }
@@ -94,35 +95,35 @@ fn change<N: Naming + Drop, T: Served<N>, L: Origin, P: Peer, R: Wait + Clock>(
 }
 
 /// Does what a body asks for, and adds the frame of what is said of it to a text.
-fn answer<N: Naming + Drop, T: Served<N>, L: Origin, P: Peer, R: Wait + Clock>(
-    asker: &UnloggedAsker<N, T, L, P, R>,
+fn answer<N: UnitNaming + Drop, T: Served<N>, L: Origin, P: Peer, R: Wait + Clock>(
+    asker: &UnloggedTeller<N, T, L, P, R>,
     writing: &mut Option<Pass<L>>,
-    command: &Command,
+    command: Command,
     text: &mut Vec<u8>,
 ) -> Result<(), NoMemory>
-    ensures said { OnOk result ((said : List ℕ) × Says (IsTold (IsReached N.id T.stands_for L.opens) T.stands_for T.held T.hold_gives 0)
-        (IsMade (IsReached N.id T.stands_for L.opens) N.id T.stands_for T.apply_gives 0) writing.old command.now said
+    ensures said { OnOk result ((said : List ℕ) × Says (SaysReply N.id (IsTold (IsReached N.id T.stands_for L.opens) T.stands_for T.held T.hold_gives 0))
+        (IsMade (IsReached N.id T.stands_for L.opens) N.id T.stands_for T.apply_gives 0) writing.old command said
         × (text.new.items ≡ text.old.items ++ frame said)) }
-    ensures counted { OnOk result (writing.new ≡ counting (changes_of command.now) writing.old) }
-    ensures left { OnErr result ((body : List ℕ) → Reads body command.now → (writing.new ≡ writing.old)
+    ensures counted { OnOk result (writing.new ≡ counting (changes_of command) writing.old) }
+    ensures left { OnErr result ((body : List ℕ) → Reads body command → (writing.new ≡ writing.old)
         ⊎ MakesUnsaid (IsMade (IsReached N.id T.stands_for L.opens) N.id T.stands_for T.apply_gives 0) body writing.old writing.new) }
     ensures front { KeepsFront text.old.items text.new.items }
 {
     match command {
         Command::Ask(asked) => ask(asker, asked, text),
-        Command::Do(doing) => change(asker, writing, doing, text),
+        Command::Do(doing) => change(asker, writing, &doing, text),
     }
 }
 
 /// Reads a body and does what it asks for, and adds the frame of what is said of it to a text.
 #[tactic(auto, using(eden_ids::proofs::Fronts::kept))]
-fn answer_body<N: Naming + Drop, T: Served<N>, L: Origin, P: Peer, R: Wait + Clock>(
-    asker: &UnloggedAsker<N, T, L, P, R>,
+fn answer_body<N: UnitNaming + Drop, T: Served<N>, L: Origin, P: Peer, R: Wait + Clock>(
+    asker: &UnloggedTeller<N, T, L, P, R>,
     writing: &mut Option<Pass<L>>,
     body: &[u8],
     text: &mut Vec<u8>,
 ) -> Step<FrameFault>
-    ensures { UnloggedStep (IsTold (IsReached N.id T.stands_for L.opens) T.stands_for T.held T.hold_gives 0)
+    ensures { UnloggedStep (SaysReply N.id (IsTold (IsReached N.id T.stands_for L.opens) T.stands_for T.held T.hold_gives 0))
         (IsMade (IsReached N.id T.stands_for L.opens) N.id T.stands_for T.apply_gives 0)
         writing.old writing.new body.now text.old.items text.new.items result }
 {
@@ -135,22 +136,22 @@ fn answer_body<N: Naming + Drop, T: Served<N>, L: Origin, P: Peer, R: Wait + Clo
             };
         }
     };
-    match answer(asker, writing, &command, text) {
+    match answer(asker, writing, command, text) {
         Ok(()) => Step::Told,
         Err(_) => Step::NoMemory,
     }
 }
 
 // What was asked is noted nowhere. What was changed is counted by the caller's pass.
-impl<'a, N: Naming + Drop, T: Served<N>, L: Origin, P: Peer, R: Wait + Clock> Teller<
+impl<'a, N: UnitNaming + Drop, T: Served<N>, L: Origin, P: Peer, R: Wait + Clock> Teller<
     Frames,
     Option<Pass<L>>,
     FrameFault,
-> for UnloggedAsker<'a, N, T, L, P, R> {
-    ghost story = { λ _ before now. unlogged_story (IsTold (IsReached N.id T.stands_for L.opens) T.stands_for T.held T.hold_gives 0)
+> for UnloggedTeller<'a, N, T, L, P, R> {
+    ghost story = { λ _ before now. unlogged_story (SaysReply N.id (IsTold (IsReached N.id T.stands_for L.opens) T.stands_for T.held T.hold_gives 0))
         (IsMade (IsReached N.id T.stands_for L.opens) N.id T.stands_for T.apply_gives 0) before now };
 
-    fn tell(
+    fn answer(
         &self,
         writing: &mut Option<Pass<L>>,
         body: &[u8],
@@ -176,7 +177,8 @@ impl<'a, N: Naming + Drop, T: Served<N>, L: Origin, P: Peer, R: Wait + Clock> Te
 ///
 /// A request may come after a patience. `Unlogged::ask_patiently` asks it for the peer then, for at
 /// most `LONGEST` milliseconds. Frames after it wait too, and so do the answers before it that are
-/// not written yet.
+/// not written yet. A Stat is asked as the Fetch that it is, and the bytes of the file are hashed
+/// without the lock.
 ///
 /// Whole frames are answered before the next read, of 64 KiB each. Answers are gathered. They are
 /// written before the next read, and whenever there are 64 KiB of them. Nothing is left once this
@@ -196,7 +198,7 @@ impl<'a, N: Naming + Drop, T: Served<N>, L: Origin, P: Peer, R: Wait + Clock> Te
 /// After `NoMemory` the change of the frame after those that are answered may have been made, once.
 /// So it may after `Write`, which can be returned instead of `NoMemory`.
 pub fn serve_unlogged<
-    N: Naming + Drop,
+    N: UnitNaming + Drop,
     T: Served<N>,
     L: Origin,
     P: Peer,
@@ -212,7 +214,7 @@ pub fn serve_unlogged<
     writing: &mut Option<Pass<L>>,
     peer: &P,
 ) -> Result<u64, ServeFault>
-    ensures ends { EndsTelling (unlogged_story (IsTold (IsReached N.id T.stands_for L.opens) T.stands_for T.held T.hold_gives 0)
+    ensures ends { EndsTelling (unlogged_story (SaysReply N.id (IsTold (IsReached N.id T.stands_for L.opens) T.stands_for T.held T.hold_gives 0))
         (IsMade (IsReached N.id T.stands_for L.opens) N.id T.stands_for T.apply_gives 0) writing.old writing.new)
         (R.remaining reader.old) (R.remaining reader.new) (W.contents writer.old) (W.contents writer.new) result }
     ensures read { IsErrOf result ServeFault.Read → Rose (R.failed reader.old) (R.failed reader.new) }
@@ -220,7 +222,7 @@ pub fn serve_unlogged<
     ensures turns_spent { IsErrOf result ServeFault.TurnsSpent → RoseBy 1000000 (R.called reader.old) (R.called reader.new) }
     ensures turns { R.called reader.new ≤ R.called reader.old + 1000000 }
 {
-    let asker = UnloggedAsker {
+    let asker = UnloggedTeller {
         rt,
         alloc,
         unlogged,

@@ -4,7 +4,7 @@ use Rattle.eden_logs.specs.Logs.{tickets_in}
 use Rattle.eden_shared.specs.internal.Marks.{Marks}
 use Rattle.eden_shared.proofs.Marked.{good_numbers}
 use Rattle.eden_shared.proofs.Walked.{logs_next, logs_stop, tickets_next}
-use Rattle.eden_shared.proofs.judging.judge.Goals as goal
+use Rattle.eden_shared.proofs.judging.check_with_marks.Goals as goal
 
 pub mark_tickets-requires : goal.mark_tickets-requires
 mark_tickets-requires c =

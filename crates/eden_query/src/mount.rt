@@ -1,6 +1,6 @@
 //! A mount as a server of requests.
 
-ghost use Rattle.std.specs.Prelude.{◌≡◌, ℕ, List, None, IfOk};
+ghost use Rattle.std.specs.Prelude.{◌≡◌, List, None, IfOk};
 ghost use Rattle.eden_ids.specs.FileMaps.{file_at};
 ghost use Rattle.eden_globs.specs.Filters.{Patterns};
 ghost use Rattle.eden_objects.specs.Commits.{commit_map};
@@ -71,11 +71,12 @@ fn hold_poll<N: Naming + Drop>(
 }
 
 /// Returns the file at a path, or `None` if there is no file.
+///
+/// It shares the file's bytes.
 fn content_at<N: Naming + Drop>(mount: &Mount<N>, path: &Path) -> Result<Option<Content>, NoMemory>
     ensures { IfOk result (λ content. content ≡ file_at (files_of mount.now) path.now) }
 {
-    let store = mount.store();
-    Content::of_lent(store.allocator(), mount.work().file(store, path.as_bytes()))
+    Content::of_lent(mount.work().file(mount.store(), path.as_bytes()))
 }
 
 /// Holds what a request asks for.

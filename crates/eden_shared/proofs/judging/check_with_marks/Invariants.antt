@@ -2,7 +2,7 @@ use Rattle.std.proofs.Common.{take, drop}
 use Rattle.eden_logs.specs.Logs.{tickets_in}
 use Rattle.eden_shared.specs.internal.Marks.{Marks}
 use Rattle.eden_shared.specs.internal.Walks.{LogWalks}
-use Rattle.eden_shared.proofs.judging.judge.Given as goal
+use Rattle.eden_shared.proofs.judging.check_with_marks.Given as goal
 
 -- the tickets of the logs so far are marked, and what is found of the logs left settles them all
 abbrev pub invariant-loop-log : goal.invariant-loop-log
