@@ -14,8 +14,8 @@ use Rattle.eden_messages.specs.Spells.{request_bytes}
 use Rattle.eden_mirror.specs.Counting.{after}
 use Rattle.eden_connect.specs.Connections.{Receives}
 use Rattle.eden_connect.specs.Rounds.{any_counts, counts}
-use Rattle.eden_connect.specs.internal.Exchanges.{AsksInVain, Exchanges, Gathers, Sends, Takes, frame_size, request_frame}
-use Rattle.eden_connect.specs.internal.Talks.{Hears, HearsAll, HearsSome, ReceivesAll}
+use Rattle.eden_connect.specs.internal.Exchanges.{AsksInVain, Exchanges, Sends, Takes, frame_size, request_frame}
+use Rattle.eden_connect.specs.internal.Talks.{Hears, HearsAll, ReceivesAll}
 use Rattle.eden_connect.proofs.Following.{after-append, any_counts-snoc, receives_append}
 
 receives_snoc : (a b c : Option (List ℕ)) (replies : List Reply) (reply : Reply)
@@ -37,7 +37,7 @@ takes_more got1 got2 got3 m1 m2 m3 replies reply before counted past next e told
       ∙ sym (any_counts-snoc m1 replies reply);
 }
 
--- the four bytes of a length, and so many bytes
+-- the four bytes of a length, and this many bytes
 pub receives_frame : (a b c : Option (List ℕ)) (told body : List ℕ) (len : ℕ)
     → Consumes a b told → to_be_bytes w32 len ≡ told → length body ≡ len → Consumes b c body → Consumes a c (frame body)
 unfolding frame
@@ -58,9 +58,6 @@ pub record IsGathered (window window' : List ℕ) (requests rest : List Request)
   pub noted : window' ≡ window ++ map frame_size first
   pub framed : text' ≡ text ++ flat_map request_frame first
 
-pub gathered_none : (window : List ℕ) (requests : List Request) (text : List ℕ) → IsGathered window window requests requests text text
-gathered_none window requests text = record { first = []; parted = refl; noted = sym (append-nil window); framed = sym (append-nil text) }
-
 one_sent : (request : Request) → flat_map request_frame (request ∷ []) ≡ request_frame request
 one_sent request = append-nil (request_frame request)
 
@@ -80,28 +77,9 @@ gathered_more w w1 w2 requests rest request t t1 t2 size past framed sized noted
       ∙ ap (λ l. t ++ l) (sent_more past.first request);
 }
 
-pub gathered_all : (w w' : List ℕ) (requests rest : List Request) (t t' : List ℕ) → IsGathered w w' requests rest t t' → rest ≡ [] → Gathers w w' requests rest t t'
-gathered_all w w' requests rest t t' past none = record {
-  first = past.first;
-  parted = record { parted = past.parted; noted = past.noted; some = λ _. inl none };
-  framed = past.framed;
-}
-
--- a window that has no room is not empty
-pub gathered_full : (w w' : List ℕ) (requests rest : List Request) (t t' : List ℕ) → IsGathered w w' requests rest t t' → ¬ (w' ≡ []) → Gathers w w' requests rest t t'
-gathered_full w w' requests rest t t' past full = record {
-  first = past.first;
-  parted = record { parted = past.parted; noted = past.noted; some = λ empty. inr (by past.first (past.noted ∙ ap (λ l. l ++ map frame_size past.first) empty)) };
-  framed = past.framed;
-}
-  where
-    by : (first : List Request) → w' ≡ map frame_size first → 0 < length first
-    by [] e = absurd (full e)
-    by (request ∷ first) e = omega arith
-
 -- ---- an exchange
 
--- so many replies have come, and the requests in the window are not answered
+-- this many replies have come, and the requests in the window are not answered
 pub record IsExchanging (window : List ℕ) (index : ℕ) (requests unsent : List Request) (sent sent' got got' : Option (List ℕ)) (m m' : MirrorState) (counted : Bool) : Type 0 where
   pub first : List Request
   pub replies : List Reply
@@ -162,36 +140,6 @@ exchanging_more w w1 i requests unsent rest sent sent1 sent2 got got1 got2 m m1 
 
     taken : 0 < length w1
     taken = by w refl
-
-pub exchanging_all : (w : List ℕ) (i : ℕ) (requests unsent : List Request) (sent sent' got got' : Option (List ℕ)) (m m' : MirrorState) (counted : Bool)
-    → IsExchanging w i requests unsent sent sent' got got' m m' counted → length requests ≡ i → Exchanges requests sent sent' got got' m m' counted
-exchanging_all w i requests unsent sent sent' got got' m m' counted past end = record {
-  replies = past.replies;
-  each = past.each ∙ sym end;
-  went = subst (λ l. Appends sent sent' (flat_map request_frame l)) (by unsent refl) past.went;
-  came = past.came;
-}
-  where
-    all : length requests ≡ length past.first + length unsent
-    all = ap (λ l. length l) past.parted ∙ length-append past.first unsent
-
-    by : (l : List Request) → unsent ≡ l → past.first ≡ requests
-    by [] none = sym (past.parted ∙ ap (λ l. past.first ++ l) none ∙ append-nil past.first)
-    by (request ∷ l) e = absurd (omega (arith, all, end, past.unanswered, ap (λ l. length l) e))
-
--- what has come so far
-pub exchanging_heard : (w : List ℕ) (i : ℕ) (requests unsent : List Request) (sent sent' got got' : Option (List ℕ)) (m m' : MirrorState) (counted : Bool)
-    → IsExchanging w i requests unsent sent sent' got got' m m' counted → HearsSome got m m'
-exchanging_heard w i requests unsent sent sent' got got' m m' counted past =
-    (got', record { replies = past.replies; came = past.came.came; taken = past.came.taken })
-
--- where nothing of a window is free nothing is sent
-pub sends_none : (w : List ℕ) (requests : List Request) (sent : Option (List ℕ)) → ¬ (w ≡ []) → Sends w w requests requests sent sent
-sends_none w requests sent full = record {
-  first = [];
-  parted = record { parted = refl; noted = sym (append-nil w); some = λ none. absurd (full none) };
-  went = Appends-nil sent;
-}
 
 -- ---- the end of a round
 

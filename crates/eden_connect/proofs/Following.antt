@@ -36,9 +36,6 @@ pub receives_append : (a b c : Option (List ℕ)) (replies more : List Reply) �
 receives_append a b c [] more none next = subst (λ x. ReceivesAll x c more) none next
 receives_append a b c (reply ∷ replies) more past next = (past.0, past.1, receives_append past.0 b c replies more past.2 next)
 
-pub hears_none : (got : Option (List ℕ)) (m : MirrorState) → Hears got got m m
-hears_none got m = record { replies = []; came = refl; taken = refl }
-
 pub hears_more : (a b c : Option (List ℕ)) (m n o : MirrorState) → Hears a b m n → Hears b c n o → Hears a c m o
 hears_more a b c m n o past next = record {
   replies = past.replies ++ next.replies;
@@ -64,7 +61,7 @@ pub all_end_snoc : (m : MirrorState) (heard : List (List Reply)) (replies : List
 all_end_snoc m [] replies none last = (last, tt)
 all_end_snoc m (first ∷ heard) replies past last = (past.0, all_end_snoc (after (begun m) first) heard replies past.1 last)
 
--- ---- the number of the last round is none of a reply's business
+-- ---- a reply doesn't depend on the number of the last round
 
 gathers_last : (m : MirrorState) (query : Query) (target : Position) (paths prefixes : List (List ℕ)) → (gathers m query target paths prefixes).0.last ≡ m.last
 gathers_last m query target [] [] = refl

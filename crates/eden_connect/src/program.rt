@@ -9,7 +9,7 @@ ghost use Rattle.eden_connect.specs.Rounds.{Follows, Tells, TellsFront};
 use crate::dial::{Dial, Dialer};
 use crate::fault::{ConnectFault, RoundFault};
 use crate::progress::Progress;
-use crate::report::tell;
+use crate::report::print_report;
 use crate::rounds::follow_rounds;
 use eden_globs::Filter;
 use eden_mirror::Mirror;
@@ -47,7 +47,7 @@ pub fn keep_mirror<D: Dial, W: Write, P: Progress>(
     ensures unwritten { IsErrOf result ConnectFault.NoMemory → Keeps (W.contents output.old) (W.contents output.new) }
 {
     match follow_rounds(alloc, dial, mirror, rounds, progress) {
-        Ok(mirror) => tell(alloc, output, &mirror),
+        Ok(mirror) => print_report(alloc, output, &mirror),
         Err(RoundFault::NoConnection) => Err(ConnectFault::NoConnection),
         Err(RoundFault::NoMemory) => Err(ConnectFault::NoMemory),
     }

@@ -1,10 +1,10 @@
 //! What is printed of a mirror in the end.
 
-ghost use Rattle.std.specs.Prelude.{◌≡◌, ◌++◌, ◌∷◌, [], ℕ, codes, IfOk, OnOk, OnErr, IsSome, IsNone, IsErrOf, decimal};
+ghost use Rattle.std.specs.Prelude.{◌≡◌, ◌++◌, IfOk, OnOk, IsSome, IsNone, IsErrOf};
 ghost use Rattle.std.specs.List.{flat_map};
 ghost use Rattle.std.specs.Io.KnownBytes.{Appends, Keeps};
 ghost use Rattle.eden_ids.specs.FileMaps.{file_at};
-ghost use Rattle.eden_connect.specs.Reports.{AppendsFront, position_text, place_text, file_text, files_text, report_text};
+ghost use Rattle.eden_connect.specs.Reports.{AppendsFront, position_text, place_text, file_text, report_text};
 
 use crate::fault::ConnectFault;
 use eden_history::Position;
@@ -77,7 +77,7 @@ pub(crate) fn report_text(alloc: Global, mirror: &Mirror) -> Result<Vec<u8>, NoM
 }
 
 /// Writes that text. Returns `Unplaced` after it if the mirror has no position.
-pub(crate) fn tell<W: Write>(
+pub(crate) fn print_report<W: Write>(
     alloc: Global,
     output: &mut W,
     mirror: &Mirror,

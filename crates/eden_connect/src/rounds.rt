@@ -1,8 +1,8 @@
 //! Rounds over connections that may be lost.
 
 ghost use Rattle.std.specs.Option.{option_map};
-ghost use Rattle.std.specs.Prelude.{◌≡◌, ◌+◌, ◌^◌, ◌<◌, ◌≤◌, ℕ, List, Option, true, IfOk, IsErrOf, None, OnOk, Some};
-ghost use Rattle.eden_connect.specs.Connections.{Client, FollowsFrom, IsCutOff, unconnected};
+ghost use Rattle.std.specs.Prelude.{◌≡◌, ◌+◌, ◌^◌, ◌<◌, ◌≤◌, ℕ, Option, true, IfOk, IsErrOf, None, OnOk, Some};
+ghost use Rattle.eden_connect.specs.Connections.{FollowsFrom, IsCutOff, unconnected};
 ghost use Rattle.eden_connect.specs.internal.Exchanges.{IsOver};
 ghost use Rattle.eden_connect.specs.internal.Talks.{HearsAll, HearsSome, Leads, Resumes, Talks};
 ghost use Rattle.eden_messages.specs.Mirrors.{begun, has_number};

@@ -3,7 +3,7 @@
 use crate::following::Following;
 use crate::line::open_line;
 use crate::serving::Service;
-use crate::threads::{Behind, Crew, Pair};
+use crate::threads::{AuditedMount, Crew, Pair};
 use crate::watch::Watch;
 use crate::writing::Writer;
 use crossbeam_channel::Sender;
@@ -50,7 +50,7 @@ impl<T: Drop> From<AllocFailed<T>> for CrewFault {
 fn open_desk<L: Ledger>(
     rt: &impl Wait,
     alloc: Global,
-    shared: &Behind<L>,
+    shared: &AuditedMount<L>,
 ) -> Result<Desk<L>, CrewFault> {
     match shared.pass(rt) {
         Ok(pass) => Ok(Desk::new(alloc, pass)),
@@ -62,7 +62,7 @@ fn open_desk<L: Ledger>(
 fn open_pair<L: Ledger>(
     rt: &impl Wait,
     alloc: Global,
-    shared: &Behind<L>,
+    shared: &AuditedMount<L>,
     number: u64,
     watch: Watch,
 ) -> Result<(Pair<L>, Sender<Position>), CrewFault> {
@@ -85,7 +85,7 @@ fn open_pair<L: Ledger>(
 pub(crate) fn open_crew<L: Ledger>(
     rt: &impl Wait,
     alloc: Global,
-    shared: &Behind<L>,
+    shared: &AuditedMount<L>,
     opened: Position,
 ) -> Result<Crew<L>, CrewFault> {
     let mut first = Watch::new(alloc)?;

@@ -7,8 +7,8 @@ ghost use Rattle.eden_logs.specs.declared.fault.AuditFault.{AuditFault};
 
 use crate::crew::{CrewFault, open_crew};
 use crate::fault::DemoFault;
-use crate::judging::judge;
-use crate::threads::{Behind, Ended, run_crew};
+use crate::judging::verdict_of;
+use crate::threads::{AuditedMount, Joined, run_crew};
 use crate::verdict::Verdict;
 use eden_accumulate::Mount;
 use eden_ids::{GitNaming, Id, NoMemory};
@@ -45,16 +45,18 @@ fn open_mount(alloc: Global) -> Result<Audited<GitNaming>, NoMemory>
 }
 
 /// Takes the mount back from the lock, and judges what it holds in the end.
-fn close<L: Ledger>(alloc: Global, shared: Behind<L>, ended: Ended<L>) -> Result<Verdict, NoMemory>
-    requires { L.parts ≡ 256 }
-{
-    let Ended {
+fn close<L: Ledger>(
+    alloc: Global,
+    shared: AuditedMount<L>,
+    ended: Joined<L>,
+) -> Result<Verdict, NoMemory> {
+    let Joined {
         passes,
         logs,
         followers,
     } = ended;
     match shared.finish(passes) {
-        Ok(mut audited) => judge(alloc, &mut audited, logs.as_slice(), followers.as_slice()),
+        Ok(mut audited) => verdict_of(alloc, &mut audited, logs.as_slice(), followers.as_slice()),
         // No log has the calls of a pass that is missing.
         Err(_) => Ok(Verdict {
             audit: Err(AuditFault::CountsDiffer),
@@ -75,7 +77,7 @@ fn run_behind<L: Ledger + Send + Sync, R: Threads + Wait + Clock + Sync>(
 {
     let audited = open_mount(alloc)?;
     let opened = audited.mount().position();
-    let shared: Behind<L> = Shared::new(audited, blank);
+    let shared: AuditedMount<L> = Shared::new(audited, blank);
     let crew = open_crew(rt, alloc, &shared, opened)?;
     let ended = run_crew(rt, alloc, &shared, crew)?;
     Ok(close(alloc, shared, ended)?)
@@ -115,7 +117,7 @@ pub fn demo<R: Threads + Wait + Clock + Sync, W: Write>(
     ensures unserved { IsErrOf result DemoFault.NoConnection → Keeps (W.contents writer.old) (W.contents writer.new) }
 {
     match run_behind::<Brand, R>(rt, alloc, Blank::new(256)) {
-        Ok(verdict) => verdict.tell(alloc, writer),
+        Ok(verdict) => verdict.report(alloc, writer),
         Err(CrewFault::NoMemory) => Err(DemoFault::NoMemory),
         Err(CrewFault::NoPass) => Err(DemoFault::NoConnection),
     }

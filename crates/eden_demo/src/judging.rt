@@ -111,7 +111,7 @@ fn have_followed(
 }
 
 /// Audits the logs, and compares the followers with the mount.
-pub(crate) fn judge(
+pub(crate) fn verdict_of(
     alloc: Global,
     audited: &mut Audited<GitNaming>,
     logs: &[CallLog],

@@ -9,7 +9,7 @@ use std::sync::Wait;
 
 /// Holds the frame of a reply, and the ticket of its request.
 #[derive(Drop)]
-pub(crate) struct Told {
+pub(crate) struct TicketedReply {
     pub(crate) ticket: u64,
     pub(crate) frame: Vec<u8>,
 }
@@ -18,14 +18,14 @@ pub(crate) struct Told {
 #[derive(Drop)]
 pub(crate) struct Caller {
     requests: Sender<Vec<u8>>,
-    replies: Receiver<Told>,
+    replies: Receiver<TicketedReply>,
 }
 
 /// Holds the service's end.
 #[derive(Drop)]
 pub(crate) struct Callee {
     pub(crate) requests: Receiver<Vec<u8>>,
-    pub(crate) replies: Sender<Told>,
+    pub(crate) replies: Sender<TicketedReply>,
 }
 
 /// Returns a line between a follower and its service, with room for one frame each way.

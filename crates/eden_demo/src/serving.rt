@@ -1,7 +1,7 @@
 //! The service of a follower: a desk that is asked by frames.
 
-use crate::line::{Callee, Told, body_of};
-use crate::threads::Behind;
+use crate::line::{Callee, TicketedReply, body_of};
+use crate::threads::AuditedMount;
 use eden_ids::NoMemory;
 use eden_shared::{CallLog, Desk, OpenGate, Pass};
 use eden_wire::{DecodeFault, append_reply, decode_request};
@@ -20,10 +20,10 @@ pub(crate) struct Service<L: Ledger> {
 fn answer_frame<L: Ledger>(
     rt: &impl Wait,
     alloc: Global,
-    shared: &Behind<L>,
+    shared: &AuditedMount<L>,
     desk: &mut Desk<L>,
     frame: &[u8],
-) -> Result<Option<Told>, NoMemory> {
+) -> Result<Option<TicketedReply>, NoMemory> {
     let request = match decode_request(alloc, body_of(frame)) {
         Ok(request) => request,
         Err(DecodeFault::NoMemory) => return Err(NoMemory),
@@ -32,14 +32,14 @@ fn answer_frame<L: Ledger>(
     let (ticket, reply) = desk.ask(rt, shared, &request, &OpenGate)?;
     let mut frame = Vec::new(alloc);
     append_reply(&mut frame, &reply)?;
-    Ok(Some(Told { ticket, frame }))
+    Ok(Some(TicketedReply { ticket, frame }))
 }
 
 /// Answers frames until no more can come.
 fn answer_frames<L: Ledger>(
     rt: &impl Wait,
     alloc: Global,
-    shared: &Behind<L>,
+    shared: &AuditedMount<L>,
     desk: &mut Desk<L>,
     line: &Callee,
 ) -> Result<(), NoMemory> {
@@ -58,7 +58,7 @@ fn answer_frames<L: Ledger>(
 pub(crate) fn serve<L: Ledger>(
     rt: &impl Wait,
     alloc: Global,
-    shared: &Behind<L>,
+    shared: &AuditedMount<L>,
     service: Service<L>,
 ) -> Result<(Pass<L>, CallLog), NoMemory> {
     let Service { mut desk, line } = service;

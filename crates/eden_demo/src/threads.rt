@@ -16,7 +16,7 @@ use std::thread::{JoinHandle, Threads};
 use std::time::Clock;
 
 /// Holds a mount that stores its history behind a lock.
-pub(crate) type Behind<L> = Shared<GitNaming, Audited<GitNaming>, L>;
+pub(crate) type AuditedMount<L> = Shared<GitNaming, Audited<GitNaming>, L>;
 
 /// Holds a follower and its service.
 #[derive(Drop)]
@@ -44,13 +44,13 @@ pub(crate) struct Crew<L: Ledger> {
 
 /// Holds what all threads end with.
 #[derive(Drop)]
-pub(crate) struct Ended<L: Ledger> {
+pub(crate) struct Joined<L: Ledger> {
     pub(crate) passes: Vec<Pass<L>>,
     pub(crate) logs: Vec<CallLog>,
     pub(crate) followers: Vec<Follower>,
 }
 
-impl<L: Ledger> Ended<L> {
+impl<L: Ledger> Joined<L> {
     /// Adds what the writers end with.
     fn add_writers(&mut self, wrote: Vec<Wrote<L>>) -> Result<(), NoMemory> {
         for Wrote { pass, log, .. } in wrote {
@@ -84,7 +84,7 @@ impl<L: Ledger> Ended<L> {
 fn write_all<L: Ledger + Send + Sync, R: Threads + Wait + Sync>(
     rt: &R,
     alloc: Global,
-    shared: &Behind<L>,
+    shared: &AuditedMount<L>,
     writers: Vec<Writer<L>>,
 ) -> Result<Vec<Wrote<L>>, NoMemory> {
     let ended = thread::map_vec(rt, writers, &|writer| writer.run(rt, alloc, shared))?;
@@ -113,7 +113,7 @@ fn tell_last<L: Ledger>(rt: &impl Wait, wrote: &[Wrote<L>], followers: &[Sender<
 fn follow_served<L: Ledger + Send + Sync, R: Threads + Wait + Clock + Sync>(
     rt: &R,
     alloc: Global,
-    shared: &Behind<L>,
+    shared: &AuditedMount<L>,
     pair: Pair<L>,
 ) -> Result<Followed<L>, NoMemory> {
     let Pair { service, following } = pair;
@@ -140,9 +140,9 @@ fn follow_served<L: Ledger + Send + Sync, R: Threads + Wait + Clock + Sync>(
 pub(crate) fn run_crew<L: Ledger + Send + Sync, R: Threads + Wait + Clock + Sync>(
     rt: &R,
     alloc: Global,
-    shared: &Behind<L>,
+    shared: &AuditedMount<L>,
     crew: Crew<L>,
-) -> Result<Ended<L>, NoMemory> {
+) -> Result<Joined<L>, NoMemory> {
     let Crew {
         writers,
         pairs,
@@ -151,7 +151,7 @@ pub(crate) fn run_crew<L: Ledger + Send + Sync, R: Threads + Wait + Clock + Sync
     thread::scope(
         thread::scope_env(),
         rt,
-        move |scope| -> Result<Ended<L>, NoMemory> {
+        move |scope| -> Result<Joined<L>, NoMemory> {
             let mut threads = Vec::new(alloc);
             for pair in pairs {
                 let Ok(thread) = scope.spawn(move || follow_served(rt, alloc, shared, pair)) else {
@@ -161,7 +161,7 @@ pub(crate) fn run_crew<L: Ledger + Send + Sync, R: Threads + Wait + Clock + Sync
             }
             let wrote = write_all(rt, alloc, shared, writers)?;
             tell_last(rt, wrote.as_slice(), last.as_slice());
-            let mut ended = Ended {
+            let mut ended = Joined {
                 passes: Vec::new(alloc),
                 logs: Vec::new(alloc),
                 followers: Vec::new(alloc),

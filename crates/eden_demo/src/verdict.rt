@@ -47,7 +47,7 @@ impl Verdict {
 
     /// Writes the lines, and returns what is wrong.
     #[tactic(auto, using(crate::proofs::Telling::prints, crate::proofs::Telling::prints_agree, crate::proofs::Telling::prints_differ, crate::proofs::Telling::prints_front))]
-    pub(crate) fn tell<W: Write>(self, alloc: Global, writer: &mut W) -> Result<(), DemoFault>
+    pub(crate) fn report<W: Write>(self, alloc: Global, writer: &mut W) -> Result<(), DemoFault>
         ensures found { OnOk result ((self.audit ≡ Ok tt) × (self.agree ≡ true)) }
         ensures refused { (fault : AuditFault) → IsErrOf result (DemoFault.Refused fault) → self.audit ≡ Err fault }
         ensures differs { IsErrOf result DemoFault.Differ → (self.audit ≡ Ok tt) × (self.agree ≡ false) }

@@ -1,6 +1,6 @@
 //! A writer.
 
-use crate::threads::Behind;
+use crate::threads::AuditedMount;
 use crate::watch::Watch;
 use eden_history::{Answer, Change, Position};
 use eden_ids::{Content, Kind, NoMemory, Path, PathFault};
@@ -57,7 +57,7 @@ impl<L: Ledger> Writer<L> {
     fn make(
         &mut self,
         rt: &impl Wait,
-        shared: &Behind<L>,
+        shared: &AuditedMount<L>,
         change: &Change,
     ) -> Result<Option<Position>, NoMemory> {
         let (ticket, answer) = self.desk.change(rt, shared, change)?;
@@ -73,7 +73,7 @@ impl<L: Ledger> Writer<L> {
         &mut self,
         rt: &impl Wait,
         alloc: Global,
-        shared: &Behind<L>,
+        shared: &AuditedMount<L>,
     ) -> Result<Position, NoMemory> {
         let mut last = self.opened;
         for number in 1..=CHANGES {
@@ -88,7 +88,7 @@ impl<L: Ledger> Writer<L> {
         self,
         rt: &impl Wait,
         alloc: Global,
-        shared: &Behind<L>,
+        shared: &AuditedMount<L>,
     ) -> Result<Wrote<L>, NoMemory> {
         let mut writer = self;
         let last = writer.make_all(rt, alloc, shared)?;

@@ -233,7 +233,7 @@ labels_of : (next : Option State) (after : Objects) (session : Session) → IsSe
 labels_of None after session is = sym (ap (λ (s : Session). s.bindings) is)
 labels_of (Some mount) after session is = sym (ap (λ (s : Session). s.bindings) is.3)
 
--- a line tells what it came to by the labels after it
+-- a line says what it came to by the labels after it
 pub tells : (mount : Option State) (objects : Objects) (command wanted : Command) (next : Option State) (after : Objects) (came : Told) (old new : List ℕ)
     → command ≡ wanted → Acts mount objects wanted next after came → new ≡ old ++ told_text after.labels came → Tells mount objects command next after old new
 unfolding told

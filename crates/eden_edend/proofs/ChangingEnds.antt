@@ -56,7 +56,7 @@ module _ {C : Type 0} (made lost : C → Change → C → Type 0) (labels : List
   changing_ends (Err NoMemory) apart e = some e e.says
   changing_ends (Err Write) apart e = absurd (apart refl)
 
--- each of these faults is told as itself
+-- each of these faults is reported as itself
 pub own_fault : (from : ℕ) (outcome : Result ℕ RunFault) → record {
   read : numbered from outcome ≡ Err Read → outcome ≡ Err Read;
   turns_spent : numbered from outcome ≡ Err TurnsSpent → outcome ≡ Err TurnsSpent;

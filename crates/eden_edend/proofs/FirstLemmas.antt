@@ -1,4 +1,4 @@
--- Where the first binding to each id stands, and a search that begins there.
+-- Where the first binding to each id is, and a search that begins there.
 use Rattle.std.proofs.Common.{◌≡◌, ℕ, ◌-◌, Bool, true, false, cond, ◌||◌, ◌&&◌, List, [], ◌∷◌, ◌++◌, length, take, drop, Option, Some, None, refl, sym, ap, ◌∙◌, subst, arith, length-append}
 use Rattle.std.proofs.lemmas.List.{length-drop, take-append-drop, take-append-le}
 use Rattle.std.proofs.lemmas.List.Folds.{list_any-append}
@@ -51,19 +51,6 @@ firsts_more old new made b firsts noted =
     λ id. subst (λ o. IsFirst id o (made ++ b ∷ [])) (sym (noted id)) (first_more id (lookup (same_id id) old) made b (firsts id))
 
 -- a place may be noted before the binding is made
-
-first_noted : (id : Id) (o : Option ℕ) (made : List Binding) (t : Bool) → IsFirst id o made → IsFirst id (place_or o t (length made)) made
-first_noted id (Some at) made t first = first
-first_noted id None made true none =
-    (omega arith, ap (binds_any id) (sym (ap (take (length made)) (append_nil made)) ∙ take-append_seam made []) ∙ none) where
-      append_nil : (made : List Binding) → made ++ [] ≡ made
-      append_nil [] = refl
-      append_nil (x ∷ made) = ap (λ (rest : List Binding). x ∷ rest) (append_nil made)
-first_noted id None made false none = none
-
-pub firsts_noted : (old new : List (Id × ℕ)) (made : List Binding) (id : Id) → AreFirsts old made → IsNoted old new id (length made) → AreFirsts new made
-firsts_noted old new made id firsts noted =
-    λ other. subst (λ o. IsFirst other o made) (sym (noted other)) (first_noted other (lookup (same_id other) old) made (same_id other id) (firsts other))
 
 -- no label is still bound to an id by bindings to other ids
 

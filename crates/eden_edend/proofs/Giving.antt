@@ -8,7 +8,7 @@ pub range_length : (bytes : List ℕ) (start end : ℕ) → start ≤ end → en
 range_length bytes start end ordered within =
     length-take (end - start) (drop start bytes) ∙ omega (arith, length-drop start bytes)
 
--- what is left of a range behind its first bytes
+-- what is left of a range after its first bytes
 pub range_rest : (bytes : List ℕ) (start end count : ℕ) → count ≤ end - start → slice_range bytes (start + count) end ≡ drop count (slice_range bytes start end)
 range_rest bytes start end count within =
     let whole : count + (end - (start + count)) ≡ end - start = omega (arith, within) in

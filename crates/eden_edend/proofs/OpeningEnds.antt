@@ -12,7 +12,7 @@ use Rattle.eden_stream.specs.declared.lines.RunFault.{RunFault}
 use Rattle.eden_stream.specs.declared.lines.RunFault.TheVariants.{BadLine}
 use Rattle.eden_stream.proofs.LineSays.{stops_at_bad_line}
 use Rattle.eden_edend.specs.declared.objects.Objects.{Objects}
-use Rattle.eden_edend.specs.declared.opening.Opened.{Opened}
+use Rattle.eden_edend.specs.declared.opened.Opened.{Opened}
 use Rattle.eden_edend.specs.Openings.{EndsOpening, OpensAfter}
 use Rattle.eden_edend.specs.internal.Standing.{IsSession, SessionStands}
 

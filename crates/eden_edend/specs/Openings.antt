@@ -10,7 +10,7 @@ use Rattle.eden_stream.specs.LineEnds.{StopsAtBadLine}
 use Rattle.eden_stream.specs.Scripts.{in_front}
 use Rattle.eden_stream.specs.declared.lines.RunFault.{RunFault}
 use Rattle.eden_stream.specs.declared.lines.RunFault.TheVariants.{BadLine, Read, Write, TurnsSpent, NoMemory}
-use Rattle.eden_edend.specs.declared.opening.Opened.{Opened}
+use Rattle.eden_edend.specs.declared.opened.Opened.{Opened}
 
 -- The script has ended, and the number is that of the line after its last.
 pub record EndsUnopened (script : List (List ℕ) → Option (List ℕ)) (r0 r1 w0 w1 : Option (List ℕ)) (number : ℕ) : Type 0 where

@@ -1,12 +1,14 @@
 //! What a line changes of a mount, by the labels so far.
 
 ghost use Rattle.std.specs.Prelude.{◌≡◌, Some, None, IfOk, IfErr};
+ghost use Rattle.std.specs.Option.{option_or};
 ghost use Rattle.eden_script.specs.Sessions.{change_of, path_refusal};
 ghost use Rattle.eden_script.specs.Labels.{bound};
 
 use crate::labels::Labels;
+use bytes::Bytes;
 use eden_history::Change;
-use eden_ids::{Id, Path, Sequence};
+use eden_ids::{Id, NoMemory, Path};
 use eden_script::{ChangeLine, Label, Refusal, Word};
 
 /// Returns the path that a word is, or why it is not a path.
@@ -31,46 +33,47 @@ fn commit_of(labels: &Labels, label: &Label) -> Result<Id, Refusal>
     }
 }
 
+/// Returns the two paths that words are, or why the first that is none is not a path.
+fn paths_of(old: Word, new: Word) -> Result<(Path, Path), Refusal>
+    ensures accepts { IfOk result (λ paths. (paths ≡ (old, new)) × (path_refusal old ≡ None) × (path_refusal new ≡ None)) }
+    ensures refuses { IfErr result (λ cause. option_or (path_refusal old) (path_refusal new) ≡ Some cause) }
+{
+    let old = path_of(old)?;
+    let new = path_of(new)?;
+    Ok((old, new))
+}
+
 /// Returns what a line changes, or why it changes nothing.
 ///
-/// Whether the mount makes the change is not asked. Nothing is allocated: the bytes are moved.
+/// Whether the mount makes the change is not asked. The bytes are moved, and not copied. The line
+/// is refused as `Path` for its first word that is not a path, and as `NoLabel` if its label is
+/// bound to nothing.
 ///
 /// # Errors
 ///
-/// - `Path` for the first word that is not a path.
-/// - `NoLabel` if the line's label is bound to nothing.
-pub fn change_of(labels: &Labels, line: ChangeLine) -> Result<Change, Refusal>
-    ensures { result ≡ change_of labels.now line }
+/// - `NoMemory` if an allocation fails.
+pub fn change_of(labels: &Labels, line: ChangeLine) -> Result<Result<Change, Refusal>, NoMemory>
+    ensures { IfOk result (λ told. told ≡ change_of labels.now line) }
 {
-    match line {
+    Ok(match line {
         ChangeLine::Write { path, kind, bytes } => {
-            let path = path_of(path)?;
-            let bytes = Sequence::from_vec(bytes.into_bytes());
-            Ok(Change::Write { path, kind, bytes })
+            let bytes = Bytes::from_vec(bytes.into_bytes())?;
+            path_of(path).map(|path| Change::Write { path, kind, bytes })
         }
-        ChangeLine::Remove { path } => {
-            let path = path_of(path)?;
-            Ok(Change::Remove { path })
-        }
+        ChangeLine::Remove { path } => path_of(path).map(|path| Change::Remove { path }),
         ChangeLine::Rename { old, new } => {
-            let old = path_of(old)?;
-            let new = path_of(new)?;
-            Ok(Change::Rename { old, new })
+            paths_of(old, new).map(|(old, new)| Change::Rename { old, new })
         }
         ChangeLine::RenameDir { old, new } => {
-            let old = path_of(old)?;
-            let new = path_of(new)?;
-            Ok(Change::RenameDir { old, new })
+            paths_of(old, new).map(|(old, new)| Change::RenameDir { old, new })
         }
         ChangeLine::Reset { label } => {
-            let commit = commit_of(labels, &label)?;
-            Ok(Change::Reset { commit })
+            commit_of(labels, &label).map(|commit| Change::Reset { commit })
         }
         ChangeLine::Flush => Ok(Change::Flush),
         ChangeLine::Remount { generation } => Ok(Change::Remount { generation }),
         ChangeLine::Checkout { label, mode } => {
-            let commit = commit_of(labels, &label)?;
-            Ok(Change::Checkout { commit, mode })
+            commit_of(labels, &label).map(|commit| Change::Checkout { commit, mode })
         }
-    }
+    })
 }

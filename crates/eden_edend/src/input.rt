@@ -1,8 +1,6 @@
 //! An input of lines that others read on after the line `listen`.
 
 ghost use Rattle.std.specs.Prelude.{◌≡◌, ◌≤◌, ◌<◌, length, IfOk};
-ghost use Rattle.std.specs.Io.{ReadsAtMost};
-ghost use Rattle.std.specs.Io.KnownBytes.{ReadConsumes};
 
 use eden_ids::NoMemory;
 use std::alloc::Global;
@@ -18,24 +16,24 @@ const BUFFER_SIZE: usize = 65_536;
 
 /// What is there of the line that is being read.
 #[derive(Clone, Copy)]
-enum Front {
+enum LineFront {
     /// The first N bytes of `listen` and a carriage return, and no other.
     Listen(usize),
     /// Anything else.
     Other,
 }
 
-impl Front {
+impl LineFront {
     /// Returns what is there with one byte more, which ends no line.
-    fn grow(self, byte: u8) -> Front {
+    fn grow(self, byte: u8) -> LineFront {
         match self {
-            Front::Listen(count) if count < LISTEN.len() && LISTEN[count] == byte => {
-                Front::Listen(count + 1)
+            LineFront::Listen(count) if count < LISTEN.len() && LISTEN[count] == byte => {
+                LineFront::Listen(count + 1)
             }
-            Front::Listen(count) if count == LISTEN.len() && byte == b'\r' => {
-                Front::Listen(count + 1)
+            LineFront::Listen(count) if count == LISTEN.len() && byte == b'\r' => {
+                LineFront::Listen(count + 1)
             }
-            _ => Front::Other,
+            _ => LineFront::Other,
         }
     }
 
@@ -51,8 +49,8 @@ impl Front {
                 *self = self.grow(*byte);
                 continue;
             }
-            let is_listen = matches!(*self, Front::Listen(count) if count >= LISTEN.len());
-            *self = Front::Listen(0);
+            let is_listen = matches!(*self, LineFront::Listen(count) if count >= LISTEN.len());
+            *self = LineFront::Listen(0);
             if is_listen {
                 return place + 1;
             }
@@ -63,13 +61,13 @@ impl Front {
 
 /// Bytes that were read of a device and not given yet: those of a buffer between two places.
 #[derive(Drop)]
-struct Held {
+struct Buffer {
     bytes: Vec<u8>,
     start: usize,
     end: usize,
 }
 
-impl Model for Held {
+impl Model for Buffer {
     ghost use Rattle.std.specs.Prelude.{ℕ, ◌≤◌, ◌<◌, List, length, slice_range};
 
     ghost Value = { List ℕ };
@@ -79,16 +77,16 @@ impl Model for Held {
     ghost invariant = { λ held. (held.start ≤ held.end) × (held.end ≤ length held.bytes.items) × (0 < length held.bytes.items) };
 }
 
-impl Held {
+impl Buffer {
     ghost use Rattle.std.specs.Prelude.{◌≡◌, ◌≤◌, ◌<◌, [], ◌++◌, length, take, OnOk, IfOk};
     ghost use Rattle.std.specs.Io.KnownBytes.{Keeps, IsAtEnd, prepend_known};
 
     /// Returns a buffer with no bytes.
-    fn new(alloc: Global) -> Result<Held, NoMemory>
+    fn new(alloc: Global) -> Result<Buffer, NoMemory>
         ensures { IfOk result (λ held. held ≡ []) }
     {
         match vec![in alloc; 0; BUFFER_SIZE] {
-            Ok(bytes) => Ok(Held {
+            Ok(bytes) => Ok(Buffer {
                 bytes,
                 start: 0,
                 end: 0,
@@ -139,8 +137,8 @@ impl Held {
 #[derive(Drop)]
 pub struct LineInput<I: Read + Drop> {
     device: I,
-    held: Held,
-    front: Front,
+    held: Buffer,
+    front: LineFront,
 }
 
 impl<I: Read + Drop> Model for LineInput<I> {
@@ -158,11 +156,11 @@ impl<I: Read + Drop> LineInput<I> {
     pub fn new(alloc: Global, device: I) -> Result<LineInput<I>, NoMemory>
         ensures { IfOk result (λ input. input ≡ I.remaining device) }
     {
-        let held = Held::new(alloc)?;
+        let held = Buffer::new(alloc)?;
         Ok(LineInput {
             device,
             held,
-            front: Front::Listen(0),
+            front: LineFront::Listen(0),
         })
     }
 }

@@ -35,6 +35,7 @@ impl Model for Bound {
 }
 
 impl Bound {
+    /// Makes a table that binds nothing.
     fn new(alloc: Global) -> Bound
         ensures { result ≡ fin.empty }
     {
@@ -43,12 +44,14 @@ impl Bound {
         }
     }
 
+    /// Returns the id that a label is bound to.
     fn get(&self, label: &Label) -> Option<&Id>
         ensures { option_copied result ≡ fin.get self.now label.now }
     {
         self.ids.get(label)
     }
 
+    /// Binds a label to an id. If an allocation fails, nothing changes.
     fn insert(&mut self, label: Label, id: Id) -> Result<(), AllocError>
         ensures ok { OnOk result (self.new ≡ fin.insert self.old label id) }
         ensures err { OnErr result (self.new ≡ self.old) }
@@ -68,6 +71,7 @@ struct Firsts {
 }
 
 impl Firsts {
+    /// Makes a table that has no binding.
     fn new(alloc: Global) -> Firsts
         ensures { result.places.entries ≡ [] }
     {
@@ -76,6 +80,7 @@ impl Firsts {
         }
     }
 
+    /// Returns the place of the first binding to an id.
     fn get(&self, id: Id) -> Option<usize>
         ensures { result ≡ lookup (same_id id) self.now.places.entries }
     {
@@ -153,6 +158,7 @@ impl Labels {
         }
     }
 
+    /// Returns the id of the newest binding of a label.
     #[tactic(auto, using(crate::proofs::LabelLemmas::get_bound_map))]
     fn newest(&self, label: &Label) -> Option<Id>
         ensures { result ≡ newest self.now label.now }
@@ -197,12 +203,14 @@ impl Labels {
         Ok(())
     }
 
+    /// Returns true if a binding to this id is its label's newest.
     fn still_binds(&self, binding: &Binding, id: Id) -> bool
         ensures { result ≡ still_binds self.now id binding.now }
     {
         binding.id == id && is_id(self.newest(&binding.label), id)
     }
 
+    /// Returns the first binding to an id that still holds.
     #[tactic(auto, using(crate::proofs::LabelLemmas::turned_twice))]
     fn first_binding(&self, id: Id) -> Option<&Binding>
         ensures { option_copied result ≡ find (still_binds self.now id) (reverse self.now) }

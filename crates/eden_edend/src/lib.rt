@@ -10,23 +10,23 @@
 //! ```
 #![tactic(auto)]
 
+pub use crate::changer::{Changer, run_changes};
 pub use crate::changes::change_of;
-pub use crate::changing::{Changer, run_changes};
 pub use crate::input::LineInput;
 pub use crate::labels::Labels;
 pub use crate::objects::Objects;
-pub use crate::opening::{Opened, run_to_listen};
+pub use crate::opened::{Opened, run_to_listen};
 pub use crate::script::{run, run_over};
 pub use eden_stream::RunFault;
 
+mod changer;
 mod changes;
-mod changing;
 mod commits;
 mod input;
 mod labels;
 mod objects;
-mod opening;
+mod opened;
+mod printing;
 mod questions;
 mod script;
 mod session;
-mod telling;

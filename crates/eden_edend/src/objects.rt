@@ -10,7 +10,7 @@ ghost use Rattle.eden_edend.specs.internal.Standing.{session_of, session_put, Ga
 
 use crate::labels::Labels;
 use eden_ids::{GitNaming, Id, NoMemory, Sequence};
-use eden_objects::{Object, PutFault, Store, Word};
+use eden_objects::{Object, ObjectType, PutFault, Store};
 use eden_script::{Label, PutLine, Refusal, Told, TreeEntry, push_bytes, push_id};
 use std::alloc::{AllocError, Global};
 use std::mem;
@@ -60,12 +60,12 @@ fn commit_payload(alloc: Global, tree: Option<Id>) -> Result<Option<Vec<u8>>, Al
 }
 
 /// Returns the object of this type, if there is a payload.
-fn object_with(word: Word, payload: Option<Vec<u8>>) -> Option<Object>
-    ensures { result ≡ object_with word (option_map (λ v. v.items) payload) }
+fn object_with(object_type: ObjectType, payload: Option<Vec<u8>>) -> Option<Object>
+    ensures { result ≡ object_with object_type (option_map (λ v. v.items) payload) }
 {
     match payload {
         Some(payload) => Some(Object {
-            word,
+            object_type,
             payload: Sequence::from_vec(payload),
         }),
         None => None,
@@ -85,16 +85,22 @@ pub(crate) fn object_of(
     match line {
         PutLine::Blob { label, bytes } => {
             let payload = Sequence::from_vec(bytes.into_bytes());
-            let word = Word::Blob;
-            Ok((label, Some(Object { word, payload })))
+            let object_type = ObjectType::Blob;
+            Ok((
+                label,
+                Some(Object {
+                    object_type,
+                    payload,
+                }),
+            ))
         }
         PutLine::Tree { label, entries } => {
             let payload = tree_payload(alloc, labels, entries.as_slice())?;
-            Ok((label, object_with(Word::Tree, payload)))
+            Ok((label, object_with(ObjectType::Tree, payload)))
         }
         PutLine::Commit { label, tree } => {
             let payload = commit_payload(alloc, labels.get(&tree))?;
-            Ok((label, object_with(Word::Commit, payload)))
+            Ok((label, object_with(ObjectType::Commit, payload)))
         }
     }
 }

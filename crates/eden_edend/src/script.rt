@@ -1,6 +1,6 @@
 //! A whole script, from a reader to a writer.
 
-ghost use Rattle.std.specs.Prelude.{ℕ, ◌+◌, ◌≤◌, IsErrOf};
+ghost use Rattle.std.specs.Prelude.{◌+◌, ◌≤◌, IsErrOf};
 ghost use Rattle.eden_stream.specs.Counts.{Rose, RoseBy};
 ghost use Rattle.eden_stream.specs.Ends.{Ends};
 ghost use Rattle.eden_script.specs.ScriptText.{script_text};

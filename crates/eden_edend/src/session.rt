@@ -17,8 +17,8 @@ ghost use Rattle.eden_edend.specs.internal.Standing.{Acts, Tells, SessionStands}
 use crate::changes::change_of;
 use crate::labels::Labels;
 use crate::objects::{Objects, bind_put, object_of};
+use crate::printing::push_told;
 use crate::questions::ask;
-use crate::telling::push_told;
 use eden_accumulate::Mount;
 use eden_history::Answer;
 use eden_ids::{GitNaming, Id, NoMemory};
@@ -93,16 +93,25 @@ impl Session {
         ensures { IfOk result (λ told. Acts self.old.mount self.old.objects (Command.Put line) self.new.mount self.new.objects told) }
     {
         let (label, object) = object_of(self.alloc, &self.objects.labels, line)?;
-        let Some(Object { word, payload }) = object else {
+        let Some(
+            Object {
+                object_type,
+                payload,
+            },
+        ) = object
+        else {
             return Ok(Told::Refused(Refusal::NoLabel));
         };
         match &mut self.mount {
             Some(mount) => {
-                let put = mount.put_object(word, payload.as_slice());
+                let put = mount.put_object(object_type, payload.as_slice());
                 bind_put(&mut self.objects.labels, label, put)
             }
             None => {
-                let put = self.objects.store.put_object(word, payload.as_slice());
+                let put = self
+                    .objects
+                    .store
+                    .put_object(object_type, payload.as_slice());
                 bind_put(&mut self.objects.labels, label, put)
             }
         }
@@ -137,7 +146,7 @@ impl Session {
         let Some(mount) = &mut self.mount else {
             return Ok(Told::Refused(Refusal::NotMounted));
         };
-        match change_of(&self.objects.labels, line) {
+        match change_of(&self.objects.labels, line)? {
             Ok(change) => {
                 let answer = mount.apply(&change)?;
                 Ok(Told::Answer(answer))
@@ -160,7 +169,7 @@ impl Session {
     /// Does what a line asks for, and adds what it prints to the text.
     ///
     /// If an allocation fails, part of it may have been added.
-    fn tell(&mut self, command: Command, text: &mut Vec<u8>) -> Result<(), NoMemory>
+    fn execute(&mut self, command: Command, text: &mut Vec<u8>) -> Result<(), NoMemory>
         ensures told { OnOk result (Tells self.old.mount self.old.objects command self.new.mount self.new.objects text.old.items text.new.items) }
         ensures front { KeepsFront text.old.items text.new.items }
     {
@@ -203,7 +212,7 @@ impl LineMachine for Session {
             Ok(None) => return Answered::BadLine,
             Err(_) => return Answered::NoMemory,
         };
-        match self.tell(command, text) {
+        match self.execute(command, text) {
             Ok(()) => Answered::Done,
             Err(_) => Answered::NoMemory,
         }

@@ -8,7 +8,7 @@ use crate::explained::explain_put;
 use crate::reason::Excerpt;
 use eden_batch::{ObjectFault, ObjectsFault, read_objects};
 use eden_edend::Objects;
-use eden_git::{RawEntry, Word, read_entry, tree_named};
+use eden_git::{ObjectType, RawEntry, read_entry, tree_named};
 use eden_ids::{GitNaming, Id, Naming, NoMemory};
 use eden_objects::{Importer, PutFault, Store};
 use eden_stream::Counted;
@@ -31,15 +31,15 @@ pub trait Shelf {
 /// Names an object to a person.
 #[derive(Clone, Copy, Debug)]
 struct Named {
-    word: Word,
+    object_type: ObjectType,
     id: Id,
 }
 
 impl fmt::Display for Named {
     fn fmt<W: fmt::Write>(&self, f: &mut fmt::Formatter<W>) -> fmt::Result {
         let id = self.id.to_hex();
-        let (word, id) = (Excerpt(self.word.text()), Excerpt(id.as_slice()));
-        write!(f, "{word} {id}")
+        let (object_type, id) = (Excerpt(self.object_type.text()), Excerpt(id.as_slice()));
+        write!(f, "{object_type} {id}")
     }
 }
 
@@ -84,6 +84,7 @@ impl Model for Filled {
 }
 
 impl Filled {
+    /// Makes an empty store that has refused nothing.
     fn new(alloc: Global) -> Filled {
         Filled {
             store: Store::new(alloc, GitNaming),
@@ -99,6 +100,7 @@ impl Filled {
         Ok(objects)
     }
 
+    /// Returns true if the store has a blob or a tree of this id.
     fn has(&self, id: Id) -> bool {
         self.store.blob(id).is_some() || self.store.tree(id).is_some()
     }
@@ -109,12 +111,12 @@ impl Filled {
         for _ in 0..payload.len() {
             let (RawEntry { id, kind, .. }, behind) = read_entry(rest).ok()?;
             if !self.has(id) {
-                let word = if kind.is_some() {
-                    Word::Blob
+                let object_type = if kind.is_some() {
+                    ObjectType::Blob
                 } else {
-                    Word::Tree
+                    ObjectType::Tree
                 };
-                return Some(Named { word, id });
+                return Some(Named { object_type, id });
             }
             rest = behind;
         }
@@ -122,17 +124,17 @@ impl Filled {
     }
 
     /// Returns the first object that an object names and the store does not have.
-    fn missing(&self, word: Word, payload: &[u8]) -> Option<Named> {
-        match word {
-            Word::Blob => None,
-            Word::Tree => self.missing_entry(payload),
-            Word::Commit => {
+    fn missing(&self, object_type: ObjectType, payload: &[u8]) -> Option<Named> {
+        match object_type {
+            ObjectType::Blob => None,
+            ObjectType::Tree => self.missing_entry(payload),
+            ObjectType::Commit => {
                 let id = tree_named(payload)?;
                 if self.has(id) {
                     return None;
                 }
                 Some(Named {
-                    word: Word::Tree,
+                    object_type: ObjectType::Tree,
                     id,
                 })
             }
@@ -152,14 +154,14 @@ impl Importer for Filled {
 
     ghost laws = { record { same = λ filled. refl; again = λ filled held more. refl } };
 
-    fn put_object(&mut self, word: Word, payload: &[u8]) -> Result<Id, PutFault> {
-        let put = self.store.put_object(word, payload);
+    fn put_object(&mut self, object_type: ObjectType, payload: &[u8]) -> Result<Id, PutFault> {
+        let put = self.store.put_object(object_type, payload);
         if let Err(cause) = put {
-            let id = GitNaming.id_of(word.text(), payload);
+            let id = GitNaming.id_of(object_type.text(), payload);
             self.refused = Some(Refused {
-                object: Named { word, id },
+                object: Named { object_type, id },
                 cause,
-                missing: self.missing(word, payload),
+                missing: self.missing(object_type, payload),
             });
         }
         put

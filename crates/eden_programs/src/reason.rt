@@ -345,7 +345,7 @@ fn row_reason<'a>(alloc: Global, line: &'a [u8], row: &Row) -> Result<Reason<'a>
     Ok(wrong_count)
 }
 
-/// Returns why a line can't be read. It is one that can't.
+/// Returns why a line that can't be read can't.
 fn line_reason<'a>(alloc: Global, line: &'a [u8]) -> Result<Reason<'a>, AllocError> {
     let Some(words) = words(alloc, line)? else {
         return spelling_reason(alloc, line);

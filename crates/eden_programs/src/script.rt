@@ -28,6 +28,7 @@ fn without_return(line: &[u8]) -> &[u8] {
 }
 
 impl Passed {
+    /// Notes a line, which comes without its line feed.
     fn pass(&mut self, line: &[u8]) {
         self.count = self.count.saturating_add(1);
         let line = without_return(line);

@@ -1,6 +1,6 @@
 -- What is read of a text, byte by byte, and how that undoes what was written.
 use Rattle.std.proofs.Common.{◌≡◌, ◌≢◌, ℕ, zero, suc, ◌+◌, List, [], ◌∷◌, ◌++◌, Bool, false, length, length-append, lit<, ◌^◌, take, drop, get_or, ◌-◌, ◌≤◌, append-nil, refl, sym, ◌∙◌, ap, arith, append_assoc, ◌<◌, eqb, add-one, length-drop, subst}
-use Rattle.std.specs.Prelude.{Option, Some, None, decimal, ◌==◌}
+use Rattle.std.specs.Prelude.{Option, Some, None, decimal, ◌==◌, All}
 use Rattle.std.specs.Int.{IsInRange}
 use Rattle.std.specs.Str.Parse.{AllDigits}
 use Rattle.std.proofs.lemmas.Bool.{or_from}
@@ -10,7 +10,6 @@ use Rattle.std.proofs.lemmas.Str.Parse.{digit_from_value}
 use Rattle.std.specs.List.{flat_map, list_any}
 use Rattle.std.proofs.lemmas.Bool.Decides.{nat_tests}
 use Rattle.std.proofs.Math.Dec.{eqb-suc-zero}
-use Rattle.std.specs.Prelude.{All}
 use Rattle.std.proofs.lemmas.List.{take-append-drop, take_rest, get_or-drop}
 use Rattle.std.proofs.Math.Seq.{take-add}
 use Rattle.std.proofs.lemmas.Grind.{flat_map-append}
@@ -55,7 +54,7 @@ unescaped-escaped (b ∷ bs) = rw (eqb-suc-zero (length bs)) (unescaped-flat_map
 abbrev pub IsReadTo : List ℕ → List ℕ → List ℕ → Type 0
 IsReadTo text bytes rest = unescaped text ≡ followed_by (Some bytes) (unescaped rest)
 
--- what comes behind the first element of a list whose elements are all so is so too
+-- what comes after the first element of a list whose elements are all so is so too
 behind : (P : ℕ → Type 0) (b : ℕ) (bs : List ℕ) → All P (b ∷ bs) → All P bs
 behind P b bs all k d h = all (suc k) d (omega (arith, h))
 
@@ -72,7 +71,7 @@ unescaped-run (b ∷ bs) rest none =
     unescaped-plain b (bs ++ rest) test ∙ ap (followed_by (Some (b ∷ []))) (unescaped-run bs rest (behind (λ byte. byte ≢ 92) b bs none))
     ∙ followed_by-twice (b ∷ []) bs (unescaped rest)
 
--- a run up to a backslash, which stands at the front of what is left then
+-- a run up to a backslash, which is at the front of what is left then
 pub read_run : (text bytes rest run escape after : List ℕ) (place : ℕ) → IsReadTo text bytes rest → HasBackslashAt rest place
     → run ≡ take place rest → escape ≡ drop place rest → after ≡ bytes ++ run
     → IsReadTo text after escape × (0 < length escape) × (get_or escape 0 0 ≡ 92)
@@ -134,7 +133,7 @@ written_plain (b ∷ bs) plain =
     let p = plain 0 0 (omega arith) in
     ap (λ xs. xs ++ flat_map escaped_byte bs) (escaped_byte-plain b p.0 p.1 p.2) ∙ ap (λ xs. b ∷ xs) (written_plain bs (behind (λ byte. (byte ≢ 92) × (byte ≢ 10) × (byte ≢ 32)) b bs plain))
 
--- a plain run and the byte behind it
+-- a plain run and the byte after it
 run_and_byte : (rest : List ℕ) (size : ℕ) → EndsPlain rest size
     → flat_map escaped_byte (take (size + 1) rest) ≡ take size rest ++ escaped_byte (get_or rest size 0)
 run_and_byte rest size ends =
@@ -178,7 +177,7 @@ unfolding escaped
 escaped-some [] some = absurd (omega arith)
 escaped-some (b ∷ bs) some = rw (eqb-suc-zero (length bs))
 
--- What no byte is written with stands nowhere in what is written.
+-- What no byte is written with is nowhere in what is written.
 
 escaped_byte-no_space : (b : ℕ) → list_any (λ x. x == 32) (escaped_byte b) ≡ false
 escaped_byte-no_space b = grind (arith, nat_tests)

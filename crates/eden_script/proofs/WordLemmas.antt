@@ -63,7 +63,7 @@ module _ {S A B : Type 0} {steps : S → Option A → S → Type 0} {seen : A �
       → (length xs < length all) × (seen x ≡ get_or all (length xs) (seen x))
   list_at_item xs t yields r u x some step list = YieldsList-turn list xs t yields r u x some step
 
--- no space stands in the list
+-- no space is in the list
 abbrev pub LacksSpace : List ℕ → Type 0
 LacksSpace xs = list_any (λ b. b == 32) xs ≡ false
 

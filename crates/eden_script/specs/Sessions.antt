@@ -1,7 +1,7 @@
 -- What a script's lines have made so far, and what each line does to it and results in.
 use Rattle.std.specs.Prelude.{ℕ, List, [], ◌∷◌, ◌++◌, codes, replicate, Option, Some, None, filter, Result, Ok, Err, option_map}
-use Rattle.eden_git.specs.declared.word.Word.{Word}
-use Rattle.eden_git.specs.declared.word.Word.TheVariants.{Blob, Tree, Commit}
+use Rattle.eden_git.specs.declared.object_type.ObjectType.{ObjectType}
+use Rattle.eden_git.specs.declared.object_type.ObjectType.TheVariants.{Blob, Tree, Commit}
 use Rattle.hex.specs.Hex.{encode_lower}
 use Rattle.eden_ids.specs.declared.id.Id.{Id}
 use Rattle.eden_ids.specs.declared.content.Content.{Content}
@@ -107,9 +107,9 @@ commit_payload None = None
 commit_payload (Some tree) = Some (codes "tree " ++ encode_lower tree.0 ++ (10 ∷ []))
 
 -- the object of a line, or `None` if a label in it is not bound
-abbrev pub object_with : Word → Option (List ℕ) → Option Object
-object_with word None = None
-object_with word (Some payload) = Some record { word = word; payload = payload }
+abbrev pub object_with : ObjectType → Option (List ℕ) → Option Object
+object_with object_type None = None
+object_with object_type (Some payload) = Some record { object_type = object_type; payload = payload }
 
 abbrev pub object_of : List Binding → PutLine → Option Object
 object_of bindings (put.Blob label bytes) = object_with Blob (Some bytes)

@@ -1,6 +1,6 @@
 //! Bytes as the words of a line: escaping, and its reverse.
 
-ghost use Rattle.std.specs.Prelude.{◌≡◌, ◌++◌, length, take, map, MatchOption, OnOk, OnErr, IfOk};
+ghost use Rattle.std.specs.Prelude.{◌≡◌, ◌++◌, length, take, MatchOption, OnOk, OnErr, IfOk};
 ghost use Rattle.std.specs.List.{flat_map};
 ghost use Rattle.std.specs.Option.{option_map, option_copied};
 ghost use Rattle.eden_script.specs.Escapes.{meaning_of, unescaped, escaped_byte, escaped};
@@ -49,7 +49,7 @@ pub fn push_escaped(text: &mut Vec<u8>, bytes: &[u8]) -> Result<(), AllocError>
     pushed
 }
 
-// Returns the index of the first byte that needs an escape.
+/// Returns the index of the first byte that needs an escape.
 #[tactic(auto, unfolding(bstr::specs::Bytes::is_in))]
 fn first_escaped(bytes: &[u8]) -> Option<usize>
     ensures { MatchOption result (IsPlain bytes.now) (EndsPlain bytes.now) }
@@ -59,7 +59,7 @@ fn first_escaped(bytes: &[u8]) -> Option<usize>
 
 // Appends each byte escaped; runs of bytes that need no escape go in together.
 //
-// If an allocation fails, some of the bytes may have been appended.
+/// If an allocation fails, some of the bytes may have been appended.
 fn push_each_escaped(text: &mut Vec<u8>, bytes: &[u8]) -> Result<(), AllocError>
     ensures ok { OnOk result (text.new.items ≡ text.old.items ++ flat_map escaped_byte bytes.now) }
     ensures err { OnErr result (take (length text.old.items) text.new.items ≡ text.old.items) }
@@ -74,6 +74,7 @@ fn push_each_escaped(text: &mut Vec<u8>, bytes: &[u8]) -> Result<(), AllocError>
     push_bytes(text, &bytes[start..])
 }
 
+/// Adds a byte, escaped if it must be.
 fn push_escaped_byte(text: &mut Vec<u8>, byte: u8) -> Result<(), AllocError>
     ensures ok { OnOk result (text.new.items ≡ text.old.items ++ escaped_byte byte) }
     ensures err { OnErr result (text.new.items ≡ text.old.items) }
@@ -89,7 +90,7 @@ fn push_escaped_byte(text: &mut Vec<u8>, byte: u8) -> Result<(), AllocError>
     }
 }
 
-// Returns the meaning of a backslash followed by `code`.
+/// Returns the meaning of a backslash followed by `code`.
 fn meaning(code: u8) -> Option<&'static [u8]>
     ensures { option_copied result ≡ meaning_of code }
 {
@@ -102,7 +103,7 @@ fn meaning(code: u8) -> Option<&'static [u8]>
     }
 }
 
-// Returns the index of the first backslash.
+/// Returns the index of the first backslash.
 fn first_backslash(bytes: &[u8]) -> Option<usize>
     ensures { MatchOption result (HasNoBackslash bytes.now) (HasBackslashAt bytes.now) }
 {
@@ -111,7 +112,7 @@ fn first_backslash(bytes: &[u8]) -> Option<usize>
 
 // Returns the bytes that `text` spells, or `None` if one of its backslashes is invalid.
 //
-// The bytes up to a backslash are copied together.
+/// The bytes up to a backslash are copied together.
 pub(crate) fn unescape(alloc: Global, text: &[u8]) -> Result<Option<Vec<u8>>, AllocError>
     ensures { IfOk result (λ bytes. option_map (λ v. v.items) bytes ≡ unescaped text.now) }
 {

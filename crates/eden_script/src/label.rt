@@ -35,12 +35,14 @@ impl Model for Label {
     ghost invariant = { λ label. is_label label.bytes.items ≡ true };
 }
 
+/// Returns true if these are all lowercase letters and digits.
 fn has_label_bytes(bytes: &[u8]) -> bool
     ensures { result ≡ list_all is_label_byte bytes.now }
 {
     bytes.iter().all(|b| matches!(b, b'a'..=b'z' | b'0'..=b'9'))
 }
 
+/// Returns true if these bytes are a label: 1 to 32 letters and digits.
 fn is_label(bytes: &[u8]) -> bool
     ensures { result ≡ is_label bytes.now }
 {

@@ -60,7 +60,7 @@ pub fn words(alloc: Global, line: &[u8]) -> Result<Option<Vec<Word>>, AllocError
     Ok(Some(words))
 }
 
-// Reads a word from a part of a line. An empty part is not a word.
+/// Reads a word from a part of a line. An empty part is not a word.
 fn read_word(alloc: Global, part: &[u8]) -> Result<Option<Word>, AllocError>
     ensures { IfOk result (λ word. word ≡ word_of part.now) }
 {

@@ -13,12 +13,14 @@ use eden_history::Mode;
 use eden_ids::{Kind, Sequence};
 use std::alloc::{AllocError, Global};
 
+/// Returns true if a word is this name.
 fn is_named(word: &Word, name: &[u8]) -> bool
     ensures { result ≡ same_bytes word.now name.now }
 {
     word.as_bytes() == name
 }
 
+/// Reads the kind of a file: `plain`, `exec` or `link`.
 fn read_kind(word: &Word) -> Option<Kind>
     ensures { result ≡ kind_of word.now }
 {
@@ -33,6 +35,7 @@ fn read_kind(word: &Word) -> Option<Kind>
     }
 }
 
+/// Reads the mode of a checkout: `normal`, `force` or `dry`.
 fn read_mode(word: &Word) -> Option<Mode>
     ensures { result ≡ mode_of word.now }
 {
@@ -47,6 +50,7 @@ fn read_mode(word: &Word) -> Option<Mode>
     }
 }
 
+/// Reads an entry of a tree from its three words.
 fn read_entry(mode: Word, name: Word, label: Word) -> Option<TreeEntry>
     ensures { result ≡ entry_of mode name label }
 {
@@ -68,6 +72,7 @@ fn take_entry(words: &mut Unread) -> Option<TreeEntry>
     read_entry(mode, name, words.take())
 }
 
+/// Reads words as entries of a tree, three words each.
 #[tactic(auto, using(crate::proofs::EntryLemmas::one_more, crate::proofs::EntryLemmas::none_before, crate::proofs::EntryLemmas::all_read))]
 fn read_entries(alloc: Global, mut words: Unread) -> Result<Option<Sequence<TreeEntry>>, AllocError>
     ensures { IfOk result (λ entries. entries ≡ entries_of words) }

@@ -123,6 +123,7 @@ fn since_fault_name(fault: SinceFault) -> &'static [u8]
     }
 }
 
+/// Returns the name of a cause, as it is printed.
 fn refusal_name(cause: Refusal) -> &'static [u8]
     ensures { result.now ≡ refusal_name cause }
 {
@@ -155,6 +156,7 @@ fn refusal_number(cause: Refusal) -> Option<u64>
     }
 }
 
+/// Adds a space and a number, if there is one.
 fn push_number_behind(text: &mut Vec<u8>, number: Option<u64>) -> Result<(), AllocError>
     ensures told { OnOk result (text.new.items ≡ text.old.items ++ number_text number) }
     ensures front { KeepsFront text.old.items text.new.items }
@@ -186,6 +188,7 @@ fn push_path(text: &mut Vec<u8>, path: &Path) -> Result<(), AllocError>
     push_bytes(text, b"\n".as_slice())
 }
 
+/// Adds each path on a line of its own.
 fn push_paths(text: &mut Vec<u8>, paths: &[Path]) -> Result<(), AllocError>
     ensures told { OnOk result (text.new.items ≡ text.old.items ++ flat_map path_text paths.now) }
     ensures front { KeepsFront text.old.items text.new.items }
@@ -231,6 +234,7 @@ pub fn push_content(text: &mut Vec<u8>, kind: Kind, bytes: &[u8]) -> Result<(), 
     push_bytes(text, b"\n".as_slice())
 }
 
+/// Returns the name of a mark, as it is printed.
 fn mark_name(mark: Mark) -> &'static [u8]
     ensures { result.now ≡ mark_text mark }
 {
@@ -242,6 +246,7 @@ fn mark_name(mark: Mark) -> &'static [u8]
     }
 }
 
+/// Adds the line of a path with its mark.
 fn push_marked(text: &mut Vec<u8>, marked: &Marked) -> Result<(), AllocError>
     ensures told { OnOk result (text.new.items ≡ text.old.items ++ marked_text marked.now) }
     ensures front { KeepsFront text.old.items text.new.items }

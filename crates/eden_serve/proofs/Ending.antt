@@ -4,7 +4,7 @@ use Rattle.std.specs.Prelude.{⊤}
 use Rattle.std.proofs.KnownBytes.{Appends-nil, Consumes-nil, Keeps-refl}
 use Rattle.std.specs.Io.KnownBytes.{Appends, Keeps}
 use Rattle.eden_edend.specs.Openings.{EndsOpening}
-use Rattle.eden_edend.specs.declared.opening.Opened.{Opened}
+use Rattle.eden_edend.specs.declared.opened.Opened.{Opened}
 use Rattle.eden_stream.specs.Torn.{Tears}
 use Rattle.eden_serve.specs.Endings.{AuditFails, DaemonEnds, EndsServing, ListenEnds, Listens, Ran, ServingEnds, audit_text, last_text, listening_text}
 use Rattle.eden_logs.specs.declared.fault.AuditFault.{AuditFault}

@@ -1,7 +1,7 @@
 -- How lines ended, whatever they changed.
 use Rattle.std.proofs.Common.{ℕ, List, [], ◌∷◌, Option, Result, Ok, Err, refl, inl, inr}
 use Rattle.std.specs.Prelude.{⊤}
-use Rattle.eden_edend.specs.Changings.{Along, EndsChanging, LineMakes, Loses, LosesRead, Makes}
+use Rattle.eden_edend.specs.Changings.{Along, ChangesBetweenLines, EndsChanging, LineMakes, Loses, LosesRead, Makes}
 use Rattle.eden_history.specs.declared.change.Change.{Change}
 use Rattle.eden_script.specs.Sessions.{change_of}
 use Rattle.eden_script.specs.declared.label.Binding.{Binding}
@@ -34,6 +34,18 @@ module _ {C : Type 0} (made lost : C → Change → C → Type 0) (labels : List
   losing_any : (line : List ℕ) (old new : C) → LosesRead lost labels line old new → LosesRead Any labels line tt tt
   losing_any line old new loses = record { change = loses.change; read = loses.read; loses = loses_any (change_of labels loses.change) old new loses.loses }
 
+  between : (r0 r1 : Option (List ℕ)) (old new : C) → ChangesBetweenLines (LineMakes made labels) r0 r1 old new → ChangesBetweenLines (LineMakes Any labels) r0 r1 tt tt
+  between r0 r1 old new some = record {
+    stream = some.stream;
+    whole = some.whole;
+    rest = some.rest;
+    read = some.read;
+    split = some.split;
+    ends_lines = some.ends_lines;
+    unended = some.unended;
+    along = along_any _ old new some.along;
+  }
+
   pub ran : (from : ℕ) (r0 r1 : Option (List ℕ)) (old new : C) (result : Result ℕ RunFault) → EndsChanging made lost labels from r0 r1 old new result → Ran labels from r0 result
   ran from r0 r1 old new (Ok number) all =
       (r1, record { stream = all.stream; read = all.read; at_end = all.at_end; along = along_any _ old new all.along; number_is = all.number_is })
@@ -50,32 +62,8 @@ module _ {C : Type 0} (made lost : C → Change → C → Type 0) (labels : List
       number_is = bad.number_is;
     },
   )
-  ran from r0 r1 old new (Err Read) some = (
-    r1,
-    record {
-      stream = some.stream;
-      whole = some.whole;
-      rest = some.rest;
-      read = some.read;
-      split = some.split;
-      ends_lines = some.ends_lines;
-      unended = some.unended;
-      along = along_any _ old new some.along;
-    },
-  )
-  ran from r0 r1 old new (Err TurnsSpent) some = (
-    r1,
-    record {
-      stream = some.stream;
-      whole = some.whole;
-      rest = some.rest;
-      read = some.read;
-      split = some.split;
-      ends_lines = some.ends_lines;
-      unended = some.unended;
-      along = along_any _ old new some.along;
-    },
-  )
+  ran from r0 r1 old new (Err Read) some = (r1, between r0 r1 old new some)
+  ran from r0 r1 old new (Err TurnsSpent) some = (r1, between r0 r1 old new some)
   ran from r0 r1 old new (Err NoMemory) some = (
     r1,
     record {

@@ -3,7 +3,7 @@ use Rattle.std.specs.Prelude.{◌≢◌, ◌⊎◌, ⊤, ℕ, List, [], ◌++◌
 use Rattle.std.specs.Io.KnownBytes.{Appends, Keeps}
 use Rattle.eden_edend.specs.Changings.{EndsChanging}
 use Rattle.eden_edend.specs.Openings.{EndsOpening}
-use Rattle.eden_edend.specs.declared.opening.Opened.{Opened}
+use Rattle.eden_edend.specs.declared.opened.Opened.{Opened}
 use Rattle.eden_logs.specs.declared.fault.AuditFault.{AuditFault}
 use Rattle.eden_logs.specs.declared.fault.AuditFault.TheVariants.{UnknownCall, WrongReply, OutOfOrder, Twice, CountsDiffer}
 use Rattle.eden_logs.specs.declared.fault.AuditFault.TheVariants as audit

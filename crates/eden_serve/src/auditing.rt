@@ -1,12 +1,12 @@
 //! The audit at the end, and how its outcome is printed.
 
-ghost use Rattle.std.specs.Prelude.{◌≡◌, Ok, Err, Result, ⊤, length, IfErr, IfOk, OnOk};
+ghost use Rattle.std.specs.Prelude.{◌≡◌, Ok, Err, Result, length, IfErr, IfOk, OnOk};
 ghost use Rattle.std.specs.Io.KnownBytes.{Appends};
 ghost use Rattle.eden_serve.specs.Agreeing.{Agrees};
 ghost use Rattle.eden_serve.specs.Endings.{AuditFails, audit_text};
 ghost use Rattle.eden_shared.specs.Passes.{made_by};
 
-use crate::changes::Behind;
+use crate::changes::AuditedMount;
 use crate::fault::DaemonFault;
 use eden_ids::GitNaming;
 use eden_shared::{AuditFault, Audited, CallLog, Pass, audit};
@@ -23,13 +23,12 @@ pub(crate) struct Agreed {
 }
 
 /// Takes the mount back from the lock, and audits what all callers have noted.
-fn judge<L: Ledger>(
+fn audit_all<L: Ledger>(
     alloc: Global,
-    shared: Behind<L>,
+    shared: AuditedMount<L>,
     passes: Vec<Pass<L>>,
     logs: Vec<CallLog>,
 ) -> Result<Agreed, AuditFault>
-    requires { L.parts ≡ 256 }
     ensures taken { IfOk result (λ agreed. length agreed.audited.entries ≡ made_by passes.items) }
     ensures logs { IfOk result (λ agreed. agreed.logs ≡ logs) }
 {
@@ -78,18 +77,17 @@ fn fail<W: CountedWrite>(writer: &mut W, fault: AuditFault) -> DaemonFault
 #[tactic(auto, using(crate::proofs::Ending::ok_torn))]
 pub(crate) fn close<L: Ledger, W: CountedWrite>(
     alloc: Global,
-    shared: Behind<L>,
+    shared: AuditedMount<L>,
     passes: Vec<Pass<L>>,
     logs: Vec<CallLog>,
     writer: &mut W,
 ) -> Result<Agreed, DaemonFault>
-    requires { L.parts ≡ 256 }
     ensures taken { IfOk result (λ agreed. length agreed.audited.entries ≡ made_by passes.items) }
     ensures logs { IfOk result (λ agreed. agreed.logs ≡ logs) }
     ensures printed { OnOk result (Appends (W.contents writer.old) (W.contents writer.new) (audit_text (Ok tt))) }
     ensures failed { IfErr result (λ fault. AuditFails (W.contents writer.old) (W.contents writer.new) fault) }
 {
-    match judge(alloc, shared, passes, logs) {
+    match audit_all(alloc, shared, passes, logs) {
         Ok(agreed) => {
             if !print(writer, b"audit ok\n".as_slice()) {
                 return Err(DaemonFault::Script(RunFault::Write));

@@ -17,7 +17,7 @@ use std::sync::Wait;
 use std::sync::ledger::Ledger;
 
 /// A mount that stores its history, behind a lock.
-pub(crate) type Behind<L> = Shared<GitNaming, Audited<GitNaming>, L>;
+pub(crate) type AuditedMount<L> = Shared<GitNaming, Audited<GitNaming>, L>;
 
 /// Where a mount is changed.
 pub(crate) trait Place {
@@ -33,7 +33,7 @@ pub(crate) trait Place {
 #[derive(Drop)]
 pub(crate) struct AtDesk<'a, 'b, L: Ledger, R: Wait> {
     pub(crate) rt: &'a R,
-    pub(crate) shared: &'a Behind<L>,
+    pub(crate) shared: &'a AuditedMount<L>,
     pub(crate) desk: &'b mut Desk<L>,
 }
 
@@ -71,12 +71,12 @@ impl<'a, 'b, N: Naming + Drop, T: Served<N>, L: Origin, R: Wait> Place
 
 /// Makes changes at a place. Its observer hears of those that are refused.
 #[derive(Drop)]
-pub(crate) struct Writer<'a, P: Place, V: Observer> {
+pub(crate) struct ObservedChanger<'a, P: Place, V: Observer> {
     pub(crate) place: P,
     pub(crate) observer: &'a V,
 }
 
-impl<'a, P: Place, V: Observer> Changer for Writer<'a, P, V> {
+impl<'a, P: Place, V: Observer> Changer for ObservedChanger<'a, P, V> {
     ghost made = { λ before change after. (answer : Answer) × P.changed before.place change answer after.place };
 
     fn change(&mut self, change: &Change) -> Result<(), NoMemory> {

@@ -5,7 +5,7 @@ ghost use Rattle.eden_script.specs.declared.label.Binding.{Binding};
 ghost use Rattle.eden_serve.specs.Endings.{Ran, ServingEnds};
 
 use crate::auditing::close;
-use crate::changes::{AtDesk, Behind, Lines, Service, Writer};
+use crate::changes::{AtDesk, AuditedMount, Lines, ObservedChanger, Service};
 use crate::end_of_lines::end_lines;
 use crate::fault::DaemonFault;
 use crate::observing::Observer;
@@ -30,6 +30,7 @@ struct Kept<L: Ledger> {
 }
 
 impl<L: Ledger> Kept<L> {
+    /// Makes one that has no pass and no log.
     fn new(alloc: Global) -> Kept<L> {
         Kept {
             passes: Vec::new(alloc),
@@ -62,7 +63,7 @@ impl<L: Ledger> Kept<L> {
 fn serve_one<L: Ledger, V: Observer>(
     rt: &impl Wait,
     alloc: Global,
-    shared: &Behind<L>,
+    shared: &AuditedMount<L>,
     mut desk: Desk<L>,
     stream: Stream,
     observer: &V,
@@ -92,7 +93,7 @@ fn accept_one<'s, E, L: Ledger + Send + Sync + 's, R: Threads + Wait + Sync, V: 
     scope: &Scope<'s, E>,
     rt: &'s R,
     alloc: Global,
-    shared: &'s Behind<L>,
+    shared: &'s AuditedMount<L>,
     listener: &Listener,
     desk: Desk<L>,
     observer: &'s V,
@@ -111,7 +112,7 @@ fn accept_all<'s, E, L: Ledger + Send + Sync + 's, R: Threads + Wait + Sync, V: 
     scope: &Scope<'s, E>,
     rt: &'s R,
     alloc: Global,
-    shared: &'s Behind<L>,
+    shared: &'s AuditedMount<L>,
     listener: &Listener,
     desks: Vec<Desk<L>>,
     observer: &'s V,
@@ -132,7 +133,7 @@ fn accept_all<'s, E, L: Ledger + Send + Sync + 's, R: Threads + Wait + Sync, V: 
 fn serve_all<L: Ledger + Send + Sync, R: Threads + Wait + Sync, V: Observer + Sync>(
     rt: &R,
     alloc: Global,
-    shared: &Behind<L>,
+    shared: &AuditedMount<L>,
     listener: &Listener,
     desks: Vec<Desk<L>>,
     observer: &V,
@@ -167,7 +168,7 @@ struct Wrote<L: Ledger> {
 fn write_lines<L: Ledger, R: Wait, I: CountedRead, V: Observer>(
     rt: &R,
     alloc: Global,
-    shared: &Behind<L>,
+    shared: &AuditedMount<L>,
     writing: Writing<'_, L, I>,
     observer: &V,
 ) -> Wrote<L>
@@ -179,7 +180,7 @@ fn write_lines<L: Ledger, R: Wait, I: CountedRead, V: Observer>(
         shared,
         desk: &mut desk,
     };
-    let mut writer = Writer { place, observer };
+    let mut writer = ObservedChanger { place, observer };
     let Lines {
         input,
         labels,
@@ -213,7 +214,7 @@ fn run_threads<
 >(
     rt: &R,
     alloc: Global,
-    shared: &Behind<L>,
+    shared: &AuditedMount<L>,
     listener: &Listener,
     desks: Vec<Desk<L>>,
     writing: Writing<'_, L, I>,
@@ -246,7 +247,7 @@ fn store_history(alloc: Global, mount: Mount<GitNaming>) -> Result<Audited<GitNa
 fn open_desk<L: Ledger>(
     rt: &impl Wait,
     alloc: Global,
-    shared: &Behind<L>,
+    shared: &AuditedMount<L>,
 ) -> Result<Desk<L>, CallersSpent> {
     let pass = shared.pass(rt)?;
     Ok(Desk::new(alloc, pass))
@@ -257,7 +258,7 @@ fn open_desk<L: Ledger>(
 fn open_desks<L: Ledger>(
     rt: &impl Wait,
     alloc: Global,
-    shared: &Behind<L>,
+    shared: &AuditedMount<L>,
     count: u64,
 ) -> Result<Vec<Desk<L>>, DaemonFault>
     ensures { IfErr result (λ fault. (w : Option (List ℕ)) → (labels : List Binding) (from : ℕ) (r : Option (List ℕ)) → ServingEnds labels from (Until.Connections count) r w w (Err fault)) }
@@ -284,7 +285,7 @@ fn run_desks<
 >(
     rt: &R,
     alloc: Global,
-    shared: &Behind<L>,
+    shared: &AuditedMount<L>,
     listener: &Listener,
     lines: Lines<'_, I>,
     count: u64,
@@ -311,11 +312,10 @@ fn run_desks<
 #[tactic(auto, using(crate::proofs::Ending::audit_failed))]
 fn end<L: Ledger, W: CountedWrite>(
     alloc: Global,
-    shared: Behind<L>,
+    shared: AuditedMount<L>,
     ended: Ended<L>,
     writer: &mut W,
 ) -> Result<(), DaemonFault>
-    requires { L.parts ≡ 256 }
     ensures { (labels : List Binding) → (from count : ℕ) (input : Option (List ℕ)) → Ran labels from input ended.ran → ServingEnds labels from (Until.Connections count) input (W.contents writer.old) (W.contents writer.new) result }
 {
     let Ended { kept, ran } = ended;
@@ -338,14 +338,13 @@ fn serve_locked<
 >(
     rt: &R,
     alloc: Global,
-    shared: Behind<L>,
+    shared: AuditedMount<L>,
     listener: &Listener,
     lines: Lines<'_, I>,
     count: u64,
     writer: &mut W,
     observer: &V,
 ) -> Result<(), DaemonFault>
-    requires { L.parts ≡ 256 }
     ensures { ServingEnds lines.entry.labels lines.entry.from (Until.Connections count) (I.remaining lines.entry.input.now) (W.contents writer.old) (W.contents writer.new) result }
 {
     match run_desks(rt, alloc, &shared, listener, lines, count, observer) {
@@ -385,7 +384,7 @@ pub(crate) fn serve_connections<
     } = service;
     match store_history(alloc, mount) {
         Ok(audited) => {
-            let shared: Behind<L> = Shared::new(audited, blank);
+            let shared: AuditedMount<L> = Shared::new(audited, blank);
             serve_locked(rt, alloc, shared, &listener, lines, count, writer, observer)
         }
         Err(_) => Err(DaemonFault::Script(RunFault::NoMemory)),

@@ -1,6 +1,6 @@
 //! The program: a script, a listener, and the connections.
 
-ghost use Rattle.std.specs.Prelude.{◌≡◌, ◌⊎◌, Err, IsErrOf};
+ghost use Rattle.std.specs.Prelude.{◌⊎◌, Err, IsErrOf};
 ghost use Rattle.eden_script.specs.ScriptText.{script_text};
 ghost use Rattle.eden_script.specs.Sessions.{first_session, session_over};
 ghost use Rattle.eden_serve.specs.Endings.{DaemonEnds, EndsServing, ServingEnds};

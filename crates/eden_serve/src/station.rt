@@ -100,6 +100,7 @@ impl<L: Origin> Station<L> {
         Ok(Some(passes.give()?))
     }
 
+    /// Returns true if the station is closed.
     fn is_closed(&self) -> bool {
         self.closed.load(Ordering::SeqCst)
     }

@@ -5,7 +5,7 @@ ghost use Rattle.eden_accumulate.specs.Mounts.{StandsFor};
 ghost use Rattle.eden_history.specs.Worlds.{WorldState};
 ghost use Rattle.eden_serve.specs.Endings.{Ran, ServingEnds};
 
-use crate::changes::{AtLock, Lines, Service, Writer};
+use crate::changes::{AtLock, Lines, ObservedChanger, Service};
 use crate::end_of_lines::end_lines;
 use crate::fault::DaemonFault;
 use crate::observing::Observer;
@@ -38,7 +38,7 @@ fn run_lines<L: Origin, R: Wait, I: CountedRead, V: Observer>(
         unlogged: &station.unlogged,
         pass: &mut pass,
     };
-    let mut writer = Writer { place, observer };
+    let mut writer = ObservedChanger { place, observer };
     let Lines {
         input,
         labels,

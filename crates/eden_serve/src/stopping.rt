@@ -43,6 +43,7 @@ impl<'a, D, R: Wait> Stoppable<'a, D, R> {
         }
     }
 
+    /// Returns true if the flag is set.
     fn is_stopped(&self) -> bool {
         self.stopped.load(Ordering::SeqCst)
     }

@@ -72,9 +72,11 @@ impl Progress {
 ///
 /// A read fails if the rest of a frame that has begun does not come within the limit. The time
 /// between two frames does not count. A write fails if its bytes are not taken within the limit.
-/// Both fail as `ConnectionAborted`, as soon as the device says that it would have to wait. A read
-/// also fails after the device has given some bytes; a write of which bytes were taken does not. So
-/// the device must have a patience of its own, which is shorter. The flag `late` is set then.
+/// Both fail as `ConnectionAborted`, and the flag `late` is set then.
+///
+/// That a call is late is found after the device has returned. So the device must have a patience
+/// of its own, which is shorter than the limit. A late read fails even if the device has given
+/// bytes, which are lost. A write of which the device took bytes never fails as late.
 #[derive(Drop)]
 pub struct Timely<'a, D, R: Clock> {
     rt: &'a R,

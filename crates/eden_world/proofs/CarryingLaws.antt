@@ -7,18 +7,14 @@ use Rattle.std.proofs.Math.Bool.{or-false, or_assoc}
 use Rattle.eden_ids.specs.declared.content.Content.{Content}
 use Rattle.eden_ids.specs.Paths.{lies_below}
 use Rattle.eden_ids.specs.FileMaps.{FileMap, file_at, no_files, paths, same_path}
-use Rattle.eden_ids.specs.Sameness.{same_bytes}
 use Rattle.eden_ids.proofs.FileMapLemmas.{file_at-insert, file_at-none, same_file_map, same_path-is, same_path-refl}
 use Rattle.eden_overlay.specs.Carried.{carried, carried_files, carried_rule}
 use Rattle.eden_overlay.proofs.CarriedLemmas.{carried-back, carried-below, file_at-carried}
 use Rattle.eden_history.specs.declared.change.Change.{Change}
 use Rattle.eden_history.specs.declared.change.Change.TheVariants.{Write, Remove, Rename, RenameDir, Checkout, Reset, Flush, Remount, Import}
-use Rattle.eden_history.specs.DirRenames.{breaks_a_path, rename_dir_fault, source_fault, target_fault}
 use Rattle.eden_history.specs.Outcome.{change_fault, refusal}
 use Rattle.eden_history.specs.Worlds.{Row, Commits}
-use Rattle.eden_history.proofs.DirRenameLaws.{is_allowed}
 use Rattle.eden_history.proofs.LegalFiles.{allowed_files}
-use Rattle.eden_history.proofs.RenameLaws.{first-none}
 use Rattle.eden_world.specs.internal.Carrying.{MayMove, carried_onto}
 
 -- the files with those of the paths that are left
@@ -225,8 +221,3 @@ allowed_move commits row (Import objects) e = tt
 
 pub may_move : (commits : Commits) (row : Row) (change : Change) → refusal commits row change ≡ None → MayMove row.files change
 may_move commits row change e = allowed_move commits row change (allowed_files commits row change e)
-
--- a rename to another path breaks none
-pub breaks_none : (files : FileMap) (old new : List ℕ) → rename_dir_fault files old new ≡ None → same_bytes old new ≡ false → breaks_a_path files old new ≡ false
-breaks_none files old new e other =
-    (is_allowed files old new (sym (ap (λ b. if b then None else target_fault files old new) other) ∙ (first-none (source_fault files old) _ e).1)).1

@@ -1,4 +1,4 @@
--- What a change of the root makes of the files, and what is told of each path, as the code finds it.
+-- What a change of the root makes of the files, and what is said of each path, as the code finds it.
 use Rattle.std.proofs.Common.{◌≡◌, ℕ, Bool, true, false, cond, not, ◌&&◌, ◌||◌, List, ◌++◌, Option, Some, None, is_some, refl, sym, ap, ◌∙◌}
 use Rattle.std.specs.Prelude.{filter}
 use Rattle.std.specs.List.{list_any}

@@ -1,7 +1,7 @@
 //! Whole file maps of trees of files.
 
 ghost use Rattle.std.specs.Prelude.{◌≡◌, IfOk, map};
-ghost use Rattle.eden_ids.specs.FileMaps.{file_at, lent, paths, tabulate};
+ghost use Rattle.eden_ids.specs.FileMaps.{file_at, paths, tabulate};
 ghost use Rattle.eden_objects.specs.Files.{commit_files};
 
 use eden_globs::Filter;
@@ -59,7 +59,7 @@ pub(crate) fn files_at<T: FileTree>(
     let mut files = Files::new(alloc);
     for place in (0..paths.len()).rev() {
         let path = &paths[place];
-        let file = Content::of_lent(alloc, tree.file(path.as_bytes()))?;
+        let file = Content::of_lent(tree.file(path.as_bytes()))?;
         files.put(path, file)?;
     }
     Ok(files)

@@ -7,8 +7,7 @@
 //! eden_history's functions over trees of files. The programs that keep less are tested
 //! against it, and none of them depends on it.
 //!
-//! The plain types of the definitions are re-exported here; eden_history's `Answer` is
-//! named `Made`, since `Answer` is that of any call. So are the counting devices of
+//! The plain types of the definitions are re-exported here. So are the counting devices of
 //! eden_stream, and eden_headline's law over the same definitions.
 //!
 //! ```rust
@@ -28,10 +27,10 @@ pub use crate::row::{Event, Row};
 pub use crate::world::World;
 pub use eden_headline::schedule_law;
 pub use eden_history::{
-    Answer as Made, Change, ChangeFault, Mark, Marked, Mode, MountFault, Position, SinceFault,
+    Answer, Change, ChangeFault, Mark, Marked, Mode, MountFault, Position, SinceFault,
 };
 pub use eden_ids::Files;
-pub use eden_logs::{Answer, Call};
+pub use eden_logs::{Call, CallAnswer};
 pub use eden_messages::{Cause, Query, Reply, Request};
 pub use eden_stream::{Counted, Faults};
 

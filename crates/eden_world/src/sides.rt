@@ -126,7 +126,7 @@ impl SideMaps {
         let mut files = Files::new(alloc);
         for place in (0..all.len()).rev() {
             let path = &all[place];
-            let file = Content::of_lent(alloc, sides.file_after(mode, path))?;
+            let file = Content::of_lent(sides.file_after(mode, path))?;
             files.put(path, file)?;
         }
         Ok(files)
@@ -147,7 +147,7 @@ impl SideMaps {
     ///
     /// The checkout leaves these files. Both lists are in byte order.
     #[tactic(auto, using(crate::proofs::SideLaws::unclean_joined, crate::proofs::SideLaws::named_joined))]
-    pub(crate) fn told(
+    pub(crate) fn unclean_and_named(
         &self,
         alloc: Global,
         next: &Files,

@@ -28,6 +28,7 @@ impl<'a> Shelf for Disk<'a> {
     }
 }
 
+/// Runs the program, and returns its exit status.
 fn main(rt: HostRuntime) -> ExitCode {
     let mut errors = rt.stderr();
     let status = match command_words(&rt, &mut errors, "edend") {

@@ -13,6 +13,7 @@ use eden_programs::{Screen, command_words, follow};
 use std::io::IsTerminal;
 use std::process::ExitCode;
 
+/// Runs the program, and returns its exit status.
 fn main(rt: HostRuntime) -> ExitCode {
     let mut errors = rt.stderr();
     let screen = if errors.is_terminal() {

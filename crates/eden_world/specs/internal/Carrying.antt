@@ -14,7 +14,7 @@ abbrev pub breaks : List ℕ → List ℕ → List ℕ → Bool
 breaks old new path = lies_below path old && is_some (path_fault (carried old new path))
 
 -- the map with the file of one path more: at its place below the new path, and nowhere where it
--- stood below that path before
+-- was below that path before
 abbrev pub carried_onto : FileMap → List ℕ → List ℕ → List ℕ → Option Content → FileMap
 carried_onto next old new path None = next
 carried_onto next old new path (Some file) =

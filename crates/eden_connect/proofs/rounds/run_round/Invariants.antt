@@ -4,7 +4,7 @@ use Rattle.eden_messages.specs.Mirrors.{begun}
 use Rattle.eden_connect.specs.internal.Talks.{Leads}
 use Rattle.eden_connect.proofs.rounds.run_round.Given as goal
 
--- so many connections were asked for, and none is left
+-- this many connections were asked for, and none is left
 abbrev pub invariant-loop : goal.invariant-loop
 invariant-loop g l = Leads g.D.Dial.dials l.counter
     (record { dial = l.fn.dial; left = option_map (λ link. g.D.Reader.Read.remaining link.reader) l.fn.link })

@@ -3,7 +3,6 @@ use Rattle.std.proofs.Common.{subst, sym}
 use Rattle.eden_serve.specs.Endings.{ServingEnds}
 use Rattle.eden_serve.proofs.program.serve_listener.Goals as goal
 
--- src/program.rt:83:1
 pub returns-in-Input : goal.returns-in-Input
 returns-in-Input g c = record {
   ends = subst

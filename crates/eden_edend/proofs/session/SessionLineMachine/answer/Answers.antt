@@ -12,10 +12,10 @@ returns-in-Ok-None c = λ script stands. (
 
 pub returns-in-Ok : goal.returns-in-Ok
 returns-in-Ok c = λ script stands.
-    takes_command c.args.self.now.mount c.tell.new.self.mount c.args.self.now.objects c.tell.new.self.objects script c.args.line.now c.args.text.now.items c.tell.new.text.items c.in-Ok-Some.command
+    takes_command c.args.self.now.mount c.execute.new.self.mount c.args.self.now.objects c.execute.new.self.objects script c.args.line.now c.args.text.now.items c.execute.new.text.items c.in-Ok-Some.command
     stands c.requires
     (sym c.in-Ok-Some.field-0-is ∙ c.in-Ok-Some.ensures)
     c.in-Ok.ensures.told
 
-pub returns-in-Err-tell : goal.returns-in-Err-tell
-returns-in-Err-tell c = λ script stands. kept c.args.text.now.items c.tell.new.text.items c.tell.ensures.front
+pub returns-in-Err-execute : goal.returns-in-Err-execute
+returns-in-Err-execute c = λ script stands. kept c.args.text.now.items c.execute.new.text.items c.execute.ensures.front

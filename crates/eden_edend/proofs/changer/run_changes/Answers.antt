@@ -2,7 +2,7 @@
 use Rattle.std.proofs.Common.{arith, refl, sym, ◌∙◌, subst}
 use Rattle.eden_edend.specs.Changings.{EndsChanging}
 use Rattle.eden_edend.proofs.ChangingEnds.{changing_ends, own_fault}
-use Rattle.eden_edend.proofs.changing.run_changes.Goals as goal
+use Rattle.eden_edend.proofs.changer.run_changes.Goals as goal
 
 pub returns-clause-ends : goal.returns-clause-ends
 returns-clause-ends g c =

@@ -2,7 +2,7 @@ use Rattle.std.proofs.Common.{rules, refl}
 use Rattle.eden_script.specs.ScriptText.{script_text}
 use Rattle.eden_script.specs.Sessions.{session_over}
 use Rattle.eden_edend.proofs.OpeningEnds.{ended_at, ended_early, ended_unopened}
-use Rattle.eden_edend.proofs.opening.run_to_listen.Goals as goal
+use Rattle.eden_edend.proofs.opened.run_to_listen.Goals as goal
 
 pub returns-in-Ok-clause-ends : goal.returns-in-Ok-clause-ends
 returns-in-Ok-clause-ends g c =

@@ -3,7 +3,7 @@ use Rattle.eden_script.specs.declared.command.Command.TheVariants as line
 use Rattle.eden_script.specs.declared.told.Told.{Told}
 use Rattle.eden_edend.specs.internal.Standing.{Acts}
 use Rattle.eden_edend.proofs.Acting.{id_acts, tells}
-use Rattle.eden_edend.proofs.session.Session.tell.Goals as goal
+use Rattle.eden_edend.proofs.session.Session.execute.Goals as goal
 
 pub returns-in_ok-push_told-in-Put-clause-told : goal.returns-in_ok-push_told-in-Put-clause-told
 returns-in_ok-push_told-in-Put-clause-told c =

@@ -1,6 +1,6 @@
 //! The lines after `listen`, which change what was opened.
 
-ghost use Rattle.std.specs.Prelude.{◌≡◌, ⊤, ◌+◌, ◌^◌, ◌≤◌, IfOk, IsErrOf, OnErr, OnOk};
+ghost use Rattle.std.specs.Prelude.{◌≡◌, ◌⊎◌, ⊤, ◌+◌, ◌^◌, ◌≤◌, IfOk, IsErrOf, OnErr, OnOk};
 ghost use Rattle.eden_stream.specs.Counts.{Rose, RoseBy};
 ghost use Rattle.eden_history.specs.declared.change.Change.{Change};
 ghost use Rattle.eden_script.specs.Sessions.{change_of};
@@ -44,12 +44,13 @@ fn read_change(alloc: Global, line: &[u8]) -> Result<Option<ChangeLine>, AllocEr
 
 /// Makes the change that a line asks for.
 ///
-/// A line that is refused for its label or a path changes nothing.
+/// A line that is refused for its label or a path changes nothing, nor does one whose change
+/// itself finds no memory.
 fn make<C: Changer>(labels: &Labels, line: ChangeLine, changer: &mut C) -> Result<(), NoMemory>
     ensures ok { OnOk result (Makes C.made (change_of labels.now line) changer.old changer.new) }
-    ensures err { OnErr result (Loses C.lost (change_of labels.now line) changer.old changer.new) }
+    ensures err { OnErr result ((changer.new ≡ changer.old) ⊎ Loses C.lost (change_of labels.now line) changer.old changer.new) }
 {
-    match change_of(labels, line) {
+    match change_of(labels, line)? {
         Ok(change) => changer.change(&change),
         Err(_) => Ok(()),
     }
@@ -67,7 +68,7 @@ impl<'a, C: Changer> Teller<Lines, C, ()> for Changing<'a> {
 
     ghost story = { λ changing before now. changing_story C.made C.lost changing.labels.now before now };
 
-    fn tell(&self, changer: &mut C, line: &[u8], _text: &mut Vec<u8>) -> Step<()> {
+    fn answer(&self, changer: &mut C, line: &[u8], _text: &mut Vec<u8>) -> Step<()> {
         let change = match read_change(self.alloc, line) {
             Ok(Some(change)) => change,
             Ok(None) => return Step::Fault(()),

@@ -1,5 +1,5 @@
 -- An opening answers as its session does.
-use Rattle.eden_edend.proofs.opening.OpeningLineMachine.answer.Goals as goal
+use Rattle.eden_edend.proofs.opened.OpeningLineMachine.answer.Goals as goal
 
 pub returns-in-Done : goal.returns-in-Done
 returns-in-Done c = λ script s.

@@ -2,7 +2,7 @@
 use Rattle.std.proofs.Common.{inl, inr, refl, sym, ◌∙◌}
 use Rattle.eden_edend.specs.Changings.{LineMakes}
 use Rattle.eden_edend.specs.internal.ChangeStory.{along_more}
-use Rattle.eden_edend.proofs.changing.ChangingTellerLinesUnit.tell.Goals as goal
+use Rattle.eden_edend.proofs.changer.ChangingTellerLinesUnit.answer.Goals as goal
 
 pub returns-in-Ok-None : goal.returns-in-Ok-None
 returns-in-Ok-None g c = λ before lines sent told. (told, (c.requires, sym c.in-Ok-None.ensures ∙ c.in-Ok-None.field-0-is))
@@ -21,5 +21,7 @@ returns-in-Ok g c = λ before lines sent told.
     }))
 
 pub returns-in-Err-make : goal.returns-in-Err-make
-returns-in-Err-make g c = λ before lines sent told.
-    (c.args.changer.now, told, inr (record { change = c.in-Ok-Some.change; read = sym c.in-Ok-Some.ensures ∙ c.in-Ok-Some.field-0-is; loses = c.in-Err-make.ensures.err }))
+returns-in-Err-make g c = λ before lines sent told. elim c.in-Err-make.ensures.err [
+  | inl same ↦ (c.args.changer.now, told, inl same)
+  | inr lost ↦ (c.args.changer.now, told, inr (record { change = c.in-Ok-Some.change; read = sym c.in-Ok-Some.ensures ∙ c.in-Ok-Some.field-0-is; loses = lost }))
+]

@@ -1,6 +1,6 @@
 use Rattle.std.proofs.Common.{rules, ◌-◌, ◌≤◌, drop, length, ap, ◌∙◌, arith}
 use Rattle.eden_edend.proofs.Giving.{given_front, range_length, range_rest}
-use Rattle.eden_edend.proofs.input.Held.give.Goals as goal
+use Rattle.eden_edend.proofs.input.Buffer.give.Goals as goal
 
 pub returns-clause-given : goal.returns-clause-given
 returns-clause-given c =

@@ -13,6 +13,7 @@ use eden_script::{
 };
 use std::alloc::AllocError;
 
+/// Adds a root: `empty`, the first label bound to it, or its id.
 fn push_root(text: &mut Vec<u8>, labels: &Labels, root: &Id) -> Result<(), AllocError>
     ensures told { OnOk result (text.new.items ≡ text.old.items ++ root_text labels.now root.now) }
     ensures front { KeepsFront text.old.items text.new.items }
@@ -26,6 +27,7 @@ fn push_root(text: &mut Vec<u8>, labels: &Labels, root: &Id) -> Result<(), Alloc
     }
 }
 
+/// Adds a position: its generation, its number and its root.
 fn push_position(text: &mut Vec<u8>, labels: &Labels, position: &Position) -> Result<(), AllocError>
     ensures told { OnOk result (text.new.items ≡ text.old.items ++ position_text labels.now position.now) }
     ensures front { KeepsFront text.old.items text.new.items }
@@ -47,6 +49,7 @@ fn push_at(text: &mut Vec<u8>, labels: &Labels, position: &Position) -> Result<(
     push_bytes(text, b"\n".as_slice())
 }
 
+/// Adds the lines of a change's answer.
 fn push_answer(text: &mut Vec<u8>, labels: &Labels, answer: &Answer) -> Result<(), AllocError>
     ensures told { OnOk result (text.new.items ≡ text.old.items ++ answer_text labels.now answer.now) }
     ensures front { KeepsFront text.old.items text.new.items }
